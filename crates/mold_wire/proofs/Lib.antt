@@ -1,0 +1,3 @@
+pub mod BlockLemmas
+pub mod PacketLemmas
+pub mod ReadingLemmas

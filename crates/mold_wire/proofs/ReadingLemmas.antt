@@ -1,0 +1,215 @@
+-- What is spelled is read, and each fault is read as itself. So no bytes spell two packets, have two
+-- faults, or a packet and a fault.
+use Rattle.std.proofs.Common.{◌≡◌, ℕ, zero, suc, ◌+◌, ◌-◌, ◌<◌, ◌≤◌, ◌^◌, Bool, true, false, cond, eqb, leb, ltb, List, [], ◌∷◌, ◌++◌, length, length-append, take, drop, get_or, refl, sym, ap, subst, ◌∙◌, append_assoc, inl, inr, length-drop, arith, lit<}
+use Rattle.std.specs.Prelude.{Result, Ok, Err, IfOk, IfErr}
+use Rattle.std.specs.List.{AllByRecursion}
+use Rattle.std.specs.Int.{w16}
+use Rattle.std.proofs.lemmas.Bool.{leb-true, le-leb, cases_Bool, cases_lt, ltb-true, lt-ltb, le-ltb, eq-eqb, ne_eqb, cond-true, cond-false}
+use Rattle.std.proofs.lemmas.List.{take_at, drop_at, drop-drop, take-append-drop, append-nil, length-take-le, length-take, get_or-take, get_or_past, get_or-append-add}
+use Rattle.std.proofs.lemmas.Nat.{be_bytes_2}
+use Rattle.byteorder.specs.Endian.{big_number}
+use Rattle.mold_wire.specs.declared.packet.Packet.{Packet}
+use Rattle.mold_wire.specs.declared.packet.Body.{Body}
+use Rattle.mold_wire.specs.declared.packet.Body.TheVariants.{Data, Heartbeat, End}
+use Rattle.mold_wire.specs.declared.error.DecodeError.{DecodeError}
+use Rattle.mold_wire.specs.declared.error.DecodeError.TheVariants.{Short, BlockCut, Trailing}
+use Rattle.mold_wire.specs.Block.{be16, be64, IsMessage, block, blocks}
+use Rattle.mold_wire.specs.Packet.{IsBody, count_of, messages_of, Spells}
+use Rattle.mold_wire.specs.Parts.{stated_blocks}
+use Rattle.mold_wire.specs.Fault.{BeginsNoBlock, IsCut, IsTrailing, FaultAt}
+use Rattle.mold_wire.specs.Reading.{blocks_at, behind_first, body_of, packet_from, reading}
+use Rattle.mold_wire.proofs.BlockLemmas.{big_number-be16}
+
+abbrev done : Packet → Result Packet DecodeError
+done packet = Ok packet
+
+abbrev refusal : DecodeError → Result Packet DecodeError
+refusal error = Err error
+
+-- every element is a byte
+abbrev pub IsBytes : List ℕ → Type 0
+IsBytes bytes = (i : ℕ) → get_or bytes i 0 < 256
+
+IsBytes-take : (n : ℕ) (bytes : List ℕ) → IsBytes bytes → IsBytes (take n bytes)
+IsBytes-take n bytes fits i =
+    elim (cases_lt i n) [
+      | inl lt ↦ rw (get_or-take n bytes i 0 lt) (fits i)
+      | inr le ↦ rw (get_or_past (take n bytes) i 0 (omega (arith, length-take n bytes))) (omega arith)
+    ]
+
+pub IsBytes-behind : (front bytes : List ℕ) → IsBytes (front ++ bytes) → IsBytes bytes
+IsBytes-behind front bytes fits i = subst (λ (n : ℕ). n < 256) (get_or-append-add front bytes i 0) (fits (length front + i))
+
+-- a block at the front is read first
+pub blocks_at-block : (number : ℕ) (message rest : List ℕ) → IsMessage message → blocks_at (suc number) (block message ++ rest) ≡ behind_first message (blocks_at number rest)
+unfolding blocks_at
+blocks_at-block number message rest fits =
+    let len : big_number 2 (be16 (length message) ++ (message ++ rest)) ≡ length message = big_number-be16 (length message) (message ++ rest) fits in
+    let whole : leb (2 + length message) (length (be16 (length message) ++ (message ++ rest))) ≡ true =
+    le-leb _ _ (omega (arith, length-append message rest))
+    in
+    rw (len, whole, take_at message rest (length message) refl, drop_at message rest (length message) refl) refl
+
+-- whole blocks are read, whatever follows them
+pub blocks_at-blocks : (messages : List (List ℕ)) (rest : List ℕ) → AllByRecursion IsMessage messages → blocks_at (length messages) (blocks messages ++ rest) ≡ Ok (messages, rest)
+unfolding blocks_at
+blocks_at-blocks [] rest each = refl
+blocks_at-blocks (message ∷ messages) rest each =
+    ap (blocks_at (suc (length messages))) (append_assoc (block message) (blocks messages) rest)
+    ∙ blocks_at-block (length messages) message (blocks messages ++ rest) each.0
+    ∙ ap (behind_first message) (blocks_at-blocks messages rest each.1)
+
+-- bytes that hold as much as their first two say begin with a whole block
+begins_block : (bytes : List ℕ) → IsBytes bytes → 2 + big_number 2 bytes ≤ length bytes → BeginsNoBlock bytes → ⊥
+begins_block bytes fits long none =
+    let number = big_number 2 bytes in
+    let behind = drop 2 bytes in
+    let message = take number behind in
+    let number_fits : number < 2 ^ 16 = omega (arith, fits 0, fits 1) in
+    let behind_length : length behind ≡ length bytes - 2 = length-drop 2 bytes in
+    let message_length : length message ≡ number = length-take-le number behind (omega arith) in
+    let head : be16 number ≡ take 2 bytes =
+    be_bytes_2 (take 2 bytes) number (length-take-le 2 bytes (omega arith)) (IsBytes-take 2 bytes fits)
+    (omega (arith, get_or-take 2 bytes 0 0, get_or-take 2 bytes 1 0))
+    in
+    let parts : bytes ≡ block message ++ drop number behind =
+    sym (take-append-drop 2 bytes)
+    ∙ ap (λ (t : List ℕ). t ++ behind) (sym head)
+    ∙ ap (λ (t : List ℕ). be16 number ++ t) (sym (take-append-drop number behind))
+    ∙ ap (λ (n : ℕ). be16 n ++ (message ++ drop number behind)) (sym message_length)
+    in
+    none message (drop number behind) (omega arith) parts
+
+-- the first block that is cut is told by its index
+pub blocks_at-cut : (whole : List (List ℕ)) (rest : List ℕ) (number : ℕ) → AllByRecursion IsMessage whole → length whole < number → IsBytes rest → BeginsNoBlock rest → blocks_at number (blocks whole ++ rest) ≡ Err (length whole)
+unfolding blocks_at
+blocks_at-cut [] rest zero each below fits cut = absurd (omega arith)
+blocks_at-cut [] rest (suc number) each below fits cut =
+    cond-false (leb (2 + big_number 2 rest) (length rest)) _ _
+    (elim (cases_Bool (leb (2 + big_number 2 rest) (length rest))) [
+      | inl long ↦ absurd (begins_block rest fits (leb-true _ _ long) cut)
+      | inr short ↦ short
+    ])
+blocks_at-cut (message ∷ whole) rest zero each below fits cut = absurd (omega arith)
+blocks_at-cut (message ∷ whole) rest (suc number) each below fits cut =
+    ap (blocks_at (suc number)) (append_assoc (block message) (blocks whole) rest)
+    ∙ blocks_at-block number message (blocks whole ++ rest) each.0
+    ∙ ap (behind_first message) (blocks_at-cut whole rest number each.1 (omega arith) fits cut)
+
+big_number-be64 : (number : ℕ) (rest : List ℕ) → number < 2 ^ 64 → big_number 8 (be64 number ++ rest) ≡ number
+big_number-be64 number rest fits = omega arith
+
+-- a message count at its place, and what follows the header
+record CountRead (bytes : List ℕ) (count : ℕ) (behind : List ℕ) : Type 0 where
+  read : big_number 2 (drop 18 bytes) ≡ count
+  rest : drop 20 bytes ≡ behind
+  long : length bytes ≡ 20 + length behind
+
+count_read : (front bytes : List ℕ) (count : ℕ) (behind : List ℕ) → length front ≡ 18 → count < 2 ^ 16 → bytes ≡ front ++ (be16 count ++ behind) → CountRead bytes count behind
+count_read front bytes count behind len fits parts =
+    let at : drop 18 bytes ≡ be16 count ++ behind = ap (λ (t : List ℕ). drop 18 t) parts ∙ drop_at front (be16 count ++ behind) 18 len in
+    record {
+      read = ap (λ (t : List ℕ). big_number 2 t) at ∙ big_number-be16 count behind fits;
+      rest = sym (drop-drop 2 18 bytes) ∙ ap (λ (t : List ℕ). drop 2 t) at;
+      long = omega (arith, ap (λ (t : List ℕ). length t) parts, length-append front (be16 count ++ behind), len);
+    }
+
+-- a message count states as many blocks as there are messages, and gives the body back
+stated-count_of : (body : Body) → IsBody body → stated_blocks (count_of body) ≡ length (messages_of body)
+stated-count_of (Data messages) is = cond-false (eqb (length messages) 65535) 0 (length messages) (ne_eqb (length messages) 65535 (λ e. omega (arith, is.1, e)))
+stated-count_of Heartbeat is = refl
+stated-count_of End is = refl
+
+body_of-count_of : (body : Body) → IsBody body → body_of (count_of body) (messages_of body) ≡ body
+body_of-count_of (Data messages) is =
+    cond-false (eqb (length messages) 0) Heartbeat (cond (eqb (length messages) 65535) End (Data messages)) (ne_eqb (length messages) 0 (λ e. omega (arith, is.0, e)))
+    ∙ cond-false (eqb (length messages) 65535) End (Data messages) (ne_eqb (length messages) 65535 (λ e. omega (arith, is.1, e)))
+body_of-count_of Heartbeat is = refl
+body_of-count_of End is = refl
+
+count_of-fits : (body : Body) → IsBody body → count_of body < 2 ^ 16
+count_of-fits (Data messages) is = omega (arith, is.1)
+count_of-fits Heartbeat is = lit< tt
+count_of-fits End is = lit< tt
+
+each-messages_of : (body : Body) → IsBody body → AllByRecursion IsMessage (messages_of body)
+each-messages_of (Data messages) is = is.2
+each-messages_of Heartbeat is = tt
+each-messages_of End is = tt
+
+-- a packet with any bytes behind it gives its parts and these bytes
+reading-parts : (packet : Packet) (front more bytes : List ℕ) → Spells packet front → bytes ≡ front ++ more → reading bytes ≡ packet_from packet.session.0 packet.sequence (count_of packet.body) (length bytes) (Ok (messages_of packet.body, more))
+unfolding reading
+reading-parts packet front more bytes spells parts =
+    let session = packet.session.0 in
+    let count = count_of packet.body in
+    let messages = messages_of packet.body in
+    let behind : List ℕ = blocks messages ++ more in
+    let numbers : List ℕ = be16 count ++ behind in
+    let laid : bytes ≡ session ++ (be64 packet.sequence ++ numbers) =
+    parts
+    ∙ ap (λ (t : List ℕ). t ++ more) spells.spelled
+    ∙ append_assoc session (be64 packet.sequence ++ (be16 count ++ blocks messages)) more
+    in
+    let at : CountRead bytes count behind =
+    count_read (session ++ be64 packet.sequence) bytes count behind
+    (omega (arith, length-append session (be64 packet.sequence), spells.session))
+    (count_of-fits packet.body spells.body)
+    (laid ∙ sym (append_assoc session (be64 packet.sequence) numbers))
+    in
+    let name : take 10 bytes ≡ session = ap (λ (t : List ℕ). take 10 t) laid ∙ take_at session _ 10 spells.session in
+    let number : big_number 8 (drop 10 bytes) ≡ packet.sequence =
+    ap (λ (t : List ℕ). big_number 8 (drop 10 t)) laid
+    ∙ ap (λ (t : List ℕ). big_number 8 t) (drop_at session (be64 packet.sequence ++ numbers) 10 spells.session)
+    ∙ big_number-be64 packet.sequence numbers spells.sequence
+    in
+    let found : blocks_at (stated_blocks count) behind ≡ Ok (messages, more) =
+    ap (λ (n : ℕ). blocks_at n behind) (stated-count_of packet.body spells.body)
+    ∙ blocks_at-blocks messages more (each-messages_of packet.body spells.body)
+    in
+    cond-false (ltb (length bytes) 20) _ _ (le-ltb (length bytes) 20 (omega (arith, at.long)))
+    ∙ rw (name, number, at.read, at.rest, found) refl
+
+pub reading-spelled : (packet : Packet) (bytes : List ℕ) → Spells packet bytes → reading bytes ≡ Ok packet
+reading-spelled packet bytes spells =
+    reading-parts packet bytes [] bytes spells (sym (append-nil bytes))
+    ∙ ap (λ (b : Body). done (record { session = packet.session; sequence = packet.sequence; body = b })) (body_of-count_of packet.body spells.body)
+
+pub reading-trailing : (at : ℕ) (bytes : List ℕ) → IsTrailing at bytes → reading bytes ≡ Err (Trailing at)
+reading-trailing at bytes is =
+    reading-parts is.packet is.front is.more bytes is.whole is.parts
+    ∙ cond-false (eqb (length is.more) 0) _ _ (ne_eqb (length is.more) 0 (λ e. omega (arith, is.some, e)))
+    ∙ ap (λ (n : ℕ). refusal (Trailing n)) (omega (arith, is.place, ap (λ (t : List ℕ). length t) is.parts, length-append is.front is.more))
+
+pub reading-cut : (index : ℕ) (bytes : List ℕ) → IsBytes bytes → IsCut index bytes → reading bytes ≡ Err (BlockCut index)
+unfolding reading
+reading-cut index bytes fits is =
+    let behind : List ℕ = blocks is.whole ++ is.rest in
+    let at : CountRead bytes is.count behind = count_read is.front bytes is.count behind is.front_length (omega (arith, is.data_count)) is.parts in
+    let numbers = is.front ++ (be16 is.count ++ blocks is.whole) in
+    let stated : stated_blocks is.count ≡ is.count = cond-false (eqb is.count 65535) 0 is.count (ne_eqb is.count 65535 (λ e. omega (arith, is.data_count, e))) in
+    let rest_fits : IsBytes is.rest =
+    IsBytes-behind (blocks is.whole) is.rest
+    (IsBytes-behind (be16 is.count) behind
+    (IsBytes-behind is.front (be16 is.count ++ behind) (subst (λ (t : List ℕ). IsBytes t) is.parts fits)))
+    in
+    let found : blocks_at (stated_blocks is.count) behind ≡ Err (length is.whole) =
+    ap (λ (n : ℕ). blocks_at n behind) stated
+    ∙ blocks_at-cut is.whole is.rest is.count is.each (omega (arith, is.number, is.below)) rest_fits is.cut
+    in
+    cond-false (ltb (length bytes) 20) _ _ (le-ltb (length bytes) 20 (omega (arith, at.long)))
+    ∙ rw (at.read, at.rest, found) refl
+    ∙ ap (λ (n : ℕ). refusal (BlockCut n)) is.number
+
+pub reading-fault : (error : DecodeError) (bytes : List ℕ) → IsBytes bytes → FaultAt error bytes → reading bytes ≡ Err error
+unfolding reading
+reading-fault (Short len) bytes fits is =
+    cond-true (ltb (length bytes) 20) _ _ (lt-ltb (length bytes) 20 is.0)
+    ∙ ap (λ (n : ℕ). refusal (Short n)) (sym is.1)
+reading-fault (BlockCut index) bytes fits is = reading-cut index bytes fits is
+reading-fault (Trailing at) bytes fits is = reading-trailing at bytes is
+
+-- an answer that is spelled, or a refusal that is the fault, is what the bytes read as
+pub reading_answer : (result : Result Packet DecodeError) (bytes : List ℕ) → IsBytes bytes → IfOk result (λ packet. Spells packet bytes) → IfErr result (λ error. FaultAt error bytes) → result ≡ reading bytes
+reading_answer (Ok packet) bytes fits spells fault = sym (reading-spelled packet bytes spells)
+reading_answer (Err error) bytes fits spells fault = sym (reading-fault error bytes fits fault)

@@ -1,0 +1,5 @@
+pub mod Block
+pub mod Packet
+pub mod Fault
+pub mod Parts
+pub mod Reading

@@ -1,0 +1,42 @@
+//! Message blocks at the front of some bytes.
+
+ghost use Rattle.std.specs.Prelude.{◌<◌, MatchOption, MatchResult};
+ghost use Rattle.mold_wire.specs.Fault.{BeginsNoBlock};
+ghost use Rattle.mold_wire.specs.Parts.{IsBlockAndRest, AreBlocksAndRest, IsCutAt};
+
+use byteorder::{BigEndian, ByteOrder};
+
+/// The bytes of a block's length.
+const LENGTH: usize = 2;
+
+// The data of the block at the front and what follows it, or none where no whole block stands there.
+pub(crate) fn split_block(bytes: &[u8]) -> Option<(&[u8], &[u8])>
+    ensures { MatchOption result (BeginsNoBlock bytes.now)
+        (λ found. IsBlockAndRest bytes.now found.0.now found.1.now) }
+{
+    if bytes.len() < LENGTH {
+        return None;
+    }
+    let (head, behind) = bytes.split_at(LENGTH);
+    let len = usize::from(BigEndian::read_u16(head));
+    if behind.len() < len {
+        return None;
+    }
+    Some(behind.split_at(len))
+}
+
+// What follows so many whole blocks, or the index of the first that is not whole.
+#[tactic(auto, using(crate::proofs::BlockLemmas::blocks_none, crate::proofs::BlockLemmas::blocks_more, crate::proofs::BlockLemmas::cut_behind))]
+pub(crate) fn skip_blocks(number: u16, bytes: &[u8]) -> Result<&[u8], u16>
+    ensures { MatchResult result (λ rest. AreBlocksAndRest number bytes.now rest.now)
+        (λ index. (index < number) × IsCutAt index bytes.now) }
+{
+    let mut rest = bytes;
+    for index in 0..number {
+        let Some((_, behind)) = split_block(rest) else {
+            return Err(index);
+        };
+        rest = behind;
+    }
+    Ok(rest)
+}

@@ -1,0 +1,74 @@
+//! The message blocks of a data packet.
+
+ghost use Rattle.std.specs.Prelude.{◌≡◌, ◌<◌, length, List, ℕ, slice_get};
+ghost use Rattle.std.specs.Option.{option_copied};
+
+use crate::messages::Messages;
+use std::marker::Model;
+
+/// The messages of a data packet, 1 to 65,534 of them, where they lie in the datagram. Nothing is
+/// copied: a message is a slice of the datagram, and lives as long as it.
+#[derive(Debug, Drop)]
+pub struct Blocks<'a> {
+    count: u16,
+    bytes: &'a [u8],
+}
+
+impl<'a> Model for Blocks<'a> {
+    ghost use Rattle.std.specs.Prelude.{ℕ, List, ◌<◌};
+    ghost use Rattle.mold_wire.specs.Block.{messages_at, AreBlocks};
+
+    ghost Value = { List (List ℕ) };
+
+    ghost view = { λ b. messages_at b.count b.bytes.now };
+
+    ghost invariant = { λ b. (0 < b.count) × (b.count < 65535) × AreBlocks b.count b.bytes.now };
+}
+
+impl<'a> Blocks<'a> {
+    ghost use Rattle.mold_wire.specs.Block.{messages_at, AreBlocks};
+
+    pub(crate) fn new(count: u16, bytes: &'a [u8]) -> Blocks<'a>
+        requires some { 0 < count }
+        requires few { count < 65535 }
+        requires spelled { AreBlocks count bytes.now }
+        ensures { result ≡ messages_at count bytes.entry.now }
+    {
+        Blocks { count, bytes }
+    }
+
+    /// How many messages there are: 1 to 65,534.
+    pub fn len(&self) -> u16
+        ensures length { result ≡ length self.now }
+        ensures range { (0 < length self.now) × (length self.now < 65535) }
+    {
+        self.count
+    }
+
+    /// The messages in order, from the first.
+    pub fn iter(&self) -> Messages<'a>
+        ensures { result ≡ self.now }
+    {
+        Messages::new(self.count, self.bytes)
+    }
+
+    /// The message at place `i`, counted from 0; none where there are no more than `i`. It passes over
+    /// the messages before it: to visit all of them take `iter`.
+    pub fn get(&self, i: u16) -> Option<&'a [u8]>
+        ensures { option_copied result ≡ slice_get self.now i }
+    {
+        self.iter().nth(usize::from(i))
+    }
+}
+
+impl<'a> IntoIterator for &Blocks<'a> {
+    type Item = &'a [u8];
+
+    type IntoIter = Messages<'a>;
+
+    ghost into_iter_gives = { λ s r. r ≡ s.now };
+
+    fn into_iter(self) -> Messages<'a> {
+        self.iter()
+    }
+}

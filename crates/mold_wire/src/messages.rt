@@ -1,0 +1,55 @@
+//! The messages of a data packet, one after the other.
+
+ghost use Rattle.std.specs.Prelude.{◌≡◌};
+
+use crate::block::split_block;
+use std::marker::Model;
+
+/// An iterator of the messages of a data packet, in order. It yields each as a slice of the datagram.
+#[derive(Debug, Drop)]
+pub struct Messages<'a> {
+    left: u16,
+    bytes: &'a [u8],
+}
+
+impl<'a> Model for Messages<'a> {
+    ghost use Rattle.std.specs.Prelude.{ℕ, List};
+    ghost use Rattle.mold_wire.specs.Block.{messages_at, AreBlocks};
+
+    ghost Value = { List (List ℕ) };
+
+    ghost view = { λ m. messages_at m.left m.bytes.now };
+
+    ghost invariant = { λ m. AreBlocks m.left m.bytes.now };
+}
+
+impl<'a> Messages<'a> {
+    ghost use Rattle.mold_wire.specs.Block.{messages_at, AreBlocks};
+
+    pub(crate) fn new(left: u16, bytes: &'a [u8]) -> Messages<'a>
+        requires { AreBlocks left bytes.now }
+        ensures { result ≡ messages_at left bytes.entry.now }
+    {
+        Messages { left, bytes }
+    }
+}
+
+impl<'a> Iterator for Messages<'a> {
+    ghost use Rattle.std.specs.Iterator.{YieldsFirstRef, item_count};
+
+    type Item = &'a [u8];
+
+    ghost next_gives = { YieldsFirstRef (λ s. s) };
+
+    ghost remaining = { item_count (λ s. s) };
+
+    fn next(&mut self) -> Option<&'a [u8]> {
+        if self.left == 0 {
+            return None;
+        }
+        let (message, rest) = split_block(self.bytes)?;
+        self.left -= 1;
+        self.bytes = rest;
+        Some(message)
+    }
+}

@@ -1,0 +1,101 @@
+//! Reading a downstream packet.
+
+ghost use Rattle.std.specs.Prelude.{◌≡◌, ◌+◌, ◌<◌, length, IfOk, IfErr, MatchOption, List, ℕ};
+ghost use Rattle.mold_wire.specs.Block.{AreBlocks, messages_at};
+ghost use Rattle.mold_wire.specs.Fault.{FaultAt};
+ghost use Rattle.mold_wire.specs.Packet.{Spells};
+ghost use Rattle.mold_wire.specs.Parts.{IsHeaderAndRest, stated_blocks, BodyIs};
+ghost use Rattle.mold_wire.specs.Reading.{reading};
+ghost use Rattle.mold_wire.specs.declared.error.DecodeError.{DecodeError};
+ghost use Rattle.mold_wire.specs.declared.packet.Packet.{Packet};
+
+use crate::block::skip_blocks;
+use crate::blocks::Blocks;
+use crate::error::DecodeError;
+use crate::packet::{Body, Packet};
+use crate::session::Session;
+use byteorder::{BigEndian, ByteOrder};
+
+/// The bytes of a header: session, sequence number and message count.
+const HEADER: usize = 20;
+
+/// The message count that ends a session.
+const END: u16 = 65535;
+
+// The parts of the header at the front, and what follows it; none where there is no whole header.
+fn split_header(bytes: &[u8]) -> Option<(Session, u64, u16, &[u8])>
+    ensures { MatchOption result (length bytes.now < 20)
+        (λ found. IsHeaderAndRest bytes.now found.0.0 found.1 found.2 found.3.now) }
+{
+    if bytes.len() < HEADER {
+        return None;
+    }
+    let (name, numbers) = bytes.split_at(10);
+    let (sequence, behind) = numbers.split_at(8);
+    let (count, rest) = behind.split_at(2);
+    let mut session = Session([0; 10]);
+    session.0.copy_from_slice(name);
+    Some((
+        session,
+        BigEndian::read_u64(sequence),
+        BigEndian::read_u16(count),
+        rest,
+    ))
+}
+
+// How many blocks a message count states.
+fn stated(count: u16) -> u16
+    ensures { result ≡ stated_blocks count }
+{
+    if count == END { 0 } else { count }
+}
+
+// What the message count makes of the blocks that it states.
+fn body_from(count: u16, blocks: &[u8]) -> Body<'_>
+    requires { AreBlocks (stated_blocks count) blocks.now }
+    ensures { BodyIs count (messages_at (stated_blocks count) blocks.entry.now) result }
+{
+    match count {
+        0 => Body::Heartbeat,
+        END => Body::End,
+        _ => Body::Data(Blocks::new(count, blocks)),
+    }
+}
+
+fn read_packet(bytes: &[u8]) -> Result<Packet<'_>, DecodeError>
+    ensures spelled { IfOk result (λ packet. Spells packet bytes.now) }
+    ensures fault { IfErr result (λ error. FaultAt error bytes.now) }
+{
+    let Some((session, sequence, count, behind)) = split_header(bytes) else {
+        return Err(DecodeError::Short { len: bytes.len() });
+    };
+    let more = match skip_blocks(stated(count), behind) {
+        Ok(more) => more,
+        Err(index) => return Err(DecodeError::BlockCut { index }),
+    };
+    if !more.is_empty() {
+        let at = bytes.len() - more.len();
+        return Err(DecodeError::Trailing { at });
+    }
+    Ok(Packet {
+        session,
+        sequence,
+        body: body_from(count, behind),
+    })
+}
+
+/// Reads the packet that the bytes of a datagram spell, in one pass over them and without copying or
+/// taking memory. The bytes may be more than a datagram can hold. Bytes behind the last stated block
+/// are refused, and so are those behind the header of a heartbeat or an end packet.
+pub fn decode(bytes: &[u8]) -> Result<Packet<'_>, DecodeError>
+    // What is read is spelled so, and what is refused has the fault.
+    ensures spelled { IfOk result (λ packet. Spells packet bytes.now) }
+    ensures fault { IfErr result (λ error. FaultAt error bytes.now) }
+
+    // What is spelled so is read, and each fault is the one refusal.
+    ensures only { (packet : Packet) → Spells packet bytes.now → result ≡ Ok packet }
+    ensures refused { (error : DecodeError) → FaultAt error bytes.now → result ≡ Err error }
+    ensures exact { result ≡ reading bytes.now }
+{
+    read_packet(bytes)
+}
