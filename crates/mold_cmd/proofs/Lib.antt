@@ -1,0 +1,5 @@
+pub mod DeviceLemmas
+pub mod Folds
+pub mod LineLemmas
+pub mod Orders
+pub mod ShowLemmas

@@ -1,0 +1,14 @@
+-- What an order prints for its input, and the status that it ends with.
+use Rattle.std.specs.Prelude.{◌≡◌, ℕ, List, Result, Ok, Err}
+use Rattle.mold_cmd.specs.Devices.{one_more}
+use Rattle.mold_cmd.specs.Show.{show_text, show_status}
+use Rattle.mold_cmd.specs.declared.words.types.Order.{Order}
+use Rattle.mold_cmd.specs.declared.words.types.Order.TheVariants.{Show}
+
+-- what is printed for the whole input
+abbrev pub text : Order → List ℕ → List ℕ
+text Show input = show_text input
+
+-- the status: 0 done, 2 something was refused
+abbrev pub status : Order → List ℕ → ℕ
+status Show input = show_status input

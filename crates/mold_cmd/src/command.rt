@@ -1,0 +1,33 @@
+//! The commands that read a source and write a sink.
+
+ghost use Rattle.std.specs.Prelude.{◌≡◌, IfOk, IfSome};
+ghost use Rattle.std.specs.Io.KnownBytes.{Appends};
+ghost use Rattle.mold_cmd.specs.Command.{text, status};
+ghost use Rattle.mold_cmd.specs.Devices.{AppendsFront};
+ghost use Rattle.mold_cmd.specs.Faults.{CountsSource, CountsSink};
+
+use crate::devices::{Sink, Source};
+use crate::fault::CommandFault;
+use crate::show::show;
+use crate::words::Order;
+use std::alloc::Global;
+
+/// Does what the order says with the whole input of the source, and answers the status: 0 done, 2
+/// something was refused. After a fault a beginning of the output is written. `Read` and `Write` come
+/// only where the source or the sink failed, `Memory` only where a growth was refused.
+pub fn run_command<S: Source, K: Sink>(
+    alloc: Global,
+    order: &Order,
+    source: &mut S,
+    sink: &mut K,
+) -> Result<u8, CommandFault>
+    ensures whole { IfOk result (λ answer. IfSome (S.left source.old) (λ input.
+        Appends (K.held sink.old) (K.held sink.new) (text order.now input) × (answer ≡ status order.now input))) }
+    ensures front { IfSome (S.left source.old) (λ input. AppendsFront (K.held sink.old) (K.held sink.new) (text order.now input)) }
+    ensures source { CountsSource (S.failed source.old) (S.failed source.new) result }
+    ensures sink { CountsSink (K.failed sink.old) (K.failed sink.new) result }
+{
+    match order {
+        Order::Show => show(alloc, source, sink),
+    }
+}

@@ -1,0 +1,3 @@
+/// A device failed. Its count of failures tells how often.
+#[derive(Clone, Copy, Debug, PartialEq)]
+pub struct DeviceFault;

@@ -1,0 +1,89 @@
+//! The program `mold`: packets of MoldUDP64 from the command line.
+#![tactic(auto)]
+
+mod command;
+mod devices;
+mod fault;
+mod lines;
+mod output;
+mod piece;
+mod show;
+#[cfg(test)]
+mod tests;
+mod text;
+mod words;
+
+use crate::command::run_command;
+use crate::devices::{FromRead, IntoWrite};
+use crate::fault::CommandFault;
+use crate::words::{Order, UsageFault, read_words};
+use std::alloc::AllocError;
+use std::io::{ErrorKind, Write};
+use std::process::ExitCode;
+use std::{env, io};
+
+/// The status of a fault of a device, of memory or of the words.
+const FAULT: u8 = 3;
+
+const NOT_UTF8: &str = "error: a word is not UTF-8\n";
+
+// Prints the word behind `fault` as a line of standard error, and answers the status.
+fn tell_fault(rt: &HostRuntime, word: &str) -> ExitCode {
+    let _ = rt.eprintln(format_args!("fault {word}"));
+    ExitCode::from(FAULT)
+}
+
+// Prints the text of help, or the text of a usage fault and the fault.
+fn tell_usage(rt: &HostRuntime, fault: UsageFault) -> ExitCode {
+    match fault {
+        UsageFault::Help { text } => match rt.print(text.as_str()) {
+            Ok(()) => ExitCode::SUCCESS,
+            Err(_) => tell_fault(rt, CommandFault::Write.word()),
+        },
+        UsageFault::Usage { text } => {
+            let _ = rt.eprint(text.as_str());
+            tell_fault(rt, "Usage")
+        }
+        UsageFault::Memory => tell_fault(rt, CommandFault::Memory.word()),
+    }
+}
+
+// The words of the command line, without the program's name.
+fn command_words(rt: &HostRuntime) -> io::Result<Vec<String>> {
+    Ok(env::args(rt)?.skip(1).collect(rt.alloc())?)
+}
+
+// The order that the words of the command line say.
+fn read_order(rt: &HostRuntime) -> Result<Order, UsageFault> {
+    match command_words(rt) {
+        Ok(words) => read_words(rt.alloc(), words.as_slice()),
+        Err(error) if error.kind() == ErrorKind::OutOfMemory => Err(UsageFault::Memory),
+        Err(_) => Err(UsageFault::Usage {
+            text: String::from_str(rt.alloc(), NOT_UTF8)?,
+        }),
+    }
+}
+
+// Runs the order over standard input and output, and flushes the output once.
+fn run(rt: &HostRuntime, order: &Order) -> Result<u8, CommandFault> {
+    let mut source = FromRead::new(rt.stdin());
+    let mut sink = IntoWrite::new(rt.stdout());
+    let outcome = run_command(rt.alloc(), order, &mut source, &mut sink);
+    let flushed = sink.into_inner().flush();
+    let status = outcome?;
+    match flushed {
+        Ok(()) => Ok(status),
+        Err(_) => Err(CommandFault::Write),
+    }
+}
+
+fn main(rt: HostRuntime) -> ExitCode {
+    let order = match read_order(&rt) {
+        Ok(order) => order,
+        Err(fault) => return tell_usage(&rt, fault),
+    };
+    match run(&rt, &order) {
+        Ok(status) => ExitCode::from(status),
+        Err(fault) => tell_fault(&rt, fault.word()),
+    }
+}

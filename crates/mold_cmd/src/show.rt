@@ -1,0 +1,77 @@
+//! `mold show`: packets given as lines of hexadecimal digits, printed field by field.
+
+ghost use Rattle.std.specs.Prelude.{◌≡◌, ◌++◌, IfOk, IfSome};
+ghost use Rattle.std.specs.Io.KnownBytes.{Appends};
+ghost use Rattle.mold_cmd.specs.Devices.{AppendsFront};
+ghost use Rattle.mold_cmd.specs.Faults.{CountsSource, CountsSink};
+ghost use Rattle.mold_cmd.specs.Show.{line_text, line_refused, show_text, show_status};
+
+use crate::devices::{Sink, Source};
+use crate::fault::CommandFault;
+use crate::lines::Lines;
+use crate::output::{LARGE, send};
+use crate::text::{push_packet, push_refused};
+use std::alloc::{AllocError, Global};
+
+// Writes what the line prints, and answers whether it was refused. The bytes that its digits stand for
+// go into `bytes`, whatever that held.
+#[tactic(auto, unfolding(crate::specs::Show::line_text, crate::specs::Show::line_refused))]
+fn show_line(line: &[u8], bytes: &mut Vec<u8>, out: &mut Vec<u8>) -> Result<bool, AllocError>
+    ensures text { IfOk result (λ _. out.new.items ≡ out.old.items ++ line_text line.now) }
+    ensures refused { IfOk result (λ refused. refused ≡ line_refused line.now) }
+{
+    if line.is_empty() {
+        return Ok(false);
+    }
+    bytes.resize(line.len() / 2, 0)?;
+    if hex::decode_to_slice(line, bytes.as_mut_slice()).is_err() {
+        out.extend_from_slice(b"refused NotHex\n")?;
+        return Ok(true);
+    }
+    match mold_wire::decode(bytes.as_slice()) {
+        Ok(packet) => {
+            push_packet(out, &packet)?;
+            Ok(false)
+        }
+        Err(fault) => {
+            push_refused(out, fault)?;
+            Ok(true)
+        }
+    }
+}
+
+/// Shows the packets that the lines of the source spell, and answers the status: 0, or 2 where a line
+/// was refused. It holds no more of the input than the longest line and one read.
+pub fn show<S: Source, K: Sink>(
+    alloc: Global,
+    source: &mut S,
+    sink: &mut K,
+) -> Result<u8, CommandFault>
+    ensures whole { IfOk result (λ status. IfSome (S.left source.old) (λ input.
+        Appends (K.held sink.old) (K.held sink.new) (show_text input) × (status ≡ show_status input))) }
+    ensures front { IfSome (S.left source.old) (λ input. AppendsFront (K.held sink.old) (K.held sink.new) (show_text input)) }
+    ensures source { CountsSource (S.failed source.old) (S.failed source.new) result }
+    ensures sink { CountsSink (K.failed sink.old) (K.failed sink.new) result }
+{
+    let mut lines = Lines::new(alloc)?;
+    let mut bytes = Vec::new(alloc);
+    let mut text = Vec::new(alloc);
+    let mut refused = false;
+    'lines: loop {
+        match lines.advance(source) {
+            Ok(true) => {}
+            Ok(false) => break,
+            Err(fault) => {
+                // What the lines before it print is not lost.
+                let _ = send(sink, &mut text);
+                return Err(fault.into());
+            }
+        }
+        refused |= show_line(lines.line(), &mut bytes, &mut text)?;
+        if text.len() >= LARGE {
+            send(sink, &mut text)?;
+        }
+    }
+    send(sink, &mut text)?;
+    Ok(if refused { 2 } else { 0 })
+}
