@@ -8,6 +8,8 @@ mod messages;
 mod packet;
 mod reading;
 mod session;
+#[cfg(test)]
+mod tests;
 
 pub use blocks::Blocks;
 pub use error::DecodeError;

@@ -1,0 +1,80 @@
+//! Each public call on its happy path, and the vectors that are read.
+
+use crate::{Body, DecodeError, Packet, Session, decode};
+use std::process::Abort;
+use std::test::Fail;
+
+const SESSION: Session = Session(*b"SESSION001");
+
+const TWO_MESSAGES: &[u8] = b"SESSION001\0\0\0\0\0\0\0\x01\0\x02\0\x02AB\0\0";
+
+fn expect_bare(rt: &impl Abort, bytes: &[u8], sequence: u64, ends: bool) -> Result<(), Fail> {
+    let packet = decode(bytes)?;
+    assert_eq!(rt; packet.session, SESSION);
+    assert_eq!(rt; packet.sequence, sequence);
+    assert_eq!(rt; packet.top(), Some(sequence));
+    match packet.body {
+        Body::Data(_) => assert!(rt; false, "messages"),
+        Body::Heartbeat => assert!(rt; !ends),
+        Body::End => assert!(rt; ends),
+    }
+    Ok(())
+}
+
+#[test]
+fn heartbeats_and_ends_are_read(rt: HostRuntime) -> Result<(), Fail> {
+    expect_bare(&rt, b"SESSION001\0\0\0\0\0\0\0\x01\0\0", 1, false)?;
+    expect_bare(&rt, b"SESSION001\0\0\0\0\0\0\0\x01\xff\xff", 1, true)?;
+    expect_bare(&rt, b"SESSION001\0\0\0\0\0\0\0\x03\xff\xff", 3, true)
+}
+
+#[test]
+fn messages_are_lent_in_order(rt: HostRuntime) -> Result<(), Fail> {
+    let packet = decode(TWO_MESSAGES)?;
+    assert_eq!(rt; packet.session, SESSION);
+    assert_eq!(rt; packet.sequence, 1);
+    assert_eq!(rt; packet.top(), Some(3));
+    let data = match packet.body {
+        Body::Data(blocks) => Some(blocks),
+        Body::Heartbeat | Body::End => None,
+    };
+    let blocks = data.ok_or("no messages")?;
+    assert_eq!(rt; blocks.len(), 2);
+    assert_eq!(rt; blocks.get(0), Some(b"AB".as_slice()));
+    assert_eq!(rt; blocks.get(1), Some(b"".as_slice()));
+    assert_eq!(rt; blocks.get(2), None);
+    let mut lengths = [9usize; 3];
+    for (place, message) in lengths.iter_mut().zip(&blocks) {
+        *place = message.len();
+    }
+    assert_eq!(rt; lengths, [2, 0, 9]);
+    assert_eq!(rt; blocks.iter().count(), 2);
+    Ok(())
+}
+
+#[test]
+fn a_top_beyond_64_bits_is_none(rt: HostRuntime) -> Result<(), Fail> {
+    let packet = decode(b"SESSION001\xff\xff\xff\xff\xff\xff\xff\xff\0\x01\0\x01A")?;
+    assert_eq!(rt; packet.sequence, 18446744073709551615);
+    assert_eq!(rt; packet.top(), None);
+    Ok(())
+}
+
+#[test]
+fn each_front_of_two_messages_has_its_fault(rt: HostRuntime) {
+    for len in 0..TWO_MESSAGES.len() {
+        let fault = match len {
+            0..20 => DecodeError::Short { len },
+            20..24 => DecodeError::BlockCut { index: 0 },
+            _ => DecodeError::BlockCut { index: 1 },
+        };
+        match decode(&TWO_MESSAGES[..len]) {
+            Ok(_) => assert!(rt; false, "{len} bytes are read"),
+            Err(error) => assert_eq!(rt; error, fault, "{len} bytes"),
+        }
+    }
+    match decode(b"SESSION001\0\0\0\0\0\0\0\x01\0\x02\0\x02AB\0\0\0") {
+        Ok(_) => assert!(rt; false, "a byte behind is read"),
+        Err(error) => assert_eq!(rt; error, DecodeError::Trailing { at: 26 }),
+    }
+}
