@@ -13,7 +13,7 @@ unfolding mold_app
 mold_is_simple = refl
 
 -- without words to show
-pub order_of-no_words : {X : Type 0} (f : X → Text) (xs : List X) → (length xs == 0) ≡ true → order_of (map f xs) ≡ Some show_wanted
+pub order_of-no_words : {X : Type 0} (f : X → Text) (xs : List X) → (length xs == 0) ≡ true → order_of (map f xs) ≡ Some (show_wanted false)
 unfolding order_of
 order_of-no_words f [] empty = refl
 order_of-no_words f (x ∷ xs) empty = absurd (grind (arith, nat_tests))

@@ -7,8 +7,8 @@ use Rattle.mold_cmd.specs.declared.words.types.Order.TheVariants.{Show}
 
 -- what is printed for the whole input
 abbrev pub text : Order → List ℕ → List ℕ
-text Show input = show_text input
+text (Show requests) input = show_text requests input
 
 -- the status: 0 done, 2 something was refused
 abbrev pub status : Order → List ℕ → ℕ
-status Show input = show_status input
+status (Show requests) input = show_status requests input

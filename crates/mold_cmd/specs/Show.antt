@@ -7,43 +7,64 @@ use Rattle.mold_wire.specs.Reading.{reading}
 use Rattle.mold_wire.specs.declared.packet.Packet.{Packet}
 use Rattle.mold_wire.specs.declared.error.DecodeError.{DecodeError}
 use Rattle.mold_cmd.specs.Lines.{lines_of}
-use Rattle.mold_cmd.specs.Text.{packet_text, fault_text}
+use Rattle.mold_wire.specs.Request.{request_reading}
+use Rattle.mold_wire.specs.declared.request.Request.{Request}
+use Rattle.mold_wire.specs.declared.error.RequestError.{RequestError}
+use Rattle.mold_cmd.specs.Text.{packet_text, fault_text, request_text, request_fault_text, refused_text}
 
--- what a datagram prints, by what its bytes read as
-abbrev pub datagram_text : Result Packet DecodeError → List ℕ
-datagram_text (Ok packet) = packet_text packet
-datagram_text (Err fault) = codes "refused " ++ (fault_text fault ++ codes "\n")
+-- what a packet prints, by what its bytes read as
+abbrev pub packet_shown : Result Packet DecodeError → List ℕ
+packet_shown (Ok packet) = packet_text packet
+packet_shown (Err fault) = refused_text (fault_text fault)
 
-abbrev pub datagram_refused : Result Packet DecodeError → Bool
-datagram_refused (Ok packet) = false
-datagram_refused (Err fault) = true
+abbrev pub packet_refused : Result Packet DecodeError → Bool
+packet_refused (Ok packet) = false
+packet_refused (Err fault) = true
+
+-- what a request prints, by what its bytes read as
+abbrev pub request_shown : Result Request RequestError → List ℕ
+request_shown (Ok request) = request_text request
+request_shown (Err fault) = refused_text (request_fault_text fault)
+
+abbrev pub request_refused : Result Request RequestError → Bool
+request_refused (Ok request) = false
+request_refused (Err fault) = true
+
+-- what the bytes of a datagram print: those of a request where requests are shown, else those of a packet
+abbrev pub datagram_text : Bool → List ℕ → List ℕ
+datagram_text true bytes = request_shown (request_reading bytes)
+datagram_text false bytes = packet_shown (reading bytes)
+
+abbrev pub datagram_refused : Bool → List ℕ → Bool
+datagram_refused true bytes = request_refused (request_reading bytes)
+datagram_refused false bytes = packet_refused (reading bytes)
 
 -- what digits print, by the bytes that they stand for
-abbrev pub digits_text : Result (List ℕ) FromHexError → List ℕ
-digits_text (Ok bytes) = datagram_text (reading bytes)
-digits_text (Err _) = codes "refused NotHex\n"
+abbrev pub digits_text : Bool → Result (List ℕ) FromHexError → List ℕ
+digits_text requests (Ok bytes) = datagram_text requests bytes
+digits_text requests (Err _) = codes "refused NotHex\n"
 
-abbrev pub digits_refused : Result (List ℕ) FromHexError → Bool
-digits_refused (Ok bytes) = datagram_refused (reading bytes)
-digits_refused (Err _) = true
+abbrev pub digits_refused : Bool → Result (List ℕ) FromHexError → Bool
+digits_refused requests (Ok bytes) = datagram_refused requests bytes
+digits_refused requests (Err _) = true
 
 -- what a line prints: nothing where it is empty
-unfoldable pub line_text : List ℕ → List ℕ
-line_text [] = []
-line_text (byte ∷ bytes) = digits_text (decode_of (byte ∷ bytes))
+unfoldable pub line_text : Bool → List ℕ → List ℕ
+line_text requests [] = []
+line_text requests (byte ∷ bytes) = digits_text requests (decode_of (byte ∷ bytes))
 
-unfoldable pub line_refused : List ℕ → Bool
-line_refused [] = false
-line_refused (byte ∷ bytes) = digits_refused (decode_of (byte ∷ bytes))
+unfoldable pub line_refused : Bool → List ℕ → Bool
+line_refused requests [] = false
+line_refused requests (byte ∷ bytes) = digits_refused requests (decode_of (byte ∷ bytes))
 
 -- what the input prints, line by line
-unfoldable pub show_text : List ℕ → List ℕ
-show_text input = flat_map line_text (lines_of input)
+unfoldable pub show_text : Bool → List ℕ → List ℕ
+show_text requests input = flat_map (line_text requests) (lines_of input)
 
 -- whether any line of the input is refused
-unfoldable pub show_refused : List ℕ → Bool
-show_refused input = list_any line_refused (lines_of input)
+unfoldable pub show_refused : Bool → List ℕ → Bool
+show_refused requests input = list_any (line_refused requests) (lines_of input)
 
 -- the status: 0, or 2 where a line was refused
-abbrev pub show_status : List ℕ → ℕ
-show_status input = if show_refused input then 2 else 0
+abbrev pub show_status : Bool → List ℕ → ℕ
+show_status requests input = if show_refused requests input then 2 else 0

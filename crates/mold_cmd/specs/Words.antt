@@ -8,7 +8,7 @@ use Rattle.mold_cmd.specs.declared.words.table.Kind.TheVariants.{Flag, Optional,
 
 -- the commands, each with its options
 abbrev pub commands : List (Text × List (Text × Kind))
-commands = (codes "show", []) ∷ []
+commands = (codes "show", (codes "request", Flag) ∷ []) ∷ []
 
 -- an option of this name: a flag has no value, the value of another is a text
 abbrev pub rule_for : Text → Kind → Rule

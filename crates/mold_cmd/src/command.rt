@@ -28,6 +28,6 @@ pub fn run_command<S: Source, K: Sink>(
     ensures sink { CountsSink (K.failed sink.old) (K.failed sink.new) result }
 {
     match order {
-        Order::Show => show(alloc, source, sink),
+        Order::Show { request } => show(alloc, *request, source, sink),
     }
 }

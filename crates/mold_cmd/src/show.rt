@@ -4,21 +4,64 @@ ghost use Rattle.std.specs.Prelude.{◌≡◌, ◌++◌, IfOk, IfSome};
 ghost use Rattle.std.specs.Io.KnownBytes.{Appends};
 ghost use Rattle.mold_cmd.specs.Devices.{AppendsFront};
 ghost use Rattle.mold_cmd.specs.Faults.{CountsSource, CountsSink};
+ghost use Rattle.mold_cmd.specs.Show.{packet_shown, packet_refused, request_shown, request_refused};
 ghost use Rattle.mold_cmd.specs.Show.{line_text, line_refused, show_text, show_status};
+ghost use Rattle.mold_wire.specs.Reading.{reading};
+ghost use Rattle.mold_wire.specs.Request.{request_reading};
 
 use crate::devices::{Sink, Source};
 use crate::fault::CommandFault;
 use crate::lines::Lines;
 use crate::output::{LARGE, send};
-use crate::text::{push_packet, push_refused};
+use crate::text::{push_packet, push_refused_packet, push_refused_request, push_request};
+use mold_wire::Request;
 use std::alloc::{AllocError, Global};
+
+// Writes the packet that the bytes spell, or why they spell none, and answers whether they are refused.
+fn show_packet(bytes: &[u8], out: &mut Vec<u8>) -> Result<bool, AllocError>
+    ensures text { IfOk result (λ _. out.new.items ≡ out.old.items ++ packet_shown (reading bytes.now)) }
+    ensures refused { IfOk result (λ refused. refused ≡ packet_refused (reading bytes.now)) }
+{
+    match mold_wire::decode(bytes) {
+        Ok(packet) => {
+            push_packet(out, &packet)?;
+            Ok(false)
+        }
+        Err(fault) => {
+            push_refused_packet(out, fault)?;
+            Ok(true)
+        }
+    }
+}
+
+// Writes the request that the bytes spell, or why they spell none, and answers whether they are refused.
+fn show_request(bytes: &[u8], out: &mut Vec<u8>) -> Result<bool, AllocError>
+    ensures text { IfOk result (λ _. out.new.items ≡ out.old.items ++ request_shown (request_reading bytes.now)) }
+    ensures refused { IfOk result (λ refused. refused ≡ request_refused (request_reading bytes.now)) }
+{
+    match Request::decode(bytes) {
+        Ok(request) => {
+            push_request(out, &request)?;
+            Ok(false)
+        }
+        Err(fault) => {
+            push_refused_request(out, fault)?;
+            Ok(true)
+        }
+    }
+}
 
 // Writes what the line prints, and answers whether it was refused. The bytes that its digits stand for
 // go into `bytes`, whatever that held.
 #[tactic(auto, unfolding(crate::specs::Show::line_text, crate::specs::Show::line_refused))]
-fn show_line(line: &[u8], bytes: &mut Vec<u8>, out: &mut Vec<u8>) -> Result<bool, AllocError>
-    ensures text { IfOk result (λ _. out.new.items ≡ out.old.items ++ line_text line.now) }
-    ensures refused { IfOk result (λ refused. refused ≡ line_refused line.now) }
+fn show_line(
+    requests: bool,
+    line: &[u8],
+    bytes: &mut Vec<u8>,
+    out: &mut Vec<u8>,
+) -> Result<bool, AllocError>
+    ensures text { IfOk result (λ _. out.new.items ≡ out.old.items ++ line_text requests line.now) }
+    ensures refused { IfOk result (λ refused. refused ≡ line_refused requests line.now) }
 {
     if line.is_empty() {
         return Ok(false);
@@ -28,28 +71,24 @@ fn show_line(line: &[u8], bytes: &mut Vec<u8>, out: &mut Vec<u8>) -> Result<bool
         out.extend_from_slice(b"refused NotHex\n")?;
         return Ok(true);
     }
-    match mold_wire::decode(bytes.as_slice()) {
-        Ok(packet) => {
-            push_packet(out, &packet)?;
-            Ok(false)
-        }
-        Err(fault) => {
-            push_refused(out, fault)?;
-            Ok(true)
-        }
+    if requests {
+        show_request(bytes.as_slice(), out)
+    } else {
+        show_packet(bytes.as_slice(), out)
     }
 }
 
-/// Shows the packets that the lines of the source spell, and answers the status: 0, or 2 where a line
+/// Shows the packets, or else the requests, that the lines of the source spell, and answers the status: 0, or 2 where a line
 /// was refused. It holds no more of the input than the longest line and one read.
 pub fn show<S: Source, K: Sink>(
     alloc: Global,
+    requests: bool,
     source: &mut S,
     sink: &mut K,
 ) -> Result<u8, CommandFault>
     ensures whole { IfOk result (λ status. IfSome (S.left source.old) (λ input.
-        Appends (K.held sink.old) (K.held sink.new) (show_text input) × (status ≡ show_status input))) }
-    ensures front { IfSome (S.left source.old) (λ input. AppendsFront (K.held sink.old) (K.held sink.new) (show_text input)) }
+        Appends (K.held sink.old) (K.held sink.new) (show_text requests input) × (status ≡ show_status requests input))) }
+    ensures front { IfSome (S.left source.old) (λ input. AppendsFront (K.held sink.old) (K.held sink.new) (show_text requests input)) }
     ensures source { CountsSource (S.failed source.old) (S.failed source.new) result }
     ensures sink { CountsSink (K.failed sink.old) (K.failed sink.new) result }
 {
@@ -67,7 +106,7 @@ pub fn show<S: Source, K: Sink>(
                 return Err(fault.into());
             }
         }
-        refused |= show_line(lines.line(), &mut bytes, &mut text)?;
+        refused |= show_line(requests, lines.line(), &mut bytes, &mut text)?;
         if text.len() >= LARGE {
             send(sink, &mut text)?;
         }

@@ -1,5 +1,5 @@
 //! The program's words: which order they say.
-ghost use Rattle.std.specs.Prelude.{◌≡◌, [], IfErr, IfOk, IsSome, IsTrue, Ok, Some, map};
+ghost use Rattle.std.specs.Prelude.{◌≡◌, [], IfErr, IfOk, IsSome, IsTrue, Ok, Some, false, map};
 ghost use Rattle.std.specs.Prelude.{string_bytes};
 ghost use Rattle.clap.specs.Words.{takes};
 ghost use Rattle.mold_cmd.specs.Orders.{order_of, view};
@@ -16,7 +16,7 @@ mod types;
 
 use command::mold_command;
 pub use fault::UsageFault;
-use fault::{fault_of_no_command, fault_of_parse};
+use fault::{NO_COMMAND, fault_of_parse};
 use orders::order_from;
 use std::alloc::Global;
 pub use types::Order;
@@ -29,16 +29,18 @@ pub fn read_words(alloc: Global, words: &[String]) -> Result<Order, UsageFault>
     // Words that `clap` takes and that say an order fail for want of memory alone.
     ensures refused { IfErr result (λ fault. IsTrue (takes mold_app (map string_bytes words.now))
         → IsSome (order_of (map string_bytes words.now)) → fault ≡ UsageFault.Memory) }
-    ensures no_words { words.now ≡ [] → result ≡ Ok Order.Show }
+    ensures no_words { words.now ≡ [] → result ≡ Ok (Order.Show false) }
 {
     if words.is_empty() {
-        return Ok(Order::Show);
+        return Ok(Order::Show { request: false });
     }
     let command = mold_command(alloc)?;
     match command.try_get_matches_from(words) {
         Ok(matches) => match order_from(&matches) {
             Some(order) => Ok(order),
-            None => Err(fault_of_no_command(alloc)),
+            None => Err(UsageFault::Usage {
+                text: String::from_str(alloc, NO_COMMAND)?,
+            }),
         },
         Err(error) => Err(fault_of_parse(alloc, &error)),
     }

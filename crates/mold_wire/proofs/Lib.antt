@@ -1,3 +1,4 @@
 pub mod BlockLemmas
 pub mod PacketLemmas
 pub mod ReadingLemmas
+pub mod RequestLemmas

@@ -96,16 +96,17 @@ blocks_at-cut (message ∷ whole) rest (suc number) each below fits cut =
     ∙ blocks_at-block number message (blocks whole ++ rest) each.0
     ∙ ap (behind_first message) (blocks_at-cut whole rest number each.1 (omega arith) fits cut)
 
-big_number-be64 : (number : ℕ) (rest : List ℕ) → number < 2 ^ 64 → big_number 8 (be64 number ++ rest) ≡ number
+-- eight bytes read back as the number that they were written from
+pub big_number-be64 : (number : ℕ) (rest : List ℕ) → number < 2 ^ 64 → big_number 8 (be64 number ++ rest) ≡ number
 big_number-be64 number rest fits = omega arith
 
 -- a message count at its place, and what follows the header
-record CountRead (bytes : List ℕ) (count : ℕ) (behind : List ℕ) : Type 0 where
-  read : big_number 2 (drop 18 bytes) ≡ count
-  rest : drop 20 bytes ≡ behind
-  long : length bytes ≡ 20 + length behind
+pub record CountRead (bytes : List ℕ) (count : ℕ) (behind : List ℕ) : Type 0 where
+  pub read : big_number 2 (drop 18 bytes) ≡ count
+  pub rest : drop 20 bytes ≡ behind
+  pub long : length bytes ≡ 20 + length behind
 
-count_read : (front bytes : List ℕ) (count : ℕ) (behind : List ℕ) → length front ≡ 18 → count < 2 ^ 16 → bytes ≡ front ++ (be16 count ++ behind) → CountRead bytes count behind
+pub count_read : (front bytes : List ℕ) (count : ℕ) (behind : List ℕ) → length front ≡ 18 → count < 2 ^ 16 → bytes ≡ front ++ (be16 count ++ behind) → CountRead bytes count behind
 count_read front bytes count behind len fits parts =
     let at : drop 18 bytes ≡ be16 count ++ behind = ap (λ (t : List ℕ). drop 18 t) parts ∙ drop_at front (be16 count ++ behind) 18 len in
     record {

@@ -3,3 +3,4 @@ pub mod Packet
 pub mod Fault
 pub mod Parts
 pub mod Reading
+pub mod Request

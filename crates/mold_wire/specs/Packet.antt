@@ -36,3 +36,13 @@ pub record Spells (packet : Packet) (bytes : List ℕ) : Type 0 where
 -- sequence number
 abbrev pub top_of : Packet → ℕ
 top_of packet = packet.sequence + length (messages_of packet.body)
+
+-- a value that has a spelling: ten bytes, a number of 64 bits, and a body
+pub record IsPacket (packet : Packet) : Type 0 where
+  pub session : length packet.session.0 ≡ 10
+  pub sequence : packet.sequence < 2 ^ 64
+  pub body : IsBody packet.body
+
+-- its spelling
+abbrev pub spelling_of : Packet → List ℕ
+spelling_of packet = packet.session.0 ++ (be64 packet.sequence ++ (be16 (count_of packet.body) ++ blocks (messages_of packet.body)))

@@ -16,3 +16,22 @@ pub enum DecodeError {
     #[error("the packet ends at byte {at}, and more bytes follow")]
     Trailing { at: usize },
 }
+
+/// Why bytes spell no request packet.
+#[derive(Clone, Copy, Debug, PartialEq, Eq, Error)]
+pub enum RequestError {
+    /// Another length than the 20 bytes of a request; the length in bytes.
+    #[error("a request has 20 bytes, and this one has {len}")]
+    RequestLength { len: usize },
+}
+
+/// Why a packer is not made.
+#[derive(Clone, Copy, Debug, PartialEq, Eq, Error)]
+pub enum PackerError {
+    /// A limit outside 64 to 65,507 bytes.
+    #[error("a datagram's limit is 64 to 65,507 bytes")]
+    Limit,
+    /// The memory for a datagram was refused.
+    #[error("out of memory")]
+    Memory,
+}

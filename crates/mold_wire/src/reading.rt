@@ -17,13 +17,13 @@ use crate::session::Session;
 use byteorder::{BigEndian, ByteOrder};
 
 /// The bytes of a header: session, sequence number and message count.
-const HEADER: usize = 20;
+pub(crate) const HEADER: usize = 20;
 
 /// The message count that ends a session.
-const END: u16 = 65535;
+pub(crate) const END: u16 = 65535;
 
 // The parts of the header at the front, and what follows it; none where there is no whole header.
-fn split_header(bytes: &[u8]) -> Option<(Session, u64, u16, &[u8])>
+pub(crate) fn split_header(bytes: &[u8]) -> Option<(Session, u64, u16, &[u8])>
     ensures { MatchOption result (length bytes.now < 20)
         (λ found. IsHeaderAndRest bytes.now found.0.0 found.1 found.2 found.3.now) }
 {

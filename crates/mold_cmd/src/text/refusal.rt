@@ -1,10 +1,10 @@
 //! Why something is refused: a name, and the numbers that go with it.
 
-ghost use Rattle.std.specs.Prelude.{◌≡◌, ◌++◌, OnOk, codes};
-ghost use Rattle.mold_cmd.specs.Text.{named_number, fault_text};
+ghost use Rattle.std.specs.Prelude.{◌≡◌, ◌++◌, OnOk};
+ghost use Rattle.mold_cmd.specs.Text.{named_number, fault_text, request_fault_text, refused_text};
 
 use crate::text::digits::push_number;
-use mold_wire::DecodeError;
+use mold_wire::{DecodeError, RequestError};
 use std::alloc::AllocError;
 
 #[tactic(auto, unfolding(crate::specs::Text::named_number))]
@@ -16,8 +16,7 @@ fn push_named_number(out: &mut Vec<u8>, name: &[u8], number: u64) -> Result<(), 
     push_number(out, number)
 }
 
-/// Writes the name of the fault and its number.
-pub fn push_fault(out: &mut Vec<u8>, fault: DecodeError) -> Result<(), AllocError>
+fn push_packet_fault(out: &mut Vec<u8>, fault: DecodeError) -> Result<(), AllocError>
     ensures { OnOk result (out.new.items ≡ out.old.items ++ fault_text fault) }
 {
     match fault {
@@ -27,11 +26,28 @@ pub fn push_fault(out: &mut Vec<u8>, fault: DecodeError) -> Result<(), AllocErro
     }
 }
 
-/// Writes the line of a refused datagram.
-pub fn push_refused(out: &mut Vec<u8>, fault: DecodeError) -> Result<(), AllocError>
-    ensures { OnOk result (out.new.items ≡ out.old.items ++ (codes "refused " ++ (fault_text fault ++ codes "\n"))) }
+fn push_request_fault(out: &mut Vec<u8>, fault: RequestError) -> Result<(), AllocError>
+    ensures { OnOk result (out.new.items ≡ out.old.items ++ request_fault_text fault) }
+{
+    match fault {
+        RequestError::RequestLength { len } => push_named_number(out, b"RequestLength", len as u64),
+    }
+}
+
+/// Writes the line of bytes that spell no packet.
+pub fn push_refused_packet(out: &mut Vec<u8>, fault: DecodeError) -> Result<(), AllocError>
+    ensures { OnOk result (out.new.items ≡ out.old.items ++ refused_text (fault_text fault)) }
 {
     out.extend_from_slice(b"refused ")?;
-    push_fault(out, fault)?;
+    push_packet_fault(out, fault)?;
+    out.extend_from_slice(b"\n")
+}
+
+/// Writes the line of bytes that spell no request.
+pub fn push_refused_request(out: &mut Vec<u8>, fault: RequestError) -> Result<(), AllocError>
+    ensures { OnOk result (out.new.items ≡ out.old.items ++ refused_text (request_fault_text fault)) }
+{
+    out.extend_from_slice(b"refused ")?;
+    push_request_fault(out, fault)?;
     out.extend_from_slice(b"\n")
 }

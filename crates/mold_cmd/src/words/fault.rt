@@ -7,7 +7,8 @@ use clap::Error;
 use clap::error::ErrorKind;
 use std::alloc::{AllocError, Global};
 
-const NO_COMMAND: &str = "error: no command was given
+/// The text of words that the parser takes and that name no command.
+pub(super) const NO_COMMAND: &str = "error: no command was given
 
 Usage: mold [COMMAND]
 
@@ -47,13 +48,5 @@ pub(super) fn fault_of_parse(alloc: Global, error: &Error) -> UsageFault
     match kind {
         ErrorKind::DisplayHelp => UsageFault::Help { text },
         _ => UsageFault::Usage { text },
-    }
-}
-
-/// The fault of words that the parser takes and that name no command.
-pub(super) fn fault_of_no_command(alloc: Global) -> UsageFault {
-    match String::from_str(alloc, NO_COMMAND) {
-        Ok(text) => UsageFault::Usage { text },
-        Err(_) => UsageFault::Memory,
     }
 }

@@ -1,18 +1,43 @@
 //! The order of the command that a parse found.
 ghost use Rattle.std.specs.Prelude.{◌≡◌, option_and_then, option_map};
-ghost use Rattle.clap.specs.Words.{subcommand_rows_of};
-ghost use Rattle.mold_cmd.specs.Orders.{order_in, view};
+ghost use Rattle.clap.specs.Words.{first_of, found_of, rows_of, subcommand_rows_of};
+ghost use Rattle.mold_cmd.specs.Orders.{flag_in, order_in, show_of, view};
 
 use super::types::Order;
 use clap::ArgMatches;
 
-/// The order of the command that was found, where one was and its options have good values.
+/// The order of the command that was found, if one was.
 pub(super) fn order_from(matches: &ArgMatches<'_>) -> Option<Order>
     ensures { option_map view result ≡ option_and_then order_in (subcommand_rows_of matches.now) }
 {
-    let (name, _options) = matches.subcommand()?;
+    let (name, options) = matches.subcommand()?;
     match name {
-        "show" => Some(Order::Show),
+        "show" => Some(show_order(options)),
         _ => None,
     }
+}
+
+// The order of `show`.
+#[tactic(auto, unfolding(crate::specs::Orders::show_of))]
+fn show_order(options: &ArgMatches<'_>) -> Order
+    ensures { view result ≡ show_of (rows_of (found_of options.now)) }
+{
+    Order::Show {
+        request: flag_in(options, "request"),
+    }
+}
+
+// Whether the flag was given.
+fn flag_in(options: &ArgMatches<'_>, name: &str) -> bool
+    ensures { result ≡ flag_in name.now (rows_of (found_of options.now)) }
+{
+    text_in(options, name).is_some_and(|text| text == "true")
+}
+
+// The text of the option, where it has one.
+fn text_in<'a>(options: &ArgMatches<'a>, name: &str) -> Option<&'a str>
+    ensures { option_map (λ text. text.now) result
+        ≡ first_of name.now (rows_of (found_of options.now)) }
+{
+    options.get_str(name)
 }

@@ -31,5 +31,9 @@ pub struct CommandRow {
 pub static COMMANDS: [CommandRow; 1] = [CommandRow {
     name: "show",
     about: "Print packets given as lines of hexadecimal digits on standard input",
-    options: &[],
+    options: &[OptionRow {
+        name: "request",
+        kind: Kind::Flag,
+        help: "Read each line as a request packet",
+    }],
 }];

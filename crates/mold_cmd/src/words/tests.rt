@@ -13,9 +13,9 @@ fn read(alloc: Global, line: &str) -> Result<Result<Order, UsageFault>, Fail> {
 
 #[test]
 fn words_of_show(rt: HostRuntime) -> Result<(), Fail> {
-    for line in ["", "show"] {
+    for (line, request) in [("", false), ("show", false), ("show --request", true)] {
         let order = read(rt.alloc(), line)?.map_err(|_| "no order")?;
-        assert_eq!(rt; order, Order::Show, "{line}");
+        assert_eq!(rt; order, Order::Show { request }, "{line}");
     }
     Ok(())
 }
@@ -24,11 +24,12 @@ fn words_of_show(rt: HostRuntime) -> Result<(), Fail> {
 fn words_that_are_no_command(rt: HostRuntime) -> Result<(), Fail> {
     for line in [
         "other",
+        "--",
+        "--request",
         "show extra",
         "show --other",
-        "--other",
-        "--",
-        "show --request",
+        "show --request=yes",
+        "show --request --request",
     ] {
         let Err(UsageFault::Usage { text }) = read(rt.alloc(), line)? else {
             return Err(Fail::from("no usage fault"));
@@ -41,19 +42,7 @@ fn words_that_are_no_command(rt: HostRuntime) -> Result<(), Fail> {
 
 #[test]
 fn words_that_ask_for_help(rt: HostRuntime) -> Result<(), Fail> {
-    for line in ["--help", "help", "show --help", "help show"] {
-        let Err(UsageFault::Help { text }) = read(rt.alloc(), line)? else {
-            return Err(Fail::from("no help"));
-        };
-        assert!(rt; text.as_str().contains("show"), "{line}: {text}");
-        assert!(rt; text.as_str().ends_with('\n'), "{line}: {text}");
-    }
-    Ok(())
-}
-
-#[test]
-fn whole_help(rt: HostRuntime) -> Result<(), Fail> {
-    let expected = "MoldUDP64 packets, shown as lines of text
+    let top = "MoldUDP64 packets, shown as lines of text
 
 Usage: mold [COMMAND]
 
@@ -66,9 +55,24 @@ Options:
 
 Without a command, show is run.
 ";
-    let Err(UsageFault::Help { text }) = read(rt.alloc(), "--help")? else {
-        return Err(Fail::from("no help"));
-    };
-    assert!(rt; text.as_str() == expected, "{text}");
+    let show = "Print packets given as lines of hexadecimal digits on standard input
+
+Usage: mold show [OPTIONS]
+
+Options:
+      --request  Read each line as a request packet
+  -h, --help     Print help
+";
+    for (line, wanted) in [
+        ("--help", top),
+        ("help", top),
+        ("show --help", show),
+        ("help show", show),
+    ] {
+        let Err(UsageFault::Help { text }) = read(rt.alloc(), line)? else {
+            return Err(Fail::from("no help"));
+        };
+        assert!(rt; text.as_str() == wanted, "{line}: {text}");
+    }
     Ok(())
 }

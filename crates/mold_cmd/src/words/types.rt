@@ -4,5 +4,8 @@
 #[derive(Debug, PartialEq, Eq, Drop)]
 pub enum Order {
     /// Print the packets that standard input gives, each as a line of hexadecimal digits.
-    Show,
+    Show {
+        /// Whether the lines are requests.
+        request: bool,
+    },
 }

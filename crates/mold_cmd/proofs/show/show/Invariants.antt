@@ -7,7 +7,7 @@ use Rattle.mold_cmd.proofs.show.show.Given as goal
 -- the lines that were given are shown, and no device failed
 abbrev pub invariant-lines : goal.invariant-lines
 invariant-lines g l = record {
-  shown : Shown (g.S.Source.left l.fn.source) (prepend_known l.lines.rest (g.S.Source.left l.source)) (g.K.Sink.held l.fn.sink) (g.K.Sink.held l.sink) l.text.items l.refused;
+  shown : Shown l.fn.requests (g.S.Source.left l.fn.source) (prepend_known l.lines.rest (g.S.Source.left l.source)) (g.K.Sink.held l.fn.sink) (g.K.Sink.held l.sink) l.text.items l.refused;
   source : g.S.Source.failed l.source ≡ g.S.Source.failed l.fn.source;
   sink : g.K.Sink.failed l.sink ≡ g.K.Sink.failed l.fn.sink;
 }

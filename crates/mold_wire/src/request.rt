@@ -1,0 +1,68 @@
+//! A request packet.
+
+ghost use Rattle.std.specs.Prelude.{◌≡◌, IfOk, IfErr, List, ℕ};
+
+use crate::error::RequestError;
+use crate::header::put_header;
+use crate::reading::split_header;
+use crate::session::Session;
+
+/// The bytes of a request.
+const LENGTH: usize = 20;
+
+/// A request for messages of a session, as it goes to a re-request server.
+#[derive(Clone, Copy, Debug, PartialEq, Eq)]
+pub struct Request {
+    /// The session that the messages belong to.
+    pub session: Session,
+    /// The number of the first message that is asked for. The codec takes 0 like any other number.
+    pub sequence: u64,
+    /// How many messages are asked for, all of 0 to 65,535; no number of them has a meaning of its own.
+    pub count: u16,
+}
+
+impl Request {
+    ghost use Rattle.mold_wire.specs.Request.{SpellsRequest, RequestFaultAt, request_reading};
+    ghost use Rattle.mold_wire.specs.declared.error.RequestError.{RequestError};
+    ghost use Rattle.mold_wire.specs.declared.request.Request.{Request};
+
+    /// Reads the request that the bytes of a datagram spell. Any 20 bytes spell one.
+    pub fn decode(bytes: &[u8]) -> Result<Request, RequestError>
+        // What is read is spelled so, and what is refused has the fault.
+        ensures spelled { IfOk result (λ request. SpellsRequest request bytes.now) }
+        ensures fault { IfErr result (λ error. RequestFaultAt error bytes.now) }
+
+        // What is spelled so is read, and the fault is the one refusal.
+        ensures only { (request : Request) → SpellsRequest request bytes.now → result ≡ Ok request }
+        ensures refused { (error : RequestError) → RequestFaultAt error bytes.now → result ≡ Err error }
+        ensures exact { result ≡ request_reading bytes.now }
+    {
+        read_request(bytes)
+    }
+
+    /// The 20 bytes that spell the request.
+    pub fn encode(&self) -> [u8; 20]
+        ensures { SpellsRequest self.now result }
+    {
+        let Request { session, sequence, count } = *self;
+        let mut bytes = [0; LENGTH];
+        put_header(&mut bytes, session, sequence, count);
+        bytes
+    }
+}
+
+ghost use Rattle.mold_wire.specs.Request.{SpellsRequest, RequestFaultAt};
+
+fn read_request(bytes: &[u8]) -> Result<Request, RequestError>
+    ensures spelled { IfOk result (λ request. SpellsRequest request bytes.now) }
+    ensures fault { IfErr result (λ error. RequestFaultAt error bytes.now) }
+{
+    let Some((session, sequence, count, [])) = split_header(bytes) else {
+        return Err(RequestError::RequestLength { len: bytes.len() });
+    };
+    Ok(Request {
+        session,
+        sequence,
+        count,
+    })
+}
