@@ -124,6 +124,20 @@ fn each_read_that_fails_leaves_a_beginning(rt: HostRuntime) -> Result<(), Fail> 
 }
 
 #[test]
+fn a_failed_read_loses_no_line_before_it(rt: HostRuntime) -> Result<(), Fail> {
+    let mut input = Vec::from_slice(rt.alloc(), TWO)?;
+    input.extend_from_slice(LEAST)?;
+    let mut source = MemorySource::new(input.as_slice());
+    source.at_most(TWO.len());
+    source.fail_at(2);
+    let mut sink = MemorySink::new(rt.alloc());
+    let outcome = run_command(rt.alloc(), &Order::Show, &mut source, &mut sink);
+    assert_eq!(rt; outcome, Err(CommandFault::Read));
+    assert_eq!(rt; sink.bytes(), TWO_TEXT);
+    Ok(())
+}
+
+#[test]
 fn each_write_that_fails_leaves_a_beginning(rt: HostRuntime) -> Result<(), Fail> {
     for call in 1..=49 {
         let mut source = MemorySource::new(TWO);
