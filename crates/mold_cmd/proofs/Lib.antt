@@ -1,5 +1,5 @@
 pub mod DeviceLemmas
-pub mod Folds
+pub mod FoldLemmas
 pub mod LineLemmas
-pub mod Orders
+pub mod OrderLemmas
 pub mod ShowLemmas

@@ -2,3 +2,6 @@ pub mod BlockLemmas
 pub mod PacketLemmas
 pub mod ReadingLemmas
 pub mod RequestLemmas
+pub mod SpellingLemmas
+pub mod PackingLemmas
+pub mod PackerLemmas

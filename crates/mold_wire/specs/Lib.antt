@@ -4,3 +4,6 @@ pub mod Fault
 pub mod Parts
 pub mod Reading
 pub mod Request
+pub mod Packing
+pub mod Packer
+pub mod Buffer

@@ -1,13 +1,14 @@
 //! Message blocks at the front of some bytes.
 
-ghost use Rattle.std.specs.Prelude.{◌<◌, MatchOption, MatchResult};
+ghost use Rattle.std.specs.Prelude.{◌≡◌, ◌+◌, ◌≤◌, ◌<◌, ◌^◌, ◌++◌, length, drop, MatchOption, MatchResult};
+ghost use Rattle.mold_wire.specs.Block.{block};
 ghost use Rattle.mold_wire.specs.Fault.{BeginsNoBlock};
 ghost use Rattle.mold_wire.specs.Parts.{IsBlockAndRest, AreBlocksAndRest, IsCutAt};
 
 use byteorder::{BigEndian, ByteOrder};
 
 /// The bytes of a block's length.
-const LENGTH: usize = 2;
+pub(crate) const LENGTH: usize = 2;
 
 // The data of the block at the front and what follows it, or none where no whole block stands there.
 pub(crate) fn split_block(bytes: &[u8]) -> Option<(&[u8], &[u8])>
@@ -39,4 +40,16 @@ pub(crate) fn skip_blocks(number: u16, bytes: &[u8]) -> Result<&[u8], u16>
         rest = behind;
     }
     Ok(rest)
+}
+
+// Writes a block at the front of the bytes, and leaves what is behind it.
+pub(crate) fn put_block(out: &mut [u8], message: &[u8])
+    requires fits { length message.now < 2 ^ 16 }
+    requires room { 2 + length message.now ≤ length out.old }
+    ensures { out.new ≡ block message.now ++ drop (length message.now) (drop 2 out.old) }
+{
+    let (head, behind) = out.split_at_mut(LENGTH);
+    BigEndian::write_u16(head, message.len() as u16);
+    let (place, _) = behind.split_at_mut(message.len());
+    place.copy_from_slice(message);
 }

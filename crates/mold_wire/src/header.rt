@@ -2,6 +2,7 @@
 
 ghost use Rattle.std.specs.Prelude.{◌≡◌, ◌++◌, ◌≤◌, length, drop};
 ghost use Rattle.mold_wire.specs.Block.{be16, be64};
+ghost use Rattle.mold_wire.specs.Buffer.{recounted};
 
 use crate::session::Session;
 use byteorder::{BigEndian, ByteOrder};
@@ -25,4 +26,13 @@ pub(crate) fn put_header(out: &mut [u8], session: Session, sequence: u64, count:
     let (name, behind) = out.split_at_mut(10);
     name.copy_from_slice(&session.0);
     put_numbers(behind, sequence, count);
+}
+
+// Writes the message count in a header that stands there, and leaves the rest.
+pub(crate) fn put_count(packet: &mut [u8], count: u16)
+    requires { 20 ≤ length packet.old }
+    ensures { packet.new ≡ recounted count packet.old }
+{
+    let (_, behind) = packet.split_at_mut(18);
+    BigEndian::write_u16(behind, count);
 }

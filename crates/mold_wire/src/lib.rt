@@ -1,11 +1,14 @@
-//! The MoldUDP64 packet codec: downstream packets read from a datagram's bytes, where they lie.
+//! The MoldUDP64 packet codec: downstream packets and requests, read from a datagram's bytes and
+//! written into them.
 #![tactic(auto)]
 
 mod block;
 mod blocks;
 mod error;
 mod header;
+pub mod laws;
 mod messages;
+mod packer;
 mod packet;
 mod reading;
 mod request;
@@ -14,8 +17,9 @@ mod session;
 mod tests;
 
 pub use blocks::Blocks;
-pub use error::{DecodeError, RequestError};
+pub use error::{DecodeError, PackerError, RequestError};
 pub use messages::Messages;
+pub use packer::Packer;
 pub use packet::{Body, Packet};
 pub use reading::decode;
 pub use request::Request;

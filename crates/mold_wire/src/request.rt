@@ -44,7 +44,11 @@ impl Request {
     pub fn encode(&self) -> [u8; 20]
         ensures { SpellsRequest self.now result }
     {
-        let Request { session, sequence, count } = *self;
+        let Request {
+            session,
+            sequence,
+            count,
+        } = *self;
         let mut bytes = [0; LENGTH];
         put_header(&mut bytes, session, sequence, count);
         bytes

@@ -1,6 +1,8 @@
-//! Each public call on its happy path, and the vectors that are read.
+//! Each public call on its happy path, and the vectors that are read and written.
 
-use crate::{Body, DecodeError, Packet, Session, decode};
+use crate::{
+    Body, DecodeError, Packer, PackerError, Packet, Request, RequestError, Session, decode,
+};
 use std::process::Abort;
 use std::test::Fail;
 
@@ -77,4 +79,97 @@ fn each_front_of_two_messages_has_its_fault(rt: HostRuntime) {
         Ok(_) => assert!(rt; false, "a byte behind is read"),
         Err(error) => assert_eq!(rt; error, DecodeError::Trailing { at: 26 }),
     }
+}
+
+const HEARTBEAT: &[u8] = b"SESSION001\0\0\0\0\0\0\0\x01\0\0";
+
+const END: &[u8] = b"SESSION001\0\0\0\0\0\0\0\x03\xff\xff";
+
+#[test]
+fn a_packer_is_made_for_64_to_65507_bytes(rt: HostRuntime) {
+    let table = [
+        (63, Some(PackerError::Limit)),
+        (64, None),
+        (65507, None),
+        (65508, Some(PackerError::Limit)),
+    ];
+    for (limit, refusal) in table {
+        assert_eq!(rt;
+            Packer::new(rt.alloc(), limit).err(),
+            refusal,
+            "limit {limit}"
+        );
+    }
+}
+
+#[test]
+fn a_packet_grows_up_to_the_limit(rt: HostRuntime) -> Result<(), Fail> {
+    let mut packer = Packer::new(rt.alloc(), 64)?;
+    assert_eq!(rt; packer.bytes(), b"".as_slice());
+    assert!(rt; !packer.fits(0));
+    assert!(rt; !packer.add(b""));
+    packer.start(SESSION, 1);
+    assert_eq!(rt; packer.bytes(), HEARTBEAT);
+    assert!(rt; packer.fits(42));
+    assert!(rt; !packer.fits(43));
+    assert!(rt; packer.add(&[1; 20]));
+    assert!(rt; packer.add(&[2; 20]));
+    let full =
+        b"SESSION001\0\0\0\0\0\0\0\x01\0\x02\0\x14\x01\x01\x01\x01\x01\x01\x01\x01\x01\x01\x01\x01\x01\x01\x01\x01\x01\x01\x01\x01\0\x14\x02\x02\x02\x02\x02\x02\x02\x02\x02\x02\x02\x02\x02\x02\x02\x02\x02\x02\x02\x02";
+    assert_eq!(rt; packer.bytes(), full.as_slice());
+    assert!(rt; !packer.add(b""));
+    assert_eq!(rt; packer.bytes(), full.as_slice());
+    packer.end(SESSION, 3);
+    assert!(rt; !packer.fits(0));
+    assert_eq!(rt; packer.bytes(), END);
+    Ok(())
+}
+
+#[test]
+fn packets_are_written_as_they_are_read(rt: HostRuntime) -> Result<(), Fail> {
+    let mut packer = Packer::new(rt.alloc(), 1400)?;
+    packer.end(SESSION, 1);
+    assert_eq!(rt;
+        packer.bytes(),
+        b"SESSION001\0\0\0\0\0\0\0\x01\xff\xff".as_slice()
+    );
+    packer.start(SESSION, 1);
+    assert!(rt; packer.add(b"AB"));
+    assert!(rt; packer.add(b""));
+    assert_eq!(rt; packer.bytes(), TWO_MESSAGES);
+    packer.start(SESSION, 18446744073709551615);
+    assert!(rt; packer.add(b"A"));
+    assert_eq!(rt;
+        packer.bytes(),
+        b"SESSION001\xff\xff\xff\xff\xff\xff\xff\xff\0\x01\0\x01A".as_slice()
+    );
+    let packet = decode(packer.bytes())?;
+    assert_eq!(rt; packet.sequence, 18446744073709551615);
+    Ok(())
+}
+
+#[test]
+fn requests_are_read_and_written(rt: HostRuntime) -> Result<(), Fail> {
+    let table = [
+        (1, 2, b"SESSION001\0\0\0\0\0\0\0\x01\0\x02"),
+        (2, 65535, b"SESSION001\0\0\0\0\0\0\0\x02\xff\xff"),
+    ];
+    for (sequence, count, bytes) in table {
+        let request = Request {
+            session: SESSION,
+            sequence,
+            count,
+        };
+        assert_eq!(rt; request.encode(), *bytes);
+        assert_eq!(rt; Request::decode(bytes)?, request);
+        assert_eq!(rt;
+            Request::decode(&bytes[..19]),
+            Err(RequestError::RequestLength { len: 19 })
+        );
+    }
+    assert_eq!(rt;
+        Request::decode(TWO_MESSAGES),
+        Err(RequestError::RequestLength { len: 26 })
+    );
+    Ok(())
 }

@@ -12,7 +12,7 @@ use std::alloc::{AllocError, Global};
 
 const ABOUT: &str = "MoldUDP64 packets, shown as lines of text";
 
-const NO_COMMAND: &str = "Without a command, show is run.";
+const WITHOUT_COMMAND: &str = "Without a command, show is run.";
 
 // The argument that an option is to `clap`, which reads each value as a text.
 fn argument_of<'a>(alloc: Global, option: OptionRow) -> Arg<'a>
@@ -61,7 +61,7 @@ fn command_of_rows<'a>(alloc: Global, rows: &[CommandRow]) -> Result<Command<'a>
     let mut command = Command::new(alloc, "mold")
         .no_binary_name(true)
         .about(ABOUT)
-        .after_help(NO_COMMAND)
+        .after_help(WITHOUT_COMMAND)
         .bin_name("mold")?;
     for row in rows {
         command = command.subcommand(command_from(alloc, *row)?)?;

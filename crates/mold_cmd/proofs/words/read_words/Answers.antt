@@ -1,7 +1,7 @@
 use Rattle.std.proofs.Common.{◌≡◌, ◌∙◌, sym, map, string_bytes, None}
 use Rattle.clap.specs.Words.{app_of}
 use Rattle.mold_cmd.specs.Orders.{order_of}
-use Rattle.mold_cmd.proofs.Orders.{order_of-no_words, order_of-matches}
+use Rattle.mold_cmd.proofs.OrderLemmas.{order_of-no_words, order_of-matches}
 use Rattle.mold_cmd.proofs.words.read_words.Goals as goal
 
 pub returns-then-is_empty-clause-ok : goal.returns-then-is_empty-clause-ok

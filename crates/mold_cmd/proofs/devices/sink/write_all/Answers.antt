@@ -1,7 +1,7 @@
 use Rattle.std.proofs.Common.{arith, ◌≡◌, ◌<◌, ◌-◌, ℕ, List, ◌++◌, length, take, drop, take-append-drop, length-append, append_assoc, ap, sym, ◌∙◌}
 use Rattle.std.proofs.lemmas.Grind.{common_steps}
 use Rattle.std.proofs.lemmas.List.{take_rest}
-use Rattle.mold_cmd.proofs.DeviceLemmas.{appends_both}
+use Rattle.std.proofs.KnownBytes.{Appends-trans}
 use Rattle.mold_cmd.proofs.devices.sink.write_all.Goals as goal
 
 -- a front of the rest that joins what is done leaves the rest behind it
@@ -24,7 +24,7 @@ loop-rest-preserved g c =
     record {
       done = so_far.done ++ take count rest;
       parts = moved c.args.bytes.now so_far.done rest count so_far.parts;
-      taken = appends_both _ _ _ so_far.done (take count rest) so_far.taken c.in_ok-count.ensures.bytes;
+      taken = Appends-trans _ _ _ so_far.done (take count rest) so_far.taken c.in_ok-count.ensures.bytes;
       counted = c.in_ok-count.ensures.failures ∙ so_far.counted;
       untouched = λ none. absurd (omega (arith, there, none));
     }

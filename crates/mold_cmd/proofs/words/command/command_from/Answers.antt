@@ -4,7 +4,7 @@ use Rattle.mold_cmd.specs.Words.{with_option}
 use Rattle.mold_cmd.specs.Table.{option_of}
 use Rattle.mold_cmd.specs.declared.words.table.OptionRow.{OptionRow}
 use Rattle.mold_cmd.specs.declared.words.table.Kind.TheVariants.{Flag}
-use Rattle.mold_cmd.proofs.Folds.{fold-map_more}
+use Rattle.mold_cmd.proofs.FoldLemmas.{fold-map_more}
 use Rattle.mold_cmd.proofs.words.command.command_from.Goals as goal
 
 -- what the list reads as behind its end

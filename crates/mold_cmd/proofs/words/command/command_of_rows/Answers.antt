@@ -3,7 +3,7 @@ use Rattle.clap.specs.Words.{App, with_subcommand}
 use Rattle.mold_cmd.specs.Words.{bare_app, with_command}
 use Rattle.mold_cmd.specs.Table.{command_of}
 use Rattle.mold_cmd.specs.declared.words.table.CommandRow.{CommandRow}
-use Rattle.mold_cmd.proofs.Folds.{fold-map_more}
+use Rattle.mold_cmd.proofs.FoldLemmas.{fold-map_more}
 use Rattle.mold_cmd.proofs.words.command.command_of_rows.Goals as goal
 
 -- what the list reads as behind its end

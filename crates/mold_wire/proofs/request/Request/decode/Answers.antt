@@ -1,4 +1,4 @@
-use Rattle.std.proofs.Common.{◌≡◌, ◌∙◌}
+use Rattle.std.proofs.Common.{◌∙◌}
 use Rattle.mold_wire.proofs.RequestLemmas.{request_answer, request_reading-spelled}
 use Rattle.mold_wire.proofs.request.Request.decode.Goals as goal
 
