@@ -1,6 +1,5 @@
 -- What an order prints for its input, and the status that it ends with.
-use Rattle.std.specs.Prelude.{◌≡◌, ℕ, List, Result, Ok, Err}
-use Rattle.mold_cmd.specs.Devices.{one_more}
+use Rattle.std.specs.Prelude.{ℕ, List}
 use Rattle.mold_cmd.specs.Show.{show_text, show_status}
 use Rattle.mold_cmd.specs.declared.words.types.Order.{Order}
 use Rattle.mold_cmd.specs.declared.words.types.Order.TheVariants.{Show}

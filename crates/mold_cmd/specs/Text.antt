@@ -1,7 +1,6 @@
 -- How packets and refusals are printed.
 use Rattle.std.specs.Prelude.{ℕ, ◌+◌, List, [], ◌∷◌, ◌++◌, length, codes, decimal}
 use Rattle.hex.specs.Hex.{encode_lower}
-use Rattle.mold_wire.specs.declared.session.Session.{Session}
 use Rattle.mold_wire.specs.declared.packet.Packet.{Packet}
 use Rattle.mold_wire.specs.declared.packet.Body.{Body}
 use Rattle.mold_wire.specs.declared.packet.Body.TheVariants.{Data, Heartbeat, End}

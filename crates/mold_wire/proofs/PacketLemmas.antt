@@ -1,5 +1,5 @@
 -- From the parts that the decoder found to the packet that the bytes spell, or to their fault.
-use Rattle.std.proofs.Common.{◌≡◌, ℕ, ◌+◌, ◌-◌, ◌<◌, ◌≤◌, ◌^◌, Bool, true, false, cond, eqb, List, [], ◌∷◌, ◌++◌, length, length-append, refl, sym, ap, subst, ◌∙◌, append_assoc, arith}
+use Rattle.std.proofs.Common.{◌≡◌, ℕ, ◌-◌, ◌<◌, ◌^◌, cond, eqb, List, [], ◌++◌, length, length-append, refl, sym, ap, ◌∙◌, append_assoc, arith}
 use Rattle.std.specs.List.{AllByRecursion}
 use Rattle.std.proofs.lemmas.Bool.{cond_both, eqb-true, eqb-false, eq-eqb, ne_eqb, cond-true, cond-false}
 use Rattle.std.proofs.lemmas.List.{nil_from_length}
@@ -7,8 +7,8 @@ use Rattle.mold_wire.specs.declared.session.Session.{Session}
 use Rattle.mold_wire.specs.declared.packet.Packet.{Packet}
 use Rattle.mold_wire.specs.declared.packet.Body.{Body}
 use Rattle.mold_wire.specs.declared.packet.Body.TheVariants.{Data, Heartbeat, End}
-use Rattle.mold_wire.specs.Block.{be16, be64, IsMessage, blocks, messages_at, AreBlocks}
-use Rattle.mold_wire.specs.Packet.{IsBody, count_of, messages_of, Spells}
+use Rattle.mold_wire.specs.Block.{be16, be64, IsMessage, blocks}
+use Rattle.mold_wire.specs.Packet.{messages_of, Spells}
 use Rattle.mold_wire.specs.Fault.{IsCut, IsTrailing}
 use Rattle.mold_wire.specs.Parts.{AreBlocksAndRest, IsCutAt, IsHeaderAndRest, stated_blocks, BodyIs}
 use Rattle.mold_wire.specs.Reading.{body_of}

@@ -1,12 +1,13 @@
 -- How long packets are, and the longest front that fits.
 use Rattle.std.proofs.Common.{◌≡◌, ℕ, zero, suc, ◌+◌, ◌*◌, ◌<◌, ◌≤◌, leb, List, [], ◌∷◌, ◌++◌, length, length-append, length-take, take, drop, refl, sym, ap, subst, ◌∙◌, append_assoc, inl, inr, arith}
 use Rattle.std.proofs.lemmas.Bool.{cond_both, cases_lt, leb-true, leb-false}
-use Rattle.std.proofs.lemmas.List.{take_at, take-append-drop, take-append-le}
+use Rattle.std.proofs.lemmas.List.{take_at, drop_at, take-append-drop, take-append-le}
 use Rattle.std.proofs.lemmas.List.Sums.{sum_by-cons, sum_by-append}
 use Rattle.mold_wire.specs.declared.packet.Packet.{Packet}
 use Rattle.mold_wire.specs.Block.{be16, be64, block, blocks}
 use Rattle.mold_wire.specs.Packet.{Spells, count_of, messages_of}
 use Rattle.mold_wire.specs.Packing.{packet_length, Fits, IsFront, fitting, front}
+use Rattle.mold_wire.proofs.BlockLemmas.{blocks-append}
 
 abbrev block_length : List ℕ → ℕ
 block_length message = 2 + length message
@@ -174,3 +175,38 @@ front_stops limit messages most found behind parts few fits stops = record {
 -- where a message may be asked for and the first one fits alone, there is one
 pub front_some : (limit : ℕ) (message : List ℕ) (messages found : List (List ℕ)) (most : ℕ) → IsFront limit (message ∷ messages) most found → 0 < most → Fits limit (message ∷ []) → 0 < length found
 front_some limit message messages found most is some fits = is.longest (message ∷ []) messages refl some fits
+
+-- a message's data stand behind the header, the blocks before it and its own length
+pub message_place : (packet : Packet) (bytes : List ℕ) (front behind : List (List ℕ)) (message : List ℕ) → Spells packet bytes → messages_of packet.body ≡ front ++ message ∷ behind → take (length message) (drop (packet_length front + 2) bytes) ≡ message
+message_place packet bytes front behind message spells parts =
+    let session = packet.session.0 in
+    let head : List ℕ = session ++ (be64 packet.sequence ++ be16 (count_of packet.body)) in
+    let before : List ℕ = (head ++ blocks front) ++ be16 (length message) in
+    let rest : List ℕ = message ++ blocks behind in
+    let joined : blocks (messages_of packet.body) ≡ blocks front ++ (be16 (length message) ++ rest) =
+    ap blocks parts
+    ∙ blocks-append front (message ∷ behind)
+    ∙ ap (λ (t : List ℕ). blocks front ++ t) (append_assoc (be16 (length message)) message (blocks behind))
+    in
+    let laid : bytes ≡ before ++ rest =
+    spells.spelled
+    ∙ ap (λ (t : List ℕ). session ++ (be64 packet.sequence ++ (be16 (count_of packet.body) ++ t))) joined
+    ∙ sym (ap (λ (t : List ℕ). session ++ t) (append_assoc (be64 packet.sequence) (be16 (count_of packet.body)) (blocks front ++ (be16 (length message) ++ rest))))
+    ∙ sym (append_assoc session (be64 packet.sequence ++ be16 (count_of packet.body)) (blocks front ++ (be16 (length message) ++ rest)))
+    ∙ sym (append_assoc head (blocks front) (be16 (length message) ++ rest))
+    ∙ sym (append_assoc (head ++ blocks front) (be16 (length message)) rest)
+    in
+    let place : length before ≡ packet_length front + 2 =
+    omega (
+      arith,
+      length-append (head ++ blocks front) (be16 (length message)),
+      length-append head (blocks front),
+      length-append session (be64 packet.sequence ++ be16 (count_of packet.body)),
+      length-append (be64 packet.sequence) (be16 (count_of packet.body)),
+      length-blocks front,
+      spells.session,
+    )
+    in
+    ap (λ (t : List ℕ). take (length message) (drop (packet_length front + 2) t)) laid
+    ∙ ap (take (length message)) (drop_at before rest (packet_length front + 2) place)
+    ∙ take_at message (blocks behind) (length message) refl

@@ -1,5 +1,5 @@
 -- What the parts of the decoder find at the front of some bytes.
-use Rattle.std.specs.Prelude.{◌≡◌, ℕ, ◌+◌, ◌<◌, ◌^◌, List, ◌++◌, length, ◌==◌, if◌then◌else◌}
+use Rattle.std.specs.Prelude.{◌≡◌, ℕ, ◌<◌, ◌^◌, List, ◌++◌, length, ◌==◌, if◌then◌else◌}
 use Rattle.std.specs.List.{AllByRecursion}
 use Rattle.mold_wire.specs.Block.{be16, be64, IsMessage, block, blocks}
 use Rattle.mold_wire.specs.Fault.{BeginsNoBlock}

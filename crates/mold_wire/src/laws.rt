@@ -1,7 +1,7 @@
 //! What holds of the definitions alone, for all values and all bytes. Each law is a function that does
 //! nothing: its contract is the law.
 
-ghost use Rattle.std.specs.Prelude.{◌≡◌, ◌↔◌, ◌≤◌, ◌+◌, ◌<◌, ◌++◌, ◌∷◌, [], List, ℕ, length, Ok};
+ghost use Rattle.std.specs.Prelude.{◌≡◌, ◌↔◌, ◌≤◌, ◌+◌, ◌<◌, ◌++◌, ◌∷◌, [], List, ℕ, length, take, drop, Ok};
 ghost use Rattle.mold_wire.specs.Packet.{IsPacket, Spells, messages_of, spelling_of};
 ghost use Rattle.mold_wire.specs.Packer.{HasRoom, Open};
 ghost use Rattle.mold_wire.specs.Packing.{packet_length, Fits, IsFront, front};
@@ -46,6 +46,15 @@ pub fn spelling_length_law()
         Spells packet bytes → Fits limit (messages_of packet.body) → length bytes ≤ limit }
     ensures most { (limit : ℕ) (messages : List (List ℕ)) →
         limit ≤ 65507 → Fits limit messages → length messages ≤ 32743 }
+{}
+
+/// Where a message stands: its data are the bytes behind the header, the blocks before it and the two of
+/// its own length. So a message that is lent from a datagram is the slice of it that stands there.
+#[tactic(auto, using(crate::proofs::PackingLemmas::message_place))]
+pub fn message_place_law()
+    ensures { (packet : Packet) (bytes : List ℕ) (before behind : List (List ℕ)) (message : List ℕ) →
+        Spells packet bytes → messages_of packet.body ≡ before ++ message ∷ behind →
+        take (length message) (drop (packet_length before + 2) bytes) ≡ message }
 {}
 
 /// The bytes of a packet, message by message; what `Packer::fits` looks for is that the packet fits with

@@ -1,5 +1,4 @@
-use Rattle.std.proofs.Common.{◌≡◌, ◌+◌, ◌++◌, ◌<◌, ℕ, List, take, drop, length, Bool, true, false, not, sym, ap, subst, ◌∙◌, arith, inl, inr, eqb, Option}
-use Rattle.std.proofs.lemmas.Bool.{cases_Bool, eqb-true, eqb-false}
+use Rattle.std.proofs.Common.{◌≡◌, ◌+◌, ◌++◌, ℕ, List, take, drop, true, sym, ap, subst, ◌∙◌, eqb}
 use Rattle.std.specs.Io.KnownBytes.{prepend_known}
 use Rattle.mold_cmd.specs.Lines.{GivesLine}
 use Rattle.mold_cmd.proofs.LineLemmas.{found_end, gives_joined, gives_end}

@@ -1,7 +1,6 @@
-use Rattle.std.proofs.Common.{◌≡◌, ℕ, Bool, cond, sym, ap, ◌∙◌, List, Option}
+use Rattle.std.proofs.Common.{◌≡◌, Bool, cond, sym, ap, ◌∙◌}
 use Rattle.std.specs.Prelude.{◌||◌}
-use Rattle.std.specs.Io.KnownBytes.{prepend_known}
-use Rattle.mold_cmd.proofs.ShowLemmas.{Shown, shown_line, shown_sent, shown_all, shown_front, shown_status}
+use Rattle.mold_cmd.proofs.ShowLemmas.{shown_line, shown_sent, shown_all, shown_front, shown_status}
 use Rattle.mold_cmd.proofs.show.show.Goals as goal
 use Rattle.mold_cmd.proofs.show.show.Goals.{then-refused, else-refused}
 

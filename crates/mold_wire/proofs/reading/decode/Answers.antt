@@ -1,11 +1,5 @@
-use Rattle.std.proofs.Common.{◌≡◌, sym, ◌∙◌, arith}
-use Rattle.std.specs.Prelude.{Result, Ok, Err}
-use Rattle.mold_wire.specs.declared.packet.Packet.{Packet}
-use Rattle.mold_wire.specs.declared.error.DecodeError.{DecodeError}
-use Rattle.mold_wire.specs.Packet.{Spells}
-use Rattle.mold_wire.specs.Fault.{FaultAt}
-use Rattle.mold_wire.specs.Reading.{reading}
-use Rattle.mold_wire.proofs.ReadingLemmas.{IsBytes, reading_answer, reading-spelled, reading-fault}
+use Rattle.std.proofs.Common.{◌∙◌, arith}
+use Rattle.mold_wire.proofs.ReadingLemmas.{reading_answer, reading-spelled, reading-fault}
 use Rattle.mold_wire.proofs.reading.decode.Goals as goal
 
 pub returns-clause-exact : goal.returns-clause-exact

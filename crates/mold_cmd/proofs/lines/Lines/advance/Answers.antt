@@ -1,4 +1,4 @@
-use Rattle.std.proofs.Common.{◌≡◌, ◌+◌, ℕ, List, take, drop, length, true, sym, ap, subst, ◌∙◌, Option}
+use Rattle.std.proofs.Common.{◌≡◌, ◌+◌, ℕ, List, take, drop, true, sym, ap, subst, ◌∙◌, Option}
 use Rattle.std.specs.Io.KnownBytes.{prepend_known}
 use Rattle.mold_cmd.specs.Lines.{LineState, GivesLine, rest_in}
 use Rattle.mold_cmd.specs.declared.lines.Lines.TheInside.{Inside}

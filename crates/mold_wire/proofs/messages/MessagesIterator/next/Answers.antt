@@ -1,6 +1,6 @@
 use Rattle.std.proofs.Common.{◌≡◌, ℕ, suc, ◌-◌, ◌<◌, List, ◌∷◌, ◌∙◌, arith, sym, ap, length, rules}
 use Rattle.mold_wire.specs.Block.{messages_at}
-use Rattle.mold_wire.proofs.BlockLemmas.{FirstBlock, first_block, block_begins}
+use Rattle.mold_wire.proofs.BlockLemmas.{first_block, block_begins}
 use Rattle.mold_wire.proofs.messages.MessagesIterator.next.Goals as goal
 
 -- a block is owed, so one begins
