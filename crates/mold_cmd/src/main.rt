@@ -20,6 +20,7 @@ use crate::words::{Order, UsageFault, read_words};
 use std::alloc::AllocError;
 use std::io::{ErrorKind, Write};
 use std::process::ExitCode;
+use std::rt::Env;
 use std::{env, io};
 
 /// The status of a fault of a device, of memory or of the words.
@@ -28,13 +29,13 @@ const FAULT: u8 = 3;
 const NOT_UTF8: &str = "error: a word is not UTF-8\n";
 
 // Prints the word behind `fault` as a line of standard error, and answers the status.
-fn tell_fault(rt: &HostRuntime, word: &str) -> ExitCode {
+fn tell_fault(rt: &impl Eprint, word: &str) -> ExitCode {
     let _ = rt.eprintln(format_args!("fault {word}"));
     ExitCode::from(FAULT)
 }
 
 // Prints the text of help, or the text of a usage fault and the fault.
-fn tell_usage(rt: &HostRuntime, fault: UsageFault) -> ExitCode {
+fn tell_usage(rt: &(impl Print + Eprint), fault: UsageFault) -> ExitCode {
     match fault {
         UsageFault::Help { text } => match rt.print(text.as_str()) {
             Ok(()) => ExitCode::SUCCESS,
@@ -49,12 +50,12 @@ fn tell_usage(rt: &HostRuntime, fault: UsageFault) -> ExitCode {
 }
 
 // The words of the command line, without the program's name.
-fn command_words(rt: &HostRuntime) -> io::Result<Vec<String>> {
+fn command_words(rt: &(impl Env + AllocGlobal)) -> io::Result<Vec<String>> {
     Ok(env::args(rt)?.skip(1).collect(rt.alloc())?)
 }
 
 // The order that the words of the command line say.
-fn read_order(rt: &HostRuntime) -> Result<Order, UsageFault> {
+fn read_order(rt: &(impl Env + AllocGlobal)) -> Result<Order, UsageFault> {
     match command_words(rt) {
         Ok(words) => read_words(rt.alloc(), words.as_slice()),
         Err(error) if error.kind() == ErrorKind::OutOfMemory => Err(UsageFault::Memory),

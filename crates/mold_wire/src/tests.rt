@@ -85,25 +85,22 @@ const HEARTBEAT: &[u8] = b"SESSION001\0\0\0\0\0\0\0\x01\0\0";
 
 const END: &[u8] = b"SESSION001\0\0\0\0\0\0\0\x03\xff\xff";
 
+// In this order: the limits, before any packet, a heartbeat, up to the limit, and the end.
 #[test]
-fn a_packer_is_made_for_64_to_65507_bytes(rt: HostRuntime) {
-    let table = [
+fn the_table_of_the_packer(rt: HostRuntime) -> Result<(), Fail> {
+    let limits = [
         (63, Some(PackerError::Limit)),
         (64, None),
         (65507, None),
         (65508, Some(PackerError::Limit)),
     ];
-    for (limit, refusal) in table {
+    for (limit, refusal) in limits {
         assert_eq!(rt;
             Packer::new(rt.alloc(), limit).err(),
             refusal,
             "limit {limit}"
         );
     }
-}
-
-#[test]
-fn a_packet_grows_up_to_the_limit(rt: HostRuntime) -> Result<(), Fail> {
     let mut packer = Packer::new(rt.alloc(), 64)?;
     assert_eq!(rt; packer.bytes(), b"".as_slice());
     assert!(rt; !packer.fits(0));

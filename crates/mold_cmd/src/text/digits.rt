@@ -37,6 +37,7 @@ pub fn push_bytes(out: &mut Vec<u8>, bytes: &[u8]) -> Result<(), AllocError>
         return Err(AllocError);
     };
     out.resize(end, 0)?;
+    // It succeeds, since the place is just as long as the digits are.
     let _ = hex::encode_to_slice(bytes, &mut out[start..]);
     Ok(())
 }
