@@ -1,7 +1,7 @@
 -- How long packets are, and the longest front that fits.
 use Rattle.std.proofs.Common.{◌≡◌, ℕ, zero, suc, ◌+◌, ◌*◌, ◌<◌, ◌≤◌, leb, List, [], ◌∷◌, ◌++◌, length, length-append, length-take, take, drop, refl, sym, ap, subst, ◌∙◌, append_assoc, inl, inr, arith}
 use Rattle.std.proofs.lemmas.Bool.{cond_both, cases_lt, leb-true, leb-false}
-use Rattle.std.proofs.lemmas.List.{take_at, drop_at, take-append-drop, take-append-le}
+use Rattle.std.proofs.lemmas.List.{append-nil, take_at, drop_at, take-append-drop, take-append-le}
 use Rattle.std.proofs.lemmas.List.Sums.{sum_by-cons, sum_by-append}
 use Rattle.mold_wire.specs.declared.packet.Packet.{Packet}
 use Rattle.mold_wire.specs.Block.{be16, be64, block, blocks}
@@ -210,3 +210,13 @@ message_place packet bytes front behind message spells parts =
     ap (λ (t : List ℕ). take (length message) (drop (packet_length front + 2) t)) laid
     ∙ ap (take (length message)) (drop_at before rest (packet_length front + 2) place)
     ∙ take_at message (blocks behind) (length message) refl
+
+-- where all messages may be asked for and fit, they are the longest front
+pub front_whole : (limit : ℕ) (messages : List (List ℕ)) (most : ℕ) → length messages ≤ most → Fits limit messages → IsFront limit messages most messages
+front_whole limit messages most few fits = record {
+  behind = [];
+  parts = sym (append-nil messages);
+  few = few;
+  fits = fits;
+  longest = λ other more parts few_others fits_others. front_short messages other more parts;
+}

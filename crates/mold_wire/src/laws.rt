@@ -20,7 +20,8 @@ pub fn one_spelling_law()
     ensures one_packet { (one other : Packet) (bytes : List ℕ) →
         Spells one bytes → Spells other bytes → one ≡ other }
 
-    ensures request_spelled { (request : Request) → IsRequest request → SpellsRequest request (request_spelling request) }
+    ensures request_spelled { (request : Request) →
+        IsRequest request → SpellsRequest request (request_spelling request) }
     ensures one_request_spelling { (request : Request) (one other : List ℕ) →
         SpellsRequest request one → SpellsRequest request other → one ≡ other }
     ensures one_request { (one other : Request) (bytes : List ℕ) →
@@ -30,7 +31,8 @@ pub fn one_spelling_law()
 /// What is spelled reads back as the value that it spells: `decode` and `Request::decode` answer these
 /// readings.
 pub fn round_trip_law()
-    ensures packet { (packet : Packet) (bytes : List ℕ) → Spells packet bytes → reading bytes ≡ Ok packet }
+    ensures packet { (packet : Packet) (bytes : List ℕ) →
+        Spells packet bytes → reading bytes ≡ Ok packet }
     ensures request { (request : Request) (bytes : List ℕ) →
         SpellsRequest request bytes → request_reading bytes ≡ Ok request }
 {}
@@ -41,7 +43,8 @@ pub fn round_trip_law()
 pub fn spelling_length_law()
     ensures packet { (packet : Packet) (bytes : List ℕ) →
         Spells packet bytes → length bytes ≡ packet_length (messages_of packet.body) }
-    ensures request { (request : Request) (bytes : List ℕ) → SpellsRequest request bytes → length bytes ≡ 20 }
+    ensures request { (request : Request) (bytes : List ℕ) →
+        SpellsRequest request bytes → length bytes ≡ 20 }
     ensures fits { (packet : Packet) (bytes : List ℕ) (limit : ℕ) →
         Spells packet bytes → Fits limit (messages_of packet.body) → length bytes ≤ limit }
     ensures most { (limit : ℕ) (messages : List (List ℕ)) →
@@ -64,14 +67,16 @@ pub fn packet_length_law()
     ensures none { packet_length [] ≡ 20 }
     ensures one_more { (messages : List (List ℕ)) (message : List ℕ) →
         packet_length (messages ++ message ∷ []) ≡ packet_length messages + (2 + length message) }
-    ensures room { (limit : ℕ) (session : Session) (sequence : ℕ) (messages : List (List ℕ)) (message : List ℕ) →
-        HasRoom limit (Open session sequence messages) (length message) ↔ Fits limit (messages ++ message ∷ []) }
-    ensures alone { (limit : ℕ) (message : List ℕ) → (length message + 22 ≤ limit) ↔ Fits limit (message ∷ []) }
+    ensures room { (limit : ℕ) (session : Session) (sequence : ℕ) (messages : List (List ℕ))
+        (message : List ℕ) → HasRoom limit (Open session sequence messages) (length message)
+        ↔ Fits limit (messages ++ message ∷ []) }
+    ensures alone { (limit : ℕ) (message : List ℕ) →
+        (length message + 22 ≤ limit) ↔ Fits limit (message ∷ []) }
 {}
 
 /// `front` is the one longest front, wherever the limit leaves room for a header. A front is the longest
-/// once the message behind it would be one too many or would not fit;
-/// it has a message where the first one fits alone.
+/// once the message behind it would be one too many or would not fit. The longest has a message where
+/// the first one fits alone, and is all messages where these fit.
 #[tactic(auto, using(crate::proofs::PackingLemmas::front_is))]
 pub fn front_law()
     ensures front { (limit : ℕ) (messages : List (List ℕ)) (most : ℕ) →
@@ -84,5 +89,8 @@ pub fn front_law()
         behind ≡ next ∷ more → length found < most → ¬ Fits limit (found ++ next ∷ [])) →
         IsFront limit messages most found }
     ensures some { (limit : ℕ) (message : List ℕ) (messages found : List (List ℕ)) (most : ℕ) →
-        IsFront limit (message ∷ messages) most found → 0 < most → Fits limit (message ∷ []) → 0 < length found }
+        IsFront limit (message ∷ messages) most found → 0 < most → Fits limit (message ∷ []) →
+        0 < length found }
+    ensures whole { (limit : ℕ) (messages : List (List ℕ)) (most : ℕ) →
+        length messages ≤ most → Fits limit messages → IsFront limit messages most messages }
 {}

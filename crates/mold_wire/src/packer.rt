@@ -51,9 +51,13 @@ impl Model for Packer {
 
     ghost Value = { Packing };
 
-    ghost view = { λ p. record { limit = length p.buffer.items; begun = begun_in p.is_open p.used p.buffer.items } };
+    ghost view = { λ p. record {
+      limit = length p.buffer.items;
+      begun = begun_in p.is_open p.used p.buffer.items;
+    } };
 
-    ghost invariant = { λ p. Holds p.is_open p.used p.count p.buffer.items (begun_in p.is_open p.used p.buffer.items) };
+    ghost invariant = { λ p. Holds p.is_open p.used p.count p.buffer.items
+        (begun_in p.is_open p.used p.buffer.items) };
 }
 
 impl Packer {
@@ -106,7 +110,8 @@ impl Packer {
     /// Adds a message behind those of the open packet, where it fits; else changes nothing.
     pub fn add(&mut self, message: &[u8]) -> bool
         ensures fits { IsTrue result ↔ HasRoom self.old.limit self.old.begun (length message.now) }
-        ensures added { OnTrue result (self.new ≡ record self.old { begun = with_message message.now self.old.begun }) }
+        ensures added { OnTrue result
+            (self.new ≡ record self.old { begun = with_message message.now self.old.begun }) }
         ensures same { OnFalse result (self.new ≡ self.old) }
     {
         if !self.fits(message.len()) {

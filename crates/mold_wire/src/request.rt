@@ -1,6 +1,9 @@
 //! A request packet.
 
-ghost use Rattle.std.specs.Prelude.{◌≡◌, IfOk, IfErr, List, ℕ};
+ghost use Rattle.std.specs.Prelude.{◌≡◌, IfOk, IfErr};
+ghost use Rattle.mold_wire.specs.Request.{SpellsRequest, RequestFaultAt, request_reading};
+ghost use Rattle.mold_wire.specs.declared.error.RequestError.{RequestError};
+ghost use Rattle.mold_wire.specs.declared.request.Request.{Request};
 
 use crate::error::RequestError;
 use crate::header::put_header;
@@ -21,11 +24,21 @@ pub struct Request {
     pub count: u16,
 }
 
-impl Request {
-    ghost use Rattle.mold_wire.specs.Request.{SpellsRequest, RequestFaultAt, request_reading};
-    ghost use Rattle.mold_wire.specs.declared.error.RequestError.{RequestError};
-    ghost use Rattle.mold_wire.specs.declared.request.Request.{Request};
+fn read_request(bytes: &[u8]) -> Result<Request, RequestError>
+    ensures spelled { IfOk result (λ request. SpellsRequest request bytes.now) }
+    ensures fault { IfErr result (λ error. RequestFaultAt error bytes.now) }
+{
+    let Some((session, sequence, count, [])) = split_header(bytes) else {
+        return Err(RequestError::RequestLength { len: bytes.len() });
+    };
+    Ok(Request {
+        session,
+        sequence,
+        count,
+    })
+}
 
+impl Request {
     /// Reads the request that the bytes of a datagram spell. Any 20 bytes spell one.
     pub fn decode(bytes: &[u8]) -> Result<Request, RequestError>
         // What is read is spelled so, and what is refused has the fault.
@@ -53,20 +66,4 @@ impl Request {
         put_header(&mut bytes, session, sequence, count);
         bytes
     }
-}
-
-ghost use Rattle.mold_wire.specs.Request.{SpellsRequest, RequestFaultAt};
-
-fn read_request(bytes: &[u8]) -> Result<Request, RequestError>
-    ensures spelled { IfOk result (λ request. SpellsRequest request bytes.now) }
-    ensures fault { IfErr result (λ error. RequestFaultAt error bytes.now) }
-{
-    let Some((session, sequence, count, [])) = split_header(bytes) else {
-        return Err(RequestError::RequestLength { len: bytes.len() });
-    };
-    Ok(Request {
-        session,
-        sequence,
-        count,
-    })
 }
