@@ -22,8 +22,10 @@ pub fn run_command<S: Source, K: Sink>(
     sink: &mut K,
 ) -> Result<u8, CommandFault>
     ensures whole { IfOk result (λ answer. IfSome (S.left source.old) (λ input.
-        Appends (K.held sink.old) (K.held sink.new) (text order.now input) × (answer ≡ status order.now input))) }
-    ensures front { IfSome (S.left source.old) (λ input. AppendsFront (K.held sink.old) (K.held sink.new) (text order.now input)) }
+        Appends (K.held sink.old) (K.held sink.new) (text order.now input)
+        × (answer ≡ status order.now input))) }
+    ensures front { IfSome (S.left source.old) (λ input.
+        AppendsFront (K.held sink.old) (K.held sink.new) (text order.now input)) }
     ensures source { CountsSource (S.failed source.old) (S.failed source.new) result }
     ensures sink { CountsSink (K.failed sink.old) (K.failed sink.new) result }
 {

@@ -30,7 +30,10 @@ impl Model for Lines {
 
     ghost Value = { LineState };
 
-    ghost view = { λ l. record { line = line_in l.inside l.joined.items l.piece; rest = rest_in l.inside l.piece } };
+    ghost view = { λ l. record {
+      line = line_in l.inside l.joined.items l.piece;
+      rest = rest_in l.inside l.piece;
+    } };
 
     ghost invariant = { λ l. ForSome l.inside (λ len. (len < length l.piece) × (len < 65536)) };
 }
@@ -60,7 +63,8 @@ impl Lines {
     /// was read before, and takes memory only for a line that comes in pieces.
     pub fn advance<S: Source>(&mut self, source: &mut S) -> Result<bool, ReadFault>
         ensures line { IfOk result (λ found. GivesLine
-            (prepend_known self.old.rest (S.left source.old)) (prepend_known self.new.rest (S.left source.new)) found self.new.line) }
+            (prepend_known self.old.rest (S.left source.old))
+            (prepend_known self.new.rest (S.left source.new)) found self.new.line) }
         ensures work { IfOk result (λ found. found ≡ true →
             work_left (S.bound source.new) self.new.rest < work_left (S.bound source.old) self.old.rest) }
         ensures failures { CountsRead (S.failed source.old) (S.failed source.new) result }
@@ -87,7 +91,8 @@ fn join_line<S: Source>(
     requires no_end { HasNoEnd piece.old }
     requires empty { joined.old.items ≡ [] }
     ensures line { IfOk result (λ found. GivesLine
-        (prepend_known piece.old (S.left source.old)) (prepend_known piece.new (S.left source.new)) found joined.new.items) }
+        (prepend_known piece.old (S.left source.old))
+        (prepend_known piece.new (S.left source.new)) found joined.new.items) }
     ensures work { IfOk result (λ found. found ≡ true →
         work_left (S.bound source.new) piece.new < work_left (S.bound source.old) piece.old) }
     ensures failures { CountsRead (S.failed source.old) (S.failed source.new) result }

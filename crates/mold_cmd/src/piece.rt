@@ -26,7 +26,8 @@ impl Model for Piece {
 
     ghost view = { λ p. take (p.end - p.start) (drop p.start p.bytes.items) };
 
-    ghost invariant = { λ p. (p.start ≤ p.end) × (p.end ≤ length p.bytes.items) × (length p.bytes.items ≡ 65536) };
+    ghost invariant = { λ p. (p.start ≤ p.end) × (p.end ≤ length p.bytes.items)
+        × (length p.bytes.items ≡ 65536) };
 }
 
 impl Piece {

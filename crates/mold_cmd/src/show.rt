@@ -36,7 +36,8 @@ fn show_packet(bytes: &[u8], out: &mut Vec<u8>) -> Result<bool, AllocError>
 
 // Writes the request that the bytes spell, or why they spell none, and answers whether they are refused.
 fn show_request(bytes: &[u8], out: &mut Vec<u8>) -> Result<bool, AllocError>
-    ensures text { IfOk result (λ _. out.new.items ≡ out.old.items ++ request_shown (request_reading bytes.now)) }
+    ensures text { IfOk result (λ _.
+        out.new.items ≡ out.old.items ++ request_shown (request_reading bytes.now)) }
     ensures refused { IfOk result (λ refused. refused ≡ request_refused (request_reading bytes.now)) }
 {
     match Request::decode(bytes) {
@@ -78,8 +79,8 @@ fn show_line(
     }
 }
 
-/// Shows the packets, or else the requests, that the lines of the source spell, and answers the status: 0, or 2 where a line
-/// was refused. It holds no more of the input than the longest line and one read.
+/// Shows the packets, or else the requests, that the lines of the source spell, and answers the status:
+/// 0, or 2 where a line was refused. It holds no more of the input than the longest line and one read.
 pub fn show<S: Source, K: Sink>(
     alloc: Global,
     requests: bool,
@@ -87,8 +88,10 @@ pub fn show<S: Source, K: Sink>(
     sink: &mut K,
 ) -> Result<u8, CommandFault>
     ensures whole { IfOk result (λ status. IfSome (S.left source.old) (λ input.
-        Appends (K.held sink.old) (K.held sink.new) (show_text requests input) × (status ≡ show_status requests input))) }
-    ensures front { IfSome (S.left source.old) (λ input. AppendsFront (K.held sink.old) (K.held sink.new) (show_text requests input)) }
+        Appends (K.held sink.old) (K.held sink.new) (show_text requests input)
+        × (status ≡ show_status requests input))) }
+    ensures front { IfSome (S.left source.old) (λ input.
+        AppendsFront (K.held sink.old) (K.held sink.new) (show_text requests input)) }
     ensures source { CountsSource (S.failed source.old) (S.failed source.new) result }
     ensures sink { CountsSink (K.failed sink.old) (K.failed sink.new) result }
 {

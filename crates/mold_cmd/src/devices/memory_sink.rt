@@ -20,7 +20,13 @@ impl Model for MemorySink {
 
     ghost Value = { MemoryHeld };
 
-    ghost view = { λ s. record { held = s.held.items; room = vec_capacity s.held; fails_at = s.plan.fails_at; most = s.plan.most; failures = s.plan.failures } };
+    ghost view = { λ s. record {
+      held = s.held.items;
+      room = vec_capacity s.held;
+      fails_at = s.plan.fails_at;
+      most = s.plan.most;
+      failures = s.plan.failures;
+    } };
 }
 
 impl MemorySink {
@@ -66,10 +72,12 @@ impl Sink for MemorySink {
         ensures fails { self.old.fails_at ≡ 1 → IsErr result }
 
         // Beside the call that is to fail, only a growth is refused.
-        ensures refused { IsErr result → (self.old.fails_at ≡ 1) ⊎ (self.old.room < length self.old.held + min (length bytes.now) self.old.most) }
+        ensures refused { IsErr result → (self.old.fails_at ≡ 1)
+            ⊎ (self.old.room < length self.old.held + min (length bytes.now) self.old.most) }
         ensures count { IfOk result (λ n. n ≡ min (length bytes.now) self.old.most) }
         ensures some { IfOk result (λ n. 0 < length bytes.now → 0 < n) }
-        ensures held { MatchResult result (λ n. self.new.held ≡ self.old.held ++ take n bytes.now) (λ _. self.new.held ≡ self.old.held) }
+        ensures held { MatchResult result (λ n. self.new.held ≡ self.old.held ++ take n bytes.now)
+            (λ _. self.new.held ≡ self.old.held) }
         ensures room { self.old.room ≤ self.new.room }
         ensures fails_at { self.new.fails_at ≡ self.old.fails_at - 1 }
         ensures most { self.new.most ≡ self.old.most }

@@ -20,7 +20,12 @@ impl<'a> Model for MemorySource<'a> {
 
     ghost Value = { MemoryLeft };
 
-    ghost view = { λ s. record { left = s.left.now; fails_at = s.plan.fails_at; most = s.plan.most; failures = s.plan.failures } };
+    ghost view = { λ s. record {
+      left = s.left.now;
+      fails_at = s.plan.fails_at;
+      most = s.plan.most;
+      failures = s.plan.failures;
+    } };
 }
 
 impl<'a> MemorySource<'a> {

@@ -31,7 +31,8 @@ pub fn push_numbered_line(
     session: &Session,
     sequence: u64,
 ) -> Result<(), AllocError>
-    ensures { OnOk result (out.new.items ≡ out.old.items ++ numbered_line kind.now session.now.0 sequence) }
+    ensures { OnOk result (out.new.items ≡
+        out.old.items ++ numbered_line kind.now session.now.0 sequence) }
 {
     push_header(out, kind, session, sequence)?;
     out.extend_from_slice(b"\n")
@@ -46,7 +47,8 @@ pub fn push_counted_line(
     sequence: u64,
     count: u16,
 ) -> Result<(), AllocError>
-    ensures { OnOk result (out.new.items ≡ out.old.items ++ counted_line kind.now session.now.0 sequence count) }
+    ensures { OnOk result (out.new.items ≡
+        out.old.items ++ counted_line kind.now session.now.0 sequence count) }
 {
     push_header(out, kind, session, sequence)?;
     out.extend_from_slice(b" ")?;
