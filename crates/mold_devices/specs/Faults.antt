@@ -1,5 +1,5 @@
 -- Which counts of failures stand behind which faults.
-use Rattle.std.specs.Prelude.{◌≡◌, ℕ, List, codes, Result, Ok, Err}
+use Rattle.std.specs.Prelude.{◌≡◌, ◌⊎◌, ℕ, List, codes, Result, Ok, Err}
 use Rattle.mold_devices.specs.Devices.{one_more}
 use Rattle.mold_devices.specs.declared.fault.ReadFault.{ReadFault}
 use Rattle.mold_devices.specs.declared.fault.ReadFault.TheVariants as reading
@@ -20,26 +20,22 @@ abbrev pub from_read_fault : ReadFault → CommandFault
 from_read_fault reading.Read = command.Read
 from_read_fault reading.Memory = command.Memory
 
--- a fault `Read` comes with one more failure of the source, and nothing else does
-abbrev pub CountsSourceFault : ℕ → ℕ → CommandFault → Type 0
-CountsSourceFault old new command.Read = new ≡ one_more old
-CountsSourceFault old new command.Write = new ≡ old
-CountsSourceFault old new command.Memory = new ≡ old
+-- which counts rise with which fault: one failure more of the source with `Read`, one more of the sink
+-- with `Write`, and none with `Memory`; what could not be written may be the text from before a read
+-- that failed
+abbrev pub CountsFault : ℕ → ℕ → ℕ → ℕ → CommandFault → Type 0
+CountsFault source_old source_new sink_old sink_new command.Read =
+    (source_new ≡ one_more source_old) × (sink_new ≡ sink_old)
+CountsFault source_old source_new sink_old sink_new command.Write =
+    ((source_new ≡ source_old) ⊎ (source_new ≡ one_more source_old)) × (sink_new ≡ one_more sink_old)
+CountsFault source_old source_new sink_old sink_new command.Memory =
+    (source_new ≡ source_old) × (sink_new ≡ sink_old)
 
-abbrev pub CountsSource : {T : Type 0} → ℕ → ℕ → Result T CommandFault → Type 0
-CountsSource old new (Ok _) = new ≡ old
-CountsSource old new (Err fault) = CountsSourceFault old new fault
-
--- a fault `Write` comes with one more failure of the sink, and a status with none; behind another
--- fault what was printed before is still written, and may fail too
-abbrev pub CountsSinkFault : ℕ → ℕ → CommandFault → Type 0
-CountsSinkFault old new command.Read = Unit {0}
-CountsSinkFault old new command.Write = new ≡ one_more old
-CountsSinkFault old new command.Memory = Unit {0}
-
-abbrev pub CountsSink : {T : Type 0} → ℕ → ℕ → Result T CommandFault → Type 0
-CountsSink old new (Ok _) = new ≡ old
-CountsSink old new (Err fault) = CountsSinkFault old new fault
+-- no count rises with an answer
+abbrev pub CountsCommand : {T : Type 0} → ℕ → ℕ → ℕ → ℕ → Result T CommandFault → Type 0
+CountsCommand source_old source_new sink_old sink_new (Ok _) = (source_new ≡ source_old) × (sink_new ≡ sink_old)
+CountsCommand source_old source_new sink_old sink_new (Err fault) =
+    CountsFault source_old source_new sink_old sink_new fault
 
 -- the word that the program prints behind `fault`
 abbrev pub fault_word : CommandFault → List ℕ

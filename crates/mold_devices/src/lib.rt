@@ -6,6 +6,7 @@ mod device_fault;
 mod fault;
 mod from_read;
 mod into_write;
+mod line_command;
 mod lines;
 mod memory_sink;
 mod memory_source;
@@ -16,14 +17,17 @@ mod sink;
 mod source;
 #[cfg(test)]
 mod tests;
+mod turn;
 
 pub use device_fault::DeviceFault;
 pub use fault::{CommandFault, ReadFault};
 pub use from_read::FromRead;
 pub use into_write::IntoWrite;
+pub use line_command::{LineCommand, run_lines};
 pub use lines::Lines;
 pub use memory_sink::MemorySink;
 pub use memory_source::MemorySource;
 pub use output::{LARGE, send};
 pub use sink::{Sink, write_all};
 pub use source::Source;
+pub use turn::Turn;

@@ -5,9 +5,9 @@ ghost use Rattle.std.specs.Io.KnownBytes.{prepend_known};
 ghost use Rattle.mold_devices.specs.Lines.{GivesLine, HasNoEnd, work_left};
 ghost use Rattle.mold_devices.specs.Faults.{CountsRead};
 
-use crate::source::Source;
 use crate::fault::ReadFault;
 use crate::piece::Piece;
+use crate::source::Source;
 use memchr::memchr;
 use std::alloc::{AllocError, Global};
 use std::marker::Model;

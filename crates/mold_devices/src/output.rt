@@ -4,8 +4,8 @@ ghost use Rattle.std.specs.Prelude.{◌≡◌, [], OnOk, IfErr};
 ghost use Rattle.std.specs.Io.KnownBytes.{Appends};
 ghost use Rattle.mold_devices.specs.Devices.{AppendsFront, Counts};
 
-use crate::sink::{Sink, write_all};
 use crate::fault::CommandFault;
+use crate::sink::{Sink, write_all};
 
 /// From how many bytes on text is written.
 pub const LARGE: usize = 65536;

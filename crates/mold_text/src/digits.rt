@@ -1,6 +1,6 @@
 //! Numbers and bytes as digits.
 
-ghost use Rattle.std.specs.Prelude.{◌≡◌, ◌++◌, ◌<◌, ◌^◌, length, decimal, OnOk};
+ghost use Rattle.std.specs.Prelude.{◌≡◌, ◌++◌, ◌<◌, ◌^◌, length, decimal, OnErr, OnOk};
 ghost use Rattle.hex.specs.Hex.{encode_lower};
 
 use itoa::Buffer;
@@ -8,7 +8,8 @@ use std::alloc::AllocError;
 
 /// Writes the number in decimal.
 pub fn push_number(out: &mut Vec<u8>, number: u64) -> Result<(), AllocError>
-    ensures { OnOk result (out.new.items ≡ out.old.items ++ decimal number) }
+    ensures written { OnOk result (out.new.items ≡ out.old.items ++ decimal number) }
+    ensures same { OnErr result (out.new.items ≡ out.old.items) }
 {
     let mut buffer = Buffer::new();
     out.extend_from_slice(buffer.format(number).as_bytes())
@@ -16,7 +17,8 @@ pub fn push_number(out: &mut Vec<u8>, number: u64) -> Result<(), AllocError>
 
 /// Writes the number in decimal; up to 64 bits it is as fast as `push_number`.
 pub fn push_long_number(out: &mut Vec<u8>, number: u128) -> Result<(), AllocError>
-    ensures { OnOk result (out.new.items ≡ out.old.items ++ decimal number) }
+    ensures written { OnOk result (out.new.items ≡ out.old.items ++ decimal number) }
+    ensures same { OnErr result (out.new.items ≡ out.old.items) }
 {
     if let Ok(short) = u64::try_from(number) {
         return push_number(out, short);
@@ -27,7 +29,8 @@ pub fn push_long_number(out: &mut Vec<u8>, number: u128) -> Result<(), AllocErro
 
 /// Writes two lower-case hexadecimal digits for each byte.
 pub fn push_bytes(out: &mut Vec<u8>, bytes: &[u8]) -> Result<(), AllocError>
-    ensures { OnOk result (out.new.items ≡ out.old.items ++ encode_lower bytes.now) }
+    ensures written { OnOk result (out.new.items ≡ out.old.items ++ encode_lower bytes.now) }
+    ensures same { OnErr result (out.new.items ≡ out.old.items) }
 {
     let start = out.len();
     let Some(len) = bytes.len().checked_mul(2) else {

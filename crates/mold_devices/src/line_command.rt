@@ -1,0 +1,78 @@
+//! Commands that read the lines of a source and print text into a sink.
+
+ghost use Rattle.std.specs.Prelude.{◌≡◌, ◌<◌, length, take, IfOk, IfSome, OnErr};
+ghost use Rattle.std.specs.Io.KnownBytes.{Appends, prepend_known};
+ghost use Rattle.mold_devices.specs.Devices.{AppendsFront};
+ghost use Rattle.mold_devices.specs.Faults.{CountsRead, CountsCommand};
+ghost use Rattle.mold_devices.specs.Lines.{work_left};
+ghost use Rattle.mold_devices.specs.Turns.{IsTurn, Printing};
+ghost use Rattle.mold_devices.specs.declared.turn.Turn.TheVariants.{More};
+
+use crate::fault::{CommandFault, ReadFault};
+use crate::lines::Lines;
+use crate::output::{LARGE, send};
+use crate::sink::Sink;
+use crate::source::Source;
+use crate::turn::Turn;
+use std::alloc::Global;
+
+/// A command that prints a text for the lines of its input.
+pub trait LineCommand {
+    // What it prints for the input that is left, and the status that it ends with.
+    ghost prints: { Self → Printing };
+
+    /// Takes a line of the input, or some, and writes what they print behind `out`.
+    fn turn<S: Source>(
+        &mut self,
+        lines: &mut Lines,
+        source: &mut S,
+        out: &mut Vec<u8>,
+    ) -> Result<Turn, ReadFault>
+        ensures told { IfOk result (λ turn. IsTurn (prints self.old) (prints self.new)
+            (prepend_known lines.old.rest (S.left source.old))
+            (prepend_known lines.new.rest (S.left source.new)) out.old.items out.new.items turn) }
+        ensures kept { OnErr result (take (length out.old.items) out.new.items ≡ out.old.items) }
+        ensures work { IfOk result (λ turn. turn ≡ More →
+            work_left (S.bound source.new) lines.new.rest < work_left (S.bound source.old) lines.old.rest) }
+        ensures failures { CountsRead (S.failed source.old) (S.failed source.new) result };
+}
+
+/// Runs the command over all lines of the source, and answers its status. It holds no more of the
+/// input than one read and what the command keeps, and writes the text in pieces of 65,536 bytes or
+/// more. After a fault of reading or of memory the text of the turns before is still written; where
+/// that fails, `Write` is answered.
+pub fn run_lines<C: LineCommand, S: Source, K: Sink>(
+    alloc: Global,
+    command: &mut C,
+    source: &mut S,
+    sink: &mut K,
+) -> Result<u8, CommandFault>
+    ensures whole { IfOk result (λ status. IfSome (S.left source.old) (λ input.
+        Appends (K.held sink.old) (K.held sink.new) ((C.prints command.old).text input)
+        × (status ≡ (C.prints command.old).status input))) }
+    ensures front { IfSome (S.left source.old) (λ input.
+        AppendsFront (K.held sink.old) (K.held sink.new) ((C.prints command.old).text input)) }
+    ensures failures { CountsCommand (S.failed source.old) (S.failed source.new)
+        (K.failed sink.old) (K.failed sink.new) result }
+{
+    let mut lines = Lines::new(alloc)?;
+    let mut text = Vec::new(alloc);
+    'turns: loop {
+        let told = text.len();
+        match command.turn(&mut lines, source, &mut text) {
+            Ok(Turn::More) => {}
+            Ok(Turn::Done { status }) => {
+                send(sink, &mut text)?;
+                return Ok(status);
+            }
+            Err(fault) => {
+                text.truncate(told);
+                send(sink, &mut text)?;
+                return Err(fault.into());
+            }
+        }
+        if text.len() >= LARGE {
+            send(sink, &mut text)?;
+        }
+    }
+}

@@ -1,0 +1,8 @@
+/// How a turn of a command ends.
+#[derive(Clone, Copy, Debug, PartialEq, Eq)]
+pub enum Turn {
+    /// More may follow.
+    More,
+    /// The command has said all, and ends with this status.
+    Done { status: u8 },
+}

@@ -1,0 +1,16 @@
+//! How packets, requests and refusals are printed: lines of words, each function writing behind the
+//! text that is there.
+#![tactic(auto)]
+
+mod digits;
+mod line;
+mod packet;
+mod refusal;
+mod request;
+mod word;
+
+pub use line::{push_line, push_line_behind};
+pub use packet::push_packet;
+pub use refusal::{packet_fault_words, push_refused, request_fault_words};
+pub use request::push_request;
+pub use word::Word;
