@@ -1,13 +1,11 @@
--- What was printed so far, while the input is read line by line.
-use Rattle.std.proofs.Common.{◌≡◌, ℕ, Bool, true, false, cond, List, [], ◌∷◌, ◌++◌, Option, None, Some, refl, sym, ap, subst, ◌∙◌, append_assoc, append-nil}
-use Rattle.std.specs.Prelude.{◌||◌, IfSome}
+-- What a line more prints, and what is printed behind the last one.
+use Rattle.std.proofs.Common.{◌≡◌, ℕ, Bool, true, false, cond, List, [], ◌∷◌, ◌++◌, Option, None, Some, refl, sym, ap, ◌∙◌, append-nil}
+use Rattle.std.specs.Prelude.{◌||◌}
 use Rattle.std.specs.List.{flat_map, list_any}
-use Rattle.std.specs.Io.KnownBytes.{Appends}
-use Rattle.std.proofs.KnownBytes.{Appends-trans}
-use Rattle.mold_devices.specs.Devices.{AppendsFront}
 use Rattle.mold_devices.specs.Lines.{lines_of, GivesLine}
-use Rattle.mold_cmd.specs.Show.{line_text, line_refused, show_text, show_refused, show_status}
-use Rattle.mold_devices.proofs.DeviceLemmas.{front_after, front_more}
+use Rattle.mold_devices.specs.Turns.{GoesOver, IsTurn}
+use Rattle.mold_devices.specs.declared.turn.Turn.TheVariants.{More, Done}
+use Rattle.mold_cmd.specs.Show.{ShowState, line_text, line_refused, show_text, show_refused, show_printing}
 
 or_assoc : (a b c : Bool) → a || (b || c) ≡ (a || b) || c
 or_assoc true b c = refl
@@ -34,85 +32,39 @@ show_refused-nil : (requests : Bool) → show_refused requests [] ≡ false
 unfolding show_refused
 show_refused-nil requests = refl
 
--- of the input, some bytes are left: what the lines before them print was written, or stands in the
--- text that is still to be written
-pub record ShownSoFar (requests : Bool) (input left : List ℕ) (old new : Option (List ℕ)) (text : List ℕ) (refused : Bool) : Type 0 where
-  pub written : List ℕ
-  pub sent : Appends old new written
-  pub parts : show_text requests input ≡ written ++ (text ++ show_text requests left)
-  pub any : (refused || show_refused requests left) ≡ show_refused requests input
+-- a command that shows, with one line more
+abbrev pub shown_more : ShowState → Bool → ShowState
+shown_more s asked = record { requests = s.requests; refused = s.refused || asked }
 
--- the same where the source tells its bytes, and nothing where it doesn't
-abbrev pub Shown : Bool → Option (List ℕ) → Option (List ℕ) → Option (List ℕ) → Option (List ℕ) → List ℕ → Bool → Type 0
-Shown requests None left old new text refused = Unit {0}
-Shown requests (Some input) None old new text refused = ⊥
-Shown requests (Some input) (Some left) old new text refused = ShownSoFar requests input left old new text refused
+more_goes : (s : ShowState) (known left : Option (List ℕ)) (line added : List ℕ) (asked : Bool) → GivesLine known left true line → added ≡ line_text s.requests line → asked ≡ line_refused s.requests line → GoesOver (show_printing s) (show_printing (shown_more s asked)) known left added More
+more_goes s None left line added asked gives text refused = tt
+more_goes s (Some xs) None line added asked gives text refused = absurd gives
+more_goes s (Some xs) (Some ys) line added asked gives text refused = (
+  show_text-line s.requests xs line ys gives ∙ ap (λ (t : List ℕ). t ++ show_text s.requests ys) (sym text),
+  ap (λ (b : Bool). cond (s.refused || b) 2 0)
+  (show_refused-line s.requests xs line ys gives ∙ ap (λ (b : Bool). b || show_refused s.requests ys) (sym refused))
+  ∙ ap (λ (b : Bool). cond b 2 0) (or_assoc s.refused asked (show_refused s.requests ys)),
+)
 
--- one line more
-pub shown_line : (requests : Bool) (known left behind old new : Option (List ℕ)) (text next line : List ℕ) (refused asked : Bool) → Shown requests known left old new text refused → GivesLine left behind true line → next ≡ text ++ line_text requests line → asked ≡ line_refused requests line → Shown requests known behind old new next (refused || asked)
-shown_line requests None left behind old new text next line refused asked shown gives added is = tt
-shown_line requests (Some input) None behind old new text next line refused asked shown gives added is = absurd shown
-shown_line requests (Some input) (Some xs) None old new text next line refused asked shown gives added is = absurd gives
-shown_line requests (Some input) (Some xs) (Some ys) old new text next line refused asked shown gives added is = record {
-  written = shown.written;
-  sent = shown.sent;
-  parts =
-      shown.parts
-      ∙ ap (λ (t : List ℕ). shown.written ++ (text ++ t)) (show_text-line requests xs line ys gives)
-      ∙ ap (λ (t : List ℕ). shown.written ++ t) (sym (append_assoc text (line_text requests line) (show_text requests ys)) ∙ ap (λ (t : List ℕ). t ++ show_text requests ys) (sym added));
-  any =
-      ap (λ (t : Bool). (refused || t) || show_refused requests ys) is
-      ∙ sym (or_assoc refused (line_refused requests line) (show_refused requests ys))
-      ∙ ap (λ (t : Bool). refused || t) (sym (show_refused-line requests xs line ys gives))
-      ∙ shown.any;
+-- a turn shows a line
+pub shown_line : (s : ShowState) (known left : Option (List ℕ)) (old new line : List ℕ) (asked : Bool) → GivesLine known left true line → new ≡ old ++ line_text s.requests line → asked ≡ line_refused s.requests line → IsTurn (show_printing s) (show_printing (shown_more s asked)) known left old new More
+shown_line s known left old new line asked gives written refused = record {
+  added = line_text s.requests line;
+  written = written;
+  goes = more_goes s known left line (line_text s.requests line) asked gives refl refused;
 }
 
--- the text is written, and begins anew
-pub shown_sent : (requests : Bool) (known left old mid new : Option (List ℕ)) (text next : List ℕ) (refused : Bool) → Shown requests known left old mid text refused → Appends mid new text → next ≡ [] → Shown requests known left old new next refused
-shown_sent requests None left old mid new text next refused shown sent empty = tt
-shown_sent requests (Some input) None old mid new text next refused shown sent empty = absurd shown
-shown_sent requests (Some input) (Some xs) old mid new text next refused shown sent empty = record {
-  written = shown.written ++ text;
-  sent = Appends-trans old mid new shown.written text shown.sent sent;
-  parts =
-      shown.parts
-      ∙ sym (append_assoc shown.written text (show_text requests xs))
-      ∙ ap (λ (t : List ℕ). (shown.written ++ text) ++ (t ++ show_text requests xs)) (sym empty);
-  any = shown.any;
-}
+done_goes : (s : ShowState) (known left : Option (List ℕ)) (line : List ℕ) (status : ℕ) → GivesLine known left false line → status ≡ cond s.refused 2 0 → GoesOver (show_printing s) (show_printing s) known left [] (Done status)
+done_goes s None left line status gives is = tt
+done_goes s (Some xs) None line status gives is = absurd gives
+done_goes s (Some xs) (Some ys) line status gives is = (
+  ap (show_text s.requests) gives ∙ show_text-nil s.requests,
+  ap (λ (b : Bool). cond (s.refused || b) 2 0) (ap (show_refused s.requests) gives ∙ show_refused-nil s.requests)
+  ∙ ap (λ (b : Bool). cond b 2 0) (or-false s.refused)
+  ∙ sym is,
+)
 
--- the whole output
-pub record ShownAll (requests : Bool) (old new : Option (List ℕ)) (refused : Bool) (input : List ℕ) : Type 0 where
-  pub whole : Appends old new (show_text requests input)
-  pub any : refused ≡ show_refused requests input
-
--- behind the last line
-pub shown_all : (requests : Bool) (known left behind old mid new : Option (List ℕ)) (text line : List ℕ) (refused : Bool) → Shown requests known left old mid text refused → GivesLine left behind false line → Appends mid new text → IfSome known (ShownAll requests old new refused)
-shown_all requests None left behind old mid new text line refused shown gives sent = tt
-shown_all requests (Some input) None behind old mid new text line refused shown gives sent = absurd shown
-shown_all requests (Some input) (Some xs) None old mid new text line refused shown gives sent = absurd gives
-shown_all requests (Some input) (Some xs) (Some ys) old mid new text line refused shown gives sent =
-    let none : show_text requests xs ≡ [] = ap (show_text requests) gives ∙ show_text-nil requests in
-    let all : show_text requests input ≡ shown.written ++ text =
-    shown.parts ∙ ap (λ (t : List ℕ). shown.written ++ t) (ap (λ (t : List ℕ). text ++ t) none ∙ append-nil text)
-    in
-    record {
-      whole = subst (λ (t : List ℕ). Appends old new t) (sym all) (Appends-trans old mid new shown.written text shown.sent sent);
-      any =
-          sym (or-false refused)
-          ∙ ap (λ (t : Bool). refused || t) (sym (ap (show_refused requests) gives ∙ show_refused-nil requests))
-          ∙ shown.any;
-    }
-
--- a front of the text is written
-pub shown_front : (requests : Bool) (known left old mid new : Option (List ℕ)) (text : List ℕ) (refused : Bool) → Shown requests known left old mid text refused → AppendsFront mid new text → IfSome known (λ input. AppendsFront old new (show_text requests input))
-shown_front requests None left old mid new text refused shown sent = tt
-shown_front requests (Some input) None old mid new text refused shown sent = absurd shown
-shown_front requests (Some input) (Some xs) old mid new text refused shown sent =
-    subst (λ (t : List ℕ). AppendsFront old new t) (sym shown.parts)
-    (front_after old mid new shown.written (text ++ show_text requests xs) shown.sent (front_more mid new text (show_text requests xs) sent))
-
--- the whole output and its status
-pub shown_status : (requests : Bool) (known old new : Option (List ℕ)) (refused : Bool) (status : ℕ) → IfSome known (ShownAll requests old new refused) → status ≡ cond refused 2 0 → IfSome known (λ input. Appends old new (show_text requests input) × (status ≡ show_status requests input))
-shown_status requests None old new refused status all is = tt
-shown_status requests (Some input) old new refused status all is = (all.whole, is ∙ ap (λ (b : Bool). cond b 2 0) all.any)
+-- the last turn shows nothing
+pub shown_all : (s : ShowState) (known left : Option (List ℕ)) (old line : List ℕ) (status : ℕ) → GivesLine known left false line → status ≡ cond s.refused 2 0 → IsTurn (show_printing s) (show_printing s) known left old old (Done status)
+shown_all s known left old line status gives is =
+    record { added = []; written = sym (append-nil old); goes = done_goes s known left line status gives is }

@@ -2,5 +2,4 @@ pub mod Command
 pub mod Orders
 pub mod Show
 pub mod Table
-pub mod Text
 pub mod Words

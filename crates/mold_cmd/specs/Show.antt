@@ -1,5 +1,5 @@
 -- What `mold show` prints for its input.
-use Rattle.std.specs.Prelude.{ℕ, List, [], ◌∷◌, codes, Bool, true, false, if◌then◌else◌, Result, Ok, Err}
+use Rattle.std.specs.Prelude.{ℕ, List, [], ◌∷◌, codes, Bool, true, false, if◌then◌else◌, ◌||◌, Result, Ok, Err}
 use Rattle.std.specs.List.{flat_map, list_any}
 use Rattle.hex.specs.Hex.{decode_of}
 use Rattle.hex.specs.declared.error.FromHexError.{FromHexError}
@@ -7,15 +7,16 @@ use Rattle.mold_wire.specs.Reading.{reading}
 use Rattle.mold_wire.specs.declared.packet.Packet.{Packet}
 use Rattle.mold_wire.specs.declared.error.DecodeError.{DecodeError}
 use Rattle.mold_devices.specs.Lines.{lines_of}
+use Rattle.mold_devices.specs.Turns.{Printing}
 use Rattle.mold_wire.specs.Request.{request_reading}
 use Rattle.mold_wire.specs.declared.request.Request.{Request}
 use Rattle.mold_wire.specs.declared.error.RequestError.{RequestError}
-use Rattle.mold_cmd.specs.Text.{packet_text, fault_text, request_text, request_fault_text, refused_text}
+use Rattle.mold_text.specs.Text.{packet_text, fault_words, request_text, request_fault_words, refused_line}
 
 -- what a packet prints, by what its bytes read as
 abbrev pub packet_shown : Result Packet DecodeError → List ℕ
 packet_shown (Ok packet) = packet_text packet
-packet_shown (Err fault) = refused_text (fault_text fault)
+packet_shown (Err fault) = refused_line (fault_words fault)
 
 abbrev pub packet_refused : Result Packet DecodeError → Bool
 packet_refused (Ok packet) = false
@@ -24,7 +25,7 @@ packet_refused (Err fault) = true
 -- what a request prints, by what its bytes read as
 abbrev pub request_shown : Result Request RequestError → List ℕ
 request_shown (Ok request) = request_text request
-request_shown (Err fault) = refused_text (request_fault_text fault)
+request_shown (Err fault) = refused_line (request_fault_words fault)
 
 abbrev pub request_refused : Result Request RequestError → Bool
 request_refused (Ok request) = false
@@ -42,7 +43,7 @@ datagram_refused false bytes = packet_refused (reading bytes)
 -- what digits print, by the bytes that they stand for
 abbrev pub digits_text : Bool → Result (List ℕ) FromHexError → List ℕ
 digits_text requests (Ok bytes) = datagram_text requests bytes
-digits_text requests (Err _) = codes "refused NotHex\n"
+digits_text requests (Err _) = refused_line (codes "NotHex" ∷ [])
 
 abbrev pub digits_refused : Bool → Result (List ℕ) FromHexError → Bool
 digits_refused requests (Ok bytes) = datagram_refused requests bytes
@@ -68,3 +69,15 @@ show_refused requests input = list_any (line_refused requests) (lines_of input)
 -- the status: 0, or 2 where a line was refused
 abbrev pub show_status : Bool → List ℕ → ℕ
 show_status requests input = if show_refused requests input then 2 else 0
+
+-- a command that shows: whether its lines are requests, and whether one was refused so far
+pub record ShowState : Type 0 where
+  pub requests : Bool
+  pub refused : Bool
+
+-- what it prints for the input that is left, and the status that it ends with
+abbrev pub show_printing : ShowState → Printing
+show_printing s = record {
+  text = show_text s.requests;
+  status = λ input. if s.refused || show_refused s.requests input then 2 else 0;
+}

@@ -4,12 +4,11 @@ ghost use Rattle.std.specs.Prelude.{◌≡◌, IfOk, IfSome};
 ghost use Rattle.std.specs.Io.KnownBytes.{Appends};
 ghost use Rattle.mold_cmd.specs.Command.{text, status};
 ghost use Rattle.mold_devices.specs.Devices.{AppendsFront};
-ghost use Rattle.mold_devices.specs.Faults.{CountsSource, CountsSink};
+ghost use Rattle.mold_devices.specs.Faults.{CountsCommand};
 
-use mold_devices::{Sink, Source};
-use mold_devices::CommandFault;
-use crate::show::show;
+use crate::show::Show;
 use crate::words::Order;
+use mold_devices::{CommandFault, Sink, Source, run_lines};
 use std::alloc::Global;
 
 /// Does what the order says with the whole input of the source, and answers the status: 0 done, 2
@@ -26,10 +25,12 @@ pub fn run_command<S: Source, K: Sink>(
         × (answer ≡ status order.now input))) }
     ensures front { IfSome (S.left source.old) (λ input.
         AppendsFront (K.held sink.old) (K.held sink.new) (text order.now input)) }
-    ensures source { CountsSource (S.failed source.old) (S.failed source.new) result }
-    ensures sink { CountsSink (K.failed sink.old) (K.failed sink.new) result }
+    ensures failures { CountsCommand (S.failed source.old) (S.failed source.new)
+        (K.failed sink.old) (K.failed sink.new) result }
 {
     match order {
-        Order::Show { request } => show(alloc, *request, source, sink),
+        Order::Show { request } => {
+            run_lines(alloc, &mut Show::new(alloc, *request), source, sink)
+        }
     }
 }

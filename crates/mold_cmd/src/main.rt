@@ -5,14 +5,11 @@ mod command;
 mod show;
 #[cfg(test)]
 mod tests;
-mod text;
 mod words;
 
 use crate::command::run_command;
-use mold_devices::{FromRead, IntoWrite};
-use mold_devices::CommandFault;
 use crate::words::{Order, UsageFault, read_words};
-use std::alloc::AllocError;
+use mold_devices::{CommandFault, FromRead, IntoWrite};
 use std::io::{ErrorKind, Write};
 use std::process::ExitCode;
 use std::rt::Env;
