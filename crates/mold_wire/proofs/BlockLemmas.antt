@@ -1,7 +1,10 @@
 -- Whole blocks at the front of some bytes, and the messages read from them.
 use Rattle.std.proofs.Common.{◌≡◌, ℕ, suc, ◌+◌, ◌-◌, ◌<◌, ◌^◌, List, [], ◌∷◌, ◌++◌, length, length-append, take, drop}
 use Rattle.std.proofs.Common.{refl, sym, ap, subst, ◌∙◌, append_assoc, arith}
+use Rattle.std.specs.Prelude.{◌==◌}
+use Rattle.std.specs.Bool.{one_answer}
 use Rattle.std.specs.List.{AllByRecursion}
+use Rattle.std.specs.Cmp.Lexicographic.{pointwise, pointwise_decides, bytes_decides}
 use Rattle.std.proofs.lemmas.List.{take_at, drop_at, append-nil, append_cancel_left}
 use Rattle.byteorder.specs.Endian.{big_number}
 use Rattle.mold_wire.specs.Block.{be16, IsMessage, block, blocks, messages_at, AreBlocks}
@@ -136,3 +139,15 @@ pub block_begins : (left : ℕ) (bytes : List ℕ) → 0 < left → AreBlocks le
 block_begins left bytes more whole none =
     let e : left ≡ suc (left - 1) = omega arith in
     begins_of_more (left - 1) bytes (subst (λ (n : ℕ). AreBlocks n bytes) e whole) none
+
+-- blocks of as many messages are the same bytes exactly where the messages are the same
+pub same_blocks :
+    (count number : ℕ) (one other : List ℕ) → count ≡ number → AreBlocks count one → AreBlocks number other →
+    pointwise ◌==◌ one other ≡ pointwise (pointwise ◌==◌) (messages_at count one) (messages_at number other)
+same_blocks count number one other same_number is also =
+    let messages = pointwise_decides bytes_decides (messages_at count one) (messages_at number other) in
+    one_answer (pointwise ◌==◌ one other) (pointwise (pointwise ◌==◌) (messages_at count one) (messages_at number other))
+    (bytes_decides one other) (
+      λ same. is.spelled ∙ ap blocks (messages.0 same) ∙ sym also.spelled,
+      λ same. messages.1 (ap (messages_at count) same ∙ ap (λ (n : ℕ). messages_at n other) same_number),
+    )
