@@ -8,8 +8,7 @@ use Rattle.std.specs.Cmp.Lexicographic.{pointwise, pointwise_decides, bytes_deci
 use Rattle.std.proofs.lemmas.List.{take_at, drop_at, append-nil, append_cancel_left}
 use Rattle.byteorder.specs.Endian.{big_number}
 use Rattle.mold_wire.specs.Block.{be16, IsMessage, block, blocks, messages_at, AreBlocks}
-use Rattle.mold_wire.specs.Block.{AreBlocksAndRest, BeginsNoBlock, AreCutBlocks}
-use Rattle.mold_wire.specs.Parts.{IsBlockAndRest}
+use Rattle.mold_wire.specs.Block.{IsBlockAndRest, AreBlocksAndRest, BeginsNoBlock, AreCutBlocks}
 
 -- two bytes read back as the number that they were written from
 pub big_number-be16 : (number : ℕ) (rest : List ℕ) → number < 2 ^ 16 → big_number 2 (be16 number ++ rest) ≡ number

@@ -1,3 +1,4 @@
+pub mod HeaderLemmas
 pub mod BlockLemmas
 pub mod PacketLemmas
 pub mod ReadingLemmas

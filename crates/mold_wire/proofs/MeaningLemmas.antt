@@ -6,18 +6,19 @@ use Rattle.std.specs.List.{AllByRecursion}
 use Rattle.std.proofs.lemmas.Bool.{cond_both, eqb-true, eqb-false, leb-true, leb-false, ltb-true, ltb-false}
 use Rattle.std.proofs.lemmas.List.{append-nil, drop-drop, length-take-le, nil_from_length, take-append-drop}
 use Rattle.byteorder.specs.Endian.{big_number}
-use Rattle.mold_wire.specs.declared.session.Session.{Session}
+use Rattle.mold_wire.specs.declared.header.Header.{Header}
 use Rattle.mold_wire.specs.declared.packet.Packet.{Packet}
 use Rattle.mold_wire.specs.declared.request.Request.{Request}
 use Rattle.mold_wire.specs.declared.error.DecodeError.{DecodeError}
 use Rattle.mold_wire.specs.declared.error.RequestError.{RequestError}
 use Rattle.mold_wire.specs.Block.{IsBytes, be16, be64, IsMessage, block, blocks}
-use Rattle.mold_wire.specs.Block.{AreBlocksAndRest, BeginsNoBlock, AreCutBlocks}
-use Rattle.mold_wire.specs.Packet.{Spells}
+use Rattle.mold_wire.specs.Block.{IsBlockAndRest, AreBlocksAndRest, BeginsNoBlock, AreCutBlocks}
+use Rattle.mold_wire.specs.Packet.{stated_blocks, Spells}
 use Rattle.mold_wire.specs.Fault.{FaultAt}
-use Rattle.mold_wire.specs.Parts.{IsBlockAndRest, IsHeaderAndRest, stated_blocks}
+use Rattle.mold_wire.specs.Header.{header_bytes, IsHeaderAndRest}
 use Rattle.mold_wire.specs.Reading.{behind_first, blocks_at, body_of, packet_from, reading}
 use Rattle.mold_wire.specs.Request.{SpellsRequest, RequestFaultAt, request_reading}
+use Rattle.mold_wire.proofs.HeaderLemmas.{header_parts}
 use Rattle.mold_wire.proofs.BlockLemmas.{big_number-be16, blocks_none}
 use Rattle.mold_wire.proofs.PacketLemmas.{body_of_is, cut_in, spells_whole, trailing_behind}
 use Rattle.mold_wire.proofs.ReadingLemmas.{IsBytes-drop, be16-read, be64-read, block_stands}
@@ -98,13 +99,16 @@ IsRead bytes (Ok packet) = Spells packet bytes
 IsRead bytes (Err error) = FaultAt error bytes
 
 packet_from_is :
-    (session : Session) (sequence count : ℕ) (bytes behind : List ℕ) (found : Result (List (List ℕ) × List ℕ) ℕ) →
-    IsHeaderAndRest bytes session.0 sequence count behind → IsFound (stated_blocks count) behind found →
-    IsRead bytes (packet_from session.0 sequence count (length bytes) found)
-packet_from_is session sequence count bytes behind (Ok found) header is =
-    let whole : AreBlocksAndRest (stated_blocks count) behind found.1 = is.0 in
-    let counted : length found.0 ≡ stated_blocks count =
+    (header : Header) (bytes behind : List ℕ) (found : Result (List (List ℕ) × List ℕ) ℕ) →
+    IsHeaderAndRest header bytes behind → IsFound (stated_blocks header.count) behind found →
+    IsRead bytes (packet_from header.session.0 header.sequence header.count (length bytes) found)
+packet_from_is header bytes behind (Ok found) stands is =
+    let whole : AreBlocksAndRest (stated_blocks header.count) behind found.1 = is.0 in
+    let counted : length found.0 ≡ stated_blocks header.count =
     ap (λ (t : List (List ℕ)). length t) (sym is.1) ∙ whole.counted
+    in
+    let each : AllByRecursion IsMessage found.0 =
+    subst (λ (t : List (List ℕ)). AllByRecursion IsMessage t) is.1 whole.each
     in
     cond_both (eqb (length found.1) 0) _ _ (λ (read : Result Packet DecodeError). IsRead bytes read)
     (λ none.
@@ -114,19 +118,25 @@ packet_from_is session sequence count bytes behind (Ok found) header is =
     ∙ append-nil (blocks whole.messages)
     ∙ ap blocks is.1
     in
-    spells_whole session sequence count bytes behind found.0 (body_of count found.0) header all
-    (body_of_is count found.0 counted (subst (λ (t : List (List ℕ)). AllByRecursion IsMessage t) is.1 whole.each)
-    header.count_fits))
+    spells_whole header bytes behind found.0 (body_of header.count found.0) stands all
+    (body_of_is header.count found.0 counted each stands.count))
     (λ some.
     let more = eqb-false (length found.1) 0 some in
-    trailing_behind session sequence count bytes behind found.1 header whole (omega arith))
-packet_from_is session sequence count bytes behind (Err index) header is =
-    cut_in session sequence count index bytes behind header is.0 is.1
+    trailing_behind header bytes behind found.1 stands whole (omega arith))
+packet_from_is header bytes behind (Err index) stands is = cut_in header index bytes behind stands is.0 is.1
+
+-- the header that the first 20 bytes read as
+abbrev header_at : List ℕ → Header
+header_at bytes = record {
+  session = record { 0 = take 10 bytes };
+  sequence = big_number 8 (drop 10 bytes);
+  count = big_number 2 (drop 18 bytes);
+}
 
 -- at least 20 bytes begin with a header
 header_read :
     (bytes : List ℕ) → IsBytes bytes → 20 ≤ length bytes →
-    IsHeaderAndRest bytes (take 10 bytes) (big_number 8 (drop 10 bytes)) (big_number 2 (drop 18 bytes)) (drop 20 bytes)
+    IsHeaderAndRest (header_at bytes) bytes (drop 20 bytes)
 header_read bytes fits long =
     let sequence : List ℕ = drop 10 bytes in
     let count : List ℕ = drop 18 bytes in
@@ -135,8 +145,8 @@ header_read bytes fits long =
     let sequence_long : 8 ≤ length sequence = omega (arith, length-drop 10 bytes) in
     let count_long : 2 ≤ length count = omega (arith, length-drop 18 bytes) in
     record {
-      session_length = length-take-le 10 bytes (omega arith);
-      sequence_fits = omega (
+      session = length-take-le 10 bytes (omega arith);
+      sequence = omega (
         arith,
         sequence_bytes 0,
         sequence_bytes 1,
@@ -147,21 +157,20 @@ header_read bytes fits long =
         sequence_bytes 6,
         sequence_bytes 7,
       );
-      count_fits = omega (arith, count_bytes 0, count_bytes 1);
+      count = omega (arith, count_bytes 0, count_bytes 1);
       parts =
           sym (take-append-drop 10 bytes)
           ∙ ap (λ (t : List ℕ). take 10 bytes ++ t) (sym (take-append-drop 8 sequence))
-          ∙ ap (λ (t : List ℕ). take 10 bytes ++ (t ++ drop 8 sequence)) (sym (be64-read sequence sequence_bytes sequence_long))
+          ∙ ap (λ (t : List ℕ). take 10 bytes ++ (t ++ drop 8 sequence))
+          (sym (be64-read sequence sequence_bytes sequence_long))
           ∙ ap (λ (t : List ℕ). take 10 bytes ++ (be64 (big_number 8 sequence) ++ t)) (
           drop-drop 8 10 bytes
           ∙ sym (take-append-drop 2 count)
           ∙ ap (λ (t : List ℕ). t ++ drop 2 count) (sym (be16-read count count_bytes count_long))
           ∙ ap (λ (t : List ℕ). be16 (big_number 2 count) ++ t) (drop-drop 2 18 bytes)
-          );
+          )
+          ∙ sym (header_parts (take 10 bytes) (big_number 8 sequence) (big_number 2 count) (drop 20 bytes));
     }
-
-abbrev named : List ℕ → Session
-named bytes = record { 0 = bytes }
 
 reading_is : (bytes : List ℕ) → IsBytes bytes → IsRead bytes (reading bytes)
 unfolding reading
@@ -169,8 +178,7 @@ reading_is bytes fits =
     cond_both (ltb (length bytes) 20) _ _ (λ (read : Result Packet DecodeError). IsRead bytes read)
     (λ short. (ltb-true _ _ short, refl))
     (λ long.
-    packet_from_is (named (take 10 bytes)) (big_number 8 (drop 10 bytes)) (big_number 2 (drop 18 bytes)) bytes (drop 20 bytes)
-    _
+    packet_from_is (header_at bytes) bytes (drop 20 bytes) _
     (header_read bytes fits (ltb-false _ _ long))
     (blocks_at_is (stated_blocks (big_number 2 (drop 18 bytes))) (drop 20 bytes) (IsBytes-drop 20 bytes fits)))
 
@@ -196,18 +204,10 @@ request_reading_is bytes fits =
     let size : length bytes ≡ 20 = eqb-true _ _ right in
     let header = header_read bytes fits (omega arith) in
     let none : drop 20 bytes ≡ [] = nil_from_length (drop 20 bytes) (omega (arith, length-drop 20 bytes)) in
-    let numbers : List ℕ = be16 (big_number 2 (drop 18 bytes)) in
+    let head : List ℕ = header_bytes (take 10 bytes) (big_number 8 (drop 10 bytes)) (big_number 2 (drop 18 bytes)) in
     record {
-      is_request = record {
-        session = header.session_length;
-        sequence = header.sequence_fits;
-        count = header.count_fits;
-      };
-      spelled =
-          header.parts
-          ∙ ap (λ (t : List ℕ). take 10 bytes ++ (be64 (big_number 8 (drop 10 bytes)) ++ t)) (
-          ap (λ (t : List ℕ). numbers ++ t) none ∙ append-nil numbers
-          );
+      is_request = record { session = header.session; sequence = header.sequence; count = header.count };
+      spelled = header.parts ∙ ap (λ (t : List ℕ). head ++ t) none ∙ append-nil head;
     })
     (λ wrong. (eqb-false _ _ wrong, refl))
 

@@ -4,10 +4,12 @@ use Rattle.std.proofs.Common.{take, drop, refl, sym, ap, ◌∙◌, append_assoc
 use Rattle.std.proofs.lemmas.List.{take_at, drop_at}
 use Rattle.std.proofs.lemmas.List.Sums.{sum_by-cons, sum_by-append}
 use Rattle.mold_wire.specs.declared.packet.Packet.{Packet}
-use Rattle.mold_wire.specs.Block.{be16, be64, block, blocks}
+use Rattle.mold_wire.specs.Block.{be16, block, blocks}
 use Rattle.mold_wire.specs.Packet.{Spells, count_of, messages_of}
 use Rattle.mold_wire.specs.Packing.{packet_length, Fits}
+use Rattle.mold_wire.specs.Header.{header_bytes}
 use Rattle.mold_wire.proofs.BlockLemmas.{blocks-append}
+use Rattle.mold_wire.proofs.HeaderLemmas.{length-header_bytes}
 
 abbrev block_length : List ℕ → ℕ
 block_length message = 2 + length message
@@ -52,15 +54,13 @@ pub spelling_length :
     (packet : Packet) (bytes : List ℕ) → Spells packet bytes → length bytes ≡ packet_length (messages_of packet.body)
 spelling_length packet bytes spells =
     let messages = messages_of packet.body in
-    let counted : List ℕ = be16 (count_of packet.body) ++ blocks messages in
+    let count = count_of packet.body in
     omega (
       arith,
       ap (λ (t : List ℕ). length t) spells.spelled,
-      length-append packet.session.0 (be64 packet.sequence ++ counted),
-      length-append (be64 packet.sequence) counted,
-      length-append (be16 (count_of packet.body)) (blocks messages),
+      length-append (header_bytes packet.session.0 packet.sequence count) (blocks messages),
+      length-header_bytes packet.session.0 packet.sequence count spells.is_packet.session,
       length-blocks messages,
-      spells.is_packet.session,
     )
 
 pub spelling_fits :
@@ -79,8 +79,7 @@ pub message_place :
     messages_of packet.body ≡ front ++ message ∷ behind →
     take (length message) (drop (packet_length front + 2) bytes) ≡ message
 message_place packet bytes front behind message spells parts =
-    let session = packet.session.0 in
-    let head : List ℕ = session ++ (be64 packet.sequence ++ be16 (count_of packet.body)) in
+    let head : List ℕ = header_bytes packet.session.0 packet.sequence (count_of packet.body) in
     let before : List ℕ = (head ++ blocks front) ++ be16 (length message) in
     let rest : List ℕ = message ++ blocks behind in
     let joined : blocks (messages_of packet.body) ≡ blocks front ++ (be16 (length message) ++ rest) =
@@ -90,9 +89,7 @@ message_place packet bytes front behind message spells parts =
     in
     let laid : bytes ≡ before ++ rest =
     spells.spelled
-    ∙ ap (λ (t : List ℕ). session ++ (be64 packet.sequence ++ (be16 (count_of packet.body) ++ t))) joined
-    ∙ sym (ap (λ (t : List ℕ). session ++ t) (append_assoc (be64 packet.sequence) (be16 (count_of packet.body)) (blocks front ++ (be16 (length message) ++ rest))))
-    ∙ sym (append_assoc session (be64 packet.sequence ++ be16 (count_of packet.body)) (blocks front ++ (be16 (length message) ++ rest)))
+    ∙ ap (λ (t : List ℕ). head ++ t) joined
     ∙ sym (append_assoc head (blocks front) (be16 (length message) ++ rest))
     ∙ sym (append_assoc (head ++ blocks front) (be16 (length message)) rest)
     in
@@ -101,10 +98,8 @@ message_place packet bytes front behind message spells parts =
       arith,
       length-append (head ++ blocks front) (be16 (length message)),
       length-append head (blocks front),
-      length-append session (be64 packet.sequence ++ be16 (count_of packet.body)),
-      length-append (be64 packet.sequence) (be16 (count_of packet.body)),
+      length-header_bytes packet.session.0 packet.sequence (count_of packet.body) spells.is_packet.session,
       length-blocks front,
-      spells.is_packet.session,
     )
     in
     ap (λ (t : List ℕ). take (length message) (drop (packet_length front + 2) t)) laid

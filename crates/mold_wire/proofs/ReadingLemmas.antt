@@ -16,12 +16,13 @@ use Rattle.mold_wire.specs.declared.packet.Body.{Body}
 use Rattle.mold_wire.specs.declared.packet.Body.TheVariants.{Data, Heartbeat, End}
 use Rattle.mold_wire.specs.declared.error.DecodeError.{DecodeError}
 use Rattle.mold_wire.specs.declared.error.DecodeError.TheVariants.{Short, BlockCut, Trailing}
-use Rattle.mold_wire.specs.Block.{IsBytes, be16, be64, IsMessage, block, blocks, BeginsNoBlock}
-use Rattle.mold_wire.specs.Packet.{IsBody, count_of, messages_of, Spells}
-use Rattle.mold_wire.specs.Parts.{IsBlockAndRest, stated_blocks}
+use Rattle.mold_wire.specs.Block.{IsBytes, be16, be64, IsMessage, block, blocks, IsBlockAndRest, BeginsNoBlock}
+use Rattle.mold_wire.specs.Header.{header_bytes}
+use Rattle.mold_wire.specs.Packet.{IsBody, count_of, messages_of, stated_blocks, Spells}
 use Rattle.mold_wire.specs.Fault.{IsCutPacket, IsTrailing, FaultAt}
 use Rattle.mold_wire.specs.Reading.{blocks_at, behind_first, body_of, packet_from, reading}
 use Rattle.mold_wire.proofs.BlockLemmas.{big_number-be16}
+use Rattle.mold_wire.proofs.HeaderLemmas.{header_parts, length-counted}
 
 abbrev done : Packet → Result Packet DecodeError
 done packet = Ok packet
@@ -184,11 +185,12 @@ reading-parts packet front more bytes spells parts =
     let laid : bytes ≡ session ++ (be64 packet.sequence ++ numbers) =
     parts
     ∙ ap (λ (t : List ℕ). t ++ more) spells.spelled
-    ∙ append_assoc session (be64 packet.sequence ++ (be16 count ++ blocks messages)) more
+    ∙ append_assoc (header_bytes session packet.sequence count) (blocks messages) more
+    ∙ header_parts session packet.sequence count behind
     in
     let at : CountRead bytes count behind =
     count_read (session ++ be64 packet.sequence) bytes count behind
-    (omega (arith, length-append session (be64 packet.sequence), spells.is_packet.session))
+    (length-counted session packet.sequence spells.is_packet.session)
     (count_of-fits packet.body spells.is_packet.body)
     (laid ∙ sym (append_assoc session (be64 packet.sequence) numbers))
     in

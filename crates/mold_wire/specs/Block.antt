@@ -27,6 +27,11 @@ block message = be16 (length message) ++ message
 abbrev pub blocks : List (List ℕ) → List ℕ
 blocks messages = flat_map block messages
 
+-- the block of the message stands at the front of the bytes, and the rest behind it
+pub record IsBlockAndRest (bytes message rest : List ℕ) : Type 0 where
+  pub each : IsMessage message
+  pub parts : bytes ≡ block message ++ rest
+
 -- so many whole blocks stand at the front of the bytes, and the rest behind them
 pub record AreBlocksAndRest (number : ℕ) (bytes rest : List ℕ) : Type 0 where
   pub messages : List (List ℕ)

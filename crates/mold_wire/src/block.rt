@@ -1,8 +1,7 @@
 //! Message blocks at the front of some bytes.
 
 ghost use Rattle.std.specs.Prelude.{◌≡◌, ◌+◌, ◌≤◌, ◌<◌, ◌^◌, ◌++◌, length, drop, MatchOption, MatchResult};
-ghost use Rattle.mold_wire.specs.Block.{block, AreBlocksAndRest, BeginsNoBlock, AreCutBlocks};
-ghost use Rattle.mold_wire.specs.Parts.{IsBlockAndRest};
+ghost use Rattle.mold_wire.specs.Block.{block, IsBlockAndRest, AreBlocksAndRest, BeginsNoBlock, AreCutBlocks};
 
 use byteorder::{BigEndian, ByteOrder};
 
