@@ -59,7 +59,9 @@ pub messages_at-block :
     messages_at (suc number) (block message ++ rest) ≡ message ∷ messages_at number rest
 unfolding messages_at
 messages_at-block number message rest fits =
-    let len : big_number 2 (be16 (length message) ++ (message ++ rest)) ≡ length message = big_number-be16 (length message) (message ++ rest) fits in
+    let len : big_number 2 (be16 (length message) ++ (message ++ rest)) ≡ length message =
+    big_number-be16 (length message) (message ++ rest) fits
+    in
     rw (len, take_at message rest (length message) refl, drop_at message rest (length message) refl) refl
 
 -- what was spelled is read back, whatever follows it
@@ -77,7 +79,9 @@ messages_at-blocks (message ∷ messages) rest each =
 pub are_blocks :
     (number : ℕ) (bytes rest : List ℕ) → AreBlocksAndRest number bytes rest → rest ≡ [] → AreBlocks number bytes
 are_blocks number bytes rest found none =
-    let all : bytes ≡ blocks found.messages = found.parts ∙ ap (λ (t : List ℕ). blocks found.messages ++ t) none ∙ append-nil (blocks found.messages) in
+    let all : bytes ≡ blocks found.messages =
+    found.parts ∙ ap (λ (t : List ℕ). blocks found.messages ++ t) none ∙ append-nil (blocks found.messages)
+    in
     let read : messages_at number bytes ≡ found.messages =
     ap (λ (n : ℕ). messages_at n bytes) (sym found.counted)
     ∙ ap (messages_at (length found.messages)) (all ∙ sym (append-nil (blocks found.messages)))
@@ -145,8 +149,11 @@ pub same_blocks :
     pointwise ◌==◌ one other ≡ pointwise (pointwise ◌==◌) (messages_at count one) (messages_at number other)
 same_blocks count number one other same_number is also =
     let messages = pointwise_decides bytes_decides (messages_at count one) (messages_at number other) in
-    one_answer (pointwise ◌==◌ one other) (pointwise (pointwise ◌==◌) (messages_at count one) (messages_at number other))
+    one_answer (pointwise ◌==◌ one other)
+    (pointwise (pointwise ◌==◌) (messages_at count one) (messages_at number other))
     (bytes_decides one other) (
       λ same. is.spelled ∙ ap blocks (messages.0 same) ∙ sym also.spelled,
       λ same. messages.1 (ap (messages_at count) same ∙ ap (λ (n : ℕ). messages_at n other) same_number),
     )
+
+pub ruleset skipped = (blocks_none, blocks_more, cut_behind)

@@ -68,7 +68,8 @@ front-longest limit (message ∷ messages) (suc most) (suc number) few short fit
     omega (arith, packet_length-more message taken, least_packet_length taken, packet_length_alone message)
     in
     let behind : number ≤ length (front left messages most) =
-    front-longest left messages most number (omega arith) (omega arith) (omega (arith, packet_length-more message taken))
+    front-longest left messages most number (omega arith) (omega arith)
+    (omega (arith, packet_length-more message taken))
     in
     subst (λ (t : List (List ℕ)). suc number ≤ length t) (sym (front-more limit message messages most alone))
     (omega arith)
@@ -80,7 +81,8 @@ front_taken messages found behind parts =
     sym (take_at found behind (length found) refl) ∙ ap (λ (t : List (List ℕ)). take (length found) t) (sym parts)
 
 front_short : (messages found behind : List (List ℕ)) → messages ≡ found ++ behind → length found ≤ length messages
-front_short messages found behind parts = omega (arith, ap (λ (t : List (List ℕ)). length t) parts, length-append found behind)
+front_short messages found behind parts =
+    omega (arith, ap (λ (t : List (List ℕ)). length t) parts, length-append found behind)
 
 pub front_is :
     (limit : ℕ) (messages : List (List ℕ)) (most : ℕ) → 20 ≤ limit →
@@ -101,7 +103,11 @@ pub one_front :
     IsFront limit messages most other → one ≡ other
 one_front limit messages most one other is also =
     let same : length one ≡ length other =
-    omega (arith, is.longest other also.behind also.parts also.few also.fits, also.longest one is.behind is.parts is.few is.fits)
+    omega (
+      arith,
+      is.longest other also.behind also.parts also.few also.fits,
+      also.longest one is.behind is.parts is.few is.fits,
+    )
     in
     front_taken messages one is.behind is.parts
     ∙ ap (λ (n : ℕ). take n messages) same
@@ -118,13 +124,24 @@ front_only limit messages most found is =
 front_within : (one more : List (List ℕ)) → packet_length one ≤ packet_length (one ++ more)
 front_within one more = omega (arith, packet_length-append one more, least_packet_length more)
 
+-- the message behind a front, if there is one and it may be counted, does not fit
+abbrev Stops : ℕ → ℕ → List (List ℕ) → List (List ℕ) → Type 0
+Stops limit most found behind =
+    (next : List ℕ) (more : List (List ℕ)) →
+    behind ≡ next ∷ more → length found < most → Fits limit (found ++ next ∷ []) → ⊥
+
 longest_of :
     (limit : ℕ) (messages : List (List ℕ)) (most : ℕ) (found behind : List (List ℕ)) → messages ≡ found ++ behind →
-    ((next : List ℕ) (more : List (List ℕ)) → behind ≡ next ∷ more → length found < most → Fits limit (found ++ next ∷ []) → ⊥) →
+    Stops limit most found behind →
     (other more : List (List ℕ)) → messages ≡ other ++ more → length other ≤ most → Fits limit other →
     length other ≤ length found
 longest_of limit messages most found [] parts stops other more others few fits =
-    omega (arith, front_short messages other more others, ap (λ (t : List (List ℕ)). length t) parts, length-append found [])
+    omega (
+      arith,
+      front_short messages other more others,
+      ap (λ (t : List (List ℕ)). length t) parts,
+      length-append found [],
+    )
 longest_of limit messages most found (next ∷ behind) parts stops other more others few fits =
     elim (cases_lt (length found) (length other)) [
       | inl shorter ↦
@@ -141,7 +158,8 @@ longest_of limit messages most found (next ∷ behind) parts stops other more ot
           ∙ ap (λ (t : List (List ℕ)). t ++ drop (length longer) other) (sym front_of_other)
           in
           let shorter_packet : packet_length longer ≤ packet_length other =
-          subst (λ (t : List (List ℕ)). packet_length longer ≤ packet_length t) (sym whole) (front_within longer (drop (length longer) other))
+          subst (λ (t : List (List ℕ)). packet_length longer ≤ packet_length t) (sym whole)
+          (front_within longer (drop (length longer) other))
           in
           absurd (stops next behind refl (omega arith) (omega arith))
       | inr not_shorter ↦ not_shorter
@@ -151,7 +169,7 @@ longest_of limit messages most found (next ∷ behind) parts stops other more ot
 pub front_stops :
     (limit : ℕ) (messages : List (List ℕ)) (most : ℕ) (found behind : List (List ℕ)) → messages ≡ found ++ behind →
     length found ≤ most → Fits limit found →
-    ((next : List ℕ) (more : List (List ℕ)) → behind ≡ next ∷ more → length found < most → Fits limit (found ++ next ∷ []) → ⊥) →
+    Stops limit most found behind →
     IsFront limit messages most found
 front_stops limit messages most found behind parts few fits stops = record {
   behind = behind;

@@ -134,10 +134,10 @@ header_at bytes = record {
 }
 
 -- at least 20 bytes begin with a header
-header_read :
+header_stands :
     (bytes : List ℕ) → IsBytes bytes → 20 ≤ length bytes →
     IsHeaderAndRest (header_at bytes) bytes (drop 20 bytes)
-header_read bytes fits long =
+header_stands bytes fits long =
     let sequence : List ℕ = drop 10 bytes in
     let count : List ℕ = drop 18 bytes in
     let sequence_bytes : IsBytes sequence = IsBytes-drop 10 bytes fits in
@@ -179,7 +179,7 @@ reading_is bytes fits =
     (λ short. (ltb-true _ _ short, refl))
     (λ long.
     packet_from_is (header_at bytes) bytes (drop 20 bytes) _
-    (header_read bytes fits (ltb-false _ _ long))
+    (header_stands bytes fits (ltb-false _ _ long))
     (blocks_at_is (stated_blocks (big_number 2 (drop 18 bytes))) (drop 20 bytes) (IsBytes-drop 20 bytes fits)))
 
 pub read_is_spelled :
@@ -202,7 +202,7 @@ request_reading_is bytes fits =
     cond_both (eqb (length bytes) 20) _ _ (λ (read : Result Request RequestError). IsReadRequest bytes read)
     (λ right.
     let size : length bytes ≡ 20 = eqb-true _ _ right in
-    let header = header_read bytes fits (omega arith) in
+    let header = header_stands bytes fits (omega arith) in
     let none : drop 20 bytes ≡ [] = nil_from_length (drop 20 bytes) (omega (arith, length-drop 20 bytes)) in
     let head : List ℕ = header_bytes (take 10 bytes) (big_number 8 (drop 10 bytes)) (big_number 2 (drop 18 bytes)) in
     record {

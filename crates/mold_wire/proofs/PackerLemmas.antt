@@ -74,10 +74,17 @@ limit_shown fields seen_as shown = subst (λ (s : PackerState). IsLimit s.limit)
 abbrev pub made_of : List ℕ → Fields
 made_of items = record { items = items; used = 0; count = 0; is_open = false }
 
-pub made : (items : List ℕ) (limit : ℕ) → length items ≡ limit → IsLimit limit → Shows (made_of items) (state limit Nothing)
+pub made :
+    (items : List ℕ) (limit : ℕ) → length items ≡ limit → IsLimit limit →
+    Shows (made_of items) (state limit Nothing)
 made items limit long is_limit =
     shows (made_of items) limit Nothing long
-    (record { limit = subst (λ (n : ℕ). IsLimit n) (sym long) is_limit; within = omega arith; told = refl; spelled = refl })
+    (record {
+      limit = subst (λ (n : ℕ). IsLimit n) (sym long) is_limit;
+      within = omega arith;
+      told = refl;
+      spelled = refl;
+    })
 
 -- a buffer of this length after it was written from its front
 abbrev pub written_over : ℕ → List ℕ → List ℕ → List ℕ

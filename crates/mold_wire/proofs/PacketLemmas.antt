@@ -80,7 +80,8 @@ spells_whole header bytes behind messages body stands all is =
       is_packet = record { session = stands.session; sequence = stands.sequence; body = is.is_body };
       spelled =
           stands.parts
-          ∙ ap (λ (t : List ℕ). header_bytes session header.sequence header.count ++ t) (all ∙ ap blocks (sym is.carried))
+          ∙ ap (λ (t : List ℕ). header_bytes session header.sequence header.count ++ t)
+          (all ∙ ap blocks (sym is.carried))
           ∙ ap (λ (n : ℕ). header_bytes session header.sequence n ++ blocks (messages_of body)) (sym is.counted);
     }
 

@@ -41,7 +41,13 @@ packet_length_alone message = omega (arith, packet_length-more message [], packe
 pub length-blocks : (messages : List (List ℕ)) → 20 + length (blocks messages) ≡ packet_length messages
 length-blocks [] = sym packet_length_of_none
 length-blocks (message ∷ messages) =
-    omega (arith, packet_length-more message messages, length-blocks messages, length-append (block message) (blocks messages), length-append (be16 (length message)) message)
+    omega (
+      arith,
+      packet_length-more message messages,
+      length-blocks messages,
+      length-append (block message) (blocks messages),
+      length-append (be16 (length message)) message,
+    )
 
 -- each message takes at least the two bytes of its block's length
 pub least_packet_length : (messages : List (List ℕ)) → 20 + 2 * length messages ≤ packet_length messages
@@ -105,3 +111,7 @@ message_place packet bytes front behind message spells parts =
     ap (λ (t : List ℕ). take (length message) (drop (packet_length front + 2) t)) laid
     ∙ ap (take (length message)) (drop_at before rest (packet_length front + 2) place)
     ∙ take_at message (blocks behind) (length message) refl
+
+pub ruleset spelling_lengths = (spelling_length, spelling_fits, most_messages)
+
+pub ruleset packet_lengths = (packet_length_of_none, packet_length_pushed, packet_length_alone)

@@ -71,7 +71,9 @@ pub blocks_at-block :
     blocks_at (suc number) (block message ++ rest) ≡ behind_first message (blocks_at number rest)
 unfolding blocks_at
 blocks_at-block number message rest fits =
-    let len : big_number 2 (be16 (length message) ++ (message ++ rest)) ≡ length message = big_number-be16 (length message) (message ++ rest) fits in
+    let len : big_number 2 (be16 (length message) ++ (message ++ rest)) ≡ length message =
+    big_number-be16 (length message) (message ++ rest) fits
+    in
     let whole : leb (2 + length message) (length (be16 (length message) ++ (message ++ rest))) ≡ true =
     le-leb _ _ (omega (arith, length-append message rest))
     in
@@ -141,23 +143,54 @@ pub count_read :
     (front bytes : List ℕ) (count : ℕ) (behind : List ℕ) → length front ≡ 18 → count < 2 ^ 16 →
     bytes ≡ front ++ (be16 count ++ behind) → CountRead bytes count behind
 count_read front bytes count behind len fits parts =
-    let at : drop 18 bytes ≡ be16 count ++ behind = ap (λ (t : List ℕ). drop 18 t) parts ∙ drop_at front (be16 count ++ behind) 18 len in
+    let at : drop 18 bytes ≡ be16 count ++ behind =
+    ap (λ (t : List ℕ). drop 18 t) parts ∙ drop_at front (be16 count ++ behind) 18 len
+    in
     record {
       read = ap (λ (t : List ℕ). big_number 2 t) at ∙ big_number-be16 count behind fits;
       rest = sym (drop-drop 2 18 bytes) ∙ ap (λ (t : List ℕ). drop 2 t) at;
       long = omega (arith, ap (λ (t : List ℕ). length t) parts, length-append front (be16 count ++ behind), len);
     }
 
+-- a header at its place, and what follows it
+pub record HeaderRead (bytes session : List ℕ) (sequence count : ℕ) (behind : List ℕ) : Type 0 where
+  pub name : take 10 bytes ≡ session
+  pub number : big_number 8 (drop 10 bytes) ≡ sequence
+  pub counted : CountRead bytes count behind
+
+pub header_read :
+    (session : List ℕ) (sequence count : ℕ) (bytes behind : List ℕ) → length session ≡ 10 → sequence < 2 ^ 64 →
+    count < 2 ^ 16 → bytes ≡ header_bytes session sequence count ++ behind →
+    HeaderRead bytes session sequence count behind
+header_read session sequence count bytes behind ten sequence_fits count_fits parts =
+    let numbers : List ℕ = be64 sequence ++ (be16 count ++ behind) in
+    let laid : bytes ≡ session ++ numbers = parts ∙ header_parts session sequence count behind in
+    record {
+      name = ap (λ (t : List ℕ). take 10 t) laid ∙ take_at session numbers 10 ten;
+      number =
+          ap (λ (t : List ℕ). big_number 8 (drop 10 t)) laid
+          ∙ ap (λ (t : List ℕ). big_number 8 t) (drop_at session numbers 10 ten)
+          ∙ big_number-be64 sequence (be16 count ++ behind) sequence_fits;
+      counted =
+          count_read (session ++ be64 sequence) bytes count behind (length-counted session sequence ten) count_fits
+          (laid ∙ sym (append_assoc session (be64 sequence) (be16 count ++ behind)));
+    }
+
+not_end : (count : ℕ) → count < 65535 → stated_blocks count ≡ count
+not_end count below = cond-false (eqb count 65535) 0 count (ne_eqb count 65535 (λ e. omega (arith, below, e)))
+
 -- a message count states as many blocks as there are messages, and gives the body back
 stated-count_of : (body : Body) → IsBody body → stated_blocks (count_of body) ≡ length (messages_of body)
-stated-count_of (Data messages) is = cond-false (eqb (length messages) 65535) 0 (length messages) (ne_eqb (length messages) 65535 (λ e. omega (arith, is.1, e)))
+stated-count_of (Data messages) is = not_end (length messages) is.1
 stated-count_of Heartbeat is = refl
 stated-count_of End is = refl
 
 body_of-count_of : (body : Body) → IsBody body → body_of (count_of body) (messages_of body) ≡ body
 body_of-count_of (Data messages) is =
-    cond-false (eqb (length messages) 0) Heartbeat (cond (eqb (length messages) 65535) End (Data messages)) (ne_eqb (length messages) 0 (λ e. omega (arith, is.0, e)))
-    ∙ cond-false (eqb (length messages) 65535) End (Data messages) (ne_eqb (length messages) 65535 (λ e. omega (arith, is.1, e)))
+    let count = length messages in
+    cond-false (eqb count 0) Heartbeat (cond (eqb count 65535) End (Data messages))
+    (ne_eqb count 0 (λ e. omega (arith, is.0, e)))
+    ∙ cond-false (eqb count 65535) End (Data messages) (ne_eqb count 65535 (λ e. omega (arith, is.1, e)))
 body_of-count_of Heartbeat is = refl
 body_of-count_of End is = refl
 
@@ -174,49 +207,40 @@ each-messages_of End is = tt
 -- a packet with any bytes behind it gives its parts and these bytes
 reading-parts :
     (packet : Packet) (front more bytes : List ℕ) → Spells packet front → bytes ≡ front ++ more →
-    reading bytes ≡ packet_from packet.session.0 packet.sequence (count_of packet.body) (length bytes) (Ok (messages_of packet.body, more))
+    reading bytes
+    ≡ packet_from packet.session.0 packet.sequence (count_of packet.body) (length bytes)
+    (Ok (messages_of packet.body, more))
 unfolding reading
 reading-parts packet front more bytes spells parts =
-    let session = packet.session.0 in
     let count = count_of packet.body in
     let messages = messages_of packet.body in
     let behind : List ℕ = blocks messages ++ more in
-    let numbers : List ℕ = be16 count ++ behind in
-    let laid : bytes ≡ session ++ (be64 packet.sequence ++ numbers) =
-    parts
-    ∙ ap (λ (t : List ℕ). t ++ more) spells.spelled
-    ∙ append_assoc (header_bytes session packet.sequence count) (blocks messages) more
-    ∙ header_parts session packet.sequence count behind
-    in
-    let at : CountRead bytes count behind =
-    count_read (session ++ be64 packet.sequence) bytes count behind
-    (length-counted session packet.sequence spells.is_packet.session)
-    (count_of-fits packet.body spells.is_packet.body)
-    (laid ∙ sym (append_assoc session (be64 packet.sequence) numbers))
-    in
-    let name : take 10 bytes ≡ session = ap (λ (t : List ℕ). take 10 t) laid ∙ take_at session _ 10 spells.is_packet.session in
-    let number : big_number 8 (drop 10 bytes) ≡ packet.sequence =
-    ap (λ (t : List ℕ). big_number 8 (drop 10 t)) laid
-    ∙ ap (λ (t : List ℕ). big_number 8 t) (drop_at session (be64 packet.sequence ++ numbers) 10 spells.is_packet.session)
-    ∙ big_number-be64 packet.sequence numbers spells.is_packet.sequence
+    let head : List ℕ = header_bytes packet.session.0 packet.sequence count in
+    let is = spells.is_packet in
+    let at : HeaderRead bytes packet.session.0 packet.sequence count behind =
+    header_read packet.session.0 packet.sequence count bytes behind is.session is.sequence
+    (count_of-fits packet.body is.body)
+    (parts ∙ ap (λ (t : List ℕ). t ++ more) spells.spelled ∙ append_assoc head (blocks messages) more)
     in
     let found : blocks_at (stated_blocks count) behind ≡ Ok (messages, more) =
-    ap (λ (n : ℕ). blocks_at n behind) (stated-count_of packet.body spells.is_packet.body)
-    ∙ blocks_at-blocks messages more (each-messages_of packet.body spells.is_packet.body)
+    ap (λ (n : ℕ). blocks_at n behind) (stated-count_of packet.body is.body)
+    ∙ blocks_at-blocks messages more (each-messages_of packet.body is.body)
     in
-    cond-false (ltb (length bytes) 20) _ _ (le-ltb (length bytes) 20 (omega (arith, at.long)))
-    ∙ rw (name, number, at.read, at.rest, found) refl
+    cond-false (ltb (length bytes) 20) _ _ (le-ltb (length bytes) 20 (omega (arith, at.counted.long)))
+    ∙ rw (at.name, at.number, at.counted.read, at.counted.rest, found) refl
 
 pub reading-spelled : (packet : Packet) (bytes : List ℕ) → Spells packet bytes → reading bytes ≡ Ok packet
 reading-spelled packet bytes spells =
     reading-parts packet bytes [] bytes spells (sym (append-nil bytes))
-    ∙ ap (λ (b : Body). done (record { session = packet.session; sequence = packet.sequence; body = b })) (body_of-count_of packet.body spells.is_packet.body)
+    ∙ ap (λ (b : Body). done (record { session = packet.session; sequence = packet.sequence; body = b }))
+    (body_of-count_of packet.body spells.is_packet.body)
 
 pub reading-trailing : (at : ℕ) (bytes : List ℕ) → IsTrailing at bytes → reading bytes ≡ Err (Trailing at)
 reading-trailing at bytes is =
     reading-parts is.packet is.front is.more bytes is.whole is.parts
     ∙ cond-false (eqb (length is.more) 0) _ _ (ne_eqb (length is.more) 0 (λ e. omega (arith, is.some, e)))
-    ∙ ap (λ (n : ℕ). refusal (Trailing n)) (omega (arith, is.place, ap (λ (t : List ℕ). length t) is.parts, length-append is.front is.more))
+    ∙ ap (λ (n : ℕ). refusal (Trailing n))
+    (omega (arith, is.place, ap (λ (t : List ℕ). length t) is.parts, length-append is.front is.more))
 
 pub reading-cut :
     (index : ℕ) (bytes : List ℕ) → IsBytes bytes → IsCutPacket index bytes → reading bytes ≡ Err (BlockCut index)
@@ -226,9 +250,6 @@ reading-cut index bytes fits is =
     count_read is.front bytes is.count is.behind is.front_length (omega (arith, is.data_count)) is.parts
     in
     let found = is.cut.whole in
-    let stated : stated_blocks is.count ≡ is.count =
-    cond-false (eqb is.count 65535) 0 is.count (ne_eqb is.count 65535 (λ e. omega (arith, is.data_count, e)))
-    in
     let behind_fits : IsBytes is.behind =
     IsBytes-behind (be16 is.count) is.behind
     (IsBytes-behind is.front (be16 is.count ++ is.behind) (subst (λ (t : List ℕ). IsBytes t) is.parts fits))
@@ -237,9 +258,10 @@ reading-cut index bytes fits is =
     IsBytes-behind (blocks found.messages) is.cut.rest (subst (λ (t : List ℕ). IsBytes t) found.parts behind_fits)
     in
     let cut : blocks_at (stated_blocks is.count) is.behind ≡ Err (length found.messages) =
-    ap (λ (n : ℕ). blocks_at n is.behind) stated
+    ap (λ (n : ℕ). blocks_at n is.behind) (not_end is.count is.data_count)
     ∙ ap (blocks_at is.count) found.parts
-    ∙ blocks_at-cut found.messages is.cut.rest is.count found.each (omega (arith, found.counted, is.below)) rest_fits is.cut.cut
+    ∙ blocks_at-cut found.messages is.cut.rest is.count found.each (omega (arith, found.counted, is.below)) rest_fits
+    is.cut.cut
     in
     cond-false (ltb (length bytes) 20) _ _ (le-ltb (length bytes) 20 (omega (arith, at.long)))
     ∙ rw (at.read, at.rest, cut) refl

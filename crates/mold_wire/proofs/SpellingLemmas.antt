@@ -20,7 +20,8 @@ same_packet : (one other : Packet) → packet_read one ≡ packet_read other →
 same_packet one other e = cc
 
 pub one_packet : (one other : Packet) (bytes : List ℕ) → Spells one bytes → Spells other bytes → one ≡ other
-one_packet one other bytes spells also = same_packet one other (sym (reading-spelled one bytes spells) ∙ reading-spelled other bytes also)
+one_packet one other bytes spells also =
+    same_packet one other (sym (reading-spelled one bytes spells) ∙ reading-spelled other bytes also)
 
 pub request_spelled : (request : Request) → IsRequest request → SpellsRequest request (request_spelling request)
 request_spelled request is = record { is_request = is; spelled = refl }
@@ -35,3 +36,5 @@ pub one_request :
     (one other : Request) (bytes : List ℕ) → SpellsRequest one bytes → SpellsRequest other bytes → one ≡ other
 one_request one other bytes spells also =
     same_request one other (sym (request_reading-spelled one bytes spells) ∙ request_reading-spelled other bytes also)
+
+pub ruleset one_spelling = (packet_spelled, one_packet, request_spelled, one_request)

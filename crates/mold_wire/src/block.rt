@@ -25,7 +25,7 @@ pub(crate) fn split_block(bytes: &[u8]) -> Option<(&[u8], &[u8])>
 }
 
 // What follows so many whole blocks, or the index of the first that is not whole.
-#[tactic(auto, using(crate::proofs::BlockLemmas::blocks_none, crate::proofs::BlockLemmas::blocks_more, crate::proofs::BlockLemmas::cut_behind))]
+#[tactic(auto, using(crate::proofs::BlockLemmas::skipped))]
 pub(crate) fn skip_blocks(number: u16, bytes: &[u8]) -> Result<&[u8], u16>
     ensures { MatchResult result (λ rest. AreBlocksAndRest number bytes.now rest.now)
         (λ index. (index < number) × AreCutBlocks index bytes.now) }

@@ -1,7 +1,8 @@
 //! What holds of the definitions alone, for all values and all bytes. Each law is a function that does
 //! nothing: its contract is the law.
 
-ghost use Rattle.std.specs.Prelude.{◌≡◌, ◌↔◌, ◌≤◌, ◌+◌, ◌-◌, ◌<◌, ◌++◌, ◌∷◌, [], List, ℕ, suc, length, take, drop, Ok, Err};
+ghost use Rattle.std.specs.Prelude.{◌≡◌, ◌↔◌, ◌≤◌, ◌+◌, ◌-◌, ◌<◌, ◌++◌, ◌∷◌, [], List, ℕ, suc};
+ghost use Rattle.std.specs.Prelude.{length, take, drop, Ok, Err};
 ghost use Rattle.mold_wire.specs.Block.{IsBytes};
 ghost use Rattle.mold_wire.specs.Fault.{FaultAt};
 ghost use Rattle.mold_wire.specs.Packet.{IsPacket, Spells, messages_of, spelling_of};
@@ -16,7 +17,7 @@ ghost use Rattle.mold_wire.specs.declared.request.Request.{Request};
 ghost use Rattle.mold_wire.specs.declared.session.Session.{Session};
 
 /// Each packet and each request has one spelling, and no two of either kind share one.
-#[tactic(auto, using(crate::proofs::SpellingLemmas::packet_spelled, crate::proofs::SpellingLemmas::one_packet, crate::proofs::SpellingLemmas::request_spelled, crate::proofs::SpellingLemmas::one_request))]
+#[tactic(auto, using(crate::proofs::SpellingLemmas::one_spelling))]
 pub fn one_spelling_law()
     ensures packet_spelled { (packet : Packet) → IsPacket packet → Spells packet (spelling_of packet) }
     ensures one_packet_spelling { (packet : Packet) (one other : List ℕ) →
@@ -53,7 +54,7 @@ pub fn reading_law()
 
 /// How long spellings are: a header, and for each message two bytes and its data. So a packet of messages
 /// that fit keeps the limit, and the greatest datagram has at most 32,743 messages.
-#[tactic(auto, using(crate::proofs::PackingLemmas::spelling_length, crate::proofs::PackingLemmas::spelling_fits, crate::proofs::PackingLemmas::most_messages, crate::proofs::RequestLemmas::request_length))]
+#[tactic(auto, using(crate::proofs::PackingLemmas::spelling_lengths, crate::proofs::RequestLemmas::request_length))]
 pub fn spelling_length_law()
     ensures packet { (packet : Packet) (bytes : List ℕ) →
         Spells packet bytes → length bytes ≡ packet_length (messages_of packet.body) }
@@ -76,7 +77,7 @@ pub fn message_place_law()
 
 /// The bytes of a packet, message by message; what `Packer::fits` looks for is that the packet fits with
 /// the message. A message of 22 bytes less than the limit fits alone, and no longer one does.
-#[tactic(auto, using(crate::proofs::PackingLemmas::packet_length_of_none, crate::proofs::PackingLemmas::packet_length_pushed, crate::proofs::PackingLemmas::packet_length_alone))]
+#[tactic(auto, using(crate::proofs::PackingLemmas::packet_lengths))]
 pub fn packet_length_law()
     ensures none { packet_length [] ≡ 20 }
     ensures one_more { (messages : List (List ℕ)) (message : List ℕ) →

@@ -35,5 +35,5 @@ returns-clause-spelled c =
     (subst (λ (n : ℕ). AreBlocksAndRest n c.in-Some.behind.now c.in-Ok.more.now) c.stated.ensures c.in-Ok.ensures)
     (nil_from_length c.in-Ok.more.now none)
     in
-    spells_whole c.in-Some.header c.args.bytes.now c.in-Some.behind.now _ c.body_from.result c.in-Some.ensures all.spelled
-    c.body_from.ensures
+    spells_whole c.in-Some.header c.args.bytes.now c.in-Some.behind.now _ c.body_from.result c.in-Some.ensures
+    all.spelled c.body_from.ensures
