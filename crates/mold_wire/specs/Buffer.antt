@@ -1,11 +1,22 @@
 -- How a packer's fields stand for what it has begun.
-use Rattle.std.specs.Prelude.{◌≡◌, ℕ, ◌≤◌, Bool, true, false, List, ◌++◌, length, take, drop, Result, Ok, Err}
-use Rattle.mold_wire.specs.Block.{be16}
+use Rattle.std.specs.Prelude.{◌≡◌, ℕ, ◌≤◌, Bool, true, false, List, length, take, Result, Ok, Err}
+use Rattle.std.specs.Box.{boxed_slice_items}
 use Rattle.mold_wire.specs.Packet.{messages_of}
-use Rattle.mold_wire.specs.Packer.{Begun, Nothing, Open, Ended, IsLimit, SpellsBegun}
+use Rattle.mold_wire.specs.Packer.{Begun, Nothing, Open, Ended, PackerState, IsLimit, SpellsBegun}
 use Rattle.mold_wire.specs.Reading.{reading}
+use Rattle.mold_wire.specs.declared.packer.Packer.TheInside.{Inside}
 use Rattle.mold_wire.specs.declared.packet.Packet.{Packet}
 use Rattle.mold_wire.specs.declared.error.DecodeError.{DecodeError}
+
+-- a packer's fields
+pub record Fields : Type 0 where
+  pub items : List ℕ
+  pub used : ℕ
+  pub count : ℕ
+  pub is_open : Bool
+
+abbrev pub fields_of : Inside → Fields
+fields_of p = record { items = boxed_slice_items p.buffer; used = p.used; count = p.count; is_open = p.is_open }
 
 -- what was begun, by what the bytes read as
 abbrev pub begun_of : Bool → Result Packet DecodeError → Begun
@@ -14,8 +25,12 @@ begun_of false (Ok packet) = Ended packet.session packet.sequence
 begun_of is_open (Err error) = Nothing
 
 -- what was begun, by the bytes that are used
-abbrev pub begun_in : Bool → ℕ → List ℕ → Begun
-begun_in is_open used items = begun_of is_open (reading (take used items))
+abbrev pub begun_in : Fields → Begun
+begun_in fields = begun_of fields.is_open (reading (take fields.used fields.items))
+
+-- what the packer is to its users
+abbrev pub state_of : Fields → PackerState
+state_of fields = record { limit = length fields.items; begun = begun_in fields }
 
 -- an open packet is told as such, with the number of its messages
 abbrev pub IsTold : Bool → ℕ → Begun → Type 0
@@ -24,12 +39,8 @@ IsTold is_open count (Open session sequence messages) = (is_open ≡ true) × (c
 IsTold is_open count (Ended session sequence) = is_open ≡ false
 
 -- the bytes that are used spell what was begun
-pub record Holds (is_open : Bool) (used count : ℕ) (items : List ℕ) (begun : Begun) : Type 0 where
-  pub limit : IsLimit (length items)
-  pub within : used ≤ length items
-  pub told : IsTold is_open count begun
-  pub spelled : SpellsBegun begun (take used items)
-
--- a packet's bytes with this message count in the header
-abbrev pub recounted : ℕ → List ℕ → List ℕ
-recounted count packet = take 18 packet ++ (be16 count ++ drop 2 (drop 18 packet))
+pub record Holds (fields : Fields) (begun : Begun) : Type 0 where
+  pub limit : IsLimit (length fields.items)
+  pub within : fields.used ≤ length fields.items
+  pub told : IsTold fields.is_open fields.count begun
+  pub spelled : SpellsBegun begun (take fields.used fields.items)

@@ -1,7 +1,7 @@
 pub mod Block
+pub mod Header
 pub mod Packet
 pub mod Fault
-pub mod Parts
 pub mod Reading
 pub mod Request
 pub mod Packing

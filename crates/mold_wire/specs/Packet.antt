@@ -1,7 +1,8 @@
 -- The downstream packet: which bytes spell which packet.
-use Rattle.std.specs.Prelude.{◌≡◌, ℕ, ◌+◌, ◌<◌, ◌^◌, List, [], ◌++◌, length}
+use Rattle.std.specs.Prelude.{◌≡◌, ℕ, ◌+◌, ◌<◌, ◌^◌, List, [], ◌++◌, length, ◌==◌, if◌then◌else◌}
 use Rattle.std.specs.List.{AllByRecursion}
-use Rattle.mold_wire.specs.Block.{be16, be64, IsMessage, blocks}
+use Rattle.mold_wire.specs.Block.{IsMessage, blocks}
+use Rattle.mold_wire.specs.Header.{header_bytes}
 use Rattle.mold_wire.specs.declared.packet.Packet.{Packet}
 use Rattle.mold_wire.specs.declared.packet.Body.{Body}
 use Rattle.mold_wire.specs.declared.packet.Body.TheVariants.{Data, Heartbeat, End}
@@ -18,24 +19,21 @@ count_of (Data messages) = length messages
 count_of Heartbeat = 0
 count_of End = 65535
 
+-- how many blocks a message count states: none where it says that the session ends
+abbrev pub stated_blocks : ℕ → ℕ
+stated_blocks count = if count == 65535 then 0 else count
+
 -- a data packet has 1 to 65,534 messages
 abbrev pub IsBody : Body → Type 0
 IsBody (Data messages) = (0 < length messages) × (length messages < 65535) × AllByRecursion IsMessage messages
 IsBody Heartbeat = Unit {0}
 IsBody End = Unit {0}
 
--- the bytes are the session, the sequence number, the message count and the blocks of the packet, and
--- nothing else
-pub record Spells (packet : Packet) (bytes : List ℕ) : Type 0 where
-  pub session : length packet.session.0 ≡ 10
-  pub sequence : packet.sequence < 2 ^ 64
-  pub body : IsBody packet.body
-  pub spelled : bytes ≡ packet.session.0 ++ (be64 packet.sequence ++ (be16 (count_of packet.body) ++ blocks (messages_of packet.body)))
-
--- one more than the number of the packet's last message, and for a heartbeat or an end packet its
--- sequence number
-abbrev pub top_of : Packet → ℕ
-top_of packet = packet.sequence + length (messages_of packet.body)
+-- the body has this message count and these messages
+pub record BodyIs (count : ℕ) (messages : List (List ℕ)) (body : Body) : Type 0 where
+  pub is_body : IsBody body
+  pub counted : count_of body ≡ count
+  pub carried : messages_of body ≡ messages
 
 -- a value that has a spelling: ten bytes, a number of 64 bits, and a body
 pub record IsPacket (packet : Packet) : Type 0 where
@@ -43,6 +41,17 @@ pub record IsPacket (packet : Packet) : Type 0 where
   pub sequence : packet.sequence < 2 ^ 64
   pub body : IsBody packet.body
 
--- its spelling
+-- its spelling: the header and the blocks, and nothing else
 abbrev pub spelling_of : Packet → List ℕ
-spelling_of packet = packet.session.0 ++ (be64 packet.sequence ++ (be16 (count_of packet.body) ++ blocks (messages_of packet.body)))
+spelling_of packet =
+    header_bytes packet.session.0 packet.sequence (count_of packet.body) ++ blocks (messages_of packet.body)
+
+-- the bytes are the spelling of the packet
+pub record Spells (packet : Packet) (bytes : List ℕ) : Type 0 where
+  pub is_packet : IsPacket packet
+  pub spelled : bytes ≡ spelling_of packet
+
+-- one more than the number of the packet's last message, and for a heartbeat or an end packet its
+-- sequence number
+abbrev pub top_of : Packet → ℕ
+top_of packet = packet.sequence + length (messages_of packet.body)

@@ -1,8 +1,9 @@
 -- What any bytes read as: a value for every list of bytes, for the layers that speak of functions of a
 -- datagram. That it is the packet which the bytes spell, or their fault, is what `decode` ensures.
-use Rattle.std.specs.Prelude.{ℕ, zero, suc, ◌+◌, ◌-◌, List, [], ◌∷◌, length, take, drop, nat_le, nat_lt, ◌==◌, if◌then◌else◌, Result, Ok, Err}
+use Rattle.std.specs.Prelude.{ℕ, zero, suc, ◌+◌, ◌-◌, List, [], ◌∷◌, length, take, drop, nat_le, nat_lt, ◌==◌}
+use Rattle.std.specs.Prelude.{if◌then◌else◌, Result, Ok, Err}
 use Rattle.byteorder.specs.Endian.{big_number}
-use Rattle.mold_wire.specs.Parts.{stated_blocks}
+use Rattle.mold_wire.specs.Packet.{stated_blocks}
 use Rattle.mold_wire.specs.declared.packet.Packet.{Packet}
 use Rattle.mold_wire.specs.declared.packet.Body.{Body}
 use Rattle.mold_wire.specs.declared.packet.Body.TheVariants.{Data, Heartbeat, End}
@@ -19,7 +20,8 @@ unfoldable pub blocks_at : ℕ → List ℕ → Result (List (List ℕ) × List 
 blocks_at zero bytes = Ok ([], bytes)
 blocks_at (suc number) bytes =
     if nat_le (2 + big_number 2 bytes) (length bytes)
-    then behind_first (take (big_number 2 bytes) (drop 2 bytes)) (blocks_at number (drop (big_number 2 bytes) (drop 2 bytes)))
+    then behind_first (take (big_number 2 bytes) (drop 2 bytes))
+    (blocks_at number (drop (big_number 2 bytes) (drop 2 bytes)))
     else Err 0
 
 -- what a message count makes of the messages that were read

@@ -1,31 +1,69 @@
-//! The header that downstream packets and requests begin with, written.
+//! The header that downstream packets and requests begin with.
 
-ghost use Rattle.std.specs.Prelude.{◌≡◌, ◌++◌, ◌≤◌, length, drop};
-ghost use Rattle.mold_wire.specs.Block.{be16, be64};
-ghost use Rattle.mold_wire.specs.Buffer.{recounted};
+ghost use Rattle.std.specs.Prelude.{◌≡◌, ◌≤◌, ◌<◌, length, drop, MatchOption};
+ghost use Rattle.mold_wire.specs.Header.{IsHeaderAndRest, recounted};
 
-use crate::session::Session;
+use crate::session::{SESSION_LENGTH, Session};
 use byteorder::{BigEndian, ByteOrder};
 
-// Writes the numbers of a header at the front of the bytes.
-fn put_numbers(out: &mut [u8], sequence: u64, count: u16)
-    requires { 10 ≤ length out.old }
-    ensures { out.new ≡ be64 sequence ++ (be16 count ++ drop 10 out.old) }
-{
-    let (first, behind) = out.split_at_mut(8);
-    BigEndian::write_u64(first, sequence);
-    BigEndian::write_u16(behind, count);
+// The bytes of a sequence number and of a message count.
+const SEQUENCE_LENGTH: usize = 8;
+
+const COUNT_LENGTH: usize = 2;
+
+// Where the message count stands.
+const COUNT_AT: usize = SESSION_LENGTH + SEQUENCE_LENGTH;
+
+/// The bytes of a header.
+pub(crate) const HEADER_LENGTH: usize = COUNT_AT + COUNT_LENGTH;
+
+/// The message count of a heartbeat.
+pub(crate) const HEARTBEAT: u16 = 0;
+
+/// The message count that ends a session.
+pub(crate) const END: u16 = 65535;
+
+/// Session, sequence number and message count. A request says with them what it asks for.
+#[derive(Clone, Copy)]
+pub(crate) struct Header {
+    pub(crate) session: Session,
+    pub(crate) sequence: u64,
+    pub(crate) count: u16,
 }
 
-// Writes a header at the front of the bytes, and leaves what is behind it.
-pub(crate) fn put_header(out: &mut [u8], session: Session, sequence: u64, count: u16)
-    requires { 20 ≤ length out.old }
-    ensures ten { length session.0 ≡ 10 }
-    ensures written { out.new ≡ session.0 ++ (be64 sequence ++ (be16 count ++ drop 20 out.old)) }
-{
-    let (name, behind) = out.split_at_mut(10);
-    name.copy_from_slice(&session.0);
-    put_numbers(behind, sequence, count);
+impl Header {
+    // The header at the front, and what follows it; none where there is no whole header.
+    pub(crate) fn split(bytes: &[u8]) -> Option<(Header, &[u8])>
+        ensures { MatchOption result (length bytes.now < 20)
+            (λ found. IsHeaderAndRest found.0 bytes.now found.1.now) }
+    {
+        if bytes.len() < HEADER_LENGTH {
+            return None;
+        }
+        let (name, numbers) = bytes.split_at(SESSION_LENGTH);
+        let (sequence, behind) = numbers.split_at(SEQUENCE_LENGTH);
+        let (count, rest) = behind.split_at(COUNT_LENGTH);
+        let mut session = Session([0; SESSION_LENGTH]);
+        session.0.copy_from_slice(name);
+        let header = Header {
+            session,
+            sequence: BigEndian::read_u64(sequence),
+            count: BigEndian::read_u16(count),
+        };
+        Some((header, rest))
+    }
+
+    // Writes the header at the front of the bytes, and leaves what is behind it.
+    pub(crate) fn put(self, out: &mut [u8])
+        requires { 20 ≤ length out.old }
+        ensures { IsHeaderAndRest self out.new (drop 20 out.old) }
+    {
+        let (name, numbers) = out.split_at_mut(SESSION_LENGTH);
+        let (sequence, count) = numbers.split_at_mut(SEQUENCE_LENGTH);
+        name.copy_from_slice(&self.session.0);
+        BigEndian::write_u64(sequence, self.sequence);
+        BigEndian::write_u16(count, self.count);
+    }
 }
 
 // Writes the message count in a header that stands there, and leaves the rest.
@@ -33,6 +71,6 @@ pub(crate) fn put_count(packet: &mut [u8], count: u16)
     requires { 20 ≤ length packet.old }
     ensures { packet.new ≡ recounted count packet.old }
 {
-    let (_, behind) = packet.split_at_mut(18);
+    let (_, behind) = packet.split_at_mut(COUNT_AT);
     BigEndian::write_u16(behind, count);
 }

@@ -3,14 +3,14 @@
 ghost use Rattle.std.specs.Prelude.{◌≡◌, ◌↔◌, ◌+◌, ◌≤◌, ◌<◌, ◌^◌, ◌++◌, length, take, drop, IfOk, IsOk, IsTrue, []};
 ghost use Rattle.std.specs.Bool.{OnTrue, OnFalse};
 ghost use Rattle.mold_wire.specs.Block.{block};
-ghost use Rattle.mold_wire.specs.Buffer.{recounted};
+ghost use Rattle.mold_wire.specs.Header.{recounted};
 
 use crate::block::{LENGTH, put_block};
 use crate::error::PackerError;
-use crate::header::{put_count, put_header};
-use crate::reading::{END, HEADER};
+use crate::header::{END, HEADER_LENGTH, HEARTBEAT, Header, put_count};
 use crate::session::Session;
 use std::alloc::Global;
+use std::boxed::BoxedSlice;
 use std::marker::Model;
 
 /// The least and the greatest limit of a datagram.
@@ -31,12 +31,12 @@ fn put_message(buffer: &mut [u8], used: usize, count: u16, message: &[u8])
     put_count(packet, count);
 }
 
-/// Packs messages into one downstream packet after the other, in a buffer of its own that is made once:
-/// no call but `new` takes memory.
+/// Packs messages into one downstream packet after the other, in a buffer of its own that is made once.
+/// No call but `new` takes memory: a boxed slice can't grow.
 #[derive(Debug, Drop)]
 pub struct Packer {
     // As many bytes as the limit.
-    buffer: Vec<u8>,
+    buffer: BoxedSlice<u8>,
     // The bytes of the packet that was begun.
     used: usize,
     // The messages of the open packet.
@@ -45,23 +45,20 @@ pub struct Packer {
 }
 
 impl Model for Packer {
-    ghost use Rattle.std.specs.Prelude.{length, take};
-    ghost use Rattle.mold_wire.specs.Buffer.{begun_in, Holds};
-    ghost use Rattle.mold_wire.specs.Packer.{Packing};
+    ghost use Rattle.mold_wire.specs.Packer.{PackerState};
 
-    ghost Value = { Packing };
+    ghost Value = { PackerState };
 
-    ghost view = { λ p. record {
-      limit = length p.buffer.items;
-      begun = begun_in p.is_open p.used p.buffer.items;
-    } };
+    ghost use Rattle.mold_wire.specs.Buffer.{fields_of, state_of, begun_in, Holds};
 
-    ghost invariant = { λ p. Holds p.is_open p.used p.count p.buffer.items
-        (begun_in p.is_open p.used p.buffer.items) };
+    ghost view = { λ p. state_of (fields_of p) };
+
+    ghost invariant = { λ p. Holds (fields_of p) (begun_in (fields_of p)) };
 }
 
 impl Packer {
-    ghost use Rattle.mold_wire.specs.Packer.{Nothing, Open, Ended, IsLimit, SpellsBegun, HasRoom, FitsBegun, with_message};
+    ghost use Rattle.mold_wire.specs.Packer.{Nothing, Open, Ended, IsLimit, SpellsBegun, HasRoom, FitsBegun};
+    ghost use Rattle.mold_wire.specs.Packer.{with_message};
     ghost use Rattle.mold_wire.specs.declared.error.PackerError.{PackerError};
 
     /// A packer for datagrams of at most `limit` bytes, with nothing begun. It reserves the limit once.
@@ -78,7 +75,7 @@ impl Packer {
             return Err(PackerError::Memory);
         };
         Ok(Packer {
-            buffer,
+            buffer: buffer.into_boxed_slice(),
             used: 0,
             count: 0,
             is_open: false,
@@ -90,8 +87,13 @@ impl Packer {
     pub fn start(&mut self, session: Session, sequence: u64)
         ensures { self.new ≡ record self.old { begun = Open session sequence [] } }
     {
-        put_header(&mut self.buffer, session, sequence, 0);
-        self.used = HEADER;
+        Header {
+            session,
+            sequence,
+            count: HEARTBEAT,
+        }
+        .put(&mut self.buffer);
+        self.used = HEADER_LENGTH;
         self.count = 0;
         self.is_open = true;
     }
@@ -127,8 +129,13 @@ impl Packer {
     pub fn end(&mut self, session: Session, sequence: u64)
         ensures { self.new ≡ record self.old { begun = Ended session sequence } }
     {
-        put_header(&mut self.buffer, session, sequence, END);
-        self.used = HEADER;
+        Header {
+            session,
+            sequence,
+            count: END,
+        }
+        .put(&mut self.buffer);
+        self.used = HEADER_LENGTH;
         self.is_open = false;
     }
 

@@ -1,10 +1,9 @@
 //! Reading a downstream packet.
 
-ghost use Rattle.std.specs.Prelude.{◌≡◌, ◌+◌, ◌<◌, length, IfOk, IfErr, MatchOption, List, ℕ};
+ghost use Rattle.std.specs.Prelude.{◌≡◌, IfOk, IfErr};
 ghost use Rattle.mold_wire.specs.Block.{AreBlocks, messages_at};
 ghost use Rattle.mold_wire.specs.Fault.{FaultAt};
-ghost use Rattle.mold_wire.specs.Packet.{Spells};
-ghost use Rattle.mold_wire.specs.Parts.{IsHeaderAndRest, stated_blocks, BodyIs};
+ghost use Rattle.mold_wire.specs.Packet.{Spells, stated_blocks, BodyIs};
 ghost use Rattle.mold_wire.specs.Reading.{reading};
 ghost use Rattle.mold_wire.specs.declared.error.DecodeError.{DecodeError};
 ghost use Rattle.mold_wire.specs.declared.packet.Packet.{Packet};
@@ -12,36 +11,8 @@ ghost use Rattle.mold_wire.specs.declared.packet.Packet.{Packet};
 use crate::block::skip_blocks;
 use crate::blocks::Blocks;
 use crate::error::DecodeError;
+use crate::header::{END, HEARTBEAT, Header};
 use crate::packet::{Body, Packet};
-use crate::session::Session;
-use byteorder::{BigEndian, ByteOrder};
-
-/// The bytes of a header: session, sequence number and message count.
-pub(crate) const HEADER: usize = 20;
-
-/// The message count that ends a session.
-pub(crate) const END: u16 = 65535;
-
-// The parts of the header at the front, and what follows it; none where there is no whole header.
-pub(crate) fn split_header(bytes: &[u8]) -> Option<(Session, u64, u16, &[u8])>
-    ensures { MatchOption result (length bytes.now < 20)
-        (λ found. IsHeaderAndRest bytes.now found.0.0 found.1 found.2 found.3.now) }
-{
-    if bytes.len() < HEADER {
-        return None;
-    }
-    let (name, numbers) = bytes.split_at(10);
-    let (sequence, behind) = numbers.split_at(8);
-    let (count, rest) = behind.split_at(2);
-    let mut session = Session([0; 10]);
-    session.0.copy_from_slice(name);
-    Some((
-        session,
-        BigEndian::read_u64(sequence),
-        BigEndian::read_u16(count),
-        rest,
-    ))
-}
 
 // How many blocks a message count states.
 fn stated(count: u16) -> u16
@@ -56,7 +27,7 @@ fn body_from(count: u16, blocks: &[u8]) -> Body<'_>
     ensures { BodyIs count (messages_at (stated_blocks count) blocks.entry.now) result }
 {
     match count {
-        0 => Body::Heartbeat,
+        HEARTBEAT => Body::Heartbeat,
         END => Body::End,
         _ => Body::Data(Blocks::new(count, blocks)),
     }
@@ -66,10 +37,10 @@ fn read_packet(bytes: &[u8]) -> Result<Packet<'_>, DecodeError>
     ensures spelled { IfOk result (λ packet. Spells packet bytes.now) }
     ensures fault { IfErr result (λ error. FaultAt error bytes.now) }
 {
-    let Some((session, sequence, count, behind)) = split_header(bytes) else {
+    let Some((header, behind)) = Header::split(bytes) else {
         return Err(DecodeError::Short { len: bytes.len() });
     };
-    let more = match skip_blocks(stated(count), behind) {
+    let more = match skip_blocks(stated(header.count), behind) {
         Ok(more) => more,
         Err(index) => return Err(DecodeError::BlockCut { index }),
     };
@@ -78,9 +49,9 @@ fn read_packet(bytes: &[u8]) -> Result<Packet<'_>, DecodeError>
         return Err(DecodeError::Trailing { at });
     }
     Ok(Packet {
-        session,
-        sequence,
-        body: body_from(count, behind),
+        session: header.session,
+        sequence: header.sequence,
+        body: body_from(header.count, behind),
     })
 }
 

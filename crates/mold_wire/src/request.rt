@@ -6,12 +6,8 @@ ghost use Rattle.mold_wire.specs.declared.error.RequestError.{RequestError};
 ghost use Rattle.mold_wire.specs.declared.request.Request.{Request};
 
 use crate::error::RequestError;
-use crate::header::put_header;
-use crate::reading::split_header;
+use crate::header::{HEADER_LENGTH, Header};
 use crate::session::Session;
-
-/// The bytes of a request.
-const LENGTH: usize = 20;
 
 /// A request for messages of a session, as it goes to a re-request server.
 #[derive(Clone, Copy, Debug, PartialEq, Eq)]
@@ -28,13 +24,13 @@ fn read_request(bytes: &[u8]) -> Result<Request, RequestError>
     ensures spelled { IfOk result (λ request. SpellsRequest request bytes.now) }
     ensures fault { IfErr result (λ error. RequestFaultAt error bytes.now) }
 {
-    let Some((session, sequence, count, [])) = split_header(bytes) else {
+    let Some((header, [])) = Header::split(bytes) else {
         return Err(RequestError::RequestLength { len: bytes.len() });
     };
     Ok(Request {
-        session,
-        sequence,
-        count,
+        session: header.session,
+        sequence: header.sequence,
+        count: header.count,
     })
 }
 
@@ -62,8 +58,13 @@ impl Request {
             sequence,
             count,
         } = *self;
-        let mut bytes = [0; LENGTH];
-        put_header(&mut bytes, session, sequence, count);
+        let header = Header {
+            session,
+            sequence,
+            count,
+        };
+        let mut bytes = [0; HEADER_LENGTH];
+        header.put(&mut bytes);
         bytes
     }
 }

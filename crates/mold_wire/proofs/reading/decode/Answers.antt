@@ -4,7 +4,8 @@ use Rattle.mold_wire.proofs.reading.decode.Goals as goal
 
 pub returns-clause-exact : goal.returns-clause-exact
 returns-clause-exact c =
-    reading_answer c.read_packet.result c.args.bytes.now (λ i. omega (arith, c.type_inv.bytes i)) c.read_packet.ensures.spelled c.read_packet.ensures.fault
+    reading_answer c.read_packet.result c.args.bytes.now (λ i. omega (arith, c.type_inv.bytes i))
+    c.read_packet.ensures.spelled c.read_packet.ensures.fault
 
 pub returns-clause-only : goal.returns-clause-only
 returns-clause-only c packet spells = returns-clause-exact c ∙ reading-spelled packet c.args.bytes.now spells

@@ -22,7 +22,8 @@ returns-clause-steps c =
 pub returns-clause-goes : goal.returns-clause-goes
 returns-clause-goes c =
     let more : c.self.inside.left ≡ suc (c.self.inside.left - 1) = omega arith in
-    let held : c.args.self.now ≡ c.in_ok-message.message.now ∷ messages_at (c.self.inside.left - 1) c.in_ok-message.rest.now =
+    let left = c.self.inside.left - 1 in
+    let held : c.args.self.now ≡ c.in_ok-message.message.now ∷ messages_at left c.in_ok-message.rest.now =
     sym c.self.view_is ∙ (first_block _ _ _ _ _ more c.self.invariant c.in_ok-message.ensures).first
     in
     let count = ap (λ (t : List (List ℕ)). length t) held in

@@ -1,35 +1,35 @@
-use Rattle.std.proofs.Common.{◌≡◌, ◌+◌, length, ap, arith}
-use Rattle.mold_wire.specs.Packer.{Packing, with_message}
-use Rattle.mold_wire.proofs.PackerLemmas.{Room, as_long, held, pushed, seen_as, seen_room}
+use Rattle.std.proofs.Common.{length, arith}
+use Rattle.mold_wire.specs.Buffer.{fields_of}
+use Rattle.mold_wire.proofs.PackerLemmas.{Shows, Room, pushed, shown_room}
 use Rattle.mold_wire.proofs.packer.Packer.add.Goals as goal
 
 pub put_message-requires-clause-header : goal.put_message-requires-clause-header
 put_message-requires-clause-header c =
-    let f = c.self.inside in
-    (seen_room f.is_open f.used f.count f.buffer.items c.args.self.now (length c.args.message.now) c.self.invariant c.self.view_is (c.fits.ensures.0 c.if-not-fits.false)).header
+    let fields = fields_of c.self.inside in
+    let shown : Shows fields c.args.self.now = record { holds = c.self.invariant; seen = c.self.view_is } in
+    (shown_room fields c.args.self.now (length c.args.message.now) shown (c.fits.ensures.0 c.if-not-fits.false)).header
 
 pub put_message-requires-clause-room : goal.put_message-requires-clause-room
 put_message-requires-clause-room c =
-    let f = c.self.inside in
-    let room : Room f.is_open f.used f.count f.buffer.items (length c.args.message.now) =
-    seen_room f.is_open f.used f.count f.buffer.items c.args.self.now (length c.args.message.now) c.self.invariant c.self.view_is (c.fits.ensures.0 c.if-not-fits.false)
+    let fields = fields_of c.self.inside in
+    let shown : Shows fields c.args.self.now = record { holds = c.self.invariant; seen = c.self.view_is } in
+    let room : Room fields (length c.args.message.now) =
+    shown_room fields c.args.self.now (length c.args.message.now) shown (c.fits.ensures.0 c.if-not-fits.false)
     in
     omega arith
 
 pub invariant_of-self : goal.invariant_of-self
 invariant_of-self c =
-    let f = c.self.inside in
-    let message = c.args.message.now in
-    held f.is_open (f.used + (2 + length message)) (f.count + 1) _ (with_message message c.args.self.now.begun)
-    (pushed f.is_open f.used f.count f.buffer.len f.buffer.items c.deref_mut.result.now c.put_message.new.buffer message c.args.self.now c.self.invariant c.self.view_is
-    (c.fits.ensures.0 c.if-not-fits.false) (omega arith) (omega arith) c.deref_mut.ensures.value c.put_message.ensures)
+    let fields = fields_of c.self.inside in
+    let shown : Shows fields c.args.self.now = record { holds = c.self.invariant; seen = c.self.view_is } in
+    (pushed fields c.args.self.now c.self.inside.buffer.items.len c.deref_mut.result.now c.put_message.new.buffer
+    c.args.message.now shown (c.fits.ensures.0 c.if-not-fits.false) (omega arith) (omega arith)
+    c.deref_mut.ensures.value c.put_message.ensures).holds
 
 pub returns-clause-added : goal.returns-clause-added
 returns-clause-added c =
-    let f = c.self.inside in
-    let message = c.args.message.now in
-    let limit : f.buffer.len ≡ c.args.self.now.limit = omega (arith, ap (λ (p : Packing). p.limit) c.self.view_is) in
-    seen_as f.is_open (f.used + (2 + length message)) (f.count + 1) c.args.self.now.limit _ (with_message message c.args.self.now.begun)
-    (as_long f.buffer.len c.put_message.new.buffer f.buffer.items c.args.self.now.limit (omega arith) limit)
-    (pushed f.is_open f.used f.count f.buffer.len f.buffer.items c.deref_mut.result.now c.put_message.new.buffer message c.args.self.now c.self.invariant c.self.view_is
-    (c.fits.ensures.0 c.if-not-fits.false) (omega arith) (omega arith) c.deref_mut.ensures.value c.put_message.ensures)
+    let fields = fields_of c.self.inside in
+    let shown : Shows fields c.args.self.now = record { holds = c.self.invariant; seen = c.self.view_is } in
+    (pushed fields c.args.self.now c.self.inside.buffer.items.len c.deref_mut.result.now c.put_message.new.buffer
+    c.args.message.now shown (c.fits.ensures.0 c.if-not-fits.false) (omega arith) (omega arith)
+    c.deref_mut.ensures.value c.put_message.ensures).seen

@@ -1,20 +1,20 @@
-use Rattle.std.proofs.Common.{◌≡◌, ℕ, false, length, drop, subst, ap, arith}
-use Rattle.mold_wire.specs.Packer.{Packing, Ended, IsLimit}
-use Rattle.mold_wire.proofs.PackerLemmas.{as_long, held, seen_as, ended}
+use Rattle.std.proofs.Common.{drop, arith}
+use Rattle.mold_wire.specs.Buffer.{fields_of}
+use Rattle.mold_wire.proofs.PackerLemmas.{Shows, ended}
 use Rattle.mold_wire.proofs.packer.Packer.end.Goals as goal
 
 pub invariant_of-self : goal.invariant_of-self
 invariant_of-self c =
-    let f = c.self.inside in
-    let limit : IsLimit f.buffer.len = subst (λ (n : ℕ). IsLimit n) (omega arith) c.self.invariant.limit in
-    held false 20 c.self.inside.count _ (Ended c.args.session c.args.sequence)
-    (ended c.args.session c.args.sequence f.buffer.len c.self.inside.count c.put_header.new.out f.buffer.items (drop 20 c.deref_mut.result.now) limit (omega arith) (omega arith) c.put_header.ensures.ten c.put_header.ensures.written)
+    let shown : Shows (fields_of c.self.inside) c.args.self.now =
+    record { holds = c.self.invariant; seen = c.self.view_is }
+    in
+    (ended c.args.session c.args.sequence (fields_of c.self.inside) c.args.self.now c.self.inside.buffer.items.len
+    c.put.new.out (drop 20 c.deref_mut.result.now) shown (omega arith) (omega arith) c.put.ensures).holds
 
 pub returns : goal.returns
 returns c =
-    let f = c.self.inside in
-    let limit : IsLimit f.buffer.len = subst (λ (n : ℕ). IsLimit n) (omega arith) c.self.invariant.limit in
-    let long : length c.put_header.new.out ≡ f.buffer.len = omega arith in
-    seen_as false 20 c.self.inside.count c.args.self.now.limit _ (Ended c.args.session c.args.sequence)
-    (as_long f.buffer.len c.put_header.new.out f.buffer.items c.args.self.now.limit long (omega (arith, ap (λ (p : Packing). p.limit) c.self.view_is)))
-    (ended c.args.session c.args.sequence f.buffer.len c.self.inside.count c.put_header.new.out f.buffer.items (drop 20 c.deref_mut.result.now) limit long (omega arith) c.put_header.ensures.ten c.put_header.ensures.written)
+    let shown : Shows (fields_of c.self.inside) c.args.self.now =
+    record { holds = c.self.invariant; seen = c.self.view_is }
+    in
+    (ended c.args.session c.args.sequence (fields_of c.self.inside) c.args.self.now c.self.inside.buffer.items.len
+    c.put.new.out (drop 20 c.deref_mut.result.now) shown (omega arith) (omega arith) c.put.ensures).seen
