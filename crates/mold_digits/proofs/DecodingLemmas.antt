@@ -26,13 +26,13 @@ digit_bad : (c i v : ℕ) (o : Option ℕ) → ((w : ℕ) → o ≡ Some w → w
 digit_bad c i v (Some w) small same large = let below = small w refl in absurd (omega arith)
 digit_bad c i v None small same large = refl
 
-pair_good : (a b i high low : ℕ) → high ≡ value_of a → low ≡ value_of b → high < 16 → low < 16 → pair_value a b i ≡ Ok (high * 16 + low)
+pub pair_good : (a b i high low : ℕ) → high ≡ value_of a → low ≡ value_of b → high < 16 → low < 16 → pair_value a b i ≡ Ok (high * 16 + low)
 pair_good a b i high low first second high_small low_small =
     let ha = digit_good a i high (hex_digit_value a) first high_small in
     let hb = digit_good b (i + 1) low (hex_digit_value b) second low_small in
     rw (ha, hb) refl
 
-pair_bad : (a b i high low : ℕ) → high ≡ value_of a → low ≡ value_of b → 16 ≤ bit_or high low → (e : FromHexError) × (pair_value a b i ≡ Err e)
+pub pair_bad : (a b i high low : ℕ) → high ≡ value_of a → low ≡ value_of b → 16 ≤ bit_or high low → (e : FromHexError) × (pair_value a b i ≡ Err e)
 pair_bad a b i high low first second large =
     elim (cases_lt high 16) [
       | inr high_large ↦
@@ -107,7 +107,7 @@ read_more s out i seen high low fits room first second before =
           ];
     }
 
-match_err : (r : Result (List ℕ) FromHexError) (P : List ℕ → Type 0) (Q : Type 0) → is_err r ≡ true → Q → MatchResult r P (λ _. Q)
+pub match_err : (r : Result (List ℕ) FromHexError) (P : List ℕ → Type 0) (Q : Type 0) → is_err r ≡ true → Q → MatchResult r P (λ _. Q)
 match_err (Ok bytes) P Q refused q = cc refused
 match_err (Err e) P Q refused q = q
 

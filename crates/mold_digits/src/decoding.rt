@@ -4,7 +4,11 @@ ghost use Rattle.std.specs.Prelude.{◌≡◌, ◌*◌, ◌≤◌, length, IfOk,
 ghost use Rattle.hex.specs.Hex.{decode_of};
 ghost use Rattle.mold_digits.specs.Digits.{IsDecodedTo};
 
+mod block;
+
+use crate::lanes::LANES;
 use crate::table::digit_value;
+use block::decode_blocks;
 use std::alloc::AllocError;
 
 /// Replaces what `out` holds by the bytes that the digits stand for, in either case, and answers whether
@@ -23,13 +27,12 @@ pub fn decode(digits: &[u8], out: &mut Vec<u8>) -> Result<bool, AllocError>
 }
 
 // Fills `out` with the bytes of twice as many digits, and answers whether all of them are digits.
-#[tactic(auto, unfolding(hex::specs::Hex::decode_pairs))]
 fn decode_into(digits: &[u8], out: &mut [u8]) -> bool
     requires { length digits.now ≡ 2 * length out.old }
     ensures { MatchResult (decode_of digits.now)
         (λ bytes. (result ≡ true) × (out.new ≡ bytes)) (λ _. result ≡ false) }
 {
-    decode_rest(digits, 0, out)
+    decode_blocks(digits, out) && decode_rest(digits, out.len() / LANES * LANES, out)
 }
 
 // Goes on from byte `from`, digit by digit. A bad digit is looked for once, at the end, since a branch at

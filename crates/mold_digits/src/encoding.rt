@@ -3,6 +3,10 @@
 ghost use Rattle.std.specs.Prelude.{◌≡◌, ◌++◌, ◌*◌, ◌<◌, length, slice_index, OnOk, OnErr};
 ghost use Rattle.hex.specs.Hex.{encode_lower, lower_digits};
 
+mod block;
+
+use crate::lanes::LANES;
+use block::encode_blocks;
 use std::alloc::AllocError;
 
 /// Appends two lower-case hexadecimal digits for each byte.
@@ -19,7 +23,19 @@ pub fn push_bytes(out: &mut Vec<u8>, bytes: &[u8]) -> Result<(), AllocError>
 }
 
 // Fills `out` with the digits of half as many bytes.
+#[inline(always)]
 fn encode_into(bytes: &[u8], out: &mut [u8])
+    requires { length out.old ≡ 2 * length bytes.now }
+    ensures { out.new ≡ encode_lower bytes.now }
+{
+    if bytes.len() < LANES {
+        encode_few(bytes, out)
+    } else {
+        encode_blocks(bytes, out)
+    }
+}
+
+fn encode_few(bytes: &[u8], out: &mut [u8])
     requires { length out.old ≡ 2 * length bytes.now }
     ensures { out.new ≡ encode_lower bytes.now }
 {

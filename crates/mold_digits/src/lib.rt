@@ -5,6 +5,7 @@
 mod decimal;
 mod decoding;
 mod encoding;
+mod lanes;
 mod table;
 #[cfg(test)]
 mod tests;

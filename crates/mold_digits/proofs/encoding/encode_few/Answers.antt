@@ -2,7 +2,7 @@ use Rattle.std.proofs.Common.{ℕ, slice_index, ap, arith, ◌∙◌}
 use Rattle.std.proofs.lemmas.Nat.{and_mask}
 use Rattle.hex.proofs.Pairs.{encode_done, encode_step}
 use Rattle.hex.specs.Hex.{lower_digits}
-use Rattle.mold_digits.proofs.encoding.encode_into.Goals as goal
+use Rattle.mold_digits.proofs.encoding.encode_few.Goals as goal
 
 pub bytes-preserved : goal.bytes-preserved
 bytes-preserved c =
