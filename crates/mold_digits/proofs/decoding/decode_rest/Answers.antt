@@ -1,0 +1,13 @@
+use Rattle.std.proofs.Common.{arith}
+use Rattle.mold_digits.proofs.DecodingLemmas.{read_all, read_more, read_none}
+use Rattle.mold_digits.proofs.decoding.decode_rest.Goals as goal
+
+pub bytes-init : goal.bytes-init
+bytes-init c = read_none _ _ _ c.requires.front
+
+pub bytes-preserved : goal.bytes-preserved
+bytes-preserved c =
+    read_more _ c.bytes.out c.bytes.i _ _ _ (omega arith) (omega arith) c.digit_value-high.ensures c.digit_value-low.ensures c.bytes.invariant
+
+pub returns : goal.returns
+returns c = read_all _ c.bytes.out c.bytes.i _ (omega arith) (omega arith) c.bytes.invariant

@@ -1,0 +1,55 @@
+//! Bytes out of hexadecimal digits.
+
+ghost use Rattle.std.specs.Prelude.{◌≡◌, ◌*◌, ◌≤◌, length, IfOk, OnErr, MatchResult, true, false};
+ghost use Rattle.hex.specs.Hex.{decode_of};
+ghost use Rattle.mold_digits.specs.Digits.{IsDecodedTo};
+
+mod block;
+
+use crate::lanes::LANES;
+use crate::table::digit_value;
+use block::decode_blocks;
+use std::alloc::AllocError;
+
+/// Replaces what `out` holds by the bytes that the digits stand for, in either case, and answers whether
+/// they stand for any: an odd number of digits doesn't, nor does any other byte among them. Then `out`
+/// holds anything. It takes memory where the bytes find no room in `out`.
+pub fn decode(digits: &[u8], out: &mut Vec<u8>) -> Result<bool, AllocError>
+    ensures value { IfOk result (λ spelled. MatchResult (decode_of digits.now)
+        (λ bytes. (spelled ≡ true) × (out.new.items ≡ bytes)) (λ _. spelled ≡ false)) }
+    ensures err { OnErr result (out.new.items ≡ out.old.items) }
+{
+    if digits.len() % 2 != 0 {
+        return Ok(false);
+    }
+    out.resize(digits.len() / 2, 0)?;
+    Ok(decode_into(digits, out.as_mut_slice()))
+}
+
+// Fills `out` with the bytes of twice as many digits, and answers whether all of them are digits.
+fn decode_into(digits: &[u8], out: &mut [u8]) -> bool
+    requires { length digits.now ≡ 2 * length out.old }
+    ensures { MatchResult (decode_of digits.now)
+        (λ bytes. (result ≡ true) × (out.new ≡ bytes)) (λ _. result ≡ false) }
+{
+    decode_blocks(digits, out) && decode_rest(digits, out.len() / LANES * LANES, out)
+}
+
+// Goes on from byte `from`, digit by digit. A bad digit is looked for once, at the end, since a branch at
+// each digit would cost more than the rest of the loop.
+fn decode_rest(digits: &[u8], from: usize, out: &mut [u8]) -> bool
+    requires sized { length digits.now ≡ 2 * length out.old }
+    requires within { from ≤ length out.old }
+    requires front { IsDecodedTo from digits.now out.old }
+    ensures { MatchResult (decode_of digits.now)
+        (λ bytes. (result ≡ true) × (out.new ≡ bytes)) (λ _. result ≡ false) }
+{
+    let mut seen = 0u8;
+    'bytes: for i in from..out.len() {
+        let high = digit_value(digits[2 * i]);
+        let low = digit_value(digits[2 * i + 1]);
+        seen |= high | low;
+        out[i] = high.wrapping_mul(16).wrapping_add(low);
+    }
+    seen < 16
+}

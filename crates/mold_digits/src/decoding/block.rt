@@ -1,0 +1,74 @@
+//! Thirty-two digits at a time.
+
+ghost use Rattle.std.specs.Prelude.{◌≡◌, ◌++◌, ◌+◌, ◌*◌, ◌/◌, ◌≤◌, length, map, take, true, false, IsErr, MatchResult};
+ghost use Rattle.std.specs.Simd.Lanes.{chunk, zip2};
+ghost use Rattle.hex.specs.Hex.{decode_pairs};
+ghost use Rattle.mold_digits.specs.Digits.{IsDecodedTo};
+ghost use Rattle.mold_digits.specs.Lanes.{any_large, pair_byte, reading};
+
+use crate::lanes::{
+    LANES, at_even_places, at_least, at_most, at_odd_places, masked, plus, smaller,
+};
+use std::simd::prelude::*;
+
+/// Fills the front of `out` with the bytes of the digits, as far as whole vectors go, and answers whether
+/// all of these are digits.
+pub fn decode_blocks(digits: &[u8], out: &mut [u8]) -> bool
+    requires { length digits.now ≡ 2 * length out.old }
+    ensures whole { result ≡ true → IsDecodedTo (length out.old / 16 * 16) digits.now out.new }
+    ensures refused { result ≡ false → IsErr (decode_pairs 0 digits.now) }
+{
+    'whole: for block in 0..out.len() / LANES {
+        if !decode_block(digits, block * LANES, out) {
+            return false;
+        }
+    }
+    true
+}
+
+// Writes the sixteen bytes from `place` on.
+fn decode_block(digits: &[u8], place: usize, out: &mut [u8]) -> bool
+    requires digits { 2 * place + 32 ≤ length digits.now }
+    requires room { place + 16 ≤ length out.old }
+    ensures { MatchResult (decode_pairs (2 * place) (chunk (2 * place) 32 digits.now))
+        (λ bytes. (result ≡ true) × (take (place + 16) out.new ≡ take place out.old ++ bytes))
+        (λ _. result ≡ false) }
+{
+    let first = readings(digits, 2 * place);
+    let second = readings(digits, 2 * place + LANES);
+    let high = at_even_places(first, second);
+    let low = at_odd_places(first, second);
+    if has_large(high, low) {
+        return false;
+    }
+    pair_bytes(high, low).copy_to_slice(&mut out[place..]);
+    true
+}
+
+// The value of each digit, and 16 or more where there is none. 198 takes the numerals to the greatest bytes,
+// and 223 makes letters upper case, which 191 takes to the least; 10 more, both are at their values.
+#[inline(always)]
+fn readings(digits: &[u8], at: usize) -> u8x16
+    requires { at + 16 ≤ length digits.now }
+    ensures { result ≡ map reading (chunk at 16 digits.now) }
+{
+    let lanes = u8x16::from_slice(&digits[at..]);
+    let numerals = plus(at_least(plus(lanes, 198), 6), 10);
+    let letters = plus(at_most(plus(masked(lanes, 223), 191), 245), 10);
+    smaller(numerals, letters)
+}
+
+#[inline(always)]
+fn has_large(high: u8x16, low: u8x16) -> bool
+    ensures { result ≡ any_large high low }
+{
+    u8x16::splat(15).simd_lt(high | low).to_bitmask() != 0
+}
+
+#[inline(always)]
+fn pair_bytes(high: u8x16, low: u8x16) -> u8x16
+    ensures value { result ≡ zip2 pair_byte high low }
+    ensures len { length result ≡ 16 }
+{
+    high * u8x16::splat(16) + low
+}

@@ -1,0 +1,46 @@
+//! Sixteen bytes at a time.
+
+ghost use Rattle.std.specs.Prelude.{◌≡◌, ◌++◌, ◌+◌, ◌*◌, ◌≤◌, length, map, take};
+ghost use Rattle.std.specs.Simd.Lanes.{chunk};
+ghost use Rattle.hex.specs.Hex.{encode_lower};
+ghost use Rattle.mold_digits.specs.Lanes.{digit_of};
+
+use crate::lanes::{LANES, high_halves, masked, plus, woven_back, woven_front};
+use std::simd::prelude::*;
+
+/// Fills `out` with the digits of at least sixteen bytes. Where the last ones don't fill a vector, it goes
+/// over some of those before them once more.
+pub fn encode_blocks(bytes: &[u8], out: &mut [u8])
+    requires sized { length out.old ≡ 2 * length bytes.now }
+    requires enough { 16 ≤ length bytes.now }
+    ensures { out.new ≡ encode_lower bytes.now }
+{
+    let blocks = (bytes.len() - 1) / LANES;
+    'whole: for block in 0..blocks {
+        encode_block(bytes, block * LANES, out);
+    }
+    encode_block(bytes, bytes.len() - LANES, out);
+}
+
+// Writes the digits of the sixteen bytes from `place` on.
+fn encode_block(bytes: &[u8], place: usize, out: &mut [u8])
+    requires bytes { place + 16 ≤ length bytes.now }
+    requires room { 2 * place + 32 ≤ length out.old }
+    ensures { take (2 * place + 32) out.new ≡ take (2 * place) out.old ++ encode_lower (chunk place 16 bytes.now) }
+{
+    let lanes = u8x16::from_slice(&bytes[place..]);
+    let high = lower_digits(high_halves(lanes));
+    let low = lower_digits(masked(lanes, 15));
+    woven_front(high, low).copy_to_slice(&mut out[2 * place..]);
+    woven_back(high, low).copy_to_slice(&mut out[2 * place + LANES..]);
+}
+
+#[inline(always)]
+fn lower_digits(values: u8x16) -> u8x16
+    ensures { result ≡ map digit_of values }
+{
+    let tens = u8x16::splat(10);
+    values
+        .simd_lt(tens)
+        .select(plus(values, b'0'), plus(values, b'a' - 10))
+}

@@ -1,0 +1,15 @@
+//! Hexadecimal digits and decimal numbers, read and written at full speed. What they mean is what the
+//! crate `hex` and the standard library define.
+#![tactic(auto)]
+
+mod decimal;
+mod decoding;
+mod encoding;
+mod lanes;
+mod table;
+#[cfg(test)]
+mod tests;
+
+pub use decimal::{push_long_number, push_number};
+pub use decoding::decode;
+pub use encoding::push_bytes;

@@ -1,0 +1,97 @@
+//! Each public call on its happy path. Digits are compared with what the crate `hex` makes of them: at every
+//! length that fills whole vectors and leaves a rest, and with every byte at every place.
+
+use crate::{decode, push_bytes, push_long_number, push_number};
+use std::alloc::Global;
+use std::process::Abort;
+use std::test::Fail;
+
+// Four vectors of digits and a rest of six pairs.
+const LONGEST: usize = 140;
+
+fn some_digits(alloc: Global, len: usize) -> Result<Vec<u8>, Fail> {
+    let mut digits = Vec::new(alloc);
+    for place in 0..len {
+        digits.push(b"0123456789abcdefABCDEF"[place % 22 * 7 % 22])?;
+    }
+    Ok(digits)
+}
+
+// Decodes the digits into `bytes`, and has `hex` decode them into `expected`.
+fn expect_as_hex(
+    rt: &impl Abort,
+    digits: &[u8],
+    bytes: &mut Vec<u8>,
+    expected: &mut Vec<u8>,
+) -> Result<(), Fail> {
+    expected.resize(digits.len() / 2, 0)?;
+    let good = hex::decode_to_slice(digits, expected.as_mut_slice()).is_ok();
+    assert_eq!(rt; decode(digits, bytes)?, good, "{digits:?}");
+    if good {
+        assert_eq!(rt; bytes.as_slice(), expected.as_slice(), "{digits:?}");
+    }
+    Ok(())
+}
+
+#[test]
+fn digits_of_every_length_are_read(rt: HostRuntime) -> Result<(), Fail> {
+    let mut bytes = Vec::new(rt.alloc());
+    let mut expected = Vec::new(rt.alloc());
+    for len in 0..LONGEST {
+        let digits = some_digits(rt.alloc(), len)?;
+        expect_as_hex(&rt, digits.as_slice(), &mut bytes, &mut expected)?;
+    }
+    Ok(())
+}
+
+#[test]
+fn every_byte_is_judged_at_every_place(rt: HostRuntime) -> Result<(), Fail> {
+    let mut bytes = Vec::new(rt.alloc());
+    let mut expected = Vec::new(rt.alloc());
+    let mut digits = some_digits(rt.alloc(), LONGEST)?;
+    for place in 0..LONGEST {
+        for byte in 0..=u8::MAX {
+            assert_eq!(rt; digits.len(), LONGEST);
+            let kept = digits[place];
+            digits[place] = byte;
+            expect_as_hex(&rt, digits.as_slice(), &mut bytes, &mut expected)?;
+            assert_eq!(rt; digits.len(), LONGEST);
+            digits[place] = kept;
+        }
+    }
+    Ok(())
+}
+
+#[test]
+fn bytes_of_every_length_are_written(rt: HostRuntime) -> Result<(), Fail> {
+    let mut bytes = Vec::new(rt.alloc());
+    let mut text = Vec::new(rt.alloc());
+    for byte in 0..=u8::MAX {
+        bytes.push(byte.wrapping_mul(37))?;
+        text.clear();
+        push_bytes(&mut text, bytes.as_slice())?;
+        let expected = hex::encode(rt.alloc(), bytes.as_slice())?;
+        assert_eq!(rt; text.as_slice(), expected.as_bytes());
+    }
+    Ok(())
+}
+
+#[test]
+fn numbers_are_written(rt: HostRuntime) -> Result<(), Fail> {
+    let mut text = Vec::new(rt.alloc());
+    for number in [0, 7, 10, 99, 100, 65507, u64::MAX] {
+        push_number(&mut text, number)?;
+        text.push(b' ')?;
+    }
+    for number in [8, 42, 18446744073709551616, u128::MAX] {
+        push_long_number(&mut text, number)?;
+        text.push(b' ')?;
+    }
+    assert_eq!(rt;
+        text.as_slice(),
+        b"0 7 10 99 100 65507 18446744073709551615 8 42 18446744073709551616 \
+340282366920938463463374607431768211455 "
+            .as_slice()
+    );
+    Ok(())
+}
