@@ -1,6 +1,8 @@
 -- The words that `mold` takes: its commands and their options, and the program that they make of
 -- it for `clap`.
-use Rattle.std.specs.Prelude.{List, [], ◌∷◌, Some, true, codes, fold}
+use Rattle.std.specs.Prelude.{Bool, List, [], ◌∷◌, Some, true, codes, fold}
+use Rattle.std.specs.List.{list_any}
+use Rattle.std.specs.Str.{bytes_eq}
 use Rattle.clap.specs.Words.{App, Rule, Text, new_app, new_rule, with_rule, with_subcommand}
 use Rattle.clap.specs.declared.builder.ArgAction.TheVariants.{Set, SetTrue}
 use Rattle.mold_words.specs.declared.table.Kind.{Kind}
@@ -9,6 +11,10 @@ use Rattle.mold_words.specs.declared.table.Kind.TheVariants.{Flag, Optional, Req
 -- the commands, each with its options
 abbrev pub commands : List (Text × List (Text × Kind))
 commands = (codes "show", (codes "request", Flag) ∷ []) ∷ []
+
+-- a command has this name
+abbrev pub is_command : Text → Bool
+is_command name = list_any (λ command. bytes_eq command.0 name) commands
 
 -- an option of this name: a flag has no value, the value of another is a text
 abbrev pub rule_for : Text → Kind → Rule

@@ -1,10 +1,10 @@
-//! Words written out: what `clap` makes of them, and what they say.
-ghost use Rattle.std.specs.Prelude.{◌≡◌, [], ◌∷◌, codes, false, true};
-ghost use Rattle.clap.specs.Words.{fault_of};
+//! Laws of the program's words: what `clap` makes of them, and what they say.
+ghost use Rattle.std.specs.Prelude.{◌≡◌, [], ◌∷◌, IfSome, IsTrue, List, codes, false, true};
+ghost use Rattle.clap.specs.Words.{Text, fault_of, subcommand_of};
 ghost use Rattle.clap.specs.declared.error.kind.ErrorKind.TheVariants.{DisplayHelp, DisplayVersion};
 ghost use Rattle.clap.specs.declared.error.kind.ErrorKind.TheVariants.{UnknownArgument};
 ghost use Rattle.mold_words.specs.Orders.{AreTaken, order_of, show_wanted};
-ghost use Rattle.mold_words.specs.Words.{mold_app};
+ghost use Rattle.mold_words.specs.Words.{is_command, mold_app};
 
 /// The words `show` and `show --request` are taken and say to show, and so is `--` alone, which
 /// names no command: `read_words` refuses them for want of memory alone.
@@ -26,4 +26,10 @@ pub fn asked_law()
     ensures short_version { fault_of mold_app (codes "-V" ∷ []) ≡ DisplayVersion ∷ [] }
     ensures unknown { fault_of mold_app (codes "show" ∷ codes "--other" ∷ [])
         ≡ UnknownArgument ∷ [] }
+{}
+
+/// The command that taken words name is one of the program's.
+pub fn own_command_law()
+    ensures { (words : List Text) → AreTaken words
+        → IfSome (subcommand_of mold_app words) (λ found. IsTrue (is_command found.0)) }
 {}
