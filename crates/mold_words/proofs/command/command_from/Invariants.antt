@@ -7,6 +7,7 @@ use Rattle.mold_words.proofs.command.command_from.Given as goal
 
 abbrev pub invariant-loop-option : goal.invariant-loop-option
 invariant-loop-option l = record {
-  app : app_of l.command ≡ fold with_option (new_app l.fn.row.name.now) (map option_of (take l.option-index l.fn.row.options.now));
+  app : app_of l.command
+      ≡ fold with_option (new_app l.fn.row.name.now) (map option_of (take l.option-index l.fn.row.options.now));
   local : (fields_of l.command).has_globals ≡ false;
 }
