@@ -2,8 +2,5 @@ pub mod Command
 pub mod Devices
 pub mod Faults
 pub mod Lines
-pub mod Orders
 pub mod Show
-pub mod Table
 pub mod Text
-pub mod Words

@@ -9,7 +9,7 @@ ghost use Rattle.mold_cmd.specs.Faults.{CountsSource, CountsSink};
 use crate::devices::{Sink, Source};
 use crate::fault::CommandFault;
 use crate::show::show;
-use crate::words::Order;
+use mold_words::Order;
 use std::alloc::Global;
 
 /// Does what the order says with the whole input of the source, and answers the status: 0 done, 2

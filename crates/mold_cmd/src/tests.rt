@@ -6,7 +6,7 @@ ghost use Rattle.std.specs.Prelude.{◌<◌};
 use crate::command::run_command;
 use crate::devices::{MemorySink, MemorySource, Sink, Source};
 use crate::fault::CommandFault;
-use crate::words::Order;
+use mold_words::Order;
 use std::alloc::Global;
 use std::process::Abort;
 use std::test::Fail;
