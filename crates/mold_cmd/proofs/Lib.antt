@@ -1,3 +1,1 @@
-pub mod FoldLemmas
-pub mod OrderLemmas
 pub mod ShowLemmas

@@ -1,8 +1,8 @@
 -- What an order prints for its input, and the status that it ends with.
 use Rattle.std.specs.Prelude.{ℕ, List}
 use Rattle.mold_cmd.specs.Show.{show_text, show_status}
-use Rattle.mold_cmd.specs.declared.words.types.Order.{Order}
-use Rattle.mold_cmd.specs.declared.words.types.Order.TheVariants.{Show}
+use Rattle.mold_words.specs.declared.types.Order.{Order}
+use Rattle.mold_words.specs.declared.types.Order.TheVariants.{Show}
 
 -- what is printed for the whole input
 abbrev pub text : Order → List ℕ → List ℕ

@@ -1,5 +1,2 @@
 pub mod Command
-pub mod Orders
 pub mod Show
-pub mod Table
-pub mod Words

@@ -7,8 +7,8 @@ ghost use Rattle.mold_devices.specs.Devices.{AppendsFront};
 ghost use Rattle.mold_devices.specs.Faults.{CountsCommand};
 
 use crate::show::Show;
-use crate::words::Order;
 use mold_devices::{CommandFault, Sink, Source, run_lines};
+use mold_words::Order;
 use std::alloc::Global;
 
 /// Does what the order says with the whole input of the source, and answers the status: 0 done, 2

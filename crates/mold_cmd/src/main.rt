@@ -5,11 +5,10 @@ mod command;
 mod show;
 #[cfg(test)]
 mod tests;
-mod words;
 
 use crate::command::run_command;
-use crate::words::{Order, UsageFault, read_words};
 use mold_devices::{CommandFault, FromRead, IntoWrite};
+use mold_words::{Order, UsageFault, read_words};
 use std::io::{ErrorKind, Write};
 use std::process::ExitCode;
 use std::rt::Env;
@@ -26,10 +25,10 @@ fn tell_fault(rt: &impl Eprint, word: &str) -> ExitCode {
     ExitCode::from(FAULT)
 }
 
-// Prints the text of help, or the text of a usage fault and the fault.
+// Prints the text of help or of the version, or the text of a usage fault and the fault.
 fn tell_usage(rt: &(impl Print + Eprint), fault: UsageFault) -> ExitCode {
     match fault {
-        UsageFault::Help { text } => match rt.print(text.as_str()) {
+        UsageFault::Help { text } | UsageFault::Version { text } => match rt.print(text.as_str()) {
             Ok(()) => ExitCode::SUCCESS,
             Err(_) => tell_fault(rt, CommandFault::Write.word()),
         },

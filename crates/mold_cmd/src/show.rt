@@ -67,8 +67,7 @@ fn show_line(
     if line.is_empty() {
         return Ok(false);
     }
-    bytes.resize(line.len() / 2, 0)?;
-    if hex::decode_to_slice(line, bytes.as_mut_slice()).is_err() {
+    if !mold_digits::decode(line, bytes)? {
         push_refused(out, &[Word::Text(b"NotHex")])?;
         return Ok(true);
     }

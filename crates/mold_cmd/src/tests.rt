@@ -4,9 +4,8 @@
 ghost use Rattle.std.specs.Prelude.{◌<◌};
 
 use crate::command::run_command;
-use mold_devices::{MemorySink, MemorySource, Sink, Source};
-use mold_devices::CommandFault;
-use crate::words::Order;
+use mold_devices::{CommandFault, MemorySink, MemorySource, Sink, Source};
+use mold_words::Order;
 use std::alloc::Global;
 use std::process::Abort;
 use std::test::Fail;

@@ -2,7 +2,6 @@
 //! text that is there.
 #![tactic(auto)]
 
-mod digits;
 mod line;
 mod packet;
 mod refusal;

@@ -3,7 +3,7 @@
 ghost use Rattle.std.specs.Prelude.{◌≡◌, ◌++◌, length, take, OnErr, OnOk};
 ghost use Rattle.mold_text.specs.Line.{word_text};
 
-use crate::digits::{push_bytes, push_long_number, push_number};
+use mold_digits::{push_bytes, push_long_number, push_number};
 use std::alloc::AllocError;
 
 /// A word of a line, by how it is printed.

@@ -1,0 +1,4 @@
+pub mod FaultLemmas
+pub mod FoldLemmas
+pub mod NameLemmas
+pub mod OrderLemmas

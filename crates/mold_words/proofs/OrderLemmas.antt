@@ -1,0 +1,43 @@
+-- The order that the words say, read off the matches of a parse.
+use Rattle.std.proofs.Common.{arith, ◌≡◌, ◌∙◌, List, [], ◌∷◌, ap, length, map, refl, sym, true, false}
+use Rattle.std.specs.Prelude.{◌==◌}
+use Rattle.std.proofs.lemmas.Bool.Decides.{nat_tests}
+use Rattle.clap.proofs.OnLiterals.{clap_on_literals}
+use Rattle.clap.specs.Words.{App, HasMatchesOf, Text, fault_of, is_simple, is_simple_and_free}
+use Rattle.clap.specs.Words.{subcommand_of, subcommand_rows_of}
+use Rattle.clap.specs.declared.parser.matches.ArgMatches.{ArgMatches}
+use Rattle.mold_words.specs.Words.{mold_app}
+use Rattle.mold_words.specs.Orders.{AreTaken, order_in, order_of, show_wanted}
+
+-- `clap` states the matches of the program's commands, and its faults
+pub mold_is_simple : is_simple mold_app ≡ true
+unfolding mold_app
+mold_is_simple = refl
+
+pub mold_is_free : is_simple_and_free mold_app ≡ true
+unfolding mold_app
+mold_is_free = refl
+
+-- no words at all are taken, and say to show packets
+pub none-taken : {X : Type 0} (f : X → Text) (xs : List X) → (length xs == 0) ≡ true → AreTaken (map f xs)
+unfolding clap_on_literals mold_app
+none-taken f [] empty = refl
+none-taken f (x ∷ xs) empty = absurd (grind (arith, nat_tests))
+
+pub none-order : {X : Type 0} (f : X → Text) (xs : List X) → (length xs == 0) ≡ true
+    → order_of (map f xs) ≡ show_wanted false
+unfolding clap_on_literals mold_app order_of
+none-order f [] empty = refl
+none-order f (x ∷ xs) empty = absurd (grind (arith, nat_tests))
+
+-- the matches of a parse say what the words do
+pub order_of-matches : (words : List Text) (app : App) (m : ArgMatches) → app ≡ mold_app → HasMatchesOf app words m
+    → order_of words ≡ order_in (subcommand_rows_of m)
+unfolding order_of
+order_of-matches words app m same matches =
+    let found = (matches (ap is_simple same ∙ mold_is_simple)).1 in
+    ap order_in (ap (λ (a : App). subcommand_of a words) (sym same) ∙ sym found)
+
+-- a parse that succeeds found no fault in the words
+pub taken-by : (words : List Text) (app : App) → app ≡ mold_app → fault_of app words ≡ [] → AreTaken words
+taken-by words app same none = ap (λ (a : App). fault_of a words) (sym same) ∙ none

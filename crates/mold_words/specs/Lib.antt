@@ -1,0 +1,4 @@
+pub mod Faults
+pub mod Orders
+pub mod Table
+pub mod Words

@@ -1,0 +1,45 @@
+-- The words that `mold` takes: its commands and their options, and the program that they make of
+-- it for `clap`.
+use Rattle.std.specs.Prelude.{Bool, List, [], ◌∷◌, Some, true, codes, fold}
+use Rattle.std.specs.List.{list_any}
+use Rattle.std.specs.Str.{bytes_eq}
+use Rattle.clap.specs.Words.{App, Rule, Text, new_app, new_rule, with_rule, with_subcommand}
+use Rattle.clap.specs.declared.builder.ArgAction.TheVariants.{Set, SetTrue}
+use Rattle.mold_words.specs.declared.table.Kind.{Kind}
+use Rattle.mold_words.specs.declared.table.Kind.TheVariants.{Flag, Optional, Required}
+
+-- the commands, each with its options
+abbrev pub commands : List (Text × List (Text × Kind))
+commands = (codes "show", (codes "request", Flag) ∷ []) ∷ []
+
+-- a command has this name
+abbrev pub is_command : Text → Bool
+is_command name = list_any (λ command. bytes_eq command.0 name) commands
+
+-- an option of this name: a flag has no value, the value of another is a text
+abbrev pub rule_for : Text → Kind → Rule
+rule_for name Flag = record (new_rule name) { long = Some name; action = Some SetTrue }
+rule_for name Optional = record (new_rule name) { long = Some name; action = Some Set }
+rule_for name Required =
+    record (new_rule name) { long = Some name; action = Some Set; required = true }
+
+-- a command with one more option
+abbrev pub with_option : App → Text × Kind → App
+with_option app option = with_rule app (rule_for option.0 option.1)
+
+-- a command with its options
+abbrev pub command_app : Text × List (Text × Kind) → App
+command_app command = fold with_option (new_app command.0) command.1
+
+-- the program with one more command
+abbrev pub with_command : App → Text × List (Text × Kind) → App
+with_command app command = with_subcommand app (command_app command).top
+
+-- the program without commands: its words do not begin with its name, and it has a version
+abbrev pub bare_app : App
+bare_app = let app = new_app (codes "mold") in
+    record app { top = record app.top { no_binary_name = true; has_version = true } }
+
+-- the program with its commands
+unfoldable pub mold_app : App
+mold_app = fold with_command bare_app commands

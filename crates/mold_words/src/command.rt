@@ -1,0 +1,81 @@
+//! The program's commands as `clap` takes them, made from the table.
+ghost use Rattle.std.specs.Prelude.{◌≡◌, IfOk, false, fold, map};
+ghost use Rattle.clap.specs.Words.{app_of, rule_of};
+ghost use Rattle.clap.specs.declared.builder.Command.TheViews.{out-Command as fields_of};
+ghost use Rattle.mold_words.specs.Words.{bare_app, command_app, mold_app, rule_for, with_command};
+ghost use Rattle.mold_words.specs.Words.{with_option};
+ghost use Rattle.mold_words.specs.Table.{command_of, option_of};
+
+use crate::table::{COMMANDS, CommandRow, Kind, OptionRow};
+use clap::{Arg, ArgAction, Command};
+use std::alloc::{AllocError, Global};
+
+/// The version of the program.
+pub const VERSION: &str = "0.1.0";
+
+const ABOUT: &str = "MoldUDP64 packets, shown as lines of text";
+
+const WITHOUT_COMMAND: &str = "Without a command, show is run.";
+
+// The argument that an option is to `clap`, which reads each value as a text.
+fn argument_of<'a>(alloc: Global, option: OptionRow) -> Arg<'a>
+    ensures rule { rule_of result ≡ rule_for option.name.now option.kind }
+    ensures local { result.global ≡ false }
+{
+    let argument = Arg::new(alloc, option.name)
+        .long(option.name)
+        .help(option.help);
+    match option.kind {
+        Kind::Flag => argument.action(ArgAction::SetTrue),
+        Kind::Optional => argument.action(ArgAction::Set),
+        Kind::Required => argument.action(ArgAction::Set).required(true),
+    }
+}
+
+// A command with one more option.
+fn with_option<'a>(
+    alloc: Global,
+    command: Command<'a>,
+    option: OptionRow,
+) -> Result<Command<'a>, AllocError>
+    requires { (fields_of command).has_globals ≡ false }
+    ensures app { IfOk result (λ c. app_of c ≡ with_option (app_of command.entry) (option_of option)) }
+    ensures local { IfOk result (λ c. (fields_of c).has_globals ≡ false) }
+{
+    command.arg(argument_of(alloc, option))
+}
+
+// The command of a row.
+fn command_from<'a>(alloc: Global, row: CommandRow) -> Result<Command<'a>, AllocError>
+    ensures app { IfOk result (λ c. app_of c ≡ command_app (command_of row)) }
+    ensures local { IfOk result (λ c. (fields_of c).has_globals ≡ false) }
+{
+    let mut command = Command::new(alloc, row.name).about(row.about);
+    for option in row.options {
+        command = with_option(alloc, command, *option)?;
+    }
+    Ok(command)
+}
+
+// The program with the command of each row.
+fn command_of_rows<'a>(alloc: Global, rows: &[CommandRow]) -> Result<Command<'a>, AllocError>
+    ensures { IfOk result (λ c. app_of c ≡ fold with_command bare_app (map command_of rows.now)) }
+{
+    let mut command = Command::new(alloc, "mold")
+        .no_binary_name(true)
+        .version(VERSION)
+        .about(ABOUT)
+        .after_help(WITHOUT_COMMAND)
+        .bin_name("mold")?;
+    for row in rows {
+        command = command.subcommand(command_from(alloc, *row)?)?;
+    }
+    Ok(command)
+}
+
+/// The program's commands and options. The only error is want of memory.
+pub(crate) fn mold_command<'a>(alloc: Global) -> Result<Command<'a>, AllocError>
+    ensures { IfOk result (λ c. app_of c ≡ mold_app) }
+{
+    command_of_rows(alloc, &COMMANDS)
+}

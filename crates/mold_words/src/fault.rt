@@ -1,0 +1,43 @@
+//! Why words give no order.
+ghost use Rattle.std.specs.Prelude.{◌≡◌};
+ghost use Rattle.mold_words.specs.Faults.{told_if_made};
+ghost use Rattle.mold_words.specs.declared.fault.UsageFault.TheVariants.{Memory};
+
+use clap::error::ErrorKind;
+use std::alloc::{AllocError, Global};
+
+/// Why the words give no order.
+#[derive(Debug, Drop)]
+pub enum UsageFault {
+    /// Help was asked for. The text is for standard output, with status 0.
+    Help { text: String },
+    /// The version was asked for. The text, a line, is for standard output, with status 0.
+    Version { text: String },
+    /// The words are no command of the program. The text says why, in whole lines.
+    Usage { text: String },
+    /// Memory was refused.
+    Memory,
+}
+
+impl From<AllocError> for UsageFault {
+    ghost from_gives = { λ _ fault. fault ≡ Memory };
+
+    fn from(_error: AllocError) -> UsageFault {
+        UsageFault::Memory
+    }
+}
+
+/// The fault that tells an error of this kind by the text that was made of it.
+pub(crate) fn fault_for(kind: ErrorKind, text: Result<String, AllocError>) -> UsageFault
+    ensures { result ≡ told_if_made kind text }
+{
+    let Ok(text) = text else {
+        return UsageFault::Memory;
+    };
+    match kind {
+        ErrorKind::DisplayHelp => UsageFault::Help { text },
+        ErrorKind::DisplayVersion => UsageFault::Version { text },
+        ErrorKind::OutOfMemory => UsageFault::Memory,
+        _ => UsageFault::Usage { text },
+    }
+}

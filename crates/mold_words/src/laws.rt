@@ -1,0 +1,35 @@
+//! Laws of the program's words: what `clap` makes of them, and what they say.
+ghost use Rattle.std.specs.Prelude.{◌≡◌, [], ◌∷◌, IfSome, IsTrue, List, codes, false, true};
+ghost use Rattle.clap.specs.Words.{Text, fault_of, subcommand_of};
+ghost use Rattle.clap.specs.declared.error.kind.ErrorKind.TheVariants.{DisplayHelp, DisplayVersion};
+ghost use Rattle.clap.specs.declared.error.kind.ErrorKind.TheVariants.{UnknownArgument};
+ghost use Rattle.mold_words.specs.Orders.{AreTaken, order_of, show_wanted};
+ghost use Rattle.mold_words.specs.Words.{is_command, mold_app};
+
+/// The words `show` and `show --request` are taken and say to show, and so is `--` alone, which
+/// names no command: `read_words` refuses them for want of memory alone.
+pub fn show_taken_law()
+    ensures plain { AreTaken (codes "show" ∷ []) }
+    ensures plain_says { order_of (codes "show" ∷ []) ≡ show_wanted false }
+    ensures request { AreTaken (codes "show" ∷ codes "--request" ∷ []) }
+    ensures request_says { order_of (codes "show" ∷ codes "--request" ∷ []) ≡ show_wanted true }
+    ensures no_command { AreTaken (codes "--" ∷ []) }
+    ensures no_command_says { order_of (codes "--" ∷ []) ≡ show_wanted false }
+{}
+
+/// Help and version are asked for by these words, and nothing else is told of them; other words
+/// than the program's are unknown.
+pub fn asked_law()
+    ensures help { fault_of mold_app (codes "--help" ∷ []) ≡ DisplayHelp ∷ [] }
+    ensures show_help { fault_of mold_app (codes "show" ∷ codes "--help" ∷ []) ≡ DisplayHelp ∷ [] }
+    ensures version { fault_of mold_app (codes "--version" ∷ []) ≡ DisplayVersion ∷ [] }
+    ensures short_version { fault_of mold_app (codes "-V" ∷ []) ≡ DisplayVersion ∷ [] }
+    ensures unknown { fault_of mold_app (codes "show" ∷ codes "--other" ∷ [])
+        ≡ UnknownArgument ∷ [] }
+{}
+
+/// The command that taken words name is one of the program's.
+pub fn own_command_law()
+    ensures { (words : List Text) → AreTaken words
+        → IfSome (subcommand_of mold_app words) (λ found. IsTrue (is_command found.0)) }
+{}

@@ -1,0 +1,95 @@
+use super::{Order, UsageFault, read_words};
+use std::alloc::Global;
+use std::test::Fail;
+
+// What the words of a line come to.
+fn read(alloc: Global, line: &str) -> Result<Result<Order, UsageFault>, Fail> {
+    let mut words = Vec::new(alloc);
+    for word in line.split_whitespace() {
+        words.push(String::from_str(alloc, word)?)?;
+    }
+    Ok(read_words(alloc, words.as_slice()))
+}
+
+#[test]
+fn words_of_show(rt: HostRuntime) -> Result<(), Fail> {
+    for (line, request) in [
+        ("", false),
+        ("show", false),
+        ("show --request", true),
+        ("--", false),
+    ] {
+        let order = read(rt.alloc(), line)?.map_err(|_| "no order")?;
+        assert_eq!(rt; order, Order::Show { request }, "{line}");
+    }
+    Ok(())
+}
+
+#[test]
+fn words_that_are_no_command(rt: HostRuntime) -> Result<(), Fail> {
+    for line in [
+        "other",
+        "--request",
+        "show extra",
+        "show --other",
+        "show --request=yes",
+        "show --request --request",
+        "show --version",
+    ] {
+        let Err(UsageFault::Usage { text }) = read(rt.alloc(), line)? else {
+            return Err(Fail::from("no usage fault"));
+        };
+        assert!(rt; text.as_str().starts_with("error: "), "{line}: {text}");
+        assert!(rt; text.as_str().ends_with('\n'), "{line}: {text}");
+    }
+    Ok(())
+}
+
+#[test]
+fn words_that_ask_for_the_version(rt: HostRuntime) -> Result<(), Fail> {
+    for line in ["--version", "-V"] {
+        let Err(UsageFault::Version { text }) = read(rt.alloc(), line)? else {
+            return Err(Fail::from("no version"));
+        };
+        assert!(rt; text.as_str() == "mold 0.1.0\n", "{line}: {text}");
+    }
+    Ok(())
+}
+
+#[test]
+fn words_that_ask_for_help(rt: HostRuntime) -> Result<(), Fail> {
+    let top = "MoldUDP64 packets, shown as lines of text
+
+Usage: mold [COMMAND]
+
+Commands:
+  show  Print packets given as lines of hexadecimal digits on standard input
+  help  Print this message or the help of the given subcommand(s)
+
+Options:
+  -h, --help     Print help
+  -V, --version  Print version
+
+Without a command, show is run.
+";
+    let show = "Print packets given as lines of hexadecimal digits on standard input
+
+Usage: mold show [OPTIONS]
+
+Options:
+      --request  Read each line as a request packet
+  -h, --help     Print help
+";
+    for (line, wanted) in [
+        ("--help", top),
+        ("help", top),
+        ("show --help", show),
+        ("help show", show),
+    ] {
+        let Err(UsageFault::Help { text }) = read(rt.alloc(), line)? else {
+            return Err(Fail::from("no help"));
+        };
+        assert!(rt; text.as_str() == wanted, "{line}: {text}");
+    }
+    Ok(())
+}
