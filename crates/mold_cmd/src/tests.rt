@@ -4,9 +4,11 @@
 ghost use Rattle.std.specs.Prelude.{◌<◌};
 
 use crate::command::run_command;
-use mold_devices::{CommandFault, MemorySink, MemorySource, Sink, Source};
+use mold_devices::{CommandFault, IntoWrite, MemorySink, MemorySource, Sink, Source};
 use mold_words::Order;
 use std::alloc::Global;
+use std::io;
+use std::io::Write;
 use std::process::Abort;
 use std::test::Fail;
 
@@ -168,6 +170,51 @@ fn a_failed_read_loses_no_line_before_it(rt: HostRuntime) -> Result<(), Fail> {
     let outcome = run_command(rt.alloc(), &PACKETS, &mut source, &mut sink);
     assert_eq!(rt; outcome, Err(CommandFault::Read));
     assert_eq!(rt; sink.bytes(), TWO_TEXT);
+    Ok(())
+}
+
+#[test]
+fn a_write_that_fails_behind_a_failed_read_is_told(rt: HostRuntime) {
+    let mut source = MemorySource::new(TWO);
+    source.at_most(TWO.len());
+    source.fail_at(2);
+    let mut sink = MemorySink::new(rt.alloc());
+    sink.fail_at(1);
+    let outcome = run_command(rt.alloc(), &PACKETS, &mut source, &mut sink);
+    assert_eq!(rt; outcome, Err(CommandFault::Write));
+    assert_eq!(rt; source.failures(), 1);
+    assert_eq!(rt; sink.failures(), 1);
+}
+
+/// Counts its calls, and takes all that it is given.
+#[derive(Drop)]
+struct Counting {
+    calls: u64,
+}
+
+impl Write for Counting {
+    fn write(&mut self, bytes: &[u8]) -> io::Result<usize> {
+        self.calls = self.calls.saturating_add(1);
+        Ok(bytes.len())
+    }
+
+    fn flush(&mut self) -> io::Result<()> {
+        Ok(())
+    }
+}
+
+#[test]
+fn output_goes_out_in_large_pieces(rt: HostRuntime) -> Result<(), Fail> {
+    let mut input = Vec::new(rt.alloc());
+    for _ in 0..10_000 {
+        input.extend_from_slice(LEAST)?;
+    }
+    let mut source = MemorySource::new(input.as_slice());
+    let mut sink = IntoWrite::new(Counting { calls: 0 });
+    let outcome = run_command(rt.alloc(), &PACKETS, &mut source, &mut sink);
+    assert_eq!(rt; outcome, Ok(0));
+    // Each line prints 33 bytes, and 1,986 lines are the first with 65,536 bytes or more.
+    assert_eq!(rt; sink.into_inner().calls, 10_000 / 1_986 + 1);
     Ok(())
 }
 
