@@ -1,28 +1,27 @@
 -- The loop over whole vectors of digits.
-use Rattle.std.proofs.Common.{◌≡◌, ℕ, ◌+◌, ◌*◌, ◌%◌, ◌<◌, ◌≤◌, Bool, true, false, List, ◌++◌, length, map, take, drop, Result, Ok, Err, is_err, refl, sym, ap, ◌∙◌, arith}
+use Rattle.std.proofs.Common.{◌≡◌, ℕ, ◌+◌, ◌*◌, ◌%◌, ◌<◌, ◌≤◌, Bool, true, false, List, ◌++◌, length, map, take, Result, Ok, Err, is_err, refl, sym, ap, ◌∙◌, arith}
 use Rattle.std.specs.Prelude.{MatchResult}
-use Rattle.std.proofs.lemmas.List.{drop-drop, map-append}
+use Rattle.std.proofs.lemmas.List.{map-append}
 use Rattle.std.proofs.lemmas.Simd.{length-chunk}
 use Rattle.std.specs.Simd.Lanes.{Each1, chunk, zip2}
 use Rattle.hex.specs.Hex.{decode_pairs}
 use Rattle.hex.specs.declared.error.FromHexError.{FromHexError}
 use Rattle.mold_digits.specs.Digits.{IsDecodedTo}
 use Rattle.mold_digits.specs.Lanes.{any_large, evens, odds, pair_byte, reading}
-use Rattle.mold_digits.proofs.JoiningLemmas.{chunk_read, chunk_refused, take-chunk}
+use Rattle.mold_digits.proofs.JoiningLemmas.{chunk-append, chunk_read, chunk_refused}
 use Rattle.mold_digits.proofs.ReadingLemmas.{bad_readings, good_readings}
 
--- two chunks in a row
-pub chunk-append : (i m n : ℕ) (s : List ℕ) → chunk i m s ++ chunk (i + m) n s ≡ chunk i (m + n) s
-chunk-append i m n s = rw (← drop-drop m i s) (sym (take-chunk m n (drop i s)))
-
--- The readings of a block, and the two halves of its pairs.
+-- the readings of a block at even and at odd places
 pub record IsBlockRead (c evens_of odds_of : List ℕ) : Type 0 where
   pub high : evens_of ≡ evens (map reading c)
   pub low : odds_of ≡ odds (map reading c)
   pub bytes : Each1 (λ x. x < 256) c
   pub even : length c % 2 ≡ 0
 
-pub block_read : (d first second high low : List ℕ) (at : ℕ) → at + 32 ≤ length d → Each1 (λ x. x < 256) (chunk at 32 d) → first ≡ map reading (chunk at 16 d) → second ≡ map reading (chunk (at + 16) 16 d) → high ≡ evens (first ++ second) → low ≡ odds (first ++ second) → IsBlockRead (chunk at 32 d) high low
+pub block_read : (d first second high low : List ℕ) (at : ℕ) → at + 32 ≤ length d
+    → Each1 (λ x. x < 256) (chunk at 32 d) → first ≡ map reading (chunk at 16 d)
+    → second ≡ map reading (chunk (at + 16) 16 d) → high ≡ evens (first ++ second) → low ≡ odds (first ++ second)
+    → IsBlockRead (chunk at 32 d) high low
 block_read d first second high low at fits bytes f s h l =
     let parts = chunk-append at 16 16 d in
     let both : first ++ second ≡ map reading (chunk at 32 d) =
@@ -30,33 +29,51 @@ block_read d first second high low at fits bytes f s h l =
     let long = length-chunk at 32 d fits in
     record { high = h ∙ ap evens both; low = l ∙ ap odds both; bytes = bytes; even = ap (λ (n : ℕ). n % 2) long }
 
-pub block_good : (i : ℕ) (c high low : List ℕ) → IsBlockRead c high low → any_large high low ≡ false → decode_pairs i c ≡ Ok (zip2 pair_byte high low)
+pub block_good : (i : ℕ) (c high low : List ℕ) → IsBlockRead c high low → any_large high low ≡ false
+    → decode_pairs i c ≡ Ok (zip2 pair_byte high low)
 block_good i c high low read test =
     let none : any_large (evens (map reading c)) (odds (map reading c)) ≡ false = rw (read.high, read.low) at test in
     rw (read.high, read.low) (good_readings i c read.bytes read.even none)
 
-pub block_bad : (i : ℕ) (c high low : List ℕ) → IsBlockRead c high low → any_large high low ≡ true → is_err (decode_pairs i c) ≡ true
+pub block_bad : (i : ℕ) (c high low : List ℕ) → IsBlockRead c high low → any_large high low ≡ true
+    → is_err (decode_pairs i c) ≡ true
 block_bad i c high low read test =
     bad_readings i c read.bytes read.even (rw (read.high, read.low) at test)
 
 -- what a block answered
-pub read_from_match : (r : Result (List ℕ) FromHexError) (P : List ℕ → Type 0) (answer : Bool) → MatchResult r (λ bytes. (answer ≡ true) × P bytes) (λ _. answer ≡ false) → answer ≡ true → (bytes : List ℕ) × (r ≡ Ok bytes) × P bytes
+pub read_from_match : (r : Result (List ℕ) FromHexError) (P : List ℕ → Type 0) (answer : Bool)
+    → MatchResult r (λ bytes. (answer ≡ true) × P bytes) (λ _. answer ≡ false) → answer ≡ true
+    → (bytes : List ℕ) × (r ≡ Ok bytes) × P bytes
 read_from_match (Ok bytes) P answer match accepted = (bytes, refl, match.1)
 read_from_match (Err e) P answer match accepted = cc (sym match ∙ accepted)
 
-pub refused_from_match : (r : Result (List ℕ) FromHexError) (P : List ℕ → Type 0) (answer : Bool) → MatchResult r (λ bytes. (answer ≡ true) × P bytes) (λ _. answer ≡ false) → answer ≡ false → is_err r ≡ true
+pub refused_from_match : (r : Result (List ℕ) FromHexError) (P : List ℕ → Type 0) (answer : Bool)
+    → MatchResult r (λ bytes. (answer ≡ true) × P bytes) (λ _. answer ≡ false) → answer ≡ false → is_err r ≡ true
 refused_from_match (Ok bytes) P answer match denied = cc (sym match.0 ∙ denied)
 refused_from_match (Err e) P answer match denied = refl
 
+-- what a block of digits answers, where `out` becomes `more`
+abbrev BlockAnswers : ℕ → List ℕ → List ℕ → List ℕ → Bool → Type 0
+BlockAnswers at s out more answer =
+    MatchResult (decode_pairs (2 * at) (chunk (2 * at) 32 s))
+    (λ bytes. (answer ≡ true) × (take (at + 16) more ≡ take at out ++ bytes))
+    (λ _. answer ≡ false)
+
 -- one block more
-pub blocks_more : (s out more : List ℕ) (at : ℕ) (answer : Bool) → 2 * at + 32 ≤ length s → IsDecodedTo at s out → MatchResult (decode_pairs (2 * at) (chunk (2 * at) 32 s)) (λ bytes. (answer ≡ true) × (take (at + 16) more ≡ take at out ++ bytes)) (λ _. answer ≡ false) → answer ≡ true → IsDecodedTo (at + 16) s more
+pub blocks_more : (s out more : List ℕ) (at : ℕ) (answer : Bool) → 2 * at + 32 ≤ length s → IsDecodedTo at s out
+    → BlockAnswers at s out more answer → answer ≡ true → IsDecodedTo (at + 16) s more
 blocks_more s out more at answer fits before match accepted =
-    let next = read_from_match (decode_pairs (2 * at) (chunk (2 * at) 32 s)) (λ bytes. take (at + 16) more ≡ take at out ++ bytes) answer match accepted in
+    let next =
+    read_from_match (decode_pairs (2 * at) (chunk (2 * at) 32 s))
+    (λ bytes. take (at + 16) more ≡ take at out ++ bytes) answer match accepted in
     let read = chunk_read s (take at out) next.0 (2 * at) 32 (omega arith) fits before next.1 in
     let two : 2 * at + 32 ≡ 2 * (at + 16) = omega arith in
     rw two at read ∙ ap Ok (sym next.2)
 
-pub blocks_refused : (s out more : List ℕ) (at : ℕ) (answer : Bool) → 2 * at + 32 ≤ length s → IsDecodedTo at s out → MatchResult (decode_pairs (2 * at) (chunk (2 * at) 32 s)) (λ bytes. (answer ≡ true) × (take (at + 16) more ≡ take at out ++ bytes)) (λ _. answer ≡ false) → answer ≡ false → is_err (decode_pairs 0 s) ≡ true
+pub blocks_refused : (s out more : List ℕ) (at : ℕ) (answer : Bool) → 2 * at + 32 ≤ length s → IsDecodedTo at s out
+    → BlockAnswers at s out more answer → answer ≡ false → is_err (decode_pairs 0 s) ≡ true
 blocks_refused s out more at answer fits before match denied =
-    let bad = refused_from_match (decode_pairs (2 * at) (chunk (2 * at) 32 s)) (λ bytes. take (at + 16) more ≡ take at out ++ bytes) answer match denied in
+    let bad =
+    refused_from_match (decode_pairs (2 * at) (chunk (2 * at) 32 s))
+    (λ bytes. take (at + 16) more ≡ take at out ++ bytes) answer match denied in
     chunk_refused s (take at out) (2 * at) 32 (omega arith) refl fits before bad

@@ -22,17 +22,20 @@ digit_good c i v None same small = absurd (omega arith)
 small_value : (c v : ℕ) → hex_digit_value c ≡ Some v → v < 16
 small_value c v is = grind (arith)
 
-digit_bad : (c i v : ℕ) (o : Option ℕ) → ((w : ℕ) → o ≡ Some w → w < 16) → v ≡ unwrap_or o 255 → 16 ≤ v → digit_or_error c i o ≡ Err (InvalidHexCharacter c i)
+digit_bad : (c i v : ℕ) (o : Option ℕ) → ((w : ℕ) → o ≡ Some w → w < 16) → v ≡ unwrap_or o 255 → 16 ≤ v
+    → digit_or_error c i o ≡ Err (InvalidHexCharacter c i)
 digit_bad c i v (Some w) small same large = let below = small w refl in absurd (omega arith)
 digit_bad c i v None small same large = refl
 
-pub pair_good : (a b i high low : ℕ) → high ≡ value_of a → low ≡ value_of b → high < 16 → low < 16 → pair_value a b i ≡ Ok (high * 16 + low)
+pub pair_good : (a b i high low : ℕ) → high ≡ value_of a → low ≡ value_of b → high < 16 → low < 16
+    → pair_value a b i ≡ Ok (high * 16 + low)
 pair_good a b i high low first second high_small low_small =
     let ha = digit_good a i high (hex_digit_value a) first high_small in
     let hb = digit_good b (i + 1) low (hex_digit_value b) second low_small in
     rw (ha, hb) refl
 
-pub pair_bad : (a b i high low : ℕ) → high ≡ value_of a → low ≡ value_of b → 16 ≤ bit_or high low → (e : FromHexError) × (pair_value a b i ≡ Err e)
+pub pair_bad : (a b i high low : ℕ) → high ≡ value_of a → low ≡ value_of b → 16 ≤ bit_or high low
+    → (e : FromHexError) × (pair_value a b i ≡ Err e)
 pair_bad a b i high low first second large =
     elim (cases_lt high 16) [
       | inr high_large ↦
@@ -69,24 +72,32 @@ pub record IsReadTo (s out : List ℕ) (i seen : ℕ) : Type 0 where
 pub read_none : (s out : List ℕ) (i : ℕ) → IsDecodedTo i s out → IsReadTo s out i 0
 read_none s out i front = record { good = λ _. front; bad = λ large. absurd (omega arith) }
 
-more_good : (s out : List ℕ) (i high low : ℕ) → 2 * i + 1 < length s → i < length out → high ≡ value_of (slice_index s (2 * i)) → low ≡ value_of (slice_index s (2 * i + 1)) → high < 16 → low < 16 → IsDecodedTo i s out → IsDecodedTo (i + 1) s (slice_set out i (high * 16 + low))
+more_good : (s out : List ℕ) (i high low : ℕ) → 2 * i + 1 < length s → i < length out
+    → high ≡ value_of (slice_index s (2 * i)) → low ≡ value_of (slice_index s (2 * i + 1)) → high < 16 → low < 16
+    → IsDecodedTo i s out → IsDecodedTo (i + 1) s (slice_set out i (high * 16 + low))
 more_good s out i high low fits room first second high_small low_small front =
     let two : 2 * i + 2 ≡ 2 * (i + 1) = omega arith in
-    let pair = pair_good (slice_index s (2 * i)) (slice_index s (2 * i + 1)) (2 * i) high low first second high_small low_small in
+    let pair =
+    pair_good (slice_index s (2 * i)) (slice_index s (2 * i + 1)) (2 * i) high low first second high_small low_small in
     let read : decode_pairs (2 * i) (chunk (2 * i) 2 s) ≡ Ok ((high * 16 + low) ∷ []) =
     ap (decode_pairs (2 * i)) (pair_chunk s (2 * i) fits) ∙ pair_read _ _ (2 * i) (high * 16 + low) pair in
     let both = chunk_read s (take i out) ((high * 16 + low) ∷ []) (2 * i) 2 (omega arith) (omega arith) front read in
     rw two at both ∙ ap Ok (sym (take_more_set out i (high * 16 + low) room))
 
-more_bad : (s out : List ℕ) (i high low : ℕ) → 2 * i + 1 < length s → high ≡ value_of (slice_index s (2 * i)) → low ≡ value_of (slice_index s (2 * i + 1)) → 16 ≤ bit_or high low → IsDecodedTo i s out → is_err (decode_pairs 0 s) ≡ true
+more_bad : (s out : List ℕ) (i high low : ℕ) → 2 * i + 1 < length s → high ≡ value_of (slice_index s (2 * i))
+    → low ≡ value_of (slice_index s (2 * i + 1)) → 16 ≤ bit_or high low → IsDecodedTo i s out
+    → is_err (decode_pairs 0 s) ≡ true
 more_bad s out i high low fits first second large front =
     let pair = pair_bad (slice_index s (2 * i)) (slice_index s (2 * i + 1)) (2 * i) high low first second large in
     let refused : is_err (decode_pairs (2 * i) (chunk (2 * i) 2 s)) ≡ true =
-    ap is_err (ap (decode_pairs (2 * i)) (pair_chunk s (2 * i) fits) ∙ decode_pairs-err_pair (2 * i) _ _ pair.0 [] pair.1) in
+    ap is_err
+    (ap (decode_pairs (2 * i)) (pair_chunk s (2 * i) fits) ∙ decode_pairs-err_pair (2 * i) _ _ pair.0 [] pair.1) in
     chunk_refused s (take i out) (2 * i) 2 (omega arith) refl (omega arith) front refused
 
 -- one pair more
-pub read_more : (s out : List ℕ) (i seen high low : ℕ) → 2 * i + 1 < length s → i < length out → high ≡ value_of (slice_index s (2 * i)) → low ≡ value_of (slice_index s (2 * i + 1)) → IsReadTo s out i seen → IsReadTo s (slice_set out i ((high * 16 % 256 + low) % 256)) (i + 1) (bit_or seen (bit_or high low))
+pub read_more : (s out : List ℕ) (i seen high low : ℕ) → 2 * i + 1 < length s → i < length out
+    → high ≡ value_of (slice_index s (2 * i)) → low ≡ value_of (slice_index s (2 * i + 1)) → IsReadTo s out i seen
+    → IsReadTo s (slice_set out i ((high * 16 % 256 + low) % 256)) (i + 1) (bit_or seen (bit_or high low))
 read_more s out i seen high low fits room first second before =
     let left = le_or_l seen (bit_or high low) in
     let right = le_or_r seen (bit_or high low) in
@@ -95,24 +106,28 @@ read_more s out i seen high low fits room first second before =
     record {
       good = λ small.
           let byte : (high * 16 % 256 + low) % 256 ≡ high * 16 + low = omega arith in
-          rw byte (more_good s out i high low fits room first second (omega arith) (omega arith) (before.good (omega arith)));
+          rw byte
+          (more_good s out i high low fits room first second (omega arith) (omega arith) (before.good (omega arith)));
       bad = λ large.
           elim (cases_lt seen 16) [
             | inr seen_large ↦ before.bad seen_large
             | inl seen_small ↦
                 elim (cases_lt (bit_or high low) 16) [
-                  | inl pair_small ↦ let small = or_lt 4 seen (bit_or high low) seen_small pair_small in absurd (omega arith)
+                  | inl pair_small ↦ let small = or_lt 4 seen (bit_or high low) seen_small pair_small in absurd
+                      (omega arith)
                   | inr pair_large ↦ more_bad s out i high low fits first second pair_large (before.good seen_small)
                 ]
           ];
     }
 
-pub match_err : (r : Result (List ℕ) FromHexError) (P : List ℕ → Type 0) (Q : Type 0) → is_err r ≡ true → Q → MatchResult r P (λ _. Q)
+pub match_err : (r : Result (List ℕ) FromHexError) (P : List ℕ → Type 0) (Q : Type 0) → is_err r ≡ true → Q
+    → MatchResult r P (λ _. Q)
 match_err (Ok bytes) P Q refused q = cc refused
 match_err (Err e) P Q refused q = q
 
 -- every pair was read
-pub read_all : (s out : List ℕ) (i seen : ℕ) → length s ≡ 2 * length out → length out ≤ i → IsReadTo s out i seen → MatchResult (decode_of s) (λ bytes. (ltb seen 16 ≡ true) × (out ≡ bytes)) (λ _. ltb seen 16 ≡ false)
+pub read_all : (s out : List ℕ) (i seen : ℕ) → length s ≡ 2 * length out → length out ≤ i → IsReadTo s out i seen
+    → MatchResult (decode_of s) (λ bytes. (ltb seen 16 ≡ true) × (out ≡ bytes)) (λ _. ltb seen 16 ≡ false)
 read_all s out i seen sized all read =
     let pairs = decode_of-even s (omega arith) in
     elim (cases_lt seen 16) [

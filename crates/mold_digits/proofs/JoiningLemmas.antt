@@ -1,6 +1,6 @@
 -- Digits that are read in two parts, one behind the other.
 use Rattle.std.proofs.Common.{add-zero, ◌≡◌, ℕ, suc, ◌+◌, ◌%◌, ◌≤◌, true, List, [], ◌∷◌, ◌++◌, length, take, drop, Result, Ok, Err, is_err, refl, sym, ap, ◌∙◌, arith}
-use Rattle.std.proofs.lemmas.List.{drop-take, length-take-le, take-append-drop, take-take}
+use Rattle.std.proofs.lemmas.List.{drop-drop, drop-take, length-take-le, take-append-drop, take-take}
 use Rattle.std.proofs.lemmas.Simd.{chunk-drop, length-chunk}
 use Rattle.std.specs.Simd.Lanes.{chunk}
 use Rattle.hex.proofs.Pairs.{cons_byte}
@@ -17,7 +17,8 @@ joined-nil : (back : Result (List ℕ) FromHexError) → back ≡ joined (Ok [])
 joined-nil (Ok bytes) = refl
 joined-nil (Err e) = refl
 
-joined-cons_byte : (v : ℕ) (front back : Result (List ℕ) FromHexError) → cons_byte v (joined front back) ≡ joined (cons_byte v front) back
+joined-cons_byte : (v : ℕ) (front back : Result (List ℕ) FromHexError)
+    → cons_byte v (joined front back) ≡ joined (cons_byte v front) back
 joined-cons_byte v (Ok bytes) (Ok more) = refl
 joined-cons_byte v (Ok bytes) (Err e) = refl
 joined-cons_byte v (Err e) back = refl
@@ -28,7 +29,8 @@ bind-joined (Ok v) front back = joined-cons_byte v front back
 bind-joined (Err e) front back = refl
 
 -- what follows whole pairs is read on its own
-pub decode_pairs-append : (i : ℕ) (a b : List ℕ) → length a % 2 ≡ 0 → decode_pairs i (a ++ b) ≡ joined (decode_pairs i a) (decode_pairs (i + length a) b)
+pub decode_pairs-append : (i : ℕ) (a b : List ℕ) → length a % 2 ≡ 0
+    → decode_pairs i (a ++ b) ≡ joined (decode_pairs i a) (decode_pairs (i + length a) b)
 unfolding decode_pairs
 decode_pairs-append i [] b even = rw add-zero (joined-nil (decode_pairs i b))
 decode_pairs-append i (x ∷ []) b even = absurd (omega arith)
@@ -43,8 +45,14 @@ take-chunk i n s =
     let front = take-take i (i + n) s (omega arith) in
     sym (take-append-drop i (take (i + n) s)) ∙ rw (front, drop-take i n s) refl
 
+-- two chunks in a row
+pub chunk-append : (i m n : ℕ) (s : List ℕ) → chunk i m s ++ chunk (i + m) n s ≡ chunk i (m + n) s
+chunk-append i m n s = rw (← drop-drop m i s) (sym (take-chunk m n (drop i s)))
+
 -- one part more is read
-pub chunk_read : (s front bytes : List ℕ) (i n : ℕ) → i % 2 ≡ 0 → i + n ≤ length s → decode_pairs 0 (take i s) ≡ Ok front → decode_pairs i (chunk i n s) ≡ Ok bytes → decode_pairs 0 (take (i + n) s) ≡ Ok (front ++ bytes)
+pub chunk_read : (s front bytes : List ℕ) (i n : ℕ) → i % 2 ≡ 0 → i + n ≤ length s
+    → decode_pairs 0 (take i s) ≡ Ok front → decode_pairs i (chunk i n s) ≡ Ok bytes
+    → decode_pairs 0 (take (i + n) s) ≡ Ok (front ++ bytes)
 chunk_read s front bytes i n even fits read next =
     let long = length-take-le i s (omega arith) in
     let start : 0 + i ≡ i = omega arith in
@@ -52,18 +60,24 @@ chunk_read s front bytes i n even fits read next =
     ∙ decode_pairs-append 0 (take i s) (chunk i n s) (omega (arith, long))
     ∙ rw (read, long, start, next) refl
 
-joined-refused : (front : List ℕ) (bad back : Result (List ℕ) FromHexError) → is_err bad ≡ true → is_err (joined (Ok front) (joined bad back)) ≡ true
+joined-refused : (front : List ℕ) (bad back : Result (List ℕ) FromHexError) → is_err bad ≡ true
+    → is_err (joined (Ok front) (joined bad back)) ≡ true
 joined-refused front (Ok bytes) back refused = cc refused
 joined-refused front (Err e) back refused = refl
 
 -- one part that is refused refuses the whole
-pub chunk_refused : (s front : List ℕ) (i n : ℕ) → i % 2 ≡ 0 → n % 2 ≡ 0 → i + n ≤ length s → decode_pairs 0 (take i s) ≡ Ok front → is_err (decode_pairs i (chunk i n s)) ≡ true → is_err (decode_pairs 0 s) ≡ true
+pub chunk_refused : (s front : List ℕ) (i n : ℕ) → i % 2 ≡ 0 → n % 2 ≡ 0 → i + n ≤ length s
+    → decode_pairs 0 (take i s) ≡ Ok front → is_err (decode_pairs i (chunk i n s)) ≡ true
+    → is_err (decode_pairs 0 s) ≡ true
 chunk_refused s front i n even pairs fits read refused =
     let long = length-take-le i s (omega arith) in
     let start : 0 + i ≡ i = omega arith in
     let size = length-chunk i n s fits in
-    let parts : take i s ++ (chunk i n s ++ drop (i + n) s) ≡ s = ap (λ (t : List ℕ). take i s ++ t) (sym (chunk-drop i n s)) ∙ take-append-drop i s in
-    let front_read : decode_pairs 0 (take i s ++ (chunk i n s ++ drop (i + n) s)) ≡ joined (Ok front) (decode_pairs i (chunk i n s ++ drop (i + n) s)) =
-    decode_pairs-append 0 (take i s) (chunk i n s ++ drop (i + n) s) (omega (arith, long)) ∙ rw (read, long, start) refl in
+    let parts : take i s ++ (chunk i n s ++ drop (i + n) s) ≡ s =
+    ap (λ (t : List ℕ). take i s ++ t) (sym (chunk-drop i n s)) ∙ take-append-drop i s in
+    let front_read : decode_pairs 0 (take i s ++ (chunk i n s ++ drop (i + n) s)) ≡ joined (Ok front)
+    (decode_pairs i (chunk i n s ++ drop (i + n) s)) =
+    decode_pairs-append 0 (take i s) (chunk i n s ++ drop (i + n) s) (omega (arith, long))
+    ∙ rw (read, long, start) refl in
     let next_read = decode_pairs-append i (chunk i n s) (drop (i + n) s) (omega (arith, size)) in
     rw (← parts, front_read, next_read) (joined-refused front _ _ refused)

@@ -24,25 +24,30 @@ sel_l-larger t [] ys = refl
 sel_l-larger t (x ∷ xs) [] = refl
 sel_l-larger t (x ∷ xs) (y ∷ ys) = ap (λ (l : List ℕ). cond (t x y) y x ∷ l) (sel_l-larger t xs ys)
 
-sel_l-maps : (t : ℕ → Bool) (f g : ℕ → ℕ) (xs : List ℕ) → sel_l (map t xs) (map f xs) (map g xs) ≡ map (λ x. cond (t x) (f x) (g x)) xs
+sel_l-maps : (t : ℕ → Bool) (f g : ℕ → ℕ) (xs : List ℕ)
+    → sel_l (map t xs) (map f xs) (map g xs) ≡ map (λ x. cond (t x) (f x) (g x)) xs
 sel_l-maps t f g [] = refl
 sel_l-maps t f g (x ∷ xs) = ap (λ (l : List ℕ). cond (t x) (f x) (g x) ∷ l) (sel_l-maps t f g xs)
 
 pub smaller_lanes : (xs ys : List ℕ) → sel_l (mask_of xs ys) xs ys ≡ zip2 smaller_of xs ys
 smaller_lanes xs ys = ap (λ (m : List Bool). sel_l m xs ys) (tops_compared w8 ltb xs ys) ∙ sel_l-smaller ltb xs ys
 
-pub capped_lanes : (xs : List ℕ) (cap : ℕ) → length xs ≡ 16 → sel_l (mask_of xs (replicate 16 cap)) xs (replicate 16 cap) ≡ map (λ x. smaller_of x cap) xs
+pub capped_lanes : (xs : List ℕ) (cap : ℕ) → length xs ≡ 16
+    → sel_l (mask_of xs (replicate 16 cap)) xs (replicate 16 cap) ≡ map (λ x. smaller_of x cap) xs
 capped_lanes xs cap len = smaller_lanes xs (replicate 16 cap) ∙ zip2_splat smaller_of xs 16 cap len
 
-pub raised_lanes : (xs : List ℕ) (floor : ℕ) → length xs ≡ 16 → sel_l (mask_of xs (replicate 16 floor)) (replicate 16 floor) xs ≡ map (λ x. larger_of x floor) xs
+pub raised_lanes : (xs : List ℕ) (floor : ℕ) → length xs ≡ 16
+    → sel_l (mask_of xs (replicate 16 floor)) (replicate 16 floor) xs ≡ map (λ x. larger_of x floor) xs
 raised_lanes xs floor len =
     ap (λ (m : List Bool). sel_l m (replicate 16 floor) xs) (tops_compared w8 ltb xs (replicate 16 floor))
     ∙ sel_l-larger ltb xs (replicate 16 floor)
     ∙ zip2_splat larger_of xs 16 floor len
 
-pub chosen_lanes : (xs : List ℕ) (bound : ℕ) (f g : ℕ → ℕ) → length xs ≡ 16 → sel_l (mask_of xs (replicate 16 bound)) (map f xs) (map g xs) ≡ map (λ x. cond (ltb x bound) (f x) (g x)) xs
+pub chosen_lanes : (xs : List ℕ) (bound : ℕ) (f g : ℕ → ℕ) → length xs ≡ 16
+    → sel_l (mask_of xs (replicate 16 bound)) (map f xs) (map g xs) ≡ map (λ x. cond (ltb x bound) (f x) (g x)) xs
 chosen_lanes xs bound f g len =
-    ap (λ (m : List Bool). sel_l m (map f xs) (map g xs)) (tops_compared w8 ltb xs (replicate 16 bound) ∙ zip2_splat ltb xs 16 bound len)
+    ap (λ (m : List Bool). sel_l m (map f xs) (map g xs))
+    (tops_compared w8 ltb xs (replicate 16 bound) ∙ zip2_splat ltb xs 16 bound len)
     ∙ sel_l-maps (λ x. ltb x bound) f g xs
 
 -- ---- shuffles
@@ -61,7 +66,8 @@ picked_evens zero (x ∷ xs) len = absurd (omega arith)
 picked_evens (suc n) [] len = absurd (omega arith)
 picked_evens (suc n) (x ∷ []) len = absurd (omega arith)
 picked_evens (suc n) (x ∷ y ∷ xs) len =
-    ap (λ (l : List ℕ). x ∷ l) (map-map (λ k. get_or (x ∷ y ∷ xs) k 0) (λ k. suc (suc k)) (even_places n) ∙ picked_evens n xs (omega arith))
+    ap (λ (l : List ℕ). x ∷ l)
+    (map-map (λ k. get_or (x ∷ y ∷ xs) k 0) (λ k. suc (suc k)) (even_places n) ∙ picked_evens n xs (omega arith))
 
 pub picked_odds : (n : ℕ) (xs : List ℕ) → length xs ≡ 2 * n → map (λ k. get_or xs k 0) (odd_places n) ≡ odds xs
 picked_odds zero [] len = refl
@@ -69,7 +75,8 @@ picked_odds zero (x ∷ xs) len = absurd (omega arith)
 picked_odds (suc n) [] len = absurd (omega arith)
 picked_odds (suc n) (x ∷ []) len = absurd (omega arith)
 picked_odds (suc n) (x ∷ y ∷ xs) len =
-    ap (λ (l : List ℕ). y ∷ l) (map-map (λ k. get_or (x ∷ y ∷ xs) k 0) (λ k. suc (suc k)) (odd_places n) ∙ picked_odds n xs (omega arith))
+    ap (λ (l : List ℕ). y ∷ l)
+    (map-map (λ k. get_or (x ∷ y ∷ xs) k 0) (λ k. suc (suc k)) (odd_places n) ∙ picked_odds n xs (omega arith))
 
 abbrev woven_places : ℕ → ℕ → List ℕ
 woven_places at zero = []
@@ -78,7 +85,8 @@ woven_places at (suc n) = at ∷ (16 + at) ∷ woven_places (at + 1) n
 chunk_more : (at n : ℕ) (xs : List ℕ) → at < length xs → chunk at (suc n) xs ≡ get_or xs at 0 ∷ chunk (at + 1) n xs
 chunk_more at n xs below = rw (drop_more xs at 0 below) refl
 
-pub picked_woven : (at n : ℕ) (high low : List ℕ) → length high ≡ 16 → length low ≡ 16 → at + n ≤ 16 → map (λ k. get_or (high ++ low) k 0) (woven_places at n) ≡ woven (chunk at n high) (chunk at n low)
+pub picked_woven : (at n : ℕ) (high low : List ℕ) → length high ≡ 16 → length low ≡ 16 → at + n ≤ 16
+    → map (λ k. get_or (high ++ low) k 0) (woven_places at n) ≡ woven (chunk at n high) (chunk at n low)
 picked_woven at zero high low h l fits = refl
 picked_woven at (suc n) high low h l fits =
     let first = get_or_append_left high low 0 at (omega arith) in
@@ -99,16 +107,22 @@ lowest_bit false m =
       | inr some ↦ ap not (ne_eqb (0 + 2 * m) 0 (omega arith)) ∙ sym (ap not (ne_eqb m 0 some))
     ]
 
-mask_any : (high low : List ℕ) → not (nat_eq (mask_l (map (λ x. ltb 15 x) (zip2 (λ a b. bit_or a b) high low))) 0) ≡ any_large high low
+mask_any : (high low : List ℕ)
+    → not (nat_eq (mask_l (map (λ x. ltb 15 x) (zip2 (λ a b. bit_or a b) high low))) 0) ≡ any_large high low
 mask_any [] low = refl
 mask_any (h ∷ high) [] = refl
-mask_any (h ∷ high) (l ∷ low) = lowest_bit (ltb 15 (bit_or h l)) (mask_l (map (λ x. ltb 15 x) (zip2 (λ a b. bit_or a b) high low))) ∙ ap (λ (b : Bool). ltb 15 (bit_or h l) || b) (mask_any high low)
+mask_any (h ∷ high) (l ∷ low) =
+    lowest_bit (ltb 15 (bit_or h l)) (mask_l (map (λ x. ltb 15 x) (zip2 (λ a b. bit_or a b) high low)))
+    ∙ ap (λ (b : Bool). ltb 15 (bit_or h l) || b) (mask_any high low)
 
-pub large_lanes : (high low : List ℕ) → length high ≡ 16 → length low ≡ 16 → not (nat_eq (mask_l (mask_of (replicate 16 15) (zip2 (λ a b. bit_or a b) high low)) % 2 ^ 64) 0) ≡ any_large high low
+pub large_lanes : (high low : List ℕ) → length high ≡ 16 → length low ≡ 16
+    → not (nat_eq (mask_l (mask_of (replicate 16 15) (zip2 (λ a b. bit_or a b) high low)) % 2 ^ 64) 0)
+    ≡ any_large high low
 large_lanes high low h l =
     let both : List ℕ = zip2 (λ a b. bit_or a b) high low in
     let len : length both ≡ 16 = length-zip2 (λ (a : ℕ) (b : ℕ). bit_or a b) high low (omega arith) ∙ h in
-    let tests : mask_of (replicate 16 15) both ≡ map (λ x. ltb 15 x) both = tops_compared w8 ltb (replicate 16 15) both ∙ zip2_splat_left ltb 15 16 both len in
+    let tests : mask_of (replicate 16 15) both ≡ map (λ x. ltb 15 x) both =
+    tops_compared w8 ltb (replicate 16 15) both ∙ zip2_splat_left ltb 15 16 both len in
     let short = mask_l-mod (map (λ x. ltb 15 x) both) 64 (omega (arith, length-map both (λ (x : ℕ). ltb 15 x), len)) in
     rw (tests, short) (mask_any high low)
 
@@ -117,7 +131,8 @@ zip2-map_left f g [] ys = refl
 zip2-map_left f g (x ∷ xs) [] = refl
 zip2-map_left f g (x ∷ xs) (y ∷ ys) = ap (λ (l : List ℕ). f (g x) y ∷ l) (zip2-map_left f g xs ys)
 
-pub paired_lanes : (high low : List ℕ) → length high ≡ 16 → zip2 (λ a b. (a + b) % 256) (zip2 (λ a b. a * b % 256) high (replicate 16 16)) low ≡ zip2 pair_byte high low
+pub paired_lanes : (high low : List ℕ) → length high ≡ 16
+    → zip2 (λ a b. (a + b) % 256) (zip2 (λ a b. a * b % 256) high (replicate 16 16)) low ≡ zip2 pair_byte high low
 paired_lanes high low h =
     ap (λ (t : List ℕ). zip2 (λ a b. (a + b) % 256) t low) (zip2_splat (λ (a : ℕ) (b : ℕ). a * b % 256) high 16 16 h)
     ∙ zip2-map_left (λ a b. (a + b) % 256) (λ a. a * 16 % 256) high low

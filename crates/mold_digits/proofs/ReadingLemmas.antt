@@ -24,36 +24,52 @@ large_reading : (c : ℕ) → c < 256 → 16 ≤ reading c → value_of c ≡ 25
 large_reading c byte large = let test = le-ltb (reading c) 16 large in reading_is c byte ∙ rw test refl
 
 -- the lanes of a load, operation by operation
-pub numerals_are : (c a b d : List ℕ) → a ≡ map (λ x. (x + 198) % 256) c → b ≡ map (λ x. larger_of x 6) a → d ≡ map (λ x. (x + 10) % 256) b → d ≡ map numeral_reading c
+pub numerals_are : (c a b d : List ℕ) → a ≡ map (λ x. (x + 198) % 256) c → b ≡ map (λ x. larger_of x 6) a
+    → d ≡ map (λ x. (x + 10) % 256) b → d ≡ map numeral_reading c
 numerals_are c a b d first second third =
+    let raised : b ≡ map (λ x. larger_of ((x + 198) % 256) 6) c =
+    second
+    ∙ ap (map (λ (x : ℕ). larger_of x 6)) first
+    ∙ map-map (λ (x : ℕ). larger_of x 6) (λ (x : ℕ). (x + 198) % 256) c in
     third
-    ∙ ap (map (λ (x : ℕ). (x + 10) % 256)) (second ∙ ap (map (λ (x : ℕ). larger_of x 6)) first ∙ map-map (λ (x : ℕ). larger_of x 6) (λ (x : ℕ). (x + 198) % 256) c)
+    ∙ ap (map (λ (x : ℕ). (x + 10) % 256)) raised
     ∙ map-map (λ (x : ℕ). (x + 10) % 256) (λ (x : ℕ). larger_of ((x + 198) % 256) 6) c
 
-pub letters_are : (c z a b d : List ℕ) → z ≡ map (λ x. bit_and x 223) c → a ≡ map (λ x. (x + 191) % 256) z → b ≡ map (λ x. smaller_of x 245) a → d ≡ map (λ x. (x + 10) % 256) b → d ≡ map letter_reading c
+pub letters_are : (c z a b d : List ℕ) → z ≡ map (λ x. bit_and x 223) c → a ≡ map (λ x. (x + 191) % 256) z
+    → b ≡ map (λ x. smaller_of x 245) a → d ≡ map (λ x. (x + 10) % 256) b → d ≡ map letter_reading c
 letters_are c z a b d mask first second third =
     let upper : a ≡ map (λ x. (bit_and x 223 + 191) % 256) c =
-    first ∙ ap (map (λ (x : ℕ). (x + 191) % 256)) mask ∙ map-map (λ (x : ℕ). (x + 191) % 256) (λ (x : ℕ). bit_and x 223) c in
+    first
+    ∙ ap (map (λ (x : ℕ). (x + 191) % 256)) mask
+    ∙ map-map (λ (x : ℕ). (x + 191) % 256) (λ (x : ℕ). bit_and x 223) c in
+    let capped : b ≡ map (λ x. smaller_of ((bit_and x 223 + 191) % 256) 245) c =
+    second
+    ∙ ap (map (λ (x : ℕ). smaller_of x 245)) upper
+    ∙ map-map (λ (x : ℕ). smaller_of x 245) (λ (x : ℕ). (bit_and x 223 + 191) % 256) c in
     third
-    ∙ ap (map (λ (x : ℕ). (x + 10) % 256)) (second ∙ ap (map (λ (x : ℕ). smaller_of x 245)) upper ∙ map-map (λ (x : ℕ). smaller_of x 245) (λ (x : ℕ). (bit_and x 223 + 191) % 256) c)
+    ∙ ap (map (λ (x : ℕ). (x + 10) % 256)) capped
     ∙ map-map (λ (x : ℕ). (x + 10) % 256) (λ (x : ℕ). smaller_of ((bit_and x 223 + 191) % 256) 245) c
 
-pub readings_are : (c numerals letters lanes : List ℕ) → numerals ≡ map numeral_reading c → letters ≡ map letter_reading c → lanes ≡ zip2 smaller_of numerals letters → lanes ≡ map reading c
+pub readings_are : (c numerals letters lanes : List ℕ) → numerals ≡ map numeral_reading c
+    → letters ≡ map letter_reading c → lanes ≡ zip2 smaller_of numerals letters → lanes ≡ map reading c
 unfolding reading
 readings_are c numerals letters lanes n l both = both ∙ zip2_of_maps smaller_of numeral_reading letter_reading c n l
 
 -- ---- pairs of readings
 
-good_reading_pair : (a b i : ℕ) → a < 256 → b < 256 → nat_lt 15 (bit_or (reading a) (reading b)) ≡ false → pair_value a b i ≡ Ok (pair_byte (reading a) (reading b))
+good_reading_pair : (a b i : ℕ) → a < 256 → b < 256 → nat_lt 15 (bit_or (reading a) (reading b)) ≡ false
+    → pair_value a b i ≡ Ok (pair_byte (reading a) (reading b))
 good_reading_pair a b i first second test =
     let small = ltb-false 15 (bit_or (reading a) (reading b)) test in
     let high = le_or_l (reading a) (reading b) in
     let low = le_or_r (reading a) (reading b) in
     let byte : reading a * 16 + reading b ≡ pair_byte (reading a) (reading b) = omega arith in
-    pair_good a b i (reading a) (reading b) (small_reading a first (omega arith)) (small_reading b second (omega arith)) (omega arith) (omega arith)
+    pair_good a b i (reading a) (reading b) (small_reading a first (omega arith))
+    (small_reading b second (omega arith)) (omega arith) (omega arith)
     ∙ ap Ok byte
 
-bad_reading_pair : (a b i : ℕ) → a < 256 → b < 256 → nat_lt 15 (bit_or (reading a) (reading b)) ≡ true → (e : FromHexError) × (pair_value a b i ≡ Err e)
+bad_reading_pair : (a b i : ℕ) → a < 256 → b < 256 → nat_lt 15 (bit_or (reading a) (reading b)) ≡ true
+    → (e : FromHexError) × (pair_value a b i ≡ Err e)
 bad_reading_pair a b i first second test =
     let large = ltb-true 15 (bit_or (reading a) (reading b)) test in
     let high = le_or_l (value_of a) (value_of b) in
@@ -73,12 +89,16 @@ bad_reading_pair a b i first second test =
           ]
     ]
 
-pub good_readings : (i : ℕ) (c : List ℕ) → Each1 (λ x. x < 256) c → length c % 2 ≡ 0 → any_large (evens (map reading c)) (odds (map reading c)) ≡ false → decode_pairs i c ≡ Ok (zip2 pair_byte (evens (map reading c)) (odds (map reading c)))
+pub good_readings : (i : ℕ) (c : List ℕ) → Each1 (λ x. x < 256) c → length c % 2 ≡ 0
+    → any_large (evens (map reading c)) (odds (map reading c)) ≡ false
+    → decode_pairs i c ≡ Ok (zip2 pair_byte (evens (map reading c)) (odds (map reading c)))
 unfolding decode_pairs
 good_readings i [] bytes even test = refl
 good_readings i (a ∷ []) bytes even test = absurd (omega arith)
 good_readings i (a ∷ b ∷ rest) bytes even test =
-    let tests = or_parts (nat_lt 15 (bit_or (reading a) (reading b))) (any_large (evens (map reading rest)) (odds (map reading rest))) test in
+    let tests =
+    or_parts (nat_lt 15 (bit_or (reading a) (reading b)))
+    (any_large (evens (map reading rest)) (odds (map reading rest))) test in
     let pair = good_reading_pair a b i bytes.0 bytes.1.0 tests.0 in
     let more = good_readings (i + 2) rest bytes.1.1 (omega arith) tests.1 in
     decode_pairs-ok_pair i a b _ rest pair ∙ ap (cons_byte (pair_byte (reading a) (reading b))) more
@@ -87,7 +107,8 @@ refused_behind : (v : ℕ) (r : Result (List ℕ) FromHexError) → is_err r ≡
 refused_behind v (Ok bytes) refused = cc refused
 refused_behind v (Err e) refused = refl
 
-pub bad_readings : (i : ℕ) (c : List ℕ) → Each1 (λ x. x < 256) c → length c % 2 ≡ 0 → any_large (evens (map reading c)) (odds (map reading c)) ≡ true → is_err (decode_pairs i c) ≡ true
+pub bad_readings : (i : ℕ) (c : List ℕ) → Each1 (λ x. x < 256) c → length c % 2 ≡ 0
+    → any_large (evens (map reading c)) (odds (map reading c)) ≡ true → is_err (decode_pairs i c) ≡ true
 unfolding decode_pairs
 bad_readings i [] bytes even test = cc test
 bad_readings i (a ∷ []) bytes even test = absurd (omega arith)
@@ -100,5 +121,6 @@ bad_readings i (a ∷ b ∷ rest) bytes even test =
           let pair = good_reading_pair a b i bytes.0 bytes.1.0 small in
           let behind : any_large (evens (map reading rest)) (odds (map reading rest)) ≡ true = rw small at test in
           let more = bad_readings (i + 2) rest bytes.1.1 (omega arith) behind in
-          ap is_err (decode_pairs-ok_pair i a b _ rest pair) ∙ refused_behind (pair_byte (reading a) (reading b)) (decode_pairs (i + 2) rest) more
+          ap is_err (decode_pairs-ok_pair i a b _ rest pair)
+          ∙ refused_behind (pair_byte (reading a) (reading b)) (decode_pairs (i + 2) rest) more
     ]

@@ -1,6 +1,6 @@
 //! Decimal numbers.
 
-ghost use Rattle.std.specs.Prelude.{◌≡◌, ◌++◌, ◌<◌, decimal, OnOk, OnErr};
+ghost use Rattle.std.specs.Prelude.{◌≡◌, ◌++◌, ◌+◌, ◌<◌, length, decimal, OnOk, OnErr, vec_capacity, vec_len};
 
 use itoa::Buffer;
 use std::alloc::AllocError;
@@ -10,6 +10,7 @@ use std::alloc::AllocError;
 pub fn push_number(out: &mut Vec<u8>, number: u64) -> Result<(), AllocError>
     ensures ok { OnOk result (out.new.items ≡ out.old.items ++ decimal number) }
     ensures err { OnErr result (out.new.items ≡ out.old.items) }
+    ensures full { OnErr result (vec_capacity out.old < vec_len out.old + length (decimal number)) }
 {
     if number < 100 {
         push_short_number(out, number as u8)
@@ -22,6 +23,7 @@ pub fn push_number(out: &mut Vec<u8>, number: u64) -> Result<(), AllocError>
 pub fn push_long_number(out: &mut Vec<u8>, number: u128) -> Result<(), AllocError>
     ensures ok { OnOk result (out.new.items ≡ out.old.items ++ decimal number) }
     ensures err { OnErr result (out.new.items ≡ out.old.items) }
+    ensures full { OnErr result (vec_capacity out.old < vec_len out.old + length (decimal number)) }
 {
     if let Ok(short) = u64::try_from(number) {
         return push_number(out, short);
@@ -37,6 +39,7 @@ fn push_short_number(out: &mut Vec<u8>, number: u8) -> Result<(), AllocError>
     requires { number < 100 }
     ensures ok { OnOk result (out.new.items ≡ out.old.items ++ decimal number) }
     ensures err { OnErr result (out.new.items ≡ out.old.items) }
+    ensures full { OnErr result (vec_capacity out.old < vec_len out.old + length (decimal number)) }
 {
     if number < 10 {
         return out.extend_from_slice(&[b'0' + number]);
@@ -48,6 +51,7 @@ fn push_short_number(out: &mut Vec<u8>, number: u8) -> Result<(), AllocError>
 fn push_any_number(out: &mut Vec<u8>, number: u64) -> Result<(), AllocError>
     ensures ok { OnOk result (out.new.items ≡ out.old.items ++ decimal number) }
     ensures err { OnErr result (out.new.items ≡ out.old.items) }
+    ensures full { OnErr result (vec_capacity out.old < vec_len out.old + length (decimal number)) }
 {
     let mut buffer = Buffer::new();
     out.extend_from_slice(buffer.format(number).as_bytes())

@@ -1,6 +1,6 @@
 //! Bytes out of hexadecimal digits.
 
-ghost use Rattle.std.specs.Prelude.{◌≡◌, ◌*◌, ◌≤◌, length, IfOk, OnErr, MatchResult, true, false};
+ghost use Rattle.std.specs.Prelude.{◌≡◌, ◌*◌, ◌/◌, ◌<◌, ◌≤◌, length, IfOk, OnErr, MatchResult, true, false, vec_capacity};
 ghost use Rattle.hex.specs.Hex.{decode_of};
 ghost use Rattle.mold_digits.specs.Digits.{IsDecodedTo};
 
@@ -11,13 +11,14 @@ use crate::table::digit_value;
 use block::decode_blocks;
 use std::alloc::AllocError;
 
-/// Replaces what `out` holds by the bytes that the digits stand for, in either case, and answers whether
-/// they stand for any: an odd number of digits doesn't, nor does any other byte among them. Then `out`
-/// holds anything. It takes memory where the bytes find no room in `out`.
+/// Replaces what `out` holds by the bytes that the hexadecimal digits stand for, in either case, and answers
+/// whether they stand for any: an odd number of digits doesn't, nor does any other byte among them, and then
+/// `out` may hold anything. Memory is taken only where the bytes find no room in `out`.
 pub fn decode(digits: &[u8], out: &mut Vec<u8>) -> Result<bool, AllocError>
     ensures value { IfOk result (λ spelled. MatchResult (decode_of digits.now)
         (λ bytes. (spelled ≡ true) × (out.new.items ≡ bytes)) (λ _. spelled ≡ false)) }
     ensures err { OnErr result (out.new.items ≡ out.old.items) }
+    ensures full { OnErr result (vec_capacity out.old < length digits.now / 2) }
 {
     if digits.len() % 2 != 0 {
         return Ok(false);

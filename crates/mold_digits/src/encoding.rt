@@ -1,6 +1,6 @@
 //! Hexadecimal digits out of bytes.
 
-ghost use Rattle.std.specs.Prelude.{◌≡◌, ◌++◌, ◌*◌, ◌<◌, length, slice_index, OnOk, OnErr};
+ghost use Rattle.std.specs.Prelude.{◌≡◌, ◌++◌, ◌+◌, ◌*◌, ◌<◌, length, slice_index, OnOk, OnErr, vec_capacity, vec_len};
 ghost use Rattle.hex.specs.Hex.{encode_lower, lower_digits};
 
 mod block;
@@ -13,9 +13,10 @@ use std::alloc::AllocError;
 pub fn push_bytes(out: &mut Vec<u8>, bytes: &[u8]) -> Result<(), AllocError>
     ensures ok { OnOk result (out.new.items ≡ out.old.items ++ encode_lower bytes.now) }
     ensures err { OnErr result (out.new.items ≡ out.old.items) }
+    ensures full { OnErr result (vec_capacity out.old < vec_len out.old + 2 * length bytes.now) }
 {
     let start = out.len();
-    // Where the length doesn't fit, memory is asked for that no allocator gives.
+    // A length that doesn't fit becomes the greatest one, and growing to that is refused.
     let end = start.saturating_add(bytes.len().saturating_mul(2));
     out.resize(end, 0)?;
     encode_into(bytes, &mut out[start..]);

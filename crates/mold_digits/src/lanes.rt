@@ -9,6 +9,7 @@ use std::simd::prelude::*;
 /// How many bytes a vector has.
 pub const LANES: usize = 16;
 
+/// Adds the amount to each byte, and wraps.
 #[inline(always)]
 pub fn plus(lanes: u8x16, amount: u8) -> u8x16
     ensures { result ≡ map (λ x. (x + amount) % 256) lanes }
@@ -16,6 +17,7 @@ pub fn plus(lanes: u8x16, amount: u8) -> u8x16
     lanes + u8x16::splat(amount)
 }
 
+/// Keeps the bits of the mask in each byte.
 #[inline(always)]
 pub fn masked(lanes: u8x16, mask: u8) -> u8x16
     ensures { result ≡ map (λ x. bit_and x mask) lanes }
@@ -23,6 +25,7 @@ pub fn masked(lanes: u8x16, mask: u8) -> u8x16
     lanes & u8x16::splat(mask)
 }
 
+/// The upper four bits of each byte.
 #[inline(always)]
 pub fn high_halves(lanes: u8x16) -> u8x16
     ensures { result ≡ map (λ x. x / 16) lanes }
@@ -30,6 +33,7 @@ pub fn high_halves(lanes: u8x16) -> u8x16
     lanes >> u8x16::splat(4)
 }
 
+/// Raises each byte that is below the floor.
 #[inline(always)]
 pub fn at_least(lanes: u8x16, floor: u8) -> u8x16
     ensures { result ≡ map (λ x. larger_of x floor) lanes }
@@ -38,6 +42,7 @@ pub fn at_least(lanes: u8x16, floor: u8) -> u8x16
     lanes.simd_lt(floors).select(floors, lanes)
 }
 
+/// Lowers each byte that is above the cap.
 #[inline(always)]
 pub fn at_most(lanes: u8x16, cap: u8) -> u8x16
     ensures { result ≡ map (λ x. smaller_of x cap) lanes }
@@ -46,6 +51,7 @@ pub fn at_most(lanes: u8x16, cap: u8) -> u8x16
     lanes.simd_lt(caps).select(lanes, caps)
 }
 
+/// The smaller byte of each two at one place.
 #[inline(always)]
 pub fn smaller(first: u8x16, second: u8x16) -> u8x16
     ensures { result ≡ zip2 smaller_of first second }
@@ -53,6 +59,7 @@ pub fn smaller(first: u8x16, second: u8x16) -> u8x16
     first.simd_lt(second).select(first, second)
 }
 
+/// Every second byte of both, from the first on.
 #[inline(always)]
 pub fn at_even_places(first: u8x16, second: u8x16) -> u8x16
     ensures { result ≡ evens (first ++ second) }
@@ -63,6 +70,7 @@ pub fn at_even_places(first: u8x16, second: u8x16) -> u8x16
     )
 }
 
+/// Every second byte of both, from the second on.
 #[inline(always)]
 pub fn at_odd_places(first: u8x16, second: u8x16) -> u8x16
     ensures { result ≡ odds (first ++ second) }
@@ -73,6 +81,7 @@ pub fn at_odd_places(first: u8x16, second: u8x16) -> u8x16
     )
 }
 
+/// The front halves of both, a byte of each in turn.
 #[inline(always)]
 pub fn woven_front(high: u8x16, low: u8x16) -> u8x16
     ensures { result ≡ woven (chunk 0 8 high) (chunk 0 8 low) }
@@ -83,6 +92,7 @@ pub fn woven_front(high: u8x16, low: u8x16) -> u8x16
     )
 }
 
+/// The back halves of both, a byte of each in turn.
 #[inline(always)]
 pub fn woven_back(high: u8x16, low: u8x16) -> u8x16
     ensures { result ≡ woven (chunk 8 8 high) (chunk 8 8 low) }

@@ -7,7 +7,8 @@ bytes-init c = read_none _ _ _ c.requires.front
 
 pub bytes-preserved : goal.bytes-preserved
 bytes-preserved c =
-    read_more _ c.bytes.out c.bytes.i _ _ _ (omega arith) (omega arith) c.digit_value-high.ensures c.digit_value-low.ensures c.bytes.invariant
+    read_more _ c.bytes.out c.bytes.i _ _ _ (omega arith) (omega arith) c.digit_value-high.ensures
+    c.digit_value-low.ensures c.bytes.invariant
 
 pub returns : goal.returns
 returns c = read_all _ c.bytes.out c.bytes.i _ (omega arith) (omega arith) c.bytes.invariant
