@@ -5,18 +5,18 @@ ghost use Rattle.mold_wire.specs.Block.{block, IsBlockAndRest, AreBlocksAndRest,
 
 use byteorder::{BigEndian, ByteOrder};
 
-/// The bytes of a block's length.
-pub(crate) const LENGTH: usize = 2;
+/// The bytes that say a block's length, and don't count themselves.
+pub(crate) const LENGTH_BYTES: usize = 2;
 
 // The data of the block at the front and what follows it, or none where no whole block stands there.
 pub(crate) fn split_block(bytes: &[u8]) -> Option<(&[u8], &[u8])>
     ensures { MatchOption result (BeginsNoBlock bytes.now)
         (λ found. IsBlockAndRest bytes.now found.0.now found.1.now) }
 {
-    if bytes.len() < LENGTH {
+    if bytes.len() < LENGTH_BYTES {
         return None;
     }
-    let (head, behind) = bytes.split_at(LENGTH);
+    let (head, behind) = bytes.split_at(LENGTH_BYTES);
     let len = usize::from(BigEndian::read_u16(head));
     if behind.len() < len {
         return None;
@@ -46,7 +46,7 @@ pub(crate) fn put_block(out: &mut [u8], message: &[u8])
     requires room { 2 + length message.now ≤ length out.old }
     ensures { out.new ≡ block message.now ++ drop (length message.now) (drop 2 out.old) }
 {
-    let (head, behind) = out.split_at_mut(LENGTH);
+    let (head, behind) = out.split_at_mut(LENGTH_BYTES);
     BigEndian::write_u16(head, message.len() as u16);
     let (place, _) = behind.split_at_mut(message.len());
     place.copy_from_slice(message);

@@ -5,7 +5,7 @@ ghost use Rattle.std.specs.Bool.{OnTrue, OnFalse};
 ghost use Rattle.mold_wire.specs.Block.{block};
 ghost use Rattle.mold_wire.specs.Header.{recounted};
 
-use crate::block::{LENGTH, put_block};
+use crate::block::{LENGTH_BYTES, put_block};
 use crate::error::PackerError;
 use crate::header::{END, HEADER_LENGTH, HEARTBEAT, Header, put_count};
 use crate::session::Session;
@@ -13,7 +13,7 @@ use std::alloc::Global;
 use std::boxed::BoxedSlice;
 use std::marker::Model;
 
-/// The least and the greatest limit of a datagram.
+// The least and the greatest limit of a datagram.
 const LEAST: usize = 64;
 
 const GREATEST: usize = 65507;
@@ -106,7 +106,7 @@ impl Packer {
             return false;
         }
         let room = self.buffer.len() - self.used;
-        LENGTH <= room && len <= room - LENGTH
+        LENGTH_BYTES <= room && len <= room - LENGTH_BYTES
     }
 
     /// Adds a message behind those of the open packet, where it fits; else changes nothing.
@@ -121,7 +121,7 @@ impl Packer {
         }
         self.count += 1;
         put_message(&mut self.buffer, self.used, self.count, message);
-        self.used += LENGTH + message.len();
+        self.used += LENGTH_BYTES + message.len();
         true
     }
 

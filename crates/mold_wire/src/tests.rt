@@ -1,4 +1,4 @@
-//! Each public call on its happy path, and the vectors that are read and written.
+//! Each public call on its happy path, and the bytes of known packets, read and written.
 
 use crate::{
     Body, DecodeError, Packer, PackerError, Packet, Request, RequestError, Session, decode,
@@ -8,7 +8,17 @@ use std::test::Fail;
 
 const SESSION: Session = Session(*b"SESSION001");
 
+// From number 1 on, `AB` and a message without bytes.
 const TWO_MESSAGES: &[u8] = b"SESSION001\0\0\0\0\0\0\0\x01\0\x02\0\x02AB\0\0";
+
+const HEARTBEAT: &[u8] = b"SESSION001\0\0\0\0\0\0\0\x01\0\0";
+
+const END: &[u8] = b"SESSION001\0\0\0\0\0\0\0\x03\xff\xff";
+
+// Where the header of a packet ends, and the first block of `TWO_MESSAGES`.
+const HEADER_END: usize = 20;
+
+const FIRST_END: usize = 24;
 
 fn expect_bare(rt: &impl Abort, bytes: &[u8], sequence: u64, ends: bool) -> Result<(), Fail> {
     let packet = decode(bytes)?;
@@ -25,9 +35,9 @@ fn expect_bare(rt: &impl Abort, bytes: &[u8], sequence: u64, ends: bool) -> Resu
 
 #[test]
 fn heartbeats_and_ends_are_read(rt: HostRuntime) -> Result<(), Fail> {
-    expect_bare(&rt, b"SESSION001\0\0\0\0\0\0\0\x01\0\0", 1, false)?;
+    expect_bare(&rt, HEARTBEAT, 1, false)?;
     expect_bare(&rt, b"SESSION001\0\0\0\0\0\0\0\x01\xff\xff", 1, true)?;
-    expect_bare(&rt, b"SESSION001\0\0\0\0\0\0\0\x03\xff\xff", 3, true)
+    expect_bare(&rt, END, 3, true)
 }
 
 #[test]
@@ -45,12 +55,26 @@ fn messages_are_lent_in_order(rt: HostRuntime) -> Result<(), Fail> {
     assert_eq!(rt; blocks.get(0), Some(b"AB".as_slice()));
     assert_eq!(rt; blocks.get(1), Some(b"".as_slice()));
     assert_eq!(rt; blocks.get(2), None);
-    let mut lengths = [9usize; 3];
+    let mut lengths = [None; 3];
     for (place, message) in lengths.iter_mut().zip(&blocks) {
-        *place = message.len();
+        *place = Some(message.len());
     }
-    assert_eq!(rt; lengths, [2, 0, 9]);
+    assert_eq!(rt; lengths, [Some(2), Some(0), None]);
     assert_eq!(rt; blocks.iter().count(), 2);
+    Ok(())
+}
+
+#[test]
+fn packets_are_compared_by_what_they_say(rt: HostRuntime) -> Result<(), Fail> {
+    let elsewhere = *b"SESSION001\0\0\0\0\0\0\0\x01\0\x02\0\x02AB\0\0";
+    let packet = decode(&elsewhere)?;
+    assert_eq!(rt; packet, decode(TWO_MESSAGES)?);
+    assert_eq!(rt; packet.clone()?, packet);
+    assert_ne!(rt;
+        packet,
+        decode(b"SESSION001\0\0\0\0\0\0\0\x01\0\x02\0\x02AC\0\0")?
+    );
+    assert_ne!(rt; packet, decode(HEARTBEAT)?);
     Ok(())
 }
 
@@ -66,8 +90,8 @@ fn a_top_beyond_64_bits_is_none(rt: HostRuntime) -> Result<(), Fail> {
 fn each_front_of_two_messages_has_its_fault(rt: HostRuntime) {
     for len in 0..TWO_MESSAGES.len() {
         let fault = match len {
-            0..20 => DecodeError::Short { len },
-            20..24 => DecodeError::BlockCut { index: 0 },
+            0..HEADER_END => DecodeError::Short { len },
+            HEADER_END..FIRST_END => DecodeError::BlockCut { index: 0 },
             _ => DecodeError::BlockCut { index: 1 },
         };
         match decode(&TWO_MESSAGES[..len]) {
@@ -77,13 +101,14 @@ fn each_front_of_two_messages_has_its_fault(rt: HostRuntime) {
     }
     match decode(b"SESSION001\0\0\0\0\0\0\0\x01\0\x02\0\x02AB\0\0\0") {
         Ok(_) => assert!(rt; false, "a byte behind is read"),
-        Err(error) => assert_eq!(rt; error, DecodeError::Trailing { at: 26 }),
+        Err(error) => assert_eq!(rt;
+            error,
+            DecodeError::Trailing {
+                at: TWO_MESSAGES.len()
+            }
+        ),
     }
 }
-
-const HEARTBEAT: &[u8] = b"SESSION001\0\0\0\0\0\0\0\x01\0\0";
-
-const END: &[u8] = b"SESSION001\0\0\0\0\0\0\0\x03\xff\xff";
 
 // In this order: the limits, before any packet, a heartbeat, up to the limit, and the end.
 #[test]
@@ -101,6 +126,7 @@ fn the_table_of_the_packer(rt: HostRuntime) -> Result<(), Fail> {
             "limit {limit}"
         );
     }
+    // Of 64 bytes a header leaves 44, and a block's length 42 of these.
     let mut packer = Packer::new(rt.alloc(), 64)?;
     assert_eq!(rt; packer.bytes(), b"".as_slice());
     assert!(rt; !packer.fits(0));
@@ -166,7 +192,9 @@ fn requests_are_read_and_written(rt: HostRuntime) -> Result<(), Fail> {
     }
     assert_eq!(rt;
         Request::decode(TWO_MESSAGES),
-        Err(RequestError::RequestLength { len: 26 })
+        Err(RequestError::RequestLength {
+            len: TWO_MESSAGES.len()
+        })
     );
     Ok(())
 }

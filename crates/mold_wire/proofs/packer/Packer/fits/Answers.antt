@@ -4,8 +4,8 @@ use Rattle.mold_wire.specs.Buffer.{fields_of}
 use Rattle.mold_wire.proofs.PackerLemmas.{Shows, Room, room_shown, shown_room}
 use Rattle.mold_wire.proofs.packer.Packer.fits.Goals as goal
 
-pub returns-then-room-ge-LENGTH : goal.returns-then-room-ge-LENGTH
-returns-then-room-ge-LENGTH c =
+pub returns-then-room-ge-LENGTH_BYTES : goal.returns-then-room-ge-LENGTH_BYTES
+returns-then-room-ge-LENGTH_BYTES c =
     let fields = fields_of c.self.inside in
     let shown : Shows fields c.args.self.now = record { holds = c.self.invariant; seen = c.self.view_is } in (
       λ short.
@@ -16,8 +16,8 @@ returns-then-room-ge-LENGTH c =
     )
 
 -- not even the length of a block has room
-pub returns-else-room-ge-LENGTH : goal.returns-else-room-ge-LENGTH
-returns-else-room-ge-LENGTH c =
+pub returns-else-room-ge-LENGTH_BYTES : goal.returns-else-room-ge-LENGTH_BYTES
+returns-else-room-ge-LENGTH_BYTES c =
     let fields = fields_of c.self.inside in
     let shown : Shows fields c.args.self.now = record { holds = c.self.invariant; seen = c.self.view_is } in (
       λ long. absurd (omega (arith, leb-true _ _ long)),
