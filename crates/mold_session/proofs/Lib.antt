@@ -1,1 +1,2 @@
-pub mod JournalLemmas
+pub mod PackingLemmas
+pub mod PublisherLemmas

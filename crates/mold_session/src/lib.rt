@@ -3,8 +3,9 @@
 
 mod error;
 mod journal;
-
+mod packing;
+mod publisher;
 
 pub use error::{AppendError, PublisherError, Unsent};
 pub use journal::Journal;
-
+pub use publisher::Publisher;
