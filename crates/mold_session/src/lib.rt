@@ -5,6 +5,8 @@ mod error;
 mod journal;
 mod packing;
 mod publisher;
+#[cfg(test)]
+mod tests;
 
 pub use error::{AppendError, PublisherError, Unsent};
 pub use journal::Journal;
