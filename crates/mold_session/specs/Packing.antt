@@ -6,7 +6,8 @@ use Rattle.mold_wire.specs.Packing.{IsFront}
 
 -- a data packet was begun with the longest front that fits, of so many messages, whatever number not
 -- below that of all messages bounds it
-pub record HasPacked (old new : PackerState) (session : Session) (sequence : ℕ) (messages : List (List ℕ)) (count : ℕ) : Type 0 where
+pub record HasPacked (old new : PackerState) (session : Session) (sequence : ℕ) (messages : List (List ℕ))
+    (count : ℕ) : Type 0 where
   pub found : List (List ℕ)
   pub counted : count ≡ length found
   pub begun : new ≡ record { limit = old.limit; begun = Open session sequence found }

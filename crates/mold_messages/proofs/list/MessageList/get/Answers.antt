@@ -16,7 +16,13 @@ part-requires-clause-ordered c =
     let f = c.self.inside in
     let begins = c.place_of-start.ensures ∙ ap (λ (t : List ℕ). place 0 t c.args.i) c.deref.ensures.value in
     let stops = c.place_of-end.ensures ∙ ap (λ (t : List ℕ). place 0 t (c.args.i + 1)) c.deref-2.ensures.value in
-    omega (arith, begins, stops, place_ordered 0 f.ends.items (length f.bytes.items) c.args.i (c.args.i + 1) c.self.invariant (omega arith) (omega arith))
+    omega (
+      arith,
+      begins,
+      stops,
+      place_ordered 0 f.ends.items (length f.bytes.items) c.args.i (c.args.i + 1)
+          c.self.invariant (omega arith) (omega arith),
+    )
 
 pub part-requires-clause-within : goal.part-requires-clause-within
 part-requires-clause-within c =
@@ -29,5 +35,6 @@ returns c =
     let f = c.self.inside in
     let begins = c.place_of-start.ensures ∙ ap (λ (t : List ℕ). place 0 t c.args.i) c.deref.ensures.value in
     let stops = c.place_of-end.ensures ∙ ap (λ (t : List ℕ). place 0 t (c.args.i + 1)) c.deref-2.ensures.value in
-    piece_is f.ends.items f.bytes.items c.deref-3.result.now c.part.result.now c.args.self.now.messages c.args.i c.place_of-start.result c.place_of-end.result
+    piece_is f.ends.items f.bytes.items c.deref-3.result.now c.part.result.now c.args.self.now.messages c.args.i
+    c.place_of-start.result c.place_of-end.result
     (omega arith) begins stops c.deref-3.ensures.value c.part.ensures (ap (λ (l : Listed). l.messages) c.self.view_is)

@@ -24,7 +24,12 @@ overflow_sub-result c =
       begins,
       stops,
       place_ordered 0 f.ends.items (length f.bytes.items) c.args.from c.args.to c.self.invariant (omega arith)
-          (omega (arith, length-pieces 0 f.ends.items f.bytes.items, ap (λ (l : Listed). length l.messages) c.self.view_is)),
+          (omega (
+            arith,
+            length-pieces 0 f.ends.items f.bytes.items,
+            ap (λ (l : Listed). length l.messages)
+                c.self.view_is,
+          )),
     )
 
 pub returns : goal.returns
@@ -35,5 +40,6 @@ returns c =
     let sum = joined_between 0 f.ends.items f.bytes.items c.args.from c.args.to c.self.invariant (omega arith)
     (omega (arith, length-pieces 0 f.ends.items f.bytes.items, ap (λ (l : Listed). length l.messages) c.self.view_is))
     in
-    subst (λ (l : Listed). c.place_of.result - c.place_of-2.result ≡ byte_count (take (c.args.to - c.args.from) (drop c.args.from l.messages))) c.self.view_is
+    subst (λ (l : Listed). c.place_of.result - c.place_of-2.result ≡ byte_count
+    (take (c.args.to - c.args.from) (drop c.args.from l.messages))) c.self.view_is
     (omega (arith, begins, stops, sum))

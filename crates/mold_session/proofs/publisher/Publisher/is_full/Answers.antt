@@ -13,6 +13,8 @@ returns-then-lengths-room c = (
 
 pub returns : goal.returns
 returns c =
-    full_tells c.args.self.now c.self.inside.limit c.unsent-lengths.result c.joined_from.result c.unsent-lengths.ensures.publisher
+    full_tells c.args.self.now c.self.inside.limit c.unsent-lengths.result c.joined_from.result
+    c.unsent-lengths.ensures.publisher
     (ap (λ (p : PublisherState). p.limit) c.self.view_is) c.unsent-lengths.ensures.value
-    (c.joined_from.ensures ∙ ap (λ (p : PublisherState). byte_count (unsent_of p)) c.self.view_is) c.if-lengths-room.false
+    (c.joined_from.ensures ∙ ap (λ (p : PublisherState). byte_count (unsent_of p)) c.self.view_is)
+    c.if-lengths-room.false
