@@ -1,0 +1,140 @@
+-- Messages put into a packet one after the other.
+use Rattle.std.proofs.Common.{◌≡◌, ℕ, ◌+◌, ◌-◌, ◌*◌, ◌<◌, ◌≤◌, List, [], ◌∷◌, ◌++◌, length, length-append, refl, sym}
+use Rattle.std.proofs.Common.{ap, subst, ◌∙◌, append_assoc, arith}
+use Rattle.std.proofs.lemmas.List.{append-nil}
+use Rattle.std.proofs.lemmas.List.Sums.{sum_by-cons}
+use Rattle.std.specs.List.{sum_by}
+use Rattle.mold_messages.specs.Listed.{byte_count}
+use Rattle.mold_wire.specs.declared.session.Session.{Session}
+use Rattle.mold_wire.specs.Packer.{PackerState, Open, IsLimit, HasRoom, with_message}
+use Rattle.mold_wire.specs.Packing.{packet_length, Fits, IsFront}
+use Rattle.mold_session.specs.Packing.{HasPacked}
+
+-- what the wire crate's law says of a front that can't be longer
+abbrev pub Stops : Type 0
+Stops = (limit : ℕ) (messages : List (List ℕ)) (most : ℕ) (found behind : List (List ℕ)) →
+    messages ≡ found ++ behind → length found ≤ most → Fits limit found →
+    ((next : List ℕ) (more : List (List ℕ)) → behind ≡ next ∷ more → length found < most → Fits limit
+    (found ++ next ∷ []) → ⊥) →
+    IsFront limit messages most found
+
+-- and of the bytes of a packet with one more message
+abbrev pub OneMore : Type 0
+OneMore =
+    (messages : List (List ℕ)) (message : List ℕ) →
+    packet_length (messages ++ message ∷ []) ≡ packet_length messages + (2 + length message)
+
+abbrev pub packer_with : ℕ → Session → ℕ → List (List ℕ) → PackerState
+packer_with limit session sequence found = record { limit = limit; begun = Open session sequence found }
+
+-- so many of the messages are in the open packet and fit it, and the rest is to come
+pub record Gathers (limit : ℕ) (session : Session) (sequence : ℕ) (messages : List (List ℕ)) (packer : PackerState)
+    (rest : List (List ℕ)) (count : ℕ) : Type 0 where
+  pub found : List (List ℕ)
+  pub parts : messages ≡ found ++ rest
+  pub counted : count ≡ length found
+  pub begun : packer ≡ packer_with limit session sequence found
+  pub fits : Fits limit found
+
+pub gathers_none :
+    (limit : ℕ) (session : Session) (sequence : ℕ) (messages : List (List ℕ)) (packer : PackerState)
+    (rest : List (List ℕ)) → IsLimit limit → packet_length [] ≡ 20 → packer ≡ packer_with limit session sequence [] →
+    rest ≡ messages → Gathers limit session sequence messages packer rest 0
+gathers_none limit session sequence messages packer rest limited none begun all = record {
+  found = [];
+  parts = sym all;
+  counted = refl;
+  begun = begun;
+  fits = omega (arith, none, limited.0);
+}
+
+pub gathers_more :
+    (limit : ℕ) (session : Session) (sequence : ℕ) (messages : List (List ℕ)) (packer : PackerState)
+    (rest : List (List ℕ)) (count : ℕ) (message : List ℕ) (more : List (List ℕ)) (new : PackerState) → OneMore →
+    Gathers limit session sequence messages packer rest count → rest ≡ message ∷ more →
+    new ≡ record { limit = packer.limit; begun = with_message message packer.begun } →
+    HasRoom packer.limit packer.begun (length message) → Gathers limit session sequence messages new more (count + 1)
+gathers_more limit session sequence messages packer rest count message more new one_more had next grown room =
+    let within : packet_length had.found + (2 + length message) ≤ limit =
+    subst (λ (p : PackerState). HasRoom p.limit p.begun (length message)) had.begun room
+    in
+    record {
+      found = had.found ++ message ∷ [];
+      parts = had.parts ∙ ap (λ (t : List (List ℕ)). had.found ++ t) next ∙ sym
+          (append_assoc had.found (message ∷ []) more);
+      counted = omega (arith, had.counted, length-append had.found (message ∷ []));
+      begun = grown ∙ ap (λ (p : PackerState). record { limit = p.limit; begun = with_message message p.begun })
+          had.begun;
+      fits = omega (arith, within, one_more had.found message);
+    }
+
+-- one more message is counted in 64 bits
+pub gathers_counts :
+    (limit : ℕ) (session : Session) (sequence : ℕ) (messages : List (List ℕ)) (packer : PackerState)
+    (rest : List (List ℕ)) (count : ℕ) (message : List ℕ) (more : List (List ℕ)) →
+    Gathers limit session sequence messages packer rest count → rest ≡ message ∷ more → count + 1 ≤ length messages
+gathers_counts limit session sequence messages packer rest count message more had next =
+    omega (
+      arith,
+      had.counted,
+      ap (λ (t : List (List ℕ)). length t) had.parts,
+      length-append had.found rest,
+      ap
+          (λ (t : List (List ℕ)). length t) next,
+    )
+
+-- once no message is left, or the next one has no room, the longest front is packed
+pub packed_all :
+    (old : PackerState) (session : Session) (sequence : ℕ) (messages : List (List ℕ)) (packer : PackerState)
+    (rest : List (List ℕ)) (count : ℕ) → Stops → Gathers old.limit session sequence messages packer rest count →
+    rest ≡ [] → HasPacked old packer session sequence messages count
+packed_all old session sequence messages packer rest count stops had none = record {
+  found = had.found;
+  counted = had.counted;
+  begun = had.begun;
+  longest = λ most enough. stops old.limit messages most had.found rest had.parts
+      (omega (arith, enough, ap (λ (t : List (List ℕ)). length t) had.parts, length-append had.found rest))
+      had.fits
+      (λ next more some few fits. let e : [] ≡ next ∷ more = sym none ∙ some in cc);
+}
+
+pub packed_full :
+    (old : PackerState) (session : Session) (sequence : ℕ) (messages : List (List ℕ)) (packer : PackerState)
+    (rest : List (List ℕ)) (count : ℕ) (message : List ℕ) (more : List (List ℕ)) (new : PackerState) → OneMore →
+    Stops → Gathers old.limit session sequence messages packer rest count → rest ≡ message ∷ more → new ≡ packer →
+    (HasRoom packer.limit packer.begun (length message) → ⊥) → HasPacked old new session sequence messages count
+packed_full old session sequence messages packer rest count message more new one_more stops had next same full =
+    let no_room : packet_length had.found + (2 + length message) ≤ old.limit → ⊥ =
+    subst (λ (p : PackerState). HasRoom p.limit p.begun (length message) → ⊥) had.begun full
+    in
+    record {
+      found = had.found;
+      counted = had.counted;
+      begun = same ∙ had.begun;
+      longest = λ most enough. stops old.limit messages most had.found rest had.parts
+          (omega (arith, enough, ap (λ (t : List (List ℕ)). length t) had.parts, length-append had.found rest))
+          had.fits
+          (λ other others some few fits.
+          let both : message ∷ more ≡ other ∷ others = sym next ∙ some in
+          let one : other ≡ message = cc in
+          no_room (omega (arith, one_more had.found other, ap (λ (t : List ℕ). length t) one, fits)));
+    }
+
+-- the bytes of a packet by the number of its messages and their bytes together
+lengths_and_bytes :
+    (messages : List (List ℕ)) →
+    sum_by (λ message. 2 + length message) messages ≡ 2 * length messages + byte_count messages
+lengths_and_bytes [] = refl
+lengths_and_bytes (message ∷ messages) =
+    omega (
+      arith,
+      sum_by-cons (λ (m : List ℕ). 2 + length m) message messages,
+      sum_by-cons (λ (m : List ℕ). length m)
+          message messages,
+      lengths_and_bytes messages,
+    )
+
+pub packet_bytes :
+    (messages : List (List ℕ)) → packet_length messages ≡ 20 + (2 * length messages + byte_count messages)
+unfolding packet_length
+packet_bytes messages = ap (λ (n : ℕ). 20 + n) (lengths_and_bytes messages)

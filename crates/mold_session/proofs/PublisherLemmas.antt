@@ -1,0 +1,209 @@
+-- What a publisher puts into its next datagram.
+use Rattle.std.proofs.Common.{◌≡◌, ◌==◌, ◌↔◌, ltb, ⊎_elim, ℕ, zero, suc, ◌+◌, ◌-◌, ◌*◌, ◌/◌, ◌<◌, ◌≤◌, Bool, true}
+use Rattle.std.proofs.Common.{false, List, [], ◌∷◌, ◌++◌, length, length-append, drop, None, Some, refl, sym, ap}
+use Rattle.std.proofs.Common.{subst, ◌∙◌, arith}
+use Rattle.std.proofs.lemmas.List.{length-drop, drop_all, nil_from_length}
+use Rattle.std.proofs.lemmas.Bool.{eq-eqb, ne_eqb, ltb-true, lt-ltb, cases_lt}
+use Rattle.std.specs.List.{AllByRecursion}
+use Rattle.mold_wire.specs.declared.session.Session.{Session}
+use Rattle.mold_wire.specs.declared.packet.Packet.{Packet}
+use Rattle.mold_wire.specs.declared.packet.Body.{Body}
+use Rattle.mold_wire.specs.declared.packet.Body.TheVariants.{Data}
+use Rattle.mold_wire.specs.Packet.{Spells}
+use Rattle.mold_wire.specs.Packer.{PackerState, Open, SpellsBegun, body_with, open_packet}
+use Rattle.mold_wire.specs.Packing.{packet_length, Fits, IsFront, front}
+use Rattle.mold_messages.specs.Listed.{byte_count}
+use Rattle.mold_session.proofs.PackingLemmas.{packet_bytes}
+use Rattle.mold_session.specs.Journal.{JournalState, IsWithin}
+use Rattle.mold_session.specs.Packing.{HasPacked}
+use Rattle.mold_session.specs.Publisher.{PublisherState, IsPublisher, unsent_of, next_front, next_datagram}
+use Rattle.mold_session.specs.Publisher.{after_datagram, Lends}
+
+each_drop : {X : Type 0} (P : X → Type 0) (n : ℕ) (xs : List X) → AllByRecursion P xs → AllByRecursion P (drop n xs)
+each_drop P zero xs each = each
+each_drop P (suc n) [] each = tt
+each_drop P (suc n) (x ∷ xs) each = each_drop P n xs each.1
+
+abbrev pub FrontIs : Type 0
+FrontIs =
+    (limit : ℕ) (messages : List (List ℕ)) (most : ℕ) → 20 ≤ limit →
+    IsFront limit messages most (front limit messages most)
+
+abbrev pub OnlyFront : Type 0
+OnlyFront =
+    (limit : ℕ) (messages : List (List ℕ)) (most : ℕ) (found : List (List ℕ)) → IsFront limit messages most found →
+    found ≡ front limit messages most
+
+abbrev pub SomeFront : Type 0
+SomeFront =
+    (limit : ℕ) (message : List ℕ) (messages found : List (List ℕ)) (most : ℕ) →
+    IsFront limit (message ∷ messages) most found → 0 < most → Fits limit (message ∷ []) → 0 < length found
+
+-- a message of 22 bytes less than the limit fits alone
+abbrev pub Alone : Type 0
+Alone = (limit : ℕ) (message : List ℕ) → length message + 22 ≤ limit → Fits limit (message ∷ [])
+
+-- a front has no more messages than there are
+front_within :
+    (limit : ℕ) (messages : List (List ℕ)) (most : ℕ) (found : List (List ℕ)) → IsFront limit messages most found →
+    length found ≤ length messages
+front_within limit messages most found longest =
+    omega (arith, ap (λ (t : List (List ℕ)). length t) longest.parts, length-append found longest.behind)
+
+-- where nothing is unsent, nothing is sent and the publisher stays
+pub record StaysIdle (publisher : PublisherState) : Type 0 where
+  pub same : publisher ≡ after_datagram publisher
+  pub nothing : next_datagram publisher ≡ None
+
+pub stays_idle :
+    (publisher : PublisherState) → FrontIs → IsPublisher publisher →
+    length publisher.journal.messages - publisher.sent ≡ 0 → StaysIdle publisher
+stays_idle publisher front_is is none =
+    let all : publisher.sent ≡ length publisher.journal.messages = omega (arith, is.published, none) in
+    let limit : 20 ≤ publisher.limit = omega (arith, is.limited.0) in
+    let empty : length (next_front publisher) ≡ 0 =
+    omega (
+      arith,
+      front_within publisher.limit (unsent_of publisher) (length publisher.journal.messages) (next_front publisher)
+          (front_is publisher.limit (unsent_of publisher) (length publisher.journal.messages) limit),
+      length-drop publisher.sent publisher.journal.messages,
+    )
+    in
+    let sum : publisher.sent ≡ publisher.sent + length (next_front publisher) = omega (arith, empty) in
+    record {
+      same = ap (λ (n : ℕ). record publisher { sent = n }) sum;
+      nothing = rw (eq-eqb publisher.sent (length publisher.journal.messages) all) refl;
+    }
+
+-- what was packed is the next datagram, and is some message
+pub record IsNext (publisher : PublisherState) (old new : PackerState) (count : ℕ) : Type 0 where
+  pub counted : count ≡ length (next_front publisher)
+  pub within : publisher.sent + count ≤ length publisher.journal.messages
+  pub limit : new.limit ≡ old.limit
+  pub begun : new.begun ≡ Open publisher.journal.session (publisher.sent + 1) (next_front publisher)
+  pub some : 0 < count
+
+some_front :
+    (limit : ℕ) (messages : List (List ℕ)) (most : ℕ) (found : List (List ℕ)) → SomeFront → Alone →
+    AllByRecursion (IsWithin (limit - 22)) messages → 22 ≤ limit → 0 < length messages → 0 < most →
+    IsFront limit messages most found → 0 < length found
+some_front limit [] most found some alone each least more most_some longest = absurd (omega arith)
+some_front limit (message ∷ messages) most found some alone each least more most_some longest =
+    some limit message messages found most longest most_some (alone limit message (omega (arith, each.0)))
+
+pub is_next :
+    (publisher : PublisherState) (old new : PackerState) (session : Session) (messages : List (List ℕ)) (count : ℕ) →
+    OnlyFront → SomeFront → Alone → IsPublisher publisher →
+    (length publisher.journal.messages - publisher.sent ≡ 0 → ⊥) → old.limit ≡ publisher.limit →
+    session ≡ publisher.journal.session → messages ≡ unsent_of publisher →
+    HasPacked old new session (publisher.sent + 1) messages count → IsNext publisher old new count
+is_next publisher old new session messages count only some alone is unsent limit named all packed =
+    let most : ℕ = length publisher.journal.messages in
+    let len : length messages ≡ length publisher.journal.messages - publisher.sent = ap
+    (λ (t : List (List ℕ)). length t) all ∙ length-drop publisher.sent publisher.journal.messages in
+    let longest : IsFront old.limit messages most packed.found = packed.longest most (omega (arith, len)) in
+    let long : IsFront publisher.limit (unsent_of publisher) most packed.found =
+    subst (λ (n : ℕ). IsFront n (unsent_of publisher) most packed.found) limit
+    (subst (λ (t : List (List ℕ)). IsFront old.limit t most packed.found) all longest)
+    in
+    let next : packed.found ≡ next_front publisher = only publisher.limit (unsent_of publisher) most packed.found long
+    in
+    let same : publisher.journal.max_message ≡ publisher.limit - 22 = omega (arith, is.longest) in
+    let each : AllByRecursion (IsWithin (publisher.limit - 22)) (unsent_of publisher) =
+    subst (λ (n : ℕ). AllByRecursion (IsWithin n) (unsent_of publisher)) same
+    (each_drop (IsWithin publisher.journal.max_message) publisher.sent publisher.journal.messages is.journaled.each)
+    in
+    let found_some : 0 < length packed.found =
+    some_front publisher.limit (unsent_of publisher) most packed.found some alone each (omega (arith, is.limited.0))
+    (omega (arith, unsent, length-drop publisher.sent publisher.journal.messages)) (omega (arith, unsent)) long
+    in
+    record {
+      counted = packed.counted ∙ ap (λ (t : List (List ℕ)). length t) next;
+      within = omega (
+        arith,
+        packed.counted,
+        front_within publisher.limit (unsent_of publisher) most packed.found
+            long,
+        length-drop publisher.sent publisher.journal.messages,
+        is.published,
+      );
+      limit = ap (λ (p : PackerState). p.limit) packed.begun;
+      begun =
+          ap (λ (p : PackerState). p.begun) packed.begun
+          ∙ ap (λ (s : Session). Open s (publisher.sent + 1) packed.found) named
+          ∙ ap (λ (t : List (List ℕ)). Open publisher.journal.session (publisher.sent + 1) t) next;
+      some = omega (arith, packed.counted, found_some);
+    }
+
+data_body : (messages : List (List ℕ)) → 0 < length messages → body_with messages ≡ Data messages
+data_body [] some = absurd (omega arith)
+data_body (message ∷ messages) some = refl
+
+-- the bytes that spell what was begun are the next datagram
+pub lends_next :
+    (publisher : PublisherState) (old new : PackerState) (count : ℕ) (bytes : List ℕ) →
+    (length publisher.journal.messages - publisher.sent ≡ 0 → ⊥) → IsNext publisher old new count →
+    SpellsBegun new.begun bytes → Lends (next_datagram publisher) (Some bytes)
+lends_next publisher old new count bytes unsent next spells =
+    let differs : (publisher.sent == length publisher.journal.messages) ≡ false =
+    ne_eqb publisher.sent (length publisher.journal.messages) (λ same. unsent (omega (arith, same)))
+    in
+    let spelled : Spells (open_packet publisher.journal.session (publisher.sent + 1) (next_front publisher)) bytes =
+    rw next.begun at spells in
+    rw differs (
+    subst (λ (b : Body). Spells
+    (record { session = publisher.journal.session; sequence = publisher.sent + 1; body = b }) bytes)
+    (data_body (next_front publisher) (omega (arith, next.some, next.counted)))
+    spelled
+    )
+
+-- the publisher behind it
+pub still_publisher :
+    (publisher : PublisherState) (old new : PackerState) (count : ℕ) → IsPublisher publisher →
+    (length publisher.journal.messages - publisher.sent ≡ 0 → ⊥) → IsNext publisher old new count →
+    IsPublisher (record publisher { sent = publisher.sent + count })
+still_publisher publisher old new count is unsent next = record {
+  limited = is.limited;
+  longest = is.longest;
+  journaled = is.journaled;
+  published = next.within;
+  finished = λ closed. absurd (unsent (omega (arith, is.finished closed)));
+}
+
+-- the unsent messages fit by the room that a header leaves, what the lengths take of it, and the bytes
+pub unsent_bytes :
+    (publisher : PublisherState) (lengths joined : ℕ) → IsPublisher publisher →
+    lengths ≡ length publisher.journal.messages - publisher.sent → joined ≡ byte_count (unsent_of publisher) →
+    packet_length (unsent_of publisher) ≡ 20 + (2 * lengths + joined)
+unsent_bytes publisher lengths joined is counted together =
+    omega (
+      arith,
+      packet_bytes (unsent_of publisher),
+      counted,
+      together,
+      length-drop publisher.sent
+          publisher.journal.messages,
+    )
+
+pub too_many :
+    (publisher : PublisherState) (limit lengths : ℕ) → IsPublisher publisher → limit ≡ publisher.limit →
+    lengths ≡ length publisher.journal.messages - publisher.sent → (limit - 20) / 2 < lengths →
+    Fits publisher.limit (unsent_of publisher) → ⊥
+too_many publisher limit lengths is limited counted many fits =
+    let all = unsent_bytes publisher lengths (byte_count (unsent_of publisher)) is counted refl in
+    omega (arith, all, fits, many, limited)
+
+pub full_tells :
+    (publisher : PublisherState) (limit lengths joined : ℕ) → IsPublisher publisher → limit ≡ publisher.limit →
+    lengths ≡ length publisher.journal.messages - publisher.sent → joined ≡ byte_count (unsent_of publisher) →
+    lengths ≤ (limit - 20) / 2 →
+    (ltb (limit - 20 - 2 * lengths) joined ≡ true) ↔ (Fits publisher.limit (unsent_of publisher) → ⊥)
+full_tells publisher limit lengths joined is limited counted together few =
+    let all = unsent_bytes publisher lengths joined is counted together in
+    let bounds = is.limited.0 in (
+      λ full fits. omega (arith, ltb-true (limit - 20 - 2 * lengths) joined full, all, fits, few, limited),
+      λ unfit. ⊎_elim
+          (λ more. lt-ltb (limit - 20 - 2 * lengths) joined more)
+          (λ less. absurd (unfit (omega (arith, less, all, few, limited, bounds))))
+          (cases_lt (limit - 20 - 2 * lengths) joined),
+    )

@@ -1,0 +1,148 @@
+//! The messages of a session, in the order in which they were published.
+
+ghost use Rattle.std.specs.Prelude.{◌≡◌, ◌+◌, ◌≤◌, [], true, false, None, length, drop, take, ◌-◌, unwrap_or, IfOk, IfErr, OnOk, OnErr};
+ghost use Rattle.std.specs.Option.{option_copied};
+ghost use Rattle.mold_messages.specs.Listed.{byte_count};
+ghost use Rattle.mold_session.specs.Journal.{IsJournal, message_numbered, append_refusal, appended};
+ghost use Rattle.mold_session.specs.declared.error.AppendError.{AppendError};
+
+use crate::error::AppendError;
+use mold_messages::{MessageIterator, MessageList};
+use mold_wire::Session;
+use std::alloc::Global;
+use std::marker::Model;
+
+/// The most messages that a session may have.
+const MOST: u64 = 18446744073709551614;
+
+/// The journal of a session: its messages, the first of which has number 1. It is open until it is
+/// closed, and only then takes messages.
+#[derive(Debug, Drop)]
+pub struct Journal {
+    session: Session,
+    max_message: u16,
+    list: MessageList,
+    closed: bool,
+}
+
+impl Model for Journal {
+    ghost use Rattle.mold_session.specs.Journal.{JournalState, AreMessages};
+
+    ghost Value = { JournalState };
+
+    ghost view = { λ j. record {
+      session = j.session;
+      max_message = j.max_message;
+      messages = j.list.messages;
+      closed = j.closed;
+    } };
+
+    ghost invariant = { λ j. AreMessages j.max_message j.list.messages };
+}
+
+impl Journal {
+    /// An open journal without messages, whose messages may have up to `max_message` bytes. It takes no
+    /// memory yet.
+    pub fn new(alloc: Global, session: Session, max_message: u16) -> Journal
+        ensures { result ≡ record { session = session; max_message = max_message; messages = []; closed = false } }
+    {
+        Journal {
+            session,
+            max_message,
+            list: MessageList::new(alloc),
+            closed: false,
+        }
+    }
+
+    /// The session that the messages belong to.
+    pub fn session(&self) -> Session
+        ensures { result ≡ self.now.session }
+    {
+        self.session
+    }
+
+    /// How many bytes a message may have.
+    pub fn max_message(&self) -> u16
+        ensures { result ≡ self.now.max_message }
+    {
+        self.max_message
+    }
+
+    /// Whether no more messages may come.
+    pub fn is_closed(&self) -> bool
+        ensures { result ≡ self.now.closed }
+    {
+        self.closed
+    }
+
+    /// The number that the next message gets: one more than the number of messages.
+    pub fn next(&self) -> u64
+        ensures value { result ≡ length self.now.messages + 1 }
+        ensures journal { IsJournal self.now }
+    {
+        self.len() + 1
+    }
+
+    // How many messages there are.
+    pub(crate) fn len(&self) -> u64
+        ensures value { result ≡ length self.now.messages }
+        ensures journal { IsJournal self.now }
+    {
+        self.list.len() as u64
+    }
+
+    /// The message of this number, in constant time; none for 0 and for numbers not yet given.
+    pub fn get(&self, number: u64) -> Option<&[u8]>
+        ensures { option_copied result ≡ message_numbered self.now.messages number }
+    {
+        let place = number.checked_sub(1)?;
+        self.list.get(place as usize)
+    }
+
+    // The messages from a place on, the first message's being 0.
+    pub(crate) fn iter_from(&self, place: u64) -> MessageIterator<'_>
+        ensures { result ≡ drop place self.now.messages }
+    {
+        self.list.iter_from(place as usize)
+    }
+
+    // How many bytes the messages from a place on have together, in constant time.
+    pub(crate) fn joined_from(&self, place: u64) -> usize
+        requires { place ≤ length self.now.messages }
+        ensures { result ≡ byte_count (drop place self.now.messages) }
+    {
+        self.list.joined_length(place as usize, self.list.len())
+    }
+
+    /// Adds a message behind the last one and answers its number. The journal is unchanged after an
+    /// error, and `Memory` comes only where a growth was refused.
+    pub fn append(&mut self, message: &[u8]) -> Result<u64, AppendError>
+        ensures number { IfOk result (λ number. number ≡ length self.old.messages + 1) }
+        ensures taken { OnOk result (append_refusal self.old message.now ≡ None) }
+        ensures added { OnOk result (self.new ≡ appended self.old message.now) }
+        ensures refused { IfErr result (λ error.
+            error ≡ unwrap_or (append_refusal self.old message.now) AppendError.Memory) }
+        ensures same { OnErr result (self.new ≡ self.old) }
+    {
+        if self.closed {
+            return Err(AppendError::Closed);
+        }
+        if message.len() > usize::from(self.max_message) {
+            return Err(AppendError::TooLong { len: message.len() });
+        }
+        if self.list.len() as u64 == MOST {
+            return Err(AppendError::Full);
+        }
+        match self.list.push(message) {
+            Ok(()) => Ok(self.list.len() as u64),
+            Err(_) => Err(AppendError::Memory),
+        }
+    }
+
+    /// Lets no more messages come. On a closed journal it changes nothing.
+    pub fn close(&mut self)
+        ensures { self.new ≡ record self.old { closed = true } }
+    {
+        self.closed = true;
+    }
+}

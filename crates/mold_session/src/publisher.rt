@@ -1,0 +1,193 @@
+//! The publisher of a session.
+
+ghost use Rattle.std.specs.Prelude.{◌≡◌, ◌↔◌, ◌+◌, ◌-◌, ◌≤◌, [], true, false, None, Err, length, unwrap_or, not, IfOk, IfErr, IsOk, OnOk, OnErr, IsTrue};
+ghost use Rattle.std.specs.Option.{option_copied};
+ghost use Rattle.mold_wire.specs.Packer.{IsLimit};
+ghost use Rattle.mold_wire.specs.Packing.{Fits};
+ghost use Rattle.mold_session.specs.Journal.{append_refusal};
+ghost use Rattle.mold_session.specs.Publisher.{IsPublisher, unsent_of, next_datagram, next_heartbeat, next_end, after_datagram, published, closed, Lends};
+ghost use Rattle.mold_session.specs.declared.error.AppendError.{AppendError};
+ghost use Rattle.mold_session.specs.declared.error.PublisherError.{PublisherError};
+
+use crate::error::{AppendError, PublisherError, Unsent};
+use crate::journal::Journal;
+use crate::packing::pack_front;
+use mold_wire::laws::{front_law, packet_length_law};
+use mold_wire::{Packer, PackerError, Session};
+use std::alloc::Global;
+use std::marker::Model;
+
+/// The bytes of a datagram beside a message that stands alone in it: a header and the message's length.
+const BESIDE: usize = 22;
+
+/// The bytes of a header.
+const HEADER: usize = 20;
+
+/// The bytes of a message block's length.
+const LENGTH: usize = 2;
+
+/// Publishes the messages of a session: it keeps them in a journal, and puts them into datagrams, each
+/// the longest front of what was not yet put in one. Only `new` and `publish` take memory. What a call
+/// lends is valid until the next call.
+#[derive(Debug, Drop)]
+pub struct Publisher {
+    journal: Journal,
+    packer: Packer,
+    // As many bytes as a datagram may have.
+    limit: usize,
+    // How many messages were put in a datagram.
+    sent: u64,
+}
+
+impl Model for Publisher {
+    ghost use Rattle.std.specs.Prelude.{◌≡◌};
+    ghost use Rattle.mold_session.specs.Publisher.{PublisherState, IsPublisher};
+
+    ghost Value = { PublisherState };
+
+    ghost view = { λ p. record { journal = p.journal; limit = p.limit; sent = p.sent } };
+
+    ghost invariant = { λ p. (p.packer.limit ≡ p.limit)
+        × IsPublisher (record { journal = p.journal; limit = p.limit; sent = p.sent }) };
+}
+
+impl Publisher {
+    ghost use Rattle.std.specs.Borrow.{sem};
+    ghost use Rattle.std.specs.Io.BufRead.{Rests};
+    ghost use Rattle.mold_session.specs.contracts.publisher.Publisher.{the_row};
+
+    /// A publisher of an open session without messages, whose datagrams have at most `limit` bytes and
+    /// whose messages at most 22 fewer. It reserves the limit once.
+    pub fn new(alloc: Global, session: Session, limit: usize) -> Result<Publisher, PublisherError>
+        ensures made { IfOk result (λ publisher. publisher ≡ record {
+          journal = record { session = session; max_message = limit - 22; messages = []; closed = false };
+          limit = limit;
+          sent = 0;
+        }) }
+        ensures ok { IsOk result → IsLimit limit }
+        ensures limit { (result ≡ Err PublisherError.Limit) ↔ (¬ IsLimit limit) }
+    {
+        let packer = match Packer::new(alloc, limit) {
+            Ok(packer) => packer,
+            Err(PackerError::Limit) => return Err(PublisherError::Limit),
+            Err(PackerError::Memory) => return Err(PublisherError::Memory),
+        };
+        Ok(Publisher {
+            journal: Journal::new(alloc, session, (limit - BESIDE) as u16),
+            packer,
+            limit,
+            sent: 0,
+        })
+    }
+
+    /// Publishes a message and answers its number. The publisher is unchanged after an error, and
+    /// `Memory` comes only where a growth was refused.
+    pub fn publish(&mut self, message: &[u8]) -> Result<u64, AppendError>
+        ensures number { IfOk result (λ number. number ≡ length self.old.journal.messages + 1) }
+        ensures taken { OnOk result (append_refusal self.old.journal message.now ≡ None) }
+        ensures added { OnOk result (self.new ≡ published self.old message.now) }
+        ensures refused { IfErr result (λ error.
+            error ≡ unwrap_or (append_refusal self.old.journal message.now) AppendError.Memory) }
+        ensures same { OnErr result (self.new ≡ self.old) }
+    {
+        self.journal.append(message)
+    }
+
+    /// How many messages were not yet put in a datagram.
+    pub fn unsent(&self) -> u64
+        ensures value { result ≡ length self.now.journal.messages - self.now.sent }
+        ensures publisher { IsPublisher self.now }
+    {
+        self.journal.len() - self.sent
+    }
+
+    /// Whether the messages that were not yet put in a datagram don't all fit one, in constant time.
+    pub fn is_full(&self) -> bool
+        ensures { IsTrue result ↔ (¬ Fits self.now.limit (unsent_of self.now)) }
+    {
+        let room = self.limit - HEADER;
+        let lengths = self.unsent();
+        if lengths > (room / LENGTH) as u64 {
+            return true;
+        }
+        self.journal.joined_from(self.sent) > room - LENGTH * lengths as usize
+    }
+
+    /// Lends a datagram of the longest front that fits of the messages that were not yet put in one, and
+    /// counts these as put in one; none where there are none. No message that was sent before is looked
+    /// at.
+    pub fn datagram(&mut self) -> Option<&[u8]>
+        ensures* after { sem 𝓛 (Rests the_row self.entry (λ new. new ≡ after_datagram self.old)) }
+        ensures lent { Lends (next_datagram self.old) (option_copied result) }
+    {
+        front_law();
+        packet_length_law();
+        if self.unsent() == 0 {
+            return None;
+        }
+        let messages = self.journal.iter_from(self.sent);
+        let session = self.journal.session();
+        let count = pack_front(&mut self.packer, session, self.sent + 1, messages);
+        self.sent += count;
+        Some(self.packer.bytes())
+    }
+
+    /// Lends a heartbeat with the number of the first message that was not yet put in a datagram; none
+    /// where the session is closed.
+    pub fn heartbeat(&mut self) -> Option<&[u8]>
+        ensures* after { sem 𝓛 (Rests the_row self.entry (λ new. new ≡ self.old)) }
+        ensures lent { Lends (next_heartbeat self.old) (option_copied result) }
+    {
+        if self.journal.is_closed() {
+            return None;
+        }
+        self.packer.start(self.journal.session(), self.sent + 1);
+        Some(self.packer.bytes())
+    }
+
+    /// Closes the session and its journal, where every message was put in a datagram. On a closed
+    /// publisher it changes nothing.
+    pub fn close(&mut self) -> Result<(), Unsent>
+        ensures unsent { IfErr result (λ error. error ≡ record {
+          count = length self.old.journal.messages - self.old.sent;
+        }) }
+        ensures refused { OnErr result (self.old.sent + 1 ≤ length self.old.journal.messages) }
+        ensures ok { OnOk result (self.old.sent ≡ length self.old.journal.messages) }
+        ensures closed { OnOk result (self.new ≡ closed self.old) }
+        ensures same { OnErr result (self.new ≡ self.old) }
+    {
+        let count = self.unsent();
+        if count > 0 {
+            return Err(Unsent { count });
+        }
+        self.journal.close();
+        Ok(())
+    }
+
+    /// Lends an end packet, with one more than the number of messages; none where the session is not
+    /// closed.
+    pub fn end(&mut self) -> Option<&[u8]>
+        ensures* after { sem 𝓛 (Rests the_row self.entry (λ new. new ≡ self.old)) }
+        ensures lent { Lends (next_end self.old) (option_copied result) }
+    {
+        if !self.journal.is_closed() {
+            return None;
+        }
+        self.packer.end(self.journal.session(), self.journal.next());
+        Some(self.packer.bytes())
+    }
+
+    /// Whether the session is closed.
+    pub fn is_closed(&self) -> bool
+        ensures { result ≡ self.now.journal.closed }
+    {
+        self.journal.is_closed()
+    }
+
+    /// The journal of what was published.
+    pub fn journal(&self) -> &Journal
+        ensures { result.now ≡ self.now.journal }
+    {
+        &self.journal
+    }
+}
