@@ -1,0 +1,6 @@
+pub mod Store
+pub mod View
+pub mod Receive
+pub mod Wanted
+pub mod Batch
+pub mod Slots

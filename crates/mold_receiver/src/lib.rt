@@ -1,0 +1,10 @@
+//! The receiver of MoldUDP64 downstream packets: it hands messages on in sequence, each once, and stores
+//! what comes above a gap.
+#![tactic(auto)]
+
+mod refused;
+mod slots;
+mod taken;
+
+pub use refused::{ReceiverError, Refused};
+pub use taken::Taken;
