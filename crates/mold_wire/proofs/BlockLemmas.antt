@@ -1,11 +1,15 @@
 -- Whole blocks at the front of some bytes, and the messages read from them.
-use Rattle.std.proofs.Common.{◌≡◌, ℕ, suc, ◌+◌, ◌-◌, ◌<◌, ◌^◌, List, [], ◌∷◌, ◌++◌, length, length-append, take, drop, refl, sym, ap, subst, ◌∙◌, append_assoc, arith}
+use Rattle.std.proofs.Common.{◌≡◌, ℕ, suc, ◌+◌, ◌-◌, ◌<◌, ◌^◌, List, [], ◌∷◌, ◌++◌, length, length-append, take, drop}
+use Rattle.std.proofs.Common.{refl, sym, ap, subst, ◌∙◌, append_assoc, arith}
+use Rattle.std.specs.Prelude.{◌==◌}
+use Rattle.std.specs.Bool.{one_answer}
 use Rattle.std.specs.List.{AllByRecursion}
+use Rattle.std.specs.Cmp.Lexicographic.{pointwise, pointwise_decides, bytes_decides}
 use Rattle.std.proofs.lemmas.List.{take_at, drop_at, append-nil, append_cancel_left}
 use Rattle.byteorder.specs.Endian.{big_number}
 use Rattle.mold_wire.specs.Block.{be16, IsMessage, block, blocks, messages_at, AreBlocks}
-use Rattle.mold_wire.specs.Fault.{BeginsNoBlock}
-use Rattle.mold_wire.specs.Parts.{IsBlockAndRest, AreBlocksAndRest, IsCutAt}
+use Rattle.mold_wire.specs.Block.{AreBlocksAndRest, BeginsNoBlock, AreCutBlocks}
+use Rattle.mold_wire.specs.Parts.{IsBlockAndRest}
 
 -- two bytes read back as the number that they were written from
 pub big_number-be16 : (number : ℕ) (rest : List ℕ) → number < 2 ^ 16 → big_number 2 (be16 number ++ rest) ≡ number
@@ -17,7 +21,9 @@ blocks-append (message ∷ front) back =
     ap (λ (t : List ℕ). block message ++ t) (blocks-append front back)
     ∙ sym (append_assoc (block message) (blocks front) (blocks back))
 
-pub each-append : (front : List (List ℕ)) (message : List ℕ) → AllByRecursion IsMessage front → IsMessage message → AllByRecursion IsMessage (front ++ message ∷ [])
+pub each-append :
+    (front : List (List ℕ)) (message : List ℕ) → AllByRecursion IsMessage front → IsMessage message →
+    AllByRecursion IsMessage (front ++ message ∷ [])
 each-append [] message each one = (one, tt)
 each-append (first ∷ front) message each one = (each.0, each-append front message each.1 one)
 
@@ -26,7 +32,9 @@ pub blocks_none : (bytes : List ℕ) → AreBlocksAndRest 0 bytes bytes
 blocks_none bytes = record { messages = []; counted = refl; each = tt; parts = refl }
 
 -- one more block joins those at the front
-pub blocks_more : (number : ℕ) (bytes rest message more : List ℕ) → AreBlocksAndRest number bytes rest → IsBlockAndRest rest message more → AreBlocksAndRest (number + 1) bytes more
+pub blocks_more :
+    (number : ℕ) (bytes rest message more : List ℕ) → AreBlocksAndRest number bytes rest →
+    IsBlockAndRest rest message more → AreBlocksAndRest (number + 1) bytes more
 blocks_more number bytes rest message more found next = record {
   messages = found.messages ++ message ∷ [];
   counted = omega (arith, length-append found.messages (message ∷ []), found.counted);
@@ -41,18 +49,24 @@ blocks_more number bytes rest message more found next = record {
       );
 }
 
-pub cut_behind : (number : ℕ) (bytes rest : List ℕ) → AreBlocksAndRest number bytes rest → BeginsNoBlock rest → IsCutAt number bytes
+pub cut_behind :
+    (number : ℕ) (bytes rest : List ℕ) → AreBlocksAndRest number bytes rest → BeginsNoBlock rest →
+    AreCutBlocks number bytes
 cut_behind number bytes rest found cut = record { rest = rest; whole = found; cut = cut }
 
 -- the first message read is that of the block at the front
-pub messages_at-block : (number : ℕ) (message rest : List ℕ) → IsMessage message → messages_at (suc number) (block message ++ rest) ≡ message ∷ messages_at number rest
+pub messages_at-block :
+    (number : ℕ) (message rest : List ℕ) → IsMessage message →
+    messages_at (suc number) (block message ++ rest) ≡ message ∷ messages_at number rest
 unfolding messages_at
 messages_at-block number message rest fits =
     let len : big_number 2 (be16 (length message) ++ (message ++ rest)) ≡ length message = big_number-be16 (length message) (message ++ rest) fits in
     rw (len, take_at message rest (length message) refl, drop_at message rest (length message) refl) refl
 
 -- what was spelled is read back, whatever follows it
-pub messages_at-blocks : (messages : List (List ℕ)) (rest : List ℕ) → AllByRecursion IsMessage messages → messages_at (length messages) (blocks messages ++ rest) ≡ messages
+pub messages_at-blocks :
+    (messages : List (List ℕ)) (rest : List ℕ) → AllByRecursion IsMessage messages →
+    messages_at (length messages) (blocks messages ++ rest) ≡ messages
 unfolding messages_at
 messages_at-blocks [] rest each = refl
 messages_at-blocks (message ∷ messages) rest each =
@@ -61,7 +75,8 @@ messages_at-blocks (message ∷ messages) rest each =
     ∙ ap (λ (t : List (List ℕ)). message ∷ t) (messages_at-blocks messages rest each.1)
 
 -- whole blocks with nothing behind them are all of the bytes
-pub are_blocks : (number : ℕ) (bytes rest : List ℕ) → AreBlocksAndRest number bytes rest → rest ≡ [] → AreBlocks number bytes
+pub are_blocks :
+    (number : ℕ) (bytes rest : List ℕ) → AreBlocksAndRest number bytes rest → rest ≡ [] → AreBlocks number bytes
 are_blocks number bytes rest found none =
     let all : bytes ≡ blocks found.messages = found.parts ∙ ap (λ (t : List ℕ). blocks found.messages ++ t) none ∙ append-nil (blocks found.messages) in
     let read : messages_at number bytes ≡ found.messages =
@@ -80,7 +95,9 @@ pub record FirstBlock (left number : ℕ) (bytes message rest : List ℕ) : Type
   pub first : messages_at left bytes ≡ message ∷ messages_at number rest
   pub others : AreBlocks number rest
 
-first_of_more : (number : ℕ) (bytes message rest : List ℕ) → AreBlocks (suc number) bytes → IsBlockAndRest bytes message rest → FirstBlock (suc number) number bytes message rest
+first_of_more :
+    (number : ℕ) (bytes message rest : List ℕ) → AreBlocks (suc number) bytes → IsBlockAndRest bytes message rest →
+    FirstBlock (suc number) number bytes message rest
 first_of_more number bytes message rest whole found =
     let first : messages_at (suc number) bytes ≡ message ∷ messages_at number rest =
     ap (messages_at (suc number)) found.parts ∙ messages_at-block number message rest found.each
@@ -100,7 +117,9 @@ first_of_more number bytes message rest whole found =
       };
     }
 
-pub first_block : (left number : ℕ) (bytes message rest : List ℕ) → left ≡ suc number → AreBlocks left bytes → IsBlockAndRest bytes message rest → FirstBlock left number bytes message rest
+pub first_block :
+    (left number : ℕ) (bytes message rest : List ℕ) → left ≡ suc number → AreBlocks left bytes →
+    IsBlockAndRest bytes message rest → FirstBlock left number bytes message rest
 first_block left number bytes message rest more whole found =
     subst (λ (n : ℕ). FirstBlock n number bytes message rest) (sym more)
     (first_of_more number bytes message rest (subst (λ (n : ℕ). AreBlocks n bytes) more whole) found)
@@ -120,3 +139,15 @@ pub block_begins : (left : ℕ) (bytes : List ℕ) → 0 < left → AreBlocks le
 block_begins left bytes more whole none =
     let e : left ≡ suc (left - 1) = omega arith in
     begins_of_more (left - 1) bytes (subst (λ (n : ℕ). AreBlocks n bytes) e whole) none
+
+-- blocks of as many messages are the same bytes exactly where the messages are the same
+pub same_blocks :
+    (count number : ℕ) (one other : List ℕ) → count ≡ number → AreBlocks count one → AreBlocks number other →
+    pointwise ◌==◌ one other ≡ pointwise (pointwise ◌==◌) (messages_at count one) (messages_at number other)
+same_blocks count number one other same_number is also =
+    let messages = pointwise_decides bytes_decides (messages_at count one) (messages_at number other) in
+    one_answer (pointwise ◌==◌ one other) (pointwise (pointwise ◌==◌) (messages_at count one) (messages_at number other))
+    (bytes_decides one other) (
+      λ same. is.spelled ∙ ap blocks (messages.0 same) ∙ sym also.spelled,
+      λ same. messages.1 (ap (messages_at count) same ∙ ap (λ (n : ℕ). messages_at n other) same_number),
+    )

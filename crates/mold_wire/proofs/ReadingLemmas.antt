@@ -1,21 +1,25 @@
 -- What is spelled is read, and each fault is read as itself. So no bytes spell two packets, have two
 -- faults, or a packet and a fault.
-use Rattle.std.proofs.Common.{◌≡◌, ℕ, zero, suc, ◌+◌, ◌-◌, ◌<◌, ◌≤◌, ◌^◌, true, cond, eqb, leb, ltb, List, [], ◌∷◌, ◌++◌, length, length-append, take, drop, get_or, refl, sym, ap, subst, ◌∙◌, append_assoc, inl, inr, length-drop, arith, lit<}
+use Rattle.std.proofs.Common.{◌≡◌, ℕ, zero, suc, ◌+◌, ◌-◌, ◌<◌, ◌≤◌, ◌^◌, true, cond, eqb, leb, ltb, List, [], ◌∷◌}
+use Rattle.std.proofs.Common.{◌++◌, length, length-append, take, drop, refl, sym, ap, subst, ◌∙◌}
+use Rattle.std.proofs.Common.{append_assoc, inl, inr, length-drop, arith, lit<}
 use Rattle.std.specs.Prelude.{Result, Ok, Err, IfOk, IfErr}
 use Rattle.std.specs.List.{AllByRecursion}
-use Rattle.std.proofs.lemmas.Bool.{leb-true, le-leb, cases_Bool, cases_lt, lt-ltb, le-ltb, ne_eqb, cond-true, cond-false}
-use Rattle.std.proofs.lemmas.List.{take_at, drop_at, drop-drop, take-append-drop, append-nil, length-take-le, length-take, get_or-take, get_or_past, get_or-append-add}
-use Rattle.std.proofs.lemmas.Nat.{be_bytes_2}
+use Rattle.std.proofs.lemmas.Bool.{leb-true, le-leb, cases_Bool, cases_lt, lt-ltb, le-ltb, ne_eqb, cond-true}
+use Rattle.std.proofs.lemmas.Bool.{cond-false}
+use Rattle.std.proofs.lemmas.List.{take_at, drop_at, drop-drop, take-append-drop, append-nil, length-take-le}
+use Rattle.std.proofs.lemmas.List.{length-take, get_or-take, get_or-drop, get_or_past, get_or-append-add}
+use Rattle.std.proofs.lemmas.Nat.{be_bytes_2, be_bytes_8}
 use Rattle.byteorder.specs.Endian.{big_number}
 use Rattle.mold_wire.specs.declared.packet.Packet.{Packet}
 use Rattle.mold_wire.specs.declared.packet.Body.{Body}
 use Rattle.mold_wire.specs.declared.packet.Body.TheVariants.{Data, Heartbeat, End}
 use Rattle.mold_wire.specs.declared.error.DecodeError.{DecodeError}
 use Rattle.mold_wire.specs.declared.error.DecodeError.TheVariants.{Short, BlockCut, Trailing}
-use Rattle.mold_wire.specs.Block.{be16, be64, IsMessage, block, blocks}
+use Rattle.mold_wire.specs.Block.{IsBytes, be16, be64, IsMessage, block, blocks, BeginsNoBlock}
 use Rattle.mold_wire.specs.Packet.{IsBody, count_of, messages_of, Spells}
-use Rattle.mold_wire.specs.Parts.{stated_blocks}
-use Rattle.mold_wire.specs.Fault.{BeginsNoBlock, IsCut, IsTrailing, FaultAt}
+use Rattle.mold_wire.specs.Parts.{IsBlockAndRest, stated_blocks}
+use Rattle.mold_wire.specs.Fault.{IsCutPacket, IsTrailing, FaultAt}
 use Rattle.mold_wire.specs.Reading.{blocks_at, behind_first, body_of, packet_from, reading}
 use Rattle.mold_wire.proofs.BlockLemmas.{big_number-be16}
 
@@ -25,10 +29,6 @@ done packet = Ok packet
 abbrev refusal : DecodeError → Result Packet DecodeError
 refusal error = Err error
 
--- every element is a byte
-abbrev pub IsBytes : List ℕ → Type 0
-IsBytes bytes = (i : ℕ) → get_or bytes i 0 < 256
-
 IsBytes-take : (n : ℕ) (bytes : List ℕ) → IsBytes bytes → IsBytes (take n bytes)
 IsBytes-take n bytes fits i =
     elim (cases_lt i n) [
@@ -37,10 +37,37 @@ IsBytes-take n bytes fits i =
     ]
 
 pub IsBytes-behind : (front bytes : List ℕ) → IsBytes (front ++ bytes) → IsBytes bytes
-IsBytes-behind front bytes fits i = subst (λ (n : ℕ). n < 256) (get_or-append-add front bytes i 0) (fits (length front + i))
+IsBytes-behind front bytes fits i =
+    subst (λ (n : ℕ). n < 256) (get_or-append-add front bytes i 0) (fits (length front + i))
+
+pub IsBytes-drop : (n : ℕ) (bytes : List ℕ) → IsBytes bytes → IsBytes (drop n bytes)
+IsBytes-drop n bytes fits i = rw (get_or-drop n bytes i 0) (fits (n + i))
+
+-- the first two bytes, and the first eight, are those of the number that they read as
+pub be16-read : (bytes : List ℕ) → IsBytes bytes → 2 ≤ length bytes → be16 (big_number 2 bytes) ≡ take 2 bytes
+be16-read bytes fits long =
+    be_bytes_2 (take 2 bytes) (big_number 2 bytes) (length-take-le 2 bytes long) (IsBytes-take 2 bytes fits)
+    (omega (arith, get_or-take 2 bytes 0 0, get_or-take 2 bytes 1 0))
+
+pub be64-read : (bytes : List ℕ) → IsBytes bytes → 8 ≤ length bytes → be64 (big_number 8 bytes) ≡ take 8 bytes
+be64-read bytes fits long =
+    be_bytes_8 (take 8 bytes) (big_number 8 bytes) (length-take-le 8 bytes long) (IsBytes-take 8 bytes fits)
+    (omega (
+      arith,
+      get_or-take 8 bytes 0 0,
+      get_or-take 8 bytes 1 0,
+      get_or-take 8 bytes 2 0,
+      get_or-take 8 bytes 3 0,
+      get_or-take 8 bytes 4 0,
+      get_or-take 8 bytes 5 0,
+      get_or-take 8 bytes 6 0,
+      get_or-take 8 bytes 7 0,
+    ))
 
 -- a block at the front is read first
-pub blocks_at-block : (number : ℕ) (message rest : List ℕ) → IsMessage message → blocks_at (suc number) (block message ++ rest) ≡ behind_first message (blocks_at number rest)
+pub blocks_at-block :
+    (number : ℕ) (message rest : List ℕ) → IsMessage message →
+    blocks_at (suc number) (block message ++ rest) ≡ behind_first message (blocks_at number rest)
 unfolding blocks_at
 blocks_at-block number message rest fits =
     let len : big_number 2 (be16 (length message) ++ (message ++ rest)) ≡ length message = big_number-be16 (length message) (message ++ rest) fits in
@@ -50,7 +77,9 @@ blocks_at-block number message rest fits =
     rw (len, whole, take_at message rest (length message) refl, drop_at message rest (length message) refl) refl
 
 -- whole blocks are read, whatever follows them
-pub blocks_at-blocks : (messages : List (List ℕ)) (rest : List ℕ) → AllByRecursion IsMessage messages → blocks_at (length messages) (blocks messages ++ rest) ≡ Ok (messages, rest)
+pub blocks_at-blocks :
+    (messages : List (List ℕ)) (rest : List ℕ) → AllByRecursion IsMessage messages →
+    blocks_at (length messages) (blocks messages ++ rest) ≡ Ok (messages, rest)
 unfolding blocks_at
 blocks_at-blocks [] rest each = refl
 blocks_at-blocks (message ∷ messages) rest each =
@@ -58,35 +87,37 @@ blocks_at-blocks (message ∷ messages) rest each =
     ∙ blocks_at-block (length messages) message (blocks messages ++ rest) each.0
     ∙ ap (behind_first message) (blocks_at-blocks messages rest each.1)
 
--- bytes that hold as much as their first two say begin with a whole block
-begins_block : (bytes : List ℕ) → IsBytes bytes → 2 + big_number 2 bytes ≤ length bytes → BeginsNoBlock bytes → ⊥
-begins_block bytes fits long none =
+-- bytes that hold as much as their first two say begin with that block
+pub block_stands :
+    (bytes : List ℕ) → IsBytes bytes → 2 + big_number 2 bytes ≤ length bytes →
+    IsBlockAndRest bytes (take (big_number 2 bytes) (drop 2 bytes)) (drop (big_number 2 bytes) (drop 2 bytes))
+block_stands bytes fits long =
     let number = big_number 2 bytes in
     let behind = drop 2 bytes in
     let message = take number behind in
     let number_fits : number < 2 ^ 16 = omega (arith, fits 0, fits 1) in
     let behind_length : length behind ≡ length bytes - 2 = length-drop 2 bytes in
     let message_length : length message ≡ number = length-take-le number behind (omega arith) in
-    let head : be16 number ≡ take 2 bytes =
-    be_bytes_2 (take 2 bytes) number (length-take-le 2 bytes (omega arith)) (IsBytes-take 2 bytes fits)
-    (omega (arith, get_or-take 2 bytes 0 0, get_or-take 2 bytes 1 0))
-    in
-    let parts : bytes ≡ block message ++ drop number behind =
-    sym (take-append-drop 2 bytes)
-    ∙ ap (λ (t : List ℕ). t ++ behind) (sym head)
-    ∙ ap (λ (t : List ℕ). be16 number ++ t) (sym (take-append-drop number behind))
-    ∙ ap (λ (n : ℕ). be16 n ++ (message ++ drop number behind)) (sym message_length)
-    in
-    none message (drop number behind) (omega arith) parts
+    record {
+      each = omega arith;
+      parts =
+          sym (take-append-drop 2 bytes)
+          ∙ ap (λ (t : List ℕ). t ++ behind) (sym (be16-read bytes fits (omega arith)))
+          ∙ ap (λ (t : List ℕ). be16 number ++ t) (sym (take-append-drop number behind))
+          ∙ ap (λ (n : ℕ). be16 n ++ (message ++ drop number behind)) (sym message_length);
+    }
 
 -- the first block that is cut is told by its index
-pub blocks_at-cut : (whole : List (List ℕ)) (rest : List ℕ) (number : ℕ) → AllByRecursion IsMessage whole → length whole < number → IsBytes rest → BeginsNoBlock rest → blocks_at number (blocks whole ++ rest) ≡ Err (length whole)
+pub blocks_at-cut :
+    (whole : List (List ℕ)) (rest : List ℕ) (number : ℕ) → AllByRecursion IsMessage whole → length whole < number →
+    IsBytes rest → BeginsNoBlock rest → blocks_at number (blocks whole ++ rest) ≡ Err (length whole)
 unfolding blocks_at
 blocks_at-cut [] rest zero each below fits cut = absurd (omega arith)
 blocks_at-cut [] rest (suc number) each below fits cut =
     cond-false (leb (2 + big_number 2 rest) (length rest)) _ _
     (elim (cases_Bool (leb (2 + big_number 2 rest) (length rest))) [
-      | inl long ↦ absurd (begins_block rest fits (leb-true _ _ long) cut)
+      | inl long ↦
+          let block = block_stands rest fits (leb-true _ _ long) in absurd (cut _ _ block.each block.parts)
       | inr short ↦ short
     ])
 blocks_at-cut (message ∷ whole) rest zero each below fits cut = absurd (omega arith)
@@ -105,7 +136,9 @@ pub record CountRead (bytes : List ℕ) (count : ℕ) (behind : List ℕ) : Type
   pub rest : drop 20 bytes ≡ behind
   pub long : length bytes ≡ 20 + length behind
 
-pub count_read : (front bytes : List ℕ) (count : ℕ) (behind : List ℕ) → length front ≡ 18 → count < 2 ^ 16 → bytes ≡ front ++ (be16 count ++ behind) → CountRead bytes count behind
+pub count_read :
+    (front bytes : List ℕ) (count : ℕ) (behind : List ℕ) → length front ≡ 18 → count < 2 ^ 16 →
+    bytes ≡ front ++ (be16 count ++ behind) → CountRead bytes count behind
 count_read front bytes count behind len fits parts =
     let at : drop 18 bytes ≡ be16 count ++ behind = ap (λ (t : List ℕ). drop 18 t) parts ∙ drop_at front (be16 count ++ behind) 18 len in
     record {
@@ -138,7 +171,9 @@ each-messages_of Heartbeat is = tt
 each-messages_of End is = tt
 
 -- a packet with any bytes behind it gives its parts and these bytes
-reading-parts : (packet : Packet) (front more bytes : List ℕ) → Spells packet front → bytes ≡ front ++ more → reading bytes ≡ packet_from packet.session.0 packet.sequence (count_of packet.body) (length bytes) (Ok (messages_of packet.body, more))
+reading-parts :
+    (packet : Packet) (front more bytes : List ℕ) → Spells packet front → bytes ≡ front ++ more →
+    reading bytes ≡ packet_from packet.session.0 packet.sequence (count_of packet.body) (length bytes) (Ok (messages_of packet.body, more))
 unfolding reading
 reading-parts packet front more bytes spells parts =
     let session = packet.session.0 in
@@ -153,19 +188,19 @@ reading-parts packet front more bytes spells parts =
     in
     let at : CountRead bytes count behind =
     count_read (session ++ be64 packet.sequence) bytes count behind
-    (omega (arith, length-append session (be64 packet.sequence), spells.session))
-    (count_of-fits packet.body spells.body)
+    (omega (arith, length-append session (be64 packet.sequence), spells.is_packet.session))
+    (count_of-fits packet.body spells.is_packet.body)
     (laid ∙ sym (append_assoc session (be64 packet.sequence) numbers))
     in
-    let name : take 10 bytes ≡ session = ap (λ (t : List ℕ). take 10 t) laid ∙ take_at session _ 10 spells.session in
+    let name : take 10 bytes ≡ session = ap (λ (t : List ℕ). take 10 t) laid ∙ take_at session _ 10 spells.is_packet.session in
     let number : big_number 8 (drop 10 bytes) ≡ packet.sequence =
     ap (λ (t : List ℕ). big_number 8 (drop 10 t)) laid
-    ∙ ap (λ (t : List ℕ). big_number 8 t) (drop_at session (be64 packet.sequence ++ numbers) 10 spells.session)
-    ∙ big_number-be64 packet.sequence numbers spells.sequence
+    ∙ ap (λ (t : List ℕ). big_number 8 t) (drop_at session (be64 packet.sequence ++ numbers) 10 spells.is_packet.session)
+    ∙ big_number-be64 packet.sequence numbers spells.is_packet.sequence
     in
     let found : blocks_at (stated_blocks count) behind ≡ Ok (messages, more) =
-    ap (λ (n : ℕ). blocks_at n behind) (stated-count_of packet.body spells.body)
-    ∙ blocks_at-blocks messages more (each-messages_of packet.body spells.body)
+    ap (λ (n : ℕ). blocks_at n behind) (stated-count_of packet.body spells.is_packet.body)
+    ∙ blocks_at-blocks messages more (each-messages_of packet.body spells.is_packet.body)
     in
     cond-false (ltb (length bytes) 20) _ _ (le-ltb (length bytes) 20 (omega (arith, at.long)))
     ∙ rw (name, number, at.read, at.rest, found) refl
@@ -173,7 +208,7 @@ reading-parts packet front more bytes spells parts =
 pub reading-spelled : (packet : Packet) (bytes : List ℕ) → Spells packet bytes → reading bytes ≡ Ok packet
 reading-spelled packet bytes spells =
     reading-parts packet bytes [] bytes spells (sym (append-nil bytes))
-    ∙ ap (λ (b : Body). done (record { session = packet.session; sequence = packet.sequence; body = b })) (body_of-count_of packet.body spells.body)
+    ∙ ap (λ (b : Body). done (record { session = packet.session; sequence = packet.sequence; body = b })) (body_of-count_of packet.body spells.is_packet.body)
 
 pub reading-trailing : (at : ℕ) (bytes : List ℕ) → IsTrailing at bytes → reading bytes ≡ Err (Trailing at)
 reading-trailing at bytes is =
@@ -181,27 +216,35 @@ reading-trailing at bytes is =
     ∙ cond-false (eqb (length is.more) 0) _ _ (ne_eqb (length is.more) 0 (λ e. omega (arith, is.some, e)))
     ∙ ap (λ (n : ℕ). refusal (Trailing n)) (omega (arith, is.place, ap (λ (t : List ℕ). length t) is.parts, length-append is.front is.more))
 
-pub reading-cut : (index : ℕ) (bytes : List ℕ) → IsBytes bytes → IsCut index bytes → reading bytes ≡ Err (BlockCut index)
+pub reading-cut :
+    (index : ℕ) (bytes : List ℕ) → IsBytes bytes → IsCutPacket index bytes → reading bytes ≡ Err (BlockCut index)
 unfolding reading
 reading-cut index bytes fits is =
-    let behind : List ℕ = blocks is.whole ++ is.rest in
-    let at : CountRead bytes is.count behind = count_read is.front bytes is.count behind is.front_length (omega (arith, is.data_count)) is.parts in
-    let numbers = is.front ++ (be16 is.count ++ blocks is.whole) in
-    let stated : stated_blocks is.count ≡ is.count = cond-false (eqb is.count 65535) 0 is.count (ne_eqb is.count 65535 (λ e. omega (arith, is.data_count, e))) in
-    let rest_fits : IsBytes is.rest =
-    IsBytes-behind (blocks is.whole) is.rest
-    (IsBytes-behind (be16 is.count) behind
-    (IsBytes-behind is.front (be16 is.count ++ behind) (subst (λ (t : List ℕ). IsBytes t) is.parts fits)))
+    let at : CountRead bytes is.count is.behind =
+    count_read is.front bytes is.count is.behind is.front_length (omega (arith, is.data_count)) is.parts
     in
-    let found : blocks_at (stated_blocks is.count) behind ≡ Err (length is.whole) =
-    ap (λ (n : ℕ). blocks_at n behind) stated
-    ∙ blocks_at-cut is.whole is.rest is.count is.each (omega (arith, is.number, is.below)) rest_fits is.cut
+    let found = is.cut.whole in
+    let stated : stated_blocks is.count ≡ is.count =
+    cond-false (eqb is.count 65535) 0 is.count (ne_eqb is.count 65535 (λ e. omega (arith, is.data_count, e)))
+    in
+    let behind_fits : IsBytes is.behind =
+    IsBytes-behind (be16 is.count) is.behind
+    (IsBytes-behind is.front (be16 is.count ++ is.behind) (subst (λ (t : List ℕ). IsBytes t) is.parts fits))
+    in
+    let rest_fits : IsBytes is.cut.rest =
+    IsBytes-behind (blocks found.messages) is.cut.rest (subst (λ (t : List ℕ). IsBytes t) found.parts behind_fits)
+    in
+    let cut : blocks_at (stated_blocks is.count) is.behind ≡ Err (length found.messages) =
+    ap (λ (n : ℕ). blocks_at n is.behind) stated
+    ∙ ap (blocks_at is.count) found.parts
+    ∙ blocks_at-cut found.messages is.cut.rest is.count found.each (omega (arith, found.counted, is.below)) rest_fits is.cut.cut
     in
     cond-false (ltb (length bytes) 20) _ _ (le-ltb (length bytes) 20 (omega (arith, at.long)))
-    ∙ rw (at.read, at.rest, found) refl
-    ∙ ap (λ (n : ℕ). refusal (BlockCut n)) is.number
+    ∙ rw (at.read, at.rest, cut) refl
+    ∙ ap (λ (n : ℕ). refusal (BlockCut n)) found.counted
 
-pub reading-fault : (error : DecodeError) (bytes : List ℕ) → IsBytes bytes → FaultAt error bytes → reading bytes ≡ Err error
+pub reading-fault :
+    (error : DecodeError) (bytes : List ℕ) → IsBytes bytes → FaultAt error bytes → reading bytes ≡ Err error
 unfolding reading
 reading-fault (Short len) bytes fits is =
     cond-true (ltb (length bytes) 20) _ _ (lt-ltb (length bytes) 20 is.0)
@@ -210,6 +253,8 @@ reading-fault (BlockCut index) bytes fits is = reading-cut index bytes fits is
 reading-fault (Trailing at) bytes fits is = reading-trailing at bytes is
 
 -- an answer that is spelled, or a refusal that is the fault, is what the bytes read as
-pub reading_answer : (result : Result Packet DecodeError) (bytes : List ℕ) → IsBytes bytes → IfOk result (λ packet. Spells packet bytes) → IfErr result (λ error. FaultAt error bytes) → result ≡ reading bytes
+pub reading_answer :
+    (result : Result Packet DecodeError) (bytes : List ℕ) → IsBytes bytes →
+    IfOk result (λ packet. Spells packet bytes) → IfErr result (λ error. FaultAt error bytes) → result ≡ reading bytes
 reading_answer (Ok packet) bytes fits spells fault = sym (reading-spelled packet bytes spells)
 reading_answer (Err error) bytes fits spells fault = sym (reading-fault error bytes fits fault)

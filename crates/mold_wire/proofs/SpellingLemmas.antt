@@ -11,7 +11,7 @@ use Rattle.mold_wire.proofs.ReadingLemmas.{reading-spelled}
 use Rattle.mold_wire.proofs.RequestLemmas.{request_reading-spelled}
 
 pub packet_spelled : (packet : Packet) → IsPacket packet → Spells packet (spelling_of packet)
-packet_spelled packet is = record { session = is.session; sequence = is.sequence; body = is.body; spelled = refl }
+packet_spelled packet is = record { is_packet = is; spelled = refl }
 
 abbrev packet_read : Packet → Result Packet DecodeError
 packet_read packet = Ok packet
@@ -23,7 +23,7 @@ pub one_packet : (one other : Packet) (bytes : List ℕ) → Spells one bytes �
 one_packet one other bytes spells also = same_packet one other (sym (reading-spelled one bytes spells) ∙ reading-spelled other bytes also)
 
 pub request_spelled : (request : Request) → IsRequest request → SpellsRequest request (request_spelling request)
-request_spelled request is = record { session = is.session; sequence = is.sequence; count = is.count; spelled = refl }
+request_spelled request is = record { is_request = is; spelled = refl }
 
 abbrev request_read : Request → Result Request RequestError
 request_read request = Ok request
@@ -31,6 +31,7 @@ request_read request = Ok request
 same_request : (one other : Request) → request_read one ≡ request_read other → one ≡ other
 same_request one other e = cc
 
-pub one_request : (one other : Request) (bytes : List ℕ) → SpellsRequest one bytes → SpellsRequest other bytes → one ≡ other
+pub one_request :
+    (one other : Request) (bytes : List ℕ) → SpellsRequest one bytes → SpellsRequest other bytes → one ≡ other
 one_request one other bytes spells also =
     same_request one other (sym (request_reading-spelled one bytes spells) ∙ request_reading-spelled other bytes also)

@@ -14,7 +14,7 @@ pub data Begun : Type 0 where
   Ended : (session : Session) (sequence : ℕ) → Begun
 
 -- what a packer is to its users
-pub record Packing : Type 0 where
+pub record PackerState : Type 0 where
   pub limit : ℕ
   pub begun : Begun
 

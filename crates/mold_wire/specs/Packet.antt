@@ -24,25 +24,23 @@ IsBody (Data messages) = (0 < length messages) × (length messages < 65535) × A
 IsBody Heartbeat = Unit {0}
 IsBody End = Unit {0}
 
--- the bytes are the session, the sequence number, the message count and the blocks of the packet, and
--- nothing else
-pub record Spells (packet : Packet) (bytes : List ℕ) : Type 0 where
-  pub session : length packet.session.0 ≡ 10
-  pub sequence : packet.sequence < 2 ^ 64
-  pub body : IsBody packet.body
-  pub spelled : bytes ≡ packet.session.0 ++ (be64 packet.sequence ++ (be16 (count_of packet.body) ++ blocks (messages_of packet.body)))
-
--- one more than the number of the packet's last message, and for a heartbeat or an end packet its
--- sequence number
-abbrev pub top_of : Packet → ℕ
-top_of packet = packet.sequence + length (messages_of packet.body)
-
 -- a value that has a spelling: ten bytes, a number of 64 bits, and a body
 pub record IsPacket (packet : Packet) : Type 0 where
   pub session : length packet.session.0 ≡ 10
   pub sequence : packet.sequence < 2 ^ 64
   pub body : IsBody packet.body
 
--- its spelling
+-- its spelling: the session, the sequence number, the message count and the blocks, and nothing else
 abbrev pub spelling_of : Packet → List ℕ
-spelling_of packet = packet.session.0 ++ (be64 packet.sequence ++ (be16 (count_of packet.body) ++ blocks (messages_of packet.body)))
+spelling_of packet =
+    packet.session.0 ++ (be64 packet.sequence ++ (be16 (count_of packet.body) ++ blocks (messages_of packet.body)))
+
+-- the bytes are the spelling of the packet
+pub record Spells (packet : Packet) (bytes : List ℕ) : Type 0 where
+  pub is_packet : IsPacket packet
+  pub spelled : bytes ≡ spelling_of packet
+
+-- one more than the number of the packet's last message, and for a heartbeat or an end packet its
+-- sequence number
+abbrev pub top_of : Packet → ℕ
+top_of packet = packet.sequence + length (messages_of packet.body)

@@ -1,5 +1,7 @@
--- Packing: which messages fit a datagram, and the longest front of some messages that does.
-use Rattle.std.specs.Prelude.{◌≡◌, ℕ, zero, suc, ◌+◌, ◌≤◌, List, ◌++◌, length, take, sum_by, nat_le, if◌then◌else◌}
+-- Packing: which messages fit a datagram, and the longest front of some messages that does. What the
+-- longest front is, `IsFront` says; `front` computes it, and that the two agree is `laws::front_law`.
+use Rattle.std.specs.Prelude.{◌≡◌, ℕ, zero, suc, ◌+◌, ◌-◌, ◌≤◌, List, [], ◌∷◌, ◌++◌, length, sum_by, nat_le}
+use Rattle.std.specs.Prelude.{if◌then◌else◌}
 
 -- the bytes of a packet with these messages: a header, and for each message two and its length
 unfoldable pub packet_length : List (List ℕ) → ℕ
@@ -15,14 +17,14 @@ pub record IsFront (limit : ℕ) (messages : List (List ℕ)) (most : ℕ) (foun
   pub parts : messages ≡ found ++ behind
   pub few : length found ≤ most
   pub fits : Fits limit found
-  pub longest : (other more : List (List ℕ)) → messages ≡ other ++ more → length other ≤ most → Fits limit other → length other ≤ length found
+  pub longest : (other more : List (List ℕ)) →
+      messages ≡ other ++ more → length other ≤ most → Fits limit other → length other ≤ length found
 
--- the greatest number, at most so many, of messages from the front that fit
-unfoldable pub fitting : ℕ → List (List ℕ) → ℕ → ℕ
-fitting limit messages zero = 0
-fitting limit messages (suc most) =
-    if nat_le (packet_length (take (suc most) messages)) limit then suc most else fitting limit messages most
-
--- the longest front of the messages that has at most so many and fits, for a limit that a header keeps
+-- the messages from the first on, while there are no more than so many and the next one still fits
 unfoldable pub front : ℕ → List (List ℕ) → ℕ → List (List ℕ)
-front limit messages most = take (fitting limit messages most) messages
+front limit messages zero = []
+front limit [] (suc most) = []
+front limit (message ∷ messages) (suc most) =
+    if nat_le (packet_length (message ∷ [])) limit
+    then message ∷ front (limit - (2 + length message)) messages most
+    else []

@@ -1,8 +1,6 @@
 -- What the parts of the decoder find at the front of some bytes.
 use Rattle.std.specs.Prelude.{◌≡◌, ℕ, ◌<◌, ◌^◌, List, ◌++◌, length, ◌==◌, if◌then◌else◌}
-use Rattle.std.specs.List.{AllByRecursion}
-use Rattle.mold_wire.specs.Block.{be16, be64, IsMessage, block, blocks}
-use Rattle.mold_wire.specs.Fault.{BeginsNoBlock}
+use Rattle.mold_wire.specs.Block.{be16, be64, IsMessage, block}
 use Rattle.mold_wire.specs.Packet.{IsBody, count_of, messages_of}
 use Rattle.mold_wire.specs.declared.packet.Body.{Body}
 
@@ -10,19 +8,6 @@ use Rattle.mold_wire.specs.declared.packet.Body.{Body}
 pub record IsBlockAndRest (bytes message rest : List ℕ) : Type 0 where
   pub each : IsMessage message
   pub parts : bytes ≡ block message ++ rest
-
--- so many whole blocks stand at the front of the bytes, and the rest behind them
-pub record AreBlocksAndRest (number : ℕ) (bytes rest : List ℕ) : Type 0 where
-  pub messages : List (List ℕ)
-  pub counted : length messages ≡ number
-  pub each : AllByRecursion IsMessage messages
-  pub parts : bytes ≡ blocks messages ++ rest
-
--- so many whole blocks stand at the front of the bytes, and behind them no whole block begins
-pub record IsCutAt (index : ℕ) (bytes : List ℕ) : Type 0 where
-  pub rest : List ℕ
-  pub whole : AreBlocksAndRest index bytes rest
-  pub cut : BeginsNoBlock rest
 
 -- a header stands at the front of the bytes, and the rest behind it
 pub record IsHeaderAndRest (bytes session : List ℕ) (sequence count : ℕ) (rest : List ℕ) : Type 0 where

@@ -1,6 +1,7 @@
 -- What any bytes read as: a value for every list of bytes, for the layers that speak of functions of a
 -- datagram. That it is the packet which the bytes spell, or their fault, is what `decode` ensures.
-use Rattle.std.specs.Prelude.{ℕ, zero, suc, ◌+◌, ◌-◌, List, [], ◌∷◌, length, take, drop, nat_le, nat_lt, ◌==◌, if◌then◌else◌, Result, Ok, Err}
+use Rattle.std.specs.Prelude.{ℕ, zero, suc, ◌+◌, ◌-◌, List, [], ◌∷◌, length, take, drop, nat_le, nat_lt, ◌==◌}
+use Rattle.std.specs.Prelude.{if◌then◌else◌, Result, Ok, Err}
 use Rattle.byteorder.specs.Endian.{big_number}
 use Rattle.mold_wire.specs.Parts.{stated_blocks}
 use Rattle.mold_wire.specs.declared.packet.Packet.{Packet}

@@ -6,23 +6,21 @@ use Rattle.mold_wire.specs.declared.request.Request.{Request}
 use Rattle.mold_wire.specs.declared.error.RequestError.{RequestError}
 use Rattle.mold_wire.specs.declared.error.RequestError.TheVariants.{RequestLength}
 
--- the bytes are the session, the number of the first message asked for and the number of messages, and
--- nothing else
-pub record SpellsRequest (request : Request) (bytes : List ℕ) : Type 0 where
-  pub session : length request.session.0 ≡ 10
-  pub sequence : request.sequence < 2 ^ 64
-  pub count : request.count < 2 ^ 16
-  pub spelled : bytes ≡ request.session.0 ++ (be64 request.sequence ++ be16 request.count)
-
 -- a value that has a spelling: ten bytes, a number of 64 bits and one of 16
 pub record IsRequest (request : Request) : Type 0 where
   pub session : length request.session.0 ≡ 10
   pub sequence : request.sequence < 2 ^ 64
   pub count : request.count < 2 ^ 16
 
--- its spelling
+-- its spelling: the session, the number of the first message asked for and the number of messages, and
+-- nothing else
 abbrev pub request_spelling : Request → List ℕ
 request_spelling request = request.session.0 ++ (be64 request.sequence ++ be16 request.count)
+
+-- the bytes are the spelling of the request
+pub record SpellsRequest (request : Request) (bytes : List ℕ) : Type 0 where
+  pub is_request : IsRequest request
+  pub spelled : bytes ≡ request_spelling request
 
 -- what is wrong with the bytes, by the name and the number of the refusal
 abbrev pub RequestFaultAt : RequestError → List ℕ → Type 0

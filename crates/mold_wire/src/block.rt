@@ -1,9 +1,8 @@
 //! Message blocks at the front of some bytes.
 
 ghost use Rattle.std.specs.Prelude.{◌≡◌, ◌+◌, ◌≤◌, ◌<◌, ◌^◌, ◌++◌, length, drop, MatchOption, MatchResult};
-ghost use Rattle.mold_wire.specs.Block.{block};
-ghost use Rattle.mold_wire.specs.Fault.{BeginsNoBlock};
-ghost use Rattle.mold_wire.specs.Parts.{IsBlockAndRest, AreBlocksAndRest, IsCutAt};
+ghost use Rattle.mold_wire.specs.Block.{block, AreBlocksAndRest, BeginsNoBlock, AreCutBlocks};
+ghost use Rattle.mold_wire.specs.Parts.{IsBlockAndRest};
 
 use byteorder::{BigEndian, ByteOrder};
 
@@ -30,7 +29,7 @@ pub(crate) fn split_block(bytes: &[u8]) -> Option<(&[u8], &[u8])>
 #[tactic(auto, using(crate::proofs::BlockLemmas::blocks_none, crate::proofs::BlockLemmas::blocks_more, crate::proofs::BlockLemmas::cut_behind))]
 pub(crate) fn skip_blocks(number: u16, bytes: &[u8]) -> Result<&[u8], u16>
     ensures { MatchResult result (λ rest. AreBlocksAndRest number bytes.now rest.now)
-        (λ index. (index < number) × IsCutAt index bytes.now) }
+        (λ index. (index < number) × AreCutBlocks index bytes.now) }
 {
     let mut rest = bytes;
     for index in 0..number {

@@ -7,8 +7,9 @@ use crate::messages::Messages;
 use std::marker::Model;
 
 /// The messages of a data packet, 1 to 65,534 of them, where they lie in the datagram. Nothing is
-/// copied: a message is a slice of the datagram, and lives as long as it.
-#[derive(Debug, Drop)]
+/// copied: a message is a slice of the datagram, and lives as long as it. There is no `is_empty`, since
+/// there is always a message.
+#[derive(Clone, Debug, Drop)]
 pub struct Blocks<'a> {
     count: u16,
     bytes: &'a [u8],
@@ -59,6 +60,30 @@ impl<'a> Blocks<'a> {
     {
         self.iter().nth(usize::from(i))
     }
+}
+
+// The same messages in the same order, wherever they lie. They have one spelling, so it is enough to
+// compare their bytes.
+impl<'a> PartialEq for Blocks<'a> {
+    ghost use Rattle.std.specs.Prelude.{◌==◌};
+    ghost use Rattle.std.specs.Cmp.Lexicographic.{pointwise};
+    ghost use Rattle.std.specs.Cmp.Rules.{comparing};
+    ghost use Rattle.std.proofs.Common.{rules};
+
+    ghost eq = { pointwise (pointwise ◌==◌) };
+
+    ghost laws = { Prim.search (comparing, rules) };
+
+    fn eq(&self, other: &Self) -> bool {
+        self.len() == other.len() && self.bytes == other.bytes
+    }
+}
+
+impl<'a> Eq for Blocks<'a> {
+    ghost use Rattle.std.specs.Cmp.Rules.{comparing};
+    ghost use Rattle.std.proofs.Common.{rules};
+
+    ghost laws = { Prim.search (comparing, rules) };
 }
 
 impl<'a> IntoIterator for &Blocks<'a> {

@@ -1,12 +1,16 @@
 //! What holds of the definitions alone, for all values and all bytes. Each law is a function that does
 //! nothing: its contract is the law.
 
-ghost use Rattle.std.specs.Prelude.{◌≡◌, ◌↔◌, ◌≤◌, ◌+◌, ◌<◌, ◌++◌, ◌∷◌, [], List, ℕ, length, take, drop, Ok};
+ghost use Rattle.std.specs.Prelude.{◌≡◌, ◌↔◌, ◌≤◌, ◌+◌, ◌-◌, ◌<◌, ◌++◌, ◌∷◌, [], List, ℕ, suc, length, take, drop, Ok, Err};
+ghost use Rattle.mold_wire.specs.Block.{IsBytes};
+ghost use Rattle.mold_wire.specs.Fault.{FaultAt};
 ghost use Rattle.mold_wire.specs.Packet.{IsPacket, Spells, messages_of, spelling_of};
 ghost use Rattle.mold_wire.specs.Packer.{HasRoom, Open};
 ghost use Rattle.mold_wire.specs.Packing.{packet_length, Fits, IsFront, front};
 ghost use Rattle.mold_wire.specs.Reading.{reading};
-ghost use Rattle.mold_wire.specs.Request.{IsRequest, SpellsRequest, request_reading, request_spelling};
+ghost use Rattle.mold_wire.specs.Request.{IsRequest, SpellsRequest, RequestFaultAt, request_reading, request_spelling};
+ghost use Rattle.mold_wire.specs.declared.error.DecodeError.{DecodeError};
+ghost use Rattle.mold_wire.specs.declared.error.RequestError.{RequestError};
 ghost use Rattle.mold_wire.specs.declared.packet.Packet.{Packet};
 ghost use Rattle.mold_wire.specs.declared.request.Request.{Request};
 ghost use Rattle.mold_wire.specs.declared.session.Session.{Session};
@@ -28,13 +32,23 @@ pub fn one_spelling_law()
         SpellsRequest one bytes → SpellsRequest other bytes → one ≡ other }
 {}
 
-/// What is spelled reads back as the value that it spells: `decode` and `Request::decode` answer these
-/// readings.
-pub fn round_trip_law()
-    ensures packet { (packet : Packet) (bytes : List ℕ) →
+/// What bytes read as, both ways: they read as the packet that they spell and as no other, and are refused
+/// with the fault that they have and with no other. `decode` and `Request::decode` answer these readings.
+/// Where a clause has no `IsBytes`, it holds of lists of any numbers.
+pub fn reading_law()
+    ensures read { (packet : Packet) (bytes : List ℕ) →
         Spells packet bytes → reading bytes ≡ Ok packet }
-    ensures request { (request : Request) (bytes : List ℕ) →
+    ensures spelled { (packet : Packet) (bytes : List ℕ) → IsBytes bytes →
+        reading bytes ≡ Ok packet → Spells packet bytes }
+    ensures fault { (error : DecodeError) (bytes : List ℕ) → IsBytes bytes →
+        (reading bytes ≡ Err error) ↔ FaultAt error bytes }
+
+    ensures request_read { (request : Request) (bytes : List ℕ) →
         SpellsRequest request bytes → request_reading bytes ≡ Ok request }
+    ensures request_spelled { (request : Request) (bytes : List ℕ) → IsBytes bytes →
+        request_reading bytes ≡ Ok request → SpellsRequest request bytes }
+    ensures request_fault { (error : RequestError) (bytes : List ℕ) →
+        (request_reading bytes ≡ Err error) ↔ RequestFaultAt error bytes }
 {}
 
 /// How long spellings are: a header, and for each message two bytes and its data. So a packet of messages
@@ -76,8 +90,9 @@ pub fn packet_length_law()
 
 /// `front` is the one longest front, wherever the limit leaves room for a header. A front is the longest
 /// once the message behind it would be one too many or would not fit. The longest has a message where
-/// the first one fits alone, and is all messages where these fit.
-#[tactic(auto, using(crate::proofs::PackingLemmas::front_is))]
+/// the first one fits alone, and is all messages where these fit. It begins with the first message that
+/// fits alone, and goes on with those behind it in the room that is left.
+#[tactic(auto, using(crate::proofs::FrontLemmas::front_is))]
 pub fn front_law()
     ensures front { (limit : ℕ) (messages : List (List ℕ)) (most : ℕ) →
         20 ≤ limit → IsFront limit messages most (front limit messages most) }
@@ -93,4 +108,7 @@ pub fn front_law()
         0 < length found }
     ensures whole { (limit : ℕ) (messages : List (List ℕ)) (most : ℕ) →
         length messages ≤ most → Fits limit messages → IsFront limit messages most messages }
+    ensures more { (limit : ℕ) (message : List ℕ) (messages : List (List ℕ)) (most : ℕ) →
+        Fits limit (message ∷ []) → front limit (message ∷ messages) (suc most)
+        ≡ message ∷ front (limit - (2 + length message)) messages most }
 {}

@@ -6,7 +6,7 @@ use crate::block::split_block;
 use std::marker::Model;
 
 /// An iterator of the messages of a data packet, in order. It yields each as a slice of the datagram.
-#[derive(Debug, Drop)]
+#[derive(Clone, Debug, Drop)]
 pub struct Messages<'a> {
     left: u16,
     bytes: &'a [u8],

@@ -47,9 +47,9 @@ pub struct Packer {
 impl Model for Packer {
     ghost use Rattle.std.specs.Prelude.{length, take};
     ghost use Rattle.mold_wire.specs.Buffer.{begun_in, Holds};
-    ghost use Rattle.mold_wire.specs.Packer.{Packing};
+    ghost use Rattle.mold_wire.specs.Packer.{PackerState};
 
-    ghost Value = { Packing };
+    ghost Value = { PackerState };
 
     ghost view = { λ p. record {
       limit = length p.buffer.items;

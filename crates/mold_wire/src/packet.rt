@@ -7,7 +7,7 @@ use crate::blocks::Blocks;
 use crate::session::Session;
 
 /// A downstream packet that borrows the datagram it was read from.
-#[derive(Debug, Drop)]
+#[derive(Clone, Debug, PartialEq, Eq, Drop)]
 pub struct Packet<'a> {
     /// The session that the packet belongs to.
     pub session: Session,
@@ -20,7 +20,7 @@ pub struct Packet<'a> {
 }
 
 /// What a downstream packet carries.
-#[derive(Debug, Drop)]
+#[derive(Clone, Debug, PartialEq, Eq, Drop)]
 pub enum Body<'a> {
     /// 1 to 65,534 messages.
     Data(Blocks<'a>),

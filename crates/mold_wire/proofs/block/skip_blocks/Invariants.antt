@@ -1,4 +1,4 @@
-use Rattle.mold_wire.specs.Parts.{AreBlocksAndRest}
+use Rattle.mold_wire.specs.Block.{AreBlocksAndRest}
 use Rattle.mold_wire.proofs.block.skip_blocks.Given as goal
 
 -- as many blocks are whole as were passed over

@@ -1,7 +1,7 @@
 use Rattle.std.proofs.Common.{◌<◌, ℕ, length, sym, subst, ◌∙◌, arith}
 use Rattle.std.proofs.lemmas.Bool.{eqb-true, eqb-false}
 use Rattle.std.proofs.lemmas.List.{nil_from_length}
-use Rattle.mold_wire.specs.Parts.{AreBlocksAndRest}
+use Rattle.mold_wire.specs.Block.{AreBlocksAndRest}
 use Rattle.mold_wire.proofs.BlockLemmas.{are_blocks}
 use Rattle.mold_wire.proofs.PacketLemmas.{cut_in, trailing_behind, spells_whole}
 use Rattle.mold_wire.proofs.reading.read_packet.Goals as goal

@@ -1,5 +1,5 @@
 use Rattle.std.proofs.Common.{◌≡◌, ℕ, false, length, drop, subst, ap, arith}
-use Rattle.mold_wire.specs.Packer.{Packing, Ended, IsLimit}
+use Rattle.mold_wire.specs.Packer.{PackerState, Ended, IsLimit}
 use Rattle.mold_wire.proofs.PackerLemmas.{as_long, held, seen_as, ended}
 use Rattle.mold_wire.proofs.packer.Packer.end.Goals as goal
 
@@ -16,5 +16,5 @@ returns c =
     let limit : IsLimit f.buffer.len = subst (λ (n : ℕ). IsLimit n) (omega arith) c.self.invariant.limit in
     let long : length c.put_header.new.out ≡ f.buffer.len = omega arith in
     seen_as false 20 c.self.inside.count c.args.self.now.limit _ (Ended c.args.session c.args.sequence)
-    (as_long f.buffer.len c.put_header.new.out f.buffer.items c.args.self.now.limit long (omega (arith, ap (λ (p : Packing). p.limit) c.self.view_is)))
+    (as_long f.buffer.len c.put_header.new.out f.buffer.items c.args.self.now.limit long (omega (arith, ap (λ (p : PackerState). p.limit) c.self.view_is)))
     (ended c.args.session c.args.sequence f.buffer.len c.self.inside.count c.put_header.new.out f.buffer.items (drop 20 c.deref_mut.result.now) limit long (omega arith) c.put_header.ensures.ten c.put_header.ensures.written)
