@@ -1,2 +1,4 @@
 pub mod StoreLemmas
 pub mod SlotLemmas
+pub mod RuleLemmas
+pub mod CaseLemmas
