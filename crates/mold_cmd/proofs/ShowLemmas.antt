@@ -4,10 +4,10 @@ use Rattle.std.specs.Prelude.{◌||◌, IfSome}
 use Rattle.std.specs.List.{flat_map, list_any}
 use Rattle.std.specs.Io.KnownBytes.{Appends}
 use Rattle.std.proofs.KnownBytes.{Appends-trans}
-use Rattle.mold_cmd.specs.Devices.{AppendsFront}
-use Rattle.mold_cmd.specs.Lines.{lines_of, GivesLine}
+use Rattle.mold_devices.specs.Devices.{AppendsFront}
+use Rattle.mold_devices.specs.Lines.{lines_of, GivesLine}
 use Rattle.mold_cmd.specs.Show.{line_text, line_refused, show_text, show_refused, show_status}
-use Rattle.mold_cmd.proofs.DeviceLemmas.{front_after, front_more}
+use Rattle.mold_devices.proofs.DeviceLemmas.{front_after, front_more}
 
 or_assoc : (a b c : Bool) → a || (b || c) ≡ (a || b) || c
 or_assoc true b c = refl

@@ -1,7 +1,4 @@
 pub mod Command
-pub mod Devices
-pub mod Faults
-pub mod Lines
 pub mod Orders
 pub mod Show
 pub mod Table

@@ -6,7 +6,7 @@ use Rattle.hex.specs.declared.error.FromHexError.{FromHexError}
 use Rattle.mold_wire.specs.Reading.{reading}
 use Rattle.mold_wire.specs.declared.packet.Packet.{Packet}
 use Rattle.mold_wire.specs.declared.error.DecodeError.{DecodeError}
-use Rattle.mold_cmd.specs.Lines.{lines_of}
+use Rattle.mold_devices.specs.Lines.{lines_of}
 use Rattle.mold_wire.specs.Request.{request_reading}
 use Rattle.mold_wire.specs.declared.request.Request.{Request}
 use Rattle.mold_wire.specs.declared.error.RequestError.{RequestError}

@@ -3,11 +3,11 @@
 ghost use Rattle.std.specs.Prelude.{◌≡◌, IfOk, IfSome};
 ghost use Rattle.std.specs.Io.KnownBytes.{Appends};
 ghost use Rattle.mold_cmd.specs.Command.{text, status};
-ghost use Rattle.mold_cmd.specs.Devices.{AppendsFront};
-ghost use Rattle.mold_cmd.specs.Faults.{CountsSource, CountsSink};
+ghost use Rattle.mold_devices.specs.Devices.{AppendsFront};
+ghost use Rattle.mold_devices.specs.Faults.{CountsSource, CountsSink};
 
-use crate::devices::{Sink, Source};
-use crate::fault::CommandFault;
+use mold_devices::{Sink, Source};
+use mold_devices::CommandFault;
 use crate::show::show;
 use crate::words::Order;
 use std::alloc::Global;

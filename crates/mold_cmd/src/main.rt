@@ -2,11 +2,6 @@
 #![tactic(auto)]
 
 mod command;
-mod devices;
-mod fault;
-mod lines;
-mod output;
-mod piece;
 mod show;
 #[cfg(test)]
 mod tests;
@@ -14,8 +9,8 @@ mod text;
 mod words;
 
 use crate::command::run_command;
-use crate::devices::{FromRead, IntoWrite};
-use crate::fault::CommandFault;
+use mold_devices::{FromRead, IntoWrite};
+use mold_devices::CommandFault;
 use crate::words::{Order, UsageFault, read_words};
 use std::alloc::AllocError;
 use std::io::{ErrorKind, Write};

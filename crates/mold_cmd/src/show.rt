@@ -2,17 +2,17 @@
 
 ghost use Rattle.std.specs.Prelude.{◌≡◌, ◌++◌, IfOk, IfSome};
 ghost use Rattle.std.specs.Io.KnownBytes.{Appends};
-ghost use Rattle.mold_cmd.specs.Devices.{AppendsFront};
-ghost use Rattle.mold_cmd.specs.Faults.{CountsSource, CountsSink};
+ghost use Rattle.mold_devices.specs.Devices.{AppendsFront};
+ghost use Rattle.mold_devices.specs.Faults.{CountsSource, CountsSink};
 ghost use Rattle.mold_cmd.specs.Show.{packet_shown, packet_refused, request_shown, request_refused};
 ghost use Rattle.mold_cmd.specs.Show.{line_text, line_refused, show_text, show_status};
 ghost use Rattle.mold_wire.specs.Reading.{reading};
 ghost use Rattle.mold_wire.specs.Request.{request_reading};
 
-use crate::devices::{Sink, Source};
-use crate::fault::CommandFault;
-use crate::lines::Lines;
-use crate::output::{LARGE, send};
+use mold_devices::{Sink, Source};
+use mold_devices::CommandFault;
+use mold_devices::Lines;
+use mold_devices::{LARGE, send};
 use crate::text::{push_packet, push_refused_packet, push_refused_request, push_request};
 use mold_wire::Request;
 use std::alloc::{AllocError, Global};

@@ -4,8 +4,8 @@
 ghost use Rattle.std.specs.Prelude.{◌<◌};
 
 use crate::command::run_command;
-use crate::devices::{MemorySink, MemorySource, Sink, Source};
-use crate::fault::CommandFault;
+use mold_devices::{MemorySink, MemorySource, Sink, Source};
+use mold_devices::CommandFault;
 use crate::words::Order;
 use std::alloc::Global;
 use std::process::Abort;

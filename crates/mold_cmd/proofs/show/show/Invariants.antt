@@ -1,6 +1,6 @@
 use Rattle.std.proofs.Common.{◌≡◌}
 use Rattle.std.specs.Io.KnownBytes.{prepend_known}
-use Rattle.mold_cmd.specs.Lines.{work_left}
+use Rattle.mold_devices.specs.Lines.{work_left}
 use Rattle.mold_cmd.proofs.ShowLemmas.{Shown}
 use Rattle.mold_cmd.proofs.show.show.Given as goal
 

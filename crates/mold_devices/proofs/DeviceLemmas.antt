@@ -1,0 +1,19 @@
+-- What a beginning of a text is, once more was written or is to come.
+use Rattle.std.proofs.Common.{ℕ, List, ◌++◌, Option, sym, ap, ◌∙◌, append_assoc}
+use Rattle.std.specs.Io.KnownBytes.{Appends}
+use Rattle.std.proofs.KnownBytes.{Appends-trans}
+use Rattle.mold_devices.specs.Devices.{AppendsFront}
+
+-- a front of a text is a front of the text and more
+pub front_more : (old new : Option (List ℕ)) (text more : List ℕ) → AppendsFront old new text → AppendsFront old new (text ++ more)
+front_more old new text more p =
+    record { front = p.front; rest = p.rest ++ more; parts = ap (λ l. l ++ more) p.parts ∙ append_assoc p.front p.rest more; appended = p.appended }
+
+-- a whole text and then a front of the rest are a front of both
+pub front_after : (old mid new : Option (List ℕ)) (text more : List ℕ) → Appends old mid text → AppendsFront mid new more → AppendsFront old new (text ++ more)
+front_after old mid new text more p q = record {
+  front = text ++ q.front;
+  rest = q.rest;
+  parts = ap (λ l. text ++ l) q.parts ∙ sym (append_assoc text q.front q.rest);
+  appended = Appends-trans old mid new text q.front p q.appended;
+}

@@ -1,0 +1,125 @@
+-- Where lines are cut, and what a reader of lines has read.
+use Rattle.std.proofs.Common.{◌≡◌, ℕ, zero, suc, ◌+◌, ◌-◌, ◌<◌, ◌≤◌, Bool, true, false, not, eqb, List, [], ◌∷◌, ◌++◌, length, length-append, take, drop, get_or, Option, None, Some, refl, sym, ap, subst, ◌∙◌, append-nil, add-one, inl, inr, arith}
+use Rattle.std.proofs.lemmas.Bool.{cond-true, cond-false, cases_Bool, cases_lt, eqb-true, eqb-false}
+use Rattle.std.proofs.lemmas.List.{take-append-le, drop-append-le, drop-drop, drop-take, get_or_append_left, get_or-append_right, nil_from_length}
+use Rattle.memchr.specs.Find.{NoneBefore, Passes, is_byte}
+use Rattle.std.specs.Io.KnownBytes.{Consumes, IsAtEnd, prepend_known}
+use Rattle.mold_devices.specs.Lines.{onto_first, lines_of, GivesLine, HasNoEnd}
+
+-- the byte at this place ends a line
+abbrev pub IsEnd : List ℕ → ℕ → Type 0
+IsEnd bytes at = eqb (get_or bytes at 0) 10 ≡ true
+
+-- the first place of the bytes where a line ends
+pub record FirstEnd (bytes : List ℕ) (at : ℕ) : Type 0 where
+  pub within : at < length bytes
+  pub here : IsEnd bytes at
+  pub before : (k : ℕ) → k < at → IsEnd bytes k → ⊥
+
+not_end : (byte : ℕ) → (eqb byte 10 ≡ true → ⊥) → eqb byte 10 ≡ false
+not_end byte none = elim (cases_Bool (eqb byte 10)) [ inl is ↦ absurd (none is) | inr is ↦ is ]
+
+-- without an end the bytes are one line
+pub one_line : (bytes : List ℕ) → 0 < length bytes → HasNoEnd bytes → lines_of bytes ≡ bytes ∷ []
+one_line [] some none = absurd (omega arith)
+one_line (byte ∷ []) some none =
+    cond-false (eqb byte 10) _ _ (not_end byte (none 0 (omega arith)))
+one_line (byte ∷ next ∷ bytes) some none =
+    cond-false (eqb byte 10) _ _ (not_end byte (none 0 (omega arith)))
+    ∙ ap (onto_first byte) (one_line (next ∷ bytes) (omega arith) (λ k lt is. none (suc k) (omega arith) is))
+
+-- the first end cuts off the first line
+first_line : (bytes : List ℕ) (at : ℕ) → at < length bytes → IsEnd bytes at → ((k : ℕ) → k < at → IsEnd bytes k → ⊥) → lines_of bytes ≡ take at bytes ∷ lines_of (drop (suc at) bytes)
+first_line [] at lt is none = absurd (omega arith)
+first_line (byte ∷ bytes) zero lt is none = cond-true (eqb byte 10) _ _ is
+first_line (byte ∷ bytes) (suc at) lt is none =
+    cond-false (eqb byte 10) _ _ (not_end byte (none 0 (omega arith)))
+    ∙ ap (onto_first byte) (first_line bytes at (omega arith) is (λ k below end. none (suc k) (omega arith) end))
+
+-- the line that begins in what was joined goes on to the first end of the piece
+joined_line : (joined piece more : List ℕ) (at : ℕ) → HasNoEnd joined → FirstEnd piece at → lines_of (joined ++ (piece ++ more)) ≡ (joined ++ take at piece) ∷ lines_of (drop (at + 1) piece ++ more)
+joined_line [] piece more at none end =
+    let within = end.within in
+    let place = λ (k : ℕ) (lt : k < length piece). get_or_append_left piece more 0 k lt in
+    first_line (piece ++ more) at (omega (arith, length-append piece more))
+    (subst (λ (b : ℕ). eqb b 10 ≡ true) (sym (place at within)) end.here)
+    (λ k lt is. end.before k lt (subst (λ (b : ℕ). eqb b 10 ≡ true) (place k (omega arith)) is))
+    ∙ ap (λ (t : List ℕ). t ∷ lines_of (drop (suc at) (piece ++ more))) (take-append-le at piece more (omega arith))
+    ∙ ap (λ (t : List ℕ). take at piece ∷ lines_of t) (drop-append-le (suc at) piece more (omega arith))
+    ∙ ap (λ (n : ℕ). take at piece ∷ lines_of (drop n piece ++ more)) (sym (add-one at))
+joined_line (byte ∷ joined) piece more at none end =
+    cond-false (eqb byte 10) _ _ (not_end byte (none 0 (omega arith)))
+    ∙ ap (onto_first byte) (joined_line joined piece more at (λ k lt is. none (suc k) (omega arith) is) end)
+
+pub HasNoEnd-append : (front back : List ℕ) → HasNoEnd front → HasNoEnd back → HasNoEnd (front ++ back)
+HasNoEnd-append front back first second k lt is =
+    elim (cases_lt k (length front)) [
+      | inl below ↦ first k below (subst (λ (b : ℕ). eqb b 10 ≡ true) (get_or_append_left front back 0 k below) is)
+      | inr above ↦
+          second (k - length front) (omega (arith, length-append front back))
+          (subst (λ (b : ℕ). eqb b 10 ≡ true) (get_or-append_right front back (length front) k 0 refl above) is)
+    ]
+
+-- what was read stands before what is left
+pub consumes_prepended : (piece : List ℕ) (known : Option (List ℕ)) → Consumes (prepend_known piece known) known piece
+consumes_prepended piece None = tt
+consumes_prepended piece (Some xs) = refl
+
+-- an end in the piece gives the line that was joined so far and goes on to it
+pub gives_joined : (old mid new : Option (List ℕ)) (joined piece : List ℕ) (at : ℕ) → Consumes old mid joined → HasNoEnd joined → Consumes mid new piece → FirstEnd piece at → GivesLine old (prepend_known (drop (at + 1) piece) new) true (joined ++ take at piece)
+gives_joined None mid new joined piece at begun none read end = tt
+gives_joined (Some xs) None new joined piece at begun none read end = absurd begun
+gives_joined (Some xs) (Some ys) None joined piece at begun none read end = absurd read
+gives_joined (Some xs) (Some ys) (Some zs) joined piece at begun none read end =
+    ap lines_of (begun ∙ ap (λ (t : List ℕ). joined ++ t) read) ∙ joined_line joined piece zs at none end
+
+-- an end in what was read before gives the line up to it
+pub gives_read : (known : Option (List ℕ)) (piece : List ℕ) (at : ℕ) → FirstEnd piece at → GivesLine (prepend_known piece known) (prepend_known (drop (at + 1) piece) known) true (take at piece)
+gives_read None piece at end = tt
+gives_read (Some xs) piece at end = joined_line [] piece xs at (λ k lt is. absurd (omega arith)) end
+
+-- at the end of the source what was joined is the last line
+pub gives_last : (old mid new : Option (List ℕ)) (joined piece : List ℕ) → Consumes old mid joined → HasNoEnd joined → Consumes mid new piece → length piece ≡ 0 → IsAtEnd new → 0 < length joined → GivesLine old (prepend_known piece new) true joined
+gives_last None mid new joined piece begun none read len end some = tt
+gives_last (Some xs) None new joined piece begun none read len end some = absurd begun
+gives_last (Some xs) (Some ys) None joined piece begun none read len end some = absurd read
+gives_last (Some xs) (Some ys) (Some zs) joined piece begun none read len end some =
+    let no_piece : piece ≡ [] = nil_from_length piece len in
+    let nothing : piece ++ zs ≡ [] = ap (λ (t : List ℕ). t ++ zs) no_piece ∙ end in
+    let all : xs ≡ joined = begun ∙ ap (λ (t : List ℕ). joined ++ t) (read ∙ nothing) ∙ append-nil joined in
+    ap lines_of all ∙ one_line joined some none ∙ ap (λ (t : List ℕ). joined ∷ lines_of t) (sym nothing)
+
+-- at the end of the source, with nothing joined, nothing was left
+pub gives_none : (old mid new : Option (List ℕ)) (joined piece line : List ℕ) → Consumes old mid joined → Consumes mid new piece → length piece ≡ 0 → IsAtEnd new → length joined ≡ 0 → GivesLine old (prepend_known piece new) false line
+gives_none None mid new joined piece line begun read len end none = tt
+gives_none (Some xs) None new joined piece line begun read len end none = absurd begun
+gives_none (Some xs) (Some ys) None joined piece line begun read len end none = absurd read
+gives_none (Some xs) (Some ys) (Some zs) joined piece line begun read len end none =
+    let no_piece : piece ≡ [] = nil_from_length piece len in
+    let nothing : piece ++ zs ≡ [] = ap (λ (t : List ℕ). t ++ zs) no_piece ∙ end in
+    begun ∙ ap (λ (t : List ℕ). t ++ ys) (nil_from_length joined none) ∙ read ∙ nothing
+
+-- a part of a buffer, without its first bytes
+pub skipped : (bytes : List ℕ) (start end n : ℕ) → n + start ≤ end → take (end - (start + n)) (drop (start + n) bytes) ≡ drop n (take (end - start) (drop start bytes))
+skipped bytes start end n within =
+    let left = end - (start + n) in
+    let whole : end - start ≡ n + left = omega arith in
+    sym (
+    ap (λ (m : ℕ). drop n (take m (drop start bytes))) whole
+    ∙ drop-take n left (drop start bytes)
+    ∙ ap (take left) (drop-drop n start bytes)
+    )
+
+-- the first byte 0A that a search found is the first end
+pub found_end : (bytes piece : List ℕ) (at : ℕ) → bytes ≡ piece → NoneBefore (Passes (is_byte 10) bytes) 0 (length bytes) at × Passes (is_byte 10) bytes at → FirstEnd piece at
+found_end bytes piece at same found =
+    subst (λ (t : List ℕ). FirstEnd t at) same
+    (record { within = found.0.high; here = found.1; before = λ k lt is. found.0.before k (omega arith) lt is })
+
+-- at the end of the source there is a line exactly where something was joined
+pub gives_end : (old mid new : Option (List ℕ)) (joined piece : List ℕ) (empty : Bool) → Consumes old mid joined → HasNoEnd joined → Consumes mid new piece → length piece ≡ 0 → IsAtEnd new → empty ≡ eqb (length joined) 0 → GivesLine old (prepend_known piece new) (not empty) joined
+gives_end old mid new joined piece true begun none read len end is =
+    gives_none old mid new joined piece joined begun read len end (eqb-true (length joined) 0 (sym is))
+gives_end old mid new joined piece false begun none read len end is =
+    let some = eqb-false (length joined) 0 (sym is) in
+    gives_last old mid new joined piece begun none read len end (omega arith)

@@ -1,0 +1,29 @@
+use Rattle.std.proofs.Common.{◌≡◌, ◌+◌, ℕ, List, take, drop, true, sym, ap, subst, ◌∙◌, Option}
+use Rattle.std.specs.Io.KnownBytes.{prepend_known}
+use Rattle.mold_devices.specs.Lines.{LineState, GivesLine, rest_in}
+use Rattle.mold_devices.specs.declared.lines.Lines.TheInside.{Inside}
+use Rattle.mold_devices.proofs.LineLemmas.{found_end, gives_read}
+use Rattle.mold_devices.proofs.lines.Lines.advance.Goals as goal
+use Rattle.mold_devices.proofs.lines.Lines.advance.Goals.{in-Some, in_default}
+
+pub returns-in-Some-memchr-clause-line : goal.returns-in-Some-memchr-clause-line
+returns-in-Some-memchr-clause-line g c =
+    let known = g.S.Source.left c.args.source.now in
+    let piece = c.match-self.self-inside.piece in
+    let at = c.in-Some-memchr.at in
+    let shown : c.args.self.now.rest ≡ rest_in c.self.inside.inside c.self.inside.piece = sym (ap (λ (s : LineState). s.rest) c.self.view_is) in
+    let same : c.args.self.now.rest ≡ piece =
+    elim c.match-self.branch [
+      | in-Some w ↦
+          shown
+          ∙ ap (λ (o : Option ℕ). rest_in o c.self.inside.piece) w.in-Some.is
+          ∙ sym w.skip.ensures
+          ∙ sym (ap (λ (l : Inside). l.piece) w.self-inside-is)
+      | in_default w ↦
+          shown
+          ∙ ap (λ (o : Option ℕ). rest_in o c.self.inside.piece) w.in_default.is
+          ∙ sym (ap (λ (l : Inside). l.piece) w.self-inside-is)
+    ]
+    in
+    subst (λ (t : List ℕ). GivesLine (prepend_known t known) (prepend_known (drop (at + 1) piece) known) true (take at piece)) (sym same)
+    (gives_read known piece at (found_end c.rest.result.now piece at c.rest.ensures.value c.in-Some-memchr.ensures))

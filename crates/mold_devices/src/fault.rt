@@ -1,0 +1,88 @@
+//! Why a command ends early.
+
+ghost use Rattle.std.specs.Prelude.{◌≡◌};
+
+use crate::device_fault::DeviceFault;
+use std::alloc::AllocError;
+
+/// Why lines can't be read on.
+#[derive(Clone, Copy, Debug, PartialEq, Eq)]
+pub enum ReadFault {
+    /// The source failed.
+    Read,
+    /// Memory was refused.
+    Memory,
+}
+
+impl From<AllocError> for ReadFault {
+    ghost use Rattle.std.specs.Prelude.{◌≡◌};
+    ghost use Rattle.mold_devices.specs.declared.fault.ReadFault.TheVariants.{Memory};
+
+    ghost from_gives = { λ _ fault. fault ≡ Memory };
+
+    fn from(_error: AllocError) -> ReadFault {
+        ReadFault::Memory
+    }
+}
+
+impl From<DeviceFault> for ReadFault {
+    ghost use Rattle.std.specs.Prelude.{◌≡◌};
+    ghost use Rattle.mold_devices.specs.declared.fault.ReadFault.TheVariants.{Read};
+
+    ghost from_gives = { λ _ fault. fault ≡ Read };
+
+    fn from(_fault: DeviceFault) -> ReadFault {
+        ReadFault::Read
+    }
+}
+
+/// Why a command ends without a status.
+#[derive(Clone, Copy, Debug, PartialEq, Eq)]
+pub enum CommandFault {
+    /// The input could not be read to its end.
+    Read,
+    /// The output could not be written.
+    Write,
+    /// Memory was refused.
+    Memory,
+}
+
+impl CommandFault {
+    ghost use Rattle.mold_devices.specs.Faults.{fault_word};
+
+    /// The word that the program prints behind `fault`.
+    pub fn word(self) -> &'static str
+        ensures { result.now ≡ fault_word self }
+    {
+        match self {
+            CommandFault::Read => "Read",
+            CommandFault::Write => "Write",
+            CommandFault::Memory => "Memory",
+        }
+    }
+}
+
+impl From<AllocError> for CommandFault {
+    ghost use Rattle.std.specs.Prelude.{◌≡◌};
+    ghost use Rattle.mold_devices.specs.declared.fault.CommandFault.TheVariants.{Memory};
+
+    ghost from_gives = { λ _ fault. fault ≡ Memory };
+
+    fn from(_error: AllocError) -> CommandFault {
+        CommandFault::Memory
+    }
+}
+
+impl From<ReadFault> for CommandFault {
+    ghost use Rattle.std.specs.Prelude.{◌≡◌};
+    ghost use Rattle.mold_devices.specs.Faults.{from_read_fault};
+
+    ghost from_gives = { λ cause fault. fault ≡ from_read_fault cause };
+
+    fn from(cause: ReadFault) -> CommandFault {
+        match cause {
+            ReadFault::Read => CommandFault::Read,
+            ReadFault::Memory => CommandFault::Memory,
+        }
+    }
+}

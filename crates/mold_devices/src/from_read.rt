@@ -1,0 +1,85 @@
+ghost use Rattle.std.specs.Prelude.{◌≡◌, ◌-◌, ◌<◌, ◌≤◌, IsErr, IfOk};
+ghost use Rattle.std.specs.Io.{ReadsAtMost};
+ghost use Rattle.std.specs.Io.KnownBytes.{ReadConsumes};
+ghost use Rattle.mold_devices.specs.Devices.{Counts};
+
+use crate::device_fault::DeviceFault;
+use crate::source::Source;
+use std::io::Read;
+use std::marker::Model;
+
+/// A reader as a source. Every error of the reader is a failure, also an interrupted call, and so
+/// is each call behind the first `u64::MAX`.
+#[derive(Drop)]
+pub struct FromRead<R> {
+    reader: R,
+    calls_left: u64,
+    failures: u64,
+}
+
+impl<R> Model for FromRead<R> {
+    ghost use Rattle.mold_devices.specs.Devices.{ReaderState};
+
+    ghost Value = { ReaderState R };
+
+    ghost view = { λ s. record { reader = s.reader; calls_left = s.calls_left; failures = s.failures } };
+}
+
+impl<R> FromRead<R> {
+    pub fn new(reader: R) -> FromRead<R>
+        ensures reader { result.reader ≡ reader }
+        ensures calls_left { result.calls_left ≡ u64.MAX }
+        ensures failures { result.failures ≡ 0 }
+    {
+        FromRead {
+            reader,
+            calls_left: u64::MAX,
+            failures: 0,
+        }
+    }
+
+    /// Gives the reader back.
+    pub fn into_inner(self) -> R
+        ensures { result ≡ self.reader }
+    {
+        let FromRead {
+            reader,
+            calls_left: _,
+            failures: _,
+        } = self;
+        reader
+    }
+}
+
+impl<R: Read> Source for FromRead<R> {
+    ghost left = { λ s. R.remaining s.reader };
+
+    ghost bound = { λ s. s.calls_left };
+
+    ghost failed = { λ s. s.failures };
+
+    fn read(&mut self, place: &mut [u8]) -> Result<usize, DeviceFault>
+        ensures count { ReadsAtMost result place.new }
+        ensures bytes { ReadConsumes (R.remaining self.old.reader) (R.remaining self.new.reader) result place.new }
+        ensures kept { self.new.calls_left ≤ self.old.calls_left }
+        ensures failures { Counts self.old.failures self.new.failures result }
+
+        // Every call is counted, and one too many does not reach the reader.
+        ensures calls_left { self.new.calls_left ≡ self.old.calls_left - 1 }
+        ensures spent { self.old.calls_left ≡ 0 → IsErr result × (self.new.reader ≡ self.old.reader) }
+        ensures bound { IfOk result (λ n. 0 < n → self.new.calls_left < self.old.calls_left) }
+    {
+        if self.calls_left > 0 {
+            self.calls_left -= 1;
+            if let Ok(count) = self.reader.read(place) {
+                return Ok(count);
+            }
+        }
+        self.failures = self.failures.saturating_add(1);
+        Err(DeviceFault)
+    }
+
+    fn failures(&self) -> u64 {
+        self.failures
+    }
+}

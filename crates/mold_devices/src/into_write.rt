@@ -1,0 +1,65 @@
+ghost use Rattle.std.specs.Prelude.{◌≡◌};
+
+use crate::device_fault::DeviceFault;
+use crate::sink::Sink;
+use std::io::Write;
+use std::marker::Model;
+
+/// A writer as a sink. Every error of the writer is a failure, also an interrupted call, and so is
+/// a write of one byte or more that takes none. Nothing is flushed here.
+#[derive(Drop)]
+pub struct IntoWrite<W> {
+    writer: W,
+    failures: u64,
+}
+
+impl<W> Model for IntoWrite<W> {
+    ghost use Rattle.mold_devices.specs.Devices.{WriterState};
+
+    ghost Value = { WriterState W };
+
+    ghost view = { λ s. record { writer = s.writer; failures = s.failures } };
+}
+
+impl<W> IntoWrite<W> {
+    pub fn new(writer: W) -> IntoWrite<W>
+        ensures writer { result.writer ≡ writer }
+        ensures failures { result.failures ≡ 0 }
+    {
+        IntoWrite {
+            writer,
+            failures: 0,
+        }
+    }
+
+    /// Gives the writer back, as to flush it.
+    pub fn into_inner(self) -> W
+        ensures { result ≡ self.writer }
+    {
+        let IntoWrite {
+            writer,
+            failures: _,
+        } = self;
+        writer
+    }
+}
+
+impl<W: Write> Sink for IntoWrite<W> {
+    ghost held = { λ s. W.contents s.writer };
+
+    ghost failed = { λ s. s.failures };
+
+    fn write(&mut self, bytes: &[u8]) -> Result<usize, DeviceFault> {
+        if let Ok(count) = self.writer.write(bytes) {
+            if count > 0 || bytes.is_empty() {
+                return Ok(count);
+            }
+        }
+        self.failures = self.failures.saturating_add(1);
+        Err(DeviceFault)
+    }
+
+    fn failures(&self) -> u64 {
+        self.failures
+    }
+}

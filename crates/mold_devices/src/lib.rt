@@ -1,0 +1,29 @@
+//! What bytes are read from and written to: sources and sinks that count their failures, so that a
+//! fault can be told from an end; lines of a source; and text that goes out in large writes.
+#![tactic(auto)]
+
+mod device_fault;
+mod fault;
+mod from_read;
+mod into_write;
+mod lines;
+mod memory_sink;
+mod memory_source;
+mod output;
+mod piece;
+mod plan;
+mod sink;
+mod source;
+#[cfg(test)]
+mod tests;
+
+pub use device_fault::DeviceFault;
+pub use fault::{CommandFault, ReadFault};
+pub use from_read::FromRead;
+pub use into_write::IntoWrite;
+pub use lines::Lines;
+pub use memory_sink::MemorySink;
+pub use memory_source::MemorySource;
+pub use output::{LARGE, send};
+pub use sink::{Sink, write_all};
+pub use source::Source;

@@ -1,0 +1,113 @@
+//! Input in lines.
+
+ghost use Rattle.std.specs.Prelude.{◌≡◌, ◌<◌, ◌≤◌, ℕ, List, [], length, Bool, true, IfOk, MatchResult};
+ghost use Rattle.std.specs.Io.KnownBytes.{prepend_known};
+ghost use Rattle.mold_devices.specs.Lines.{GivesLine, HasNoEnd, work_left};
+ghost use Rattle.mold_devices.specs.Faults.{CountsRead};
+
+use crate::source::Source;
+use crate::fault::ReadFault;
+use crate::piece::Piece;
+use memchr::memchr;
+use std::alloc::{AllocError, Global};
+use std::marker::Model;
+
+/// The byte that ends a line.
+const LINE_END: u8 = b'\n';
+
+/// A reader of lines. A line lies where it was read, and is copied only where it came in pieces.
+#[derive(Drop)]
+pub struct Lines {
+    piece: Piece,
+    joined: Vec<u8>,
+    inside: Option<usize>,
+}
+
+impl Model for Lines {
+    ghost use Rattle.std.specs.Prelude.{◌<◌, length};
+    ghost use Rattle.std.specs.Option.{ForSome};
+    ghost use Rattle.mold_devices.specs.Lines.{LineState, line_in, rest_in};
+
+    ghost Value = { LineState };
+
+    ghost view = { λ l. record {
+      line = line_in l.inside l.joined.items l.piece;
+      rest = rest_in l.inside l.piece;
+    } };
+
+    ghost invariant = { λ l. ForSome l.inside (λ len. (len < length l.piece) × (len < 65536)) };
+}
+
+impl Lines {
+    pub fn new(alloc: Global) -> Result<Lines, AllocError>
+        ensures { IfOk result (λ lines. lines.rest ≡ []) }
+    {
+        Ok(Lines {
+            piece: Piece::new(alloc)?,
+            joined: Vec::new(alloc),
+            inside: None,
+        })
+    }
+
+    /// The line that `advance` found last, without the byte that ends it.
+    pub fn line(&self) -> &[u8]
+        ensures { result.now ≡ self.now.line }
+    {
+        match self.inside {
+            Some(len) => &self.piece.rest()[..len],
+            None => self.joined.as_slice(),
+        }
+    }
+
+    /// Goes on to the next line, and answers whether there is one. It reads only where no whole line
+    /// was read before, and takes memory only for a line that comes in pieces.
+    pub fn advance<S: Source>(&mut self, source: &mut S) -> Result<bool, ReadFault>
+        ensures line { IfOk result (λ found. GivesLine
+            (prepend_known self.old.rest (S.left source.old))
+            (prepend_known self.new.rest (S.left source.new)) found self.new.line) }
+        ensures work { IfOk result (λ found. found ≡ true →
+            work_left (S.bound source.new) self.new.rest < work_left (S.bound source.old) self.old.rest) }
+        ensures failures { CountsRead (S.failed source.old) (S.failed source.new) result }
+    {
+        if let Some(len) = self.inside {
+            self.piece.skip(len + 1);
+            self.inside = None;
+        }
+        self.joined.clear();
+        if let Some(at) = memchr(LINE_END, self.piece.rest()) {
+            self.inside = Some(at);
+            return Ok(true);
+        }
+        join_line(&mut self.piece, &mut self.joined, source)
+    }
+}
+
+// Joins the line that begins in the piece and goes on behind it; false where there is no byte left.
+fn join_line<S: Source>(
+    piece: &mut Piece,
+    joined: &mut Vec<u8>,
+    source: &mut S,
+) -> Result<bool, ReadFault>
+    requires no_end { HasNoEnd piece.old }
+    requires empty { joined.old.items ≡ [] }
+    ensures line { IfOk result (λ found. GivesLine
+        (prepend_known piece.old (S.left source.old))
+        (prepend_known piece.new (S.left source.new)) found joined.new.items) }
+    ensures work { IfOk result (λ found. found ≡ true →
+        work_left (S.bound source.new) piece.new < work_left (S.bound source.old) piece.old) }
+    ensures failures { CountsRead (S.failed source.old) (S.failed source.new) result }
+{
+    joined.extend_from_slice(piece.rest())?;
+    'pieces: loop {
+        let count = piece.refill(source)?;
+        if count == 0 {
+            return Ok(!joined.is_empty());
+        }
+        if let Some(at) = memchr(LINE_END, piece.rest()) {
+            joined.extend_from_slice(&piece.rest()[..at])?;
+            piece.skip(at + 1);
+            return Ok(true);
+        }
+        joined.extend_from_slice(piece.rest())?;
+    }
+}

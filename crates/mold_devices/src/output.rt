@@ -1,0 +1,26 @@
+//! Output in large writes.
+
+ghost use Rattle.std.specs.Prelude.{◌≡◌, [], OnOk, IfErr};
+ghost use Rattle.std.specs.Io.KnownBytes.{Appends};
+ghost use Rattle.mold_devices.specs.Devices.{AppendsFront, Counts};
+
+use crate::sink::{Sink, write_all};
+use crate::fault::CommandFault;
+
+/// From how many bytes on text is written.
+pub const LARGE: usize = 65536;
+
+/// Writes the text and empties it. After a fault a front of it is written.
+pub fn send<K: Sink>(sink: &mut K, text: &mut Vec<u8>) -> Result<(), CommandFault>
+    ensures whole { OnOk result (Appends (K.held sink.old) (K.held sink.new) text.old.items) }
+    ensures empty { OnOk result (text.new.items ≡ []) }
+    ensures front { AppendsFront (K.held sink.old) (K.held sink.new) text.old.items }
+    ensures fault { IfErr result (λ fault. fault ≡ CommandFault.Write) }
+    ensures failures { Counts (K.failed sink.old) (K.failed sink.new) result }
+{
+    let Ok(()) = write_all(sink, text.as_slice()) else {
+        return Err(CommandFault::Write);
+    };
+    text.clear();
+    Ok(())
+}

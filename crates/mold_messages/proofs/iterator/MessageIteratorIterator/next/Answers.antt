@@ -1,0 +1,38 @@
+use Rattle.std.proofs.Common.{◌≡◌, ℕ, ◌+◌, ◌-◌, ◌≤◌, List, [], ◌∷◌, length, take, drop, refl, sym, ap, subst, ◌∙◌, arith, rules}
+use Rattle.mold_messages.specs.Places.{pieces, IsRising}
+use Rattle.mold_messages.proofs.PlaceLemmas.{pieces_none, rising_first, rising_within, pieces_first}
+use Rattle.mold_messages.proofs.iterator.MessageIteratorIterator.next.Goals as goal
+
+pub returns-in_err-end-clause-steps : goal.returns-in_err-end-clause-steps
+returns-in_err-end-clause-steps c =
+    let f = c.self.inside in
+    let none : c.args.self.now ≡ [] = sym c.self.view_is ∙ pieces_none f.start f.ends.now f.bytes.now c.in_err-end.ensures.cases in
+    rw c.from_residual.ensures (search (rules, none))
+
+pub part-message-requires-clause-ordered : goal.part-message-requires-clause-ordered
+part-message-requires-clause-ordered c =
+    let f = c.self.inside in
+    (rising_first f.start f.ends.now c.in_ok-end.end.now c.in_ok-end.ends.now (length f.bytes.now) c.in_ok-end.ensures.cases.0 c.self.invariant).0
+
+pub part-message-requires-clause-within : goal.part-message-requires-clause-within
+part-message-requires-clause-within c =
+    let f = c.self.inside in
+    rising_within c.in_ok-end.end.now c.in_ok-end.ends.now (length f.bytes.now)
+    (rising_first f.start f.ends.now c.in_ok-end.end.now c.in_ok-end.ends.now (length f.bytes.now) c.in_ok-end.ensures.cases.0 c.self.invariant).1
+
+pub invariant_of-self : goal.invariant_of-self
+invariant_of-self c =
+    let f = c.self.inside in
+    (rising_first f.start f.ends.now c.in_ok-end.end.now c.in_ok-end.ends.now (length f.bytes.now) c.in_ok-end.ensures.cases.0 c.self.invariant).1
+
+pub returns-clause-steps : goal.returns-clause-steps
+returns-clause-steps c =
+    let f = c.self.inside in
+    sym c.self.view_is
+    ∙ pieces_first f.start f.ends.now c.in_ok-end.end.now c.in_ok-end.ends.now f.bytes.now c.in_ok-end.ensures.cases.0
+    ∙ ap (λ (t : List ℕ). t ∷ pieces c.in_ok-end.end.now c.in_ok-end.ends.now f.bytes.now) (sym c.part-message.ensures)
+
+pub returns-clause-goes : goal.returns-clause-goes
+returns-clause-goes c =
+    let count = ap (λ (t : List (List ℕ)). length t) (returns-clause-steps c) in
+    search (rules, count)

@@ -1,0 +1,12 @@
+use Rattle.std.proofs.Common.{◌≡◌, ℕ, ◌==◌, length, ap, arith, ◌∙◌}
+use Rattle.mold_messages.specs.Listed.{Listed}
+use Rattle.mold_messages.proofs.PlaceLemmas.{length-pieces}
+use Rattle.mold_messages.proofs.list.MessageList.is_empty.Goals as goal
+
+pub returns : goal.returns
+returns c =
+    let f = c.self.inside in
+    let same : f.ends.len ≡ length c.args.self.now.messages =
+    omega (arith, length-pieces 0 f.ends.items f.bytes.items, ap (λ (l : Listed). length l.messages) c.self.view_is)
+    in
+    c.is_empty.ensures ∙ ap (λ (n : ℕ). n == 0) same

@@ -1,0 +1,11 @@
+//! Messages in one buffer: a list of byte strings that takes no memory of its own for each of them.
+#![tactic(auto)]
+
+mod iterator;
+mod list;
+mod part;
+#[cfg(test)]
+mod tests;
+
+pub use iterator::MessageIterator;
+pub use list::MessageList;

@@ -1,0 +1,96 @@
+//! Each public call on its happy path, with its answer.
+
+use crate::MessageList;
+use std::alloc::Global;
+use std::process::Abort;
+use std::test::Fail;
+
+/// `AB`, an empty message and `C`.
+fn three(alloc: Global) -> Result<MessageList, Fail> {
+    let mut list = MessageList::new(alloc);
+    list.push(b"AB")?;
+    list.push(b"")?;
+    list.push(b"C")?;
+    Ok(list)
+}
+
+fn expect_from<'w, 'm>(rt: &impl Abort, list: &MessageList, first: usize, wanted: &'w [&'m [u8]]) {
+    let mut rest = list.iter_from(first);
+    for want in wanted {
+        assert_eq!(rt; rest.next(), Some(*want));
+    }
+    assert_eq!(rt; rest.next(), None);
+}
+
+fn expect_at(rt: &impl Abort, list: &MessageList, i: usize, want: &[u8]) {
+    match list.get(i) {
+        Some(message) => assert_eq!(rt; message, want),
+        None => assert!(rt; false, "no message at {i}"),
+    }
+}
+
+fn joined(rt: &impl Abort, list: &MessageList, from: usize, to: usize) -> usize {
+    assert!(rt; from <= to && to <= list.len());
+    list.joined_length(from, to)
+}
+
+#[test]
+fn messages_are_lent_as_they_were_pushed(rt: HostRuntime) -> Result<(), Fail> {
+    let list = three(rt.alloc())?;
+    assert_eq!(rt; list.len(), 3);
+    assert!(rt; !list.is_empty());
+    expect_at(&rt, &list, 0, b"AB");
+    expect_at(&rt, &list, 1, b"");
+    expect_at(&rt, &list, 2, b"C");
+    assert_eq!(rt; list.get(3), None);
+    assert_eq!(rt; joined(&rt, &list, 0, 3), 3);
+    assert_eq!(rt; joined(&rt, &list, 1, 3), 1);
+    assert_eq!(rt; joined(&rt, &list, 2, 2), 0);
+    Ok(())
+}
+
+#[test]
+fn messages_are_visited_from_any_of_them_on(rt: HostRuntime) -> Result<(), Fail> {
+    let list = three(rt.alloc())?;
+    expect_from(&rt, &list, 0, &[b"AB", b"", b"C"]);
+    expect_from(&rt, &list, 1, &[b"", b"C"]);
+    assert_eq!(rt; list.iter_from(3).next(), None);
+    assert_eq!(rt; list.iter_from(4).next(), None);
+    let mut lengths = [9usize; 4];
+    for (place, message) in lengths.iter_mut().zip(&list) {
+        *place = message.len();
+    }
+    assert_eq!(rt; lengths, [2, 0, 1, 9]);
+    Ok(())
+}
+
+#[test]
+fn a_list_is_cut_and_filled_again(rt: HostRuntime) -> Result<(), Fail> {
+    let mut list = three(rt.alloc())?;
+    list.truncate(4);
+    expect_from(&rt, &list, 0, &[b"AB", b"", b"C"]);
+    list.truncate(1);
+    list.push(b"DEF")?;
+    expect_from(&rt, &list, 0, &[b"AB", b"DEF"]);
+    assert_eq!(rt; joined(&rt, &list, 0, 2), 5);
+    list.clear();
+    assert!(rt; list.is_empty());
+    assert_eq!(rt; list.get(0), None);
+    list.reserve(2, 4)?;
+    list.push(b"AB")?;
+    list.push(b"CD")?;
+    expect_from(&rt, &list, 0, &[b"AB", b"CD"]);
+    Ok(())
+}
+
+/// A thousand messages of a byte take far fewer than 500 growths: with the 500th refused they succeed.
+#[test]
+fn a_thousand_messages_take_few_growths(rt: HostRuntime) -> Result<(), Fail> {
+    let mut list = MessageList::new(rt.alloc());
+    for _ in 0..1000u16 {
+        list.push(b"x")?;
+    }
+    assert_eq!(rt; list.len(), 1000);
+    assert_eq!(rt; joined(&rt, &list, 0, 1000), 1000);
+    Ok(())
+}
