@@ -2,3 +2,4 @@ pub mod StoreLemmas
 pub mod SlotLemmas
 pub mod RuleLemmas
 pub mod CaseLemmas
+pub mod BatchLemmas

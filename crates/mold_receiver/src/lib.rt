@@ -2,9 +2,11 @@
 //! what comes above a gap.
 #![tactic(auto)]
 
+mod batch;
 mod refused;
 mod slots;
 mod taken;
 
+pub use batch::Batch;
 pub use refused::{ReceiverError, Refused};
 pub use taken::Taken;
