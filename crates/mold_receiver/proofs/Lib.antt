@@ -3,3 +3,4 @@ pub mod SlotLemmas
 pub mod RuleLemmas
 pub mod CaseLemmas
 pub mod BatchLemmas
+pub mod KeepLemmas

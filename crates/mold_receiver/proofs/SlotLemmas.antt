@@ -1,5 +1,5 @@
 -- Slots and the store that they hold.
-use Rattle.std.proofs.Common.{◌≡◌, ℕ, zero, suc, ◌+◌, ◌-◌, ◌<◌, ◌≤◌, Bool, true, false, cond, eqb, leb, ltb, List, [], ◌∷◌, ◌++◌, length, length-append, take, drop, replicate, slice_set, append_assoc, refl, sym, ap, subst, ◌∙◌, inl, inr, arith, nat_cmp}
+use Rattle.std.proofs.Common.{◌≡◌, ℕ, zero, suc, ◌+◌, ◌-◌, ◌<◌, ◌≤◌, Bool, true, false, cond, eqb, leb, ltb, ◌&&◌, List, [], ◌∷◌, ◌++◌, length, length-append, take, drop, replicate, slice_set, append_assoc, refl, sym, ap, subst, ◌∙◌, inl, inr, arith, nat_cmp}
 use Rattle.std.specs.Prelude.{Option, None, Some, is_some, slice_get, map}
 use Rattle.std.specs.Cmp.{nat_cmp_total}
 use Rattle.std.specs.Map.{lookup}
@@ -8,7 +8,7 @@ use Rattle.std.specs.Option.{option_flatten, option_map}
 use Rattle.std.proofs.lemmas.Bool.{cases_eq, cases_order, cases_lt, cases_Bool, cond-true, cond-false, le-leb, lt-leb, lt-ltb, le-ltb, eq-eqb, ne_eqb}
 use Rattle.std.proofs.lemmas.Option.{slice_get_past}
 use Rattle.std.proofs.lemmas.List.{length-replicate, length-set, length-drop, drop-drop, drop-append-le, replicate_more}
-use Rattle.mold_receiver.specs.Store.{Message, Store}
+use Rattle.mold_receiver.specs.Store.{Message, Store, differs}
 use Rattle.mold_receiver.specs.Slots.{Slot, slot_at, slot_entries, store_of, count_held, AreSlots}
 use Rattle.mold_receiver.proofs.StoreLemmas.{get_made, none_some}
 
@@ -27,12 +27,16 @@ count_moved [] = omega arith
 count_moved (None ∷ slots) = omega (arith, count-push slots)
 count_moved (Some m ∷ slots) = omega (arith, count-push slots)
 
-pub count_put : (slots : List Slot) (i : ℕ) (message : Message) → i < length slots → slot_at slots i ≡ None → count_held (slice_set slots i (Some message)) ≡ suc (count_held slots)
-count_put [] i message within empty = absurd (omega arith)
-count_put (None ∷ slots) zero message within empty = omega arith
-count_put (Some m ∷ slots) zero message within empty = absurd (none_some (sym empty))
-count_put (None ∷ slots) (suc i) message within empty = omega (arith, count_put slots i message (omega arith) empty)
-count_put (Some m ∷ slots) (suc i) message within empty = omega (arith, count_put slots i message (omega arith) empty)
+count_behind : (b : Bool) (one n m : ℕ) → m ≡ cond b n (n + 1) → one + m ≡ cond b (one + n) (one + n + 1)
+count_behind true one n m is = ap (λ (k : ℕ). one + k) is
+count_behind false one n m is = omega (arith, is)
+
+pub count_put : (slots : List Slot) (i : ℕ) (message : Message) → i < length slots → count_held (slice_set slots i (Some message)) ≡ cond (is_some (slot_at slots i)) (count_held slots) (count_held slots + 1)
+count_put [] i message within = absurd (omega arith)
+count_put (None ∷ slots) zero message within = omega arith
+count_put (Some m ∷ slots) zero message within = refl
+count_put (None ∷ slots) (suc i) message within = count_behind (is_some (slot_at slots i)) 0 (count_held slots) _ (count_put slots i message (omega arith))
+count_put (Some m ∷ slots) (suc i) message within = count_behind (is_some (slot_at slots i)) 1 (count_held slots) _ (count_put slots i message (omega arith))
 
 slot_put_same : (slots : List Slot) (i : ℕ) (slot : Slot) → i < length slots → slot_at (slice_set slots i slot) i ≡ slot
 slot_put_same [] i slot within = absurd (omega arith)
@@ -116,15 +120,27 @@ are_moved slots capacity count are =
       counted = ap (λ (n : ℕ). n - cond (is_some (slot_at slots 0)) 1 0) are.counted ∙ sym (count_moved slots);
     }
 
-pub are_put : (slots : List Slot) (capacity count i : ℕ) (message : Message) → AreSlots slots capacity count → i < length slots → slot_at slots i ≡ None → AreSlots (slice_set slots i (Some message)) capacity (count + 1)
-are_put slots capacity count i message are within empty =
+pub are_put : (slots : List Slot) (capacity count i : ℕ) (message : Message) → AreSlots slots capacity count → i < length slots
+    → AreSlots (slice_set slots i (Some message)) capacity (cond (is_some (slot_at slots i)) count (count + 1))
+are_put slots capacity count i message are within =
     let same : length (slice_set slots i (Some message)) ≡ length slots = length-set slots i (Some message) in
     record {
       some = omega (arith, are.some, same);
       few = omega (arith, are.few, same);
       full = same ∙ are.full;
-      counted = omega (arith, are.counted, count_put slots i message within empty);
+      counted = ap (λ (n : ℕ). cond (is_some (slot_at slots i)) n (n + 1)) are.counted ∙ sym (count_put slots i message within);
     }
+
+pub slot_view : {V : Type 0} (g : V → Message) (xs : List (Option V)) (i : ℕ) → is_some (option_flatten (slice_get xs i)) ≡ is_some (slot_at (map (option_map g) xs) i)
+slot_view g [] i = refl
+slot_view g (None ∷ xs) zero = refl
+slot_view g (Some x ∷ xs) zero = refl
+slot_view g (x ∷ xs) (suc i) = slot_view g xs i
+
+pub put_past : (slots : List Slot) (i : ℕ) (slot : Slot) → length slots ≤ i → slice_set slots i slot ≡ slots
+put_past [] i slot past = refl
+put_past (s ∷ slots) zero slot past = absurd (omega arith)
+put_past (s ∷ slots) (suc i) slot past = ap (λ (t : List Slot). s ∷ t) (put_past slots i slot (omega arith))
 
 pub are_empty : (n : ℕ) → 0 < n → n ≤ 65536 → AreSlots (replicate n None) n 0
 are_empty n some few =
@@ -189,3 +205,10 @@ len-slots number (Some message ∷ slots) =
     finite.len-insert nat_cmp_total (store_of (suc number) slots) number message
     ∙ cond-false _ _ _ (ap is_some none)
     ∙ (let more : finite.len (store_of (suc number) slots) + 1 ≡ 1 + count_held slots = omega (arith, len-slots (suc number) slots) in more)
+
+-- a stored message differs at a number where its slot's does
+pub conflict_is : (slots : List Slot) (next number : ℕ) (message : Message) → next ≤ number
+    → (leb next number && differs (finite.get (store_of next slots) number) message) ≡ differs (slot_at slots (number - next)) message
+conflict_is slots next number message low =
+    ap (λ (b : Bool). b && differs (finite.get (store_of next slots) number) message) (le-leb next number low)
+    ∙ ap (λ (o : Option Message). differs o message) (get-slots next slots number ∙ cond-true (leb next number) (slot_at slots (number - next)) None (le-leb next number low))

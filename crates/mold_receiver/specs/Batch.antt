@@ -26,11 +26,6 @@ abbrev pub FollowsIn : ℕ → List Message → ℕ → Type 0
 FollowsIn first [] next = Unit {0}
 FollowsIn first (message ∷ messages) next = first + length (message ∷ messages) ≡ next
 
--- messages from a number on with others behind them, which begin at `next` where there is none before
-abbrev pub joined : ℕ → List Message → ℕ → List Message → Handed
-joined first [] next more = handed_from next more
-joined first (message ∷ messages) next more = record { first = first; messages = message ∷ messages ++ more }
-
 -- the number of the first message, and the one behind the last; none where there is no message
 abbrev pub first_of : Handed → Option ℕ
 first_of batch = first_in batch.first batch.messages
@@ -42,6 +37,15 @@ after_of batch = after_in batch.first batch.messages
 abbrev pub Follows : Handed → ℕ → Type 0
 Follows batch next = FollowsIn batch.first batch.messages next
 
+-- the number of the first of some messages and others behind them, which begin at `next`
+abbrev pub joined_first : ℕ → List Message → ℕ → ℕ
+joined_first first [] next = next
+joined_first first (message ∷ messages) next = first
+
 -- the batch with messages behind its own, which are numbered from `next` where it has none
 abbrev pub followed_by : Handed → ℕ → List Message → Handed
-followed_by batch next messages = joined batch.first batch.messages next messages
+followed_by batch next [] = batch
+followed_by batch next (message ∷ messages) = record {
+      first = joined_first batch.first batch.messages next;
+      messages = batch.messages ++ message ∷ messages
+    }

@@ -4,3 +4,5 @@ pub mod Receive
 pub mod Wanted
 pub mod Batch
 pub mod Slots
+pub mod Keeping
+pub mod Handing

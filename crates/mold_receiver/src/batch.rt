@@ -63,7 +63,8 @@ impl Batch {
 
     /// How many messages there are.
     pub fn len(&self) -> usize
-        ensures { result ≡ length self.now.messages }
+        ensures length { result ≡ length self.now.messages }
+        ensures numbered { self.now ≡ handed_from self.now.first self.now.messages }
     {
         self.list.len()
     }

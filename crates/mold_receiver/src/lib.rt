@@ -3,6 +3,9 @@
 #![tactic(auto)]
 
 mod batch;
+mod conflict;
+mod hand;
+mod keep;
 mod refused;
 mod slots;
 mod taken;

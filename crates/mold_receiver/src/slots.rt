@@ -1,6 +1,6 @@
 //! The ring of the gap store.
 
-ghost use Rattle.std.specs.Prelude.{◌≡◌, ◌<◌, ◌≤◌, ◌++◌, ◌∷◌, [], length, drop, replicate, slice_set, slice_get, is_some, IfOk, None, Some};
+ghost use Rattle.std.specs.Prelude.{◌≡◌, ◌+◌, ◌^◌, if◌then◌else◌, ◌<◌, ◌≤◌, ◌++◌, ◌∷◌, [], length, drop, replicate, slice_set, slice_get, is_some, IfOk, None, Some};
 ghost use Rattle.std.specs.Option.{option_copied, option_flatten};
 ghost use Rattle.mold_receiver.specs.Slots.{slot_at, count_held};
 
@@ -30,6 +30,21 @@ fn advance(ring: &mut HeapCircularBuffer<Option<Vec<u8>>>) -> bool
     let first = ring.pop_front().flatten();
     ring.push_back(None);
     first.is_some()
+}
+
+// Whether a slot has a message.
+fn has_message(ring: &HeapCircularBuffer<Option<Vec<u8>>>, slot: usize) -> bool
+    ensures { result ≡ is_some (option_flatten (slice_get ring.now.items slot)) }
+{
+    matches!(ring.get(slot), Some(Some(_)))
+}
+
+// How many slots have a message when one more is written, by whether it had one.
+fn count_with(held: u32, had: bool) -> u32
+    requires { held + 1 < 2 ^ 32 }
+    ensures { result ≡ (if had then held else held + 1) }
+{
+    if had { held } else { held + 1 }
 }
 
 // Writes a message into a slot.
@@ -104,14 +119,16 @@ impl Slots {
         self.get(slot).is_some()
     }
 
-    /// Puts a message into an empty slot.
+    /// Puts a message into a slot, in place of what is there; where there is no such slot nothing changes.
     pub(crate) fn put(&mut self, slot: usize, message: Vec<u8>)
-        requires within { slot < length self.old }
-        requires empty { slot_at self.old slot ≡ None }
         ensures { self.new ≡ slice_set self.old slot (Some message.items) }
     {
+        if slot >= self.ring.len() {
+            return;
+        }
+        let had = has_message(&self.ring, slot);
+        self.held = count_with(self.held, had);
         write(&mut self.ring, slot, message);
-        self.held += 1;
     }
 
     // Drops the first slot with what is in it, and has an empty one behind the last.
