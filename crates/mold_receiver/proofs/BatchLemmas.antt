@@ -3,7 +3,7 @@ use Rattle.std.proofs.Common.{◌≡◌, ℕ, zero, suc, ◌+◌, ◌-◌, ◌<�
 use Rattle.std.proofs.lemmas.List.{append-nil, take_at}
 use Rattle.std.specs.Prelude.{Option, None, Some}
 use Rattle.std.proofs.lemmas.Bool.{cases_lt, cond-true, cond-false, lt-ltb, le-ltb}
-use Rattle.mold_receiver.specs.Handing.{run_in}
+use Rattle.mold_receiver.specs.Handing.{run_in, Grew}
 use Rattle.mold_receiver.specs.Slots.{Slot, slot_at}
 use Rattle.mold_receiver.specs.Store.{Message, behind_some, run_from}
 use Rattle.mold_receiver.proofs.StoreLemmas.{none_some}
@@ -132,3 +132,18 @@ run_more slots at m is =
 
 pub run_none : (slots : List Slot) (at : ℕ) → slot_at slots at ≡ None → run_in slots at ≡ []
 run_none slots at is = none_run (slot_at slots) at (length slots - at) is
+
+pub handing_length : (old new : Handed) (next at : ℕ) (whole : List Message) → IsHanding old new next at [] whole → next + length whole ≡ at
+handing_length old new next at whole is = ap (λ (t : List Message). next + length t) (sym is.parts ∙ append-nil is.handed) ∙ is.counted
+
+-- what grew twice grew
+pub grew_twice : (old new newer : Handed) (next at : ℕ) (more : List Message) → new ≡ followed_by old next more → next + length more ≡ at → Grew new newer at → Grew old newer next
+grew_twice old new newer next at more is counted grew = record {
+      handed = more ++ grew.handed;
+      batch = grew.batch ∙ ap (λ (b : Handed). followed_by b at grew.handed) is ∙ followed_twice old next more at grew.handed counted;
+    }
+
+-- a batch that grew and is cut to its old length is the old one
+pub cut_grown : (old new : Handed) (next : ℕ) → old ≡ handed_from old.first old.messages → Grew old new next → handed_from new.first (take (length old.messages) new.messages) ≡ old
+cut_grown old new next normal grew =
+    ap (λ (b : Handed). handed_from b.first (take (length old.messages) b.messages)) grew.batch ∙ cut_followed old next grew.handed normal

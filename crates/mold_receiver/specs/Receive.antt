@@ -8,6 +8,7 @@ use Rattle.mold_wire.specs.Reading.{reading}
 use Rattle.mold_wire.specs.declared.packet.Packet.{Packet}
 use Rattle.mold_wire.specs.declared.packet.Body.{Body}
 use Rattle.mold_wire.specs.declared.packet.Body.TheVariants.{Data, Heartbeat, End}
+use Rattle.mold_wire.specs.declared.session.Session.{Session}
 use Rattle.mold_wire.specs.declared.error.DecodeError.{DecodeError}
 use Rattle.mold_receiver.specs.declared.taken.Taken.{Taken}
 use Rattle.mold_receiver.specs.declared.refused.Refused.{Refused}
@@ -20,8 +21,8 @@ abbrev pub refuse_if : Bool → Refused → Option Refused
 refuse_if refused refusal = if refused then Some refusal else None
 
 -- the packet is of another session
-abbrev pub wrong_session : View → Packet → Option Refused
-wrong_session v p = refuse_if (not (bytes_eq p.session.0 v.session.0)) WrongSession
+abbrev pub wrong_session : Session → Packet → Option Refused
+wrong_session session p = refuse_if (not (bytes_eq p.session.0 session.0)) WrongSession
 
 abbrev pub sequence_zero : Packet → Option Refused
 sequence_zero p = refuse_if (p.sequence == 0) SequenceZero
@@ -61,13 +62,24 @@ conflict v number messages = conflict_at (first_conflict v.store (from_next v.ne
 -- the refusals of a packet in order of precedence, each where it applies
 abbrev pub refusals : View → Packet → List (Option Refused)
 refusals v p =
-    wrong_session v p
+    wrong_session v.session p
     ∷ sequence_zero p
     ∷ past_last p
     ∷ end_conflict p.body p.sequence v.ended
     ∷ end_below p.body p.sequence v.known
     ∷ past_end v.ended p.body (top_of p)
     ∷ conflict v p.sequence (messages_of p.body)
+    ∷ []
+
+-- those of them that the store has no part in
+abbrev pub header_refusals : Session → ℕ → Option ℕ → Packet → List (Option Refused)
+header_refusals session known ended p =
+    wrong_session session p
+    ∷ sequence_zero p
+    ∷ past_last p
+    ∷ end_conflict p.body p.sequence ended
+    ∷ end_below p.body p.sequence known
+    ∷ past_end ended p.body (top_of p)
     ∷ []
 
 -- the first that is there

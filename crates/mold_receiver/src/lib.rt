@@ -6,6 +6,7 @@ mod batch;
 mod conflict;
 mod hand;
 mod keep;
+mod refusal;
 mod refused;
 mod slots;
 mod taken;
