@@ -4,3 +4,4 @@ pub mod RuleLemmas
 pub mod CaseLemmas
 pub mod BatchLemmas
 pub mod KeepLemmas
+pub mod ViewLemmas

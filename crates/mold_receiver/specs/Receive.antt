@@ -146,6 +146,10 @@ reception v p = record {
       taken = taken_of v p (view_after v p)
     }
 
+-- a data packet
+abbrev pub data_packet : Session → ℕ → List Message → Packet
+data_packet session sequence messages = record { session = session; sequence = sequence; body = Data messages }
+
 -- a packet is refused or taken
 abbrev pub decide : Option Refused → Reception → Result Reception Refused
 decide None taken = Ok taken

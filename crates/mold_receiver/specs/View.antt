@@ -1,9 +1,10 @@
 -- A receiver as its users see it.
-use Rattle.std.specs.Prelude.{◌≡◌, ℕ, ◌+◌, ◌<◌, ◌≤◌, ◌^◌, List, Option, None, Some, refl}
+use Rattle.std.specs.Prelude.{◌≡◌, ℕ, ◌+◌, ◌<◌, ◌≤◌, ◌^◌, List, length, Option, None, Some, refl}
 use Rattle.std.specs.Coded.{Coded, code_by, coded×, coded_list, coded_ℕ, coded_option}
 use Rattle.std.specs.FinMap as finite
 use Rattle.std.specs.Ordering.{nat_cmp}
 use Rattle.mold_wire.specs.declared.session.Session.{Session}
+use Rattle.mold_receiver.specs.Slots.{Slot, store_of}
 use Rattle.mold_receiver.specs.Store.{Message, Store}
 
 pub record View : Type 0 where
@@ -40,3 +41,11 @@ pub record IsWellFormed (v : View) : Type 0 where
 -- the view of a receiver that begins at `next`: nothing heard, nothing stored
 abbrev pub fresh : Session → ℕ → ℕ → View
 fresh session next window = record { session = session; next = next; known = next; ended = None; store = finite.empty; window = window }
+
+-- a view whose store is in slots, the first of which is for `next`
+abbrev pub view_over : Session → ℕ → ℕ → Option ℕ → List Slot → View
+view_over session next known ended slots = record { session = session; next = next; known = known; ended = ended; store = store_of next slots; window = length slots }
+
+-- the windows that a receiver may have
+abbrev pub IsWindow : ℕ → Type 0
+IsWindow window = (1 ≤ window) × (window ≤ 65536)

@@ -6,11 +6,13 @@ mod batch;
 mod conflict;
 mod hand;
 mod keep;
+mod receiver;
 mod refusal;
 mod refused;
 mod slots;
 mod taken;
 
 pub use batch::Batch;
+pub use receiver::Receiver;
 pub use refused::{ReceiverError, Refused};
 pub use taken::Taken;

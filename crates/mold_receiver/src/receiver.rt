@@ -1,0 +1,137 @@
+//! The receiver.
+
+ghost use Rattle.std.specs.Prelude.{◌≡◌, ◌+◌, ◌-◌, ◌<◌, ◌≤◌, ◌^◌, min, length, Some, None, Ok, Err, IfOk, IfErr, OnOk, OnErr};
+ghost use Rattle.std.specs.FinMap as finite;
+ghost use Rattle.mold_wire.specs.Packet.{top_of};
+ghost use Rattle.mold_wire.specs.declared.packet.Body.TheVariants.{Data};
+ghost use Rattle.mold_receiver.specs.Batch.{Follows, followed_by};
+ghost use Rattle.mold_receiver.specs.Receive.{data_packet, first_some, handed_on, past_end, refusals, taken_of, view_after};
+ghost use Rattle.mold_receiver.specs.Store.{first_conflict, from_next};
+ghost use Rattle.mold_receiver.specs.View.{View, IsWellFormed, IsWindow, fresh};
+ghost use Rattle.mold_receiver.specs.declared.refused.ReceiverError.TheVariants.{NextZero, Window, Memory};
+
+use crate::batch::Batch;
+use crate::hand::hand_on;
+use crate::keep::{copy_fresh, put_copies};
+use crate::refused::{ReceiverError, Refused};
+use crate::slots::Slots;
+use crate::taken::Taken;
+use mold_wire::{Blocks, Session};
+use std::alloc::{AllocError, Global};
+use std::marker::Model;
+
+/// The greatest window.
+const GREATEST: u32 = 65536;
+
+// How many of a packet's messages lie behind the window, by its top and the number of its messages.
+fn count_beyond(next: u64, window: usize, top: u64, count: u16) -> u32
+    requires { next ≤ top }
+    ensures { result ≡ min (top - next - window) count }
+{
+    let past = (top - next).saturating_sub(window as u64);
+    past.min(u64::from(count)) as u32
+}
+
+/// A receiver of one session's downstream packets. It hands each message on once, in the order of their
+/// numbers from the first one that it was made for, and stores what comes above a gap, as far as its
+/// window goes. Packets may come late, repeated and in any order.
+#[derive(Debug, Drop)]
+pub struct Receiver {
+    session: Session,
+    next: u64,
+    known: u64,
+    ended: Option<u64>,
+    slots: Slots,
+    alloc: Global,
+}
+
+impl Model for Receiver {
+    ghost use Rattle.mold_receiver.specs.View.{View, view_code, IsWellFormed, view_over};
+
+    ghost Value = { View };
+
+    ghost coded = { view_code };
+
+    ghost view = { λ r. view_over r.session r.next r.known r.ended r.slots };
+
+    ghost invariant = { λ r. IsWellFormed (view_over r.session r.next r.known r.ended r.slots) };
+}
+
+impl Receiver {
+    /// A receiver that begins at the message `next` and stores messages of less than `next + window`. It
+    /// makes its window here; later only messages take memory.
+    pub fn new(alloc: Global, session: Session, next: u64, window: u32) -> Result<Receiver, ReceiverError>
+        ensures made { IfOk result (λ receiver. receiver ≡ fresh session next window) }
+        ensures ok { OnOk result ((0 < next) × IsWindow window) }
+        ensures zero { next ≡ 0 → result ≡ Err NextZero }
+        ensures window { 0 < next → (IsWindow window → ⊥) → result ≡ Err Window }
+        ensures memory { 0 < next → IsWindow window → IfErr result (λ error. error ≡ Memory) }
+    {
+        if next == 0 {
+            return Err(ReceiverError::NextZero);
+        }
+        if window == 0 || window > GREATEST {
+            return Err(ReceiverError::Window);
+        }
+        match Slots::new(alloc, window) {
+            Ok(slots) => Ok(Receiver {
+                session,
+                next,
+                known: next,
+                ended: None,
+                slots,
+                alloc,
+            }),
+            Err(_) => Err(ReceiverError::Memory),
+        }
+    }
+
+    // Stores the messages of a packet that begins above `next`.
+    fn keep(&mut self, first: u64, top: u64, blocks: &Blocks<'_>) -> Result<Taken, AllocError>
+        requires above { self.old.next < first }
+        requires top { first + length blocks.now ≡ top }
+        requires end { past_end self.old.ended (Data blocks.now) top ≡ None }
+        requires same { first_conflict self.old.store (from_next self.old.next first blocks.now) ≡ None }
+        ensures view { OnOk result (self.new ≡ view_after self.old (data_packet self.old.session first blocks.now)) }
+        ensures taken { IfOk result (λ taken. taken ≡ taken_of self.old (data_packet self.old.session first blocks.now) (view_after self.old (data_packet self.old.session first blocks.now))) }
+        ensures unchanged { OnErr result (self.new ≡ self.old) }
+    {
+        let copies = copy_fresh(self.alloc, &self.slots, first - self.next, blocks)?;
+        let beyond = count_beyond(self.next, self.slots.len(), top, blocks.len());
+        let kept = copies.len() as u32;
+        put_copies(&mut self.slots, copies);
+        self.known = self.known.max(top);
+        Ok(Taken {
+            handed: 0,
+            kept,
+            beyond,
+        })
+    }
+
+    // Hands on from a packet that has the message `next`.
+    fn hand(&mut self, first: u64, top: u64, blocks: &Blocks<'_>, batch: &mut Batch) -> Result<Taken, AllocError>
+        requires follows { Follows batch.old self.old.next }
+        requires begun { first ≤ self.old.next }
+        requires ahead { self.old.next < top }
+        requires few { length blocks.now < 65535 }
+        requires top { first + length blocks.now ≡ top }
+        requires end { past_end self.old.ended (Data blocks.now) top ≡ None }
+        ensures view { OnOk result (self.new ≡ view_after self.old (data_packet self.old.session first blocks.now)) }
+        ensures handed { OnOk result (batch.new ≡ followed_by batch.old self.old.next (handed_on self.old first blocks.now)) }
+        ensures taken { IfOk result (λ taken. taken ≡ taken_of self.old (data_packet self.old.session first blocks.now) (view_after self.old (data_packet self.old.session first blocks.now))) }
+        ensures unchanged { OnErr result (self.new ≡ self.old) }
+        ensures batch { OnErr result (batch.new ≡ batch.old) }
+    {
+        let next = hand_on(batch, self.next, first, top, blocks, &self.slots)?;
+        let handed = next - self.next;
+        let count = (handed as usize).min(self.slots.len());
+        self.slots.skip(count);
+        self.next = next;
+        self.known = self.known.max(top);
+        Ok(Taken {
+            handed: handed as u32,
+            kept: 0,
+            beyond: 0,
+        })
+    }
+}
