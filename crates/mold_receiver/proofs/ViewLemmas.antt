@@ -16,14 +16,14 @@ use Rattle.mold_receiver.specs.declared.taken.Taken.{Taken}
 use Rattle.mold_receiver.specs.declared.refused.Refused.{Refused}
 use Rattle.mold_receiver.specs.Handing.{run_in, run_of}
 use Rattle.mold_receiver.specs.Keeping.{is_fresh, fresh, put_pairs}
-use Rattle.mold_receiver.specs.Receive.{refuse_if, end_below, past_end, first_some, handed_on, count_kept, count_beyond, ended_after, view_at, view_after, taken_of, data_packet}
-use Rattle.mold_receiver.specs.Slots.{Slot, slot_at, store_of}
-use Rattle.mold_receiver.specs.Store.{Message, Store, numbered, from_next, available, run_from, cut, first_conflict}
+use Rattle.mold_receiver.specs.Receive.{refuse_if, refusals, header_refusals, conflict, end_below, past_end, first_some, handed_on, count_kept, count_beyond, ended_after, view_at, view_after, taken_of, data_packet}
+use Rattle.mold_receiver.specs.Slots.{Slot, slot_at, store_of, count_held}
+use Rattle.mold_receiver.specs.Store.{Message, Store, differs, numbered, from_next, available, run_from, cut, first_conflict}
 use Rattle.mold_receiver.specs.View.{View, IsWellFormed, view_over}
 use Rattle.mold_receiver.proofs.CaseLemmas.{nothing_handed, nothing_stored, nothing_kept, ahead_handed, ahead_stored, at_handed, at_stored, at_kept}
 use Rattle.mold_receiver.proofs.KeepLemmas.{slot_fresh, length-put_pairs}
 use Rattle.mold_receiver.proofs.RuleLemmas.{IsBetween, none_unless, option_or-none, message_below, message_past, message_within, message_bounds, available_cases, count_same, count_none, count_from}
-use Rattle.mold_receiver.proofs.SlotLemmas.{get-slots, slot_past, slot_moved}
+use Rattle.mold_receiver.proofs.SlotLemmas.{get-slots, len-slots, slot_past, slot_moved}
 use Rattle.mold_receiver.proofs.StoreLemmas.{message_at, get-cut, none_some, run_reads, run_ends, run_short}
 
 pub between_of : (v : View) → IsWellFormed v → IsBetween v.store v.next v.window
@@ -356,3 +356,74 @@ fresh_well session next n first last = record {
       stored = λ q m is. absurd (none_some (sym (ap (λ (s : Store). finite.get s q) (empty_store next n) ∙ finite.get-empty nat_cmp q) ∙ is));
       ends = λ e is. absurd (none_some is);
     }
+
+-- where the packet ends at or below `next`, or has no messages, nothing of it is at or above `next`
+pub nothing_there : (next n : ℕ) (ms : List Message) → (n + length ms ≤ next) ⊎ (ms ≡ []) → (q : ℕ) → next ≤ q → message_at n ms q ≡ None
+nothing_there next n ms (inl below) q low = message_past n ms q (omega arith)
+nothing_there next n ms (inr none) q low =
+    elim (cases_lt q n) [
+      | inl below ↦ message_below n ms q below
+      | inr above ↦ message_within n ms q above ∙ ap (λ (t : List Message). slice_get t (q - n)) none
+    ]
+
+pub nothing_beyond : (next n window : ℕ) (ms : List Message) → (n + length ms ≤ next) ⊎ (ms ≡ []) → count_beyond (next + window) (numbered n ms) ≡ 0
+nothing_beyond next n window ms (inl below) = count_from (next + window) n ms ∙ (let e : n + length ms - max n (next + window) ≡ 0 = omega arith in e)
+nothing_beyond next n window ms (inr none) = ap (λ (t : List Message). count_beyond (next + window) (numbered n t)) none
+
+pub none_handed : (v : View) (n : ℕ) (ms : List Message) → IsWellFormed v → (n + length ms ≤ v.next) ⊎ (ms ≡ []) → handed_on v n ms ≡ []
+none_handed v n ms well nothing = nothing_handed v.store v.next v.window (max v.known (n + length ms) - v.next) n ms (between_of v well) (nothing_there v.next n ms nothing)
+
+-- a packet wholly below `next` meets no conflict, and none does where nothing is stored
+pub below_no_conflict : (s : Store) (next n : ℕ) (ms : List Message) → n + length ms ≤ next → first_conflict s (from_next next n ms) ≡ None
+below_no_conflict s next n [] below = refl
+below_no_conflict s next n (m ∷ ms) below =
+    ap (first_conflict s) (cond-false (leb next n) ((n, m) ∷ from_next next (suc n) ms) (from_next next (suc n) ms) (lt-leb next n (omega arith)))
+    ∙ below_no_conflict s next (suc n) ms (omega (arith, below))
+
+pub empty_no_conflict : (s : Store) (pairs : List (ℕ × Message)) → s ≡ finite.empty → first_conflict s pairs ≡ None
+empty_no_conflict s [] empty = refl
+empty_no_conflict s (pair ∷ pairs) empty =
+    let none : finite.get s pair.0 ≡ None = ap (λ (t : Store). finite.get t pair.0) empty ∙ finite.get-empty nat_cmp pair.0 in
+    cond-false (differs (finite.get s pair.0) pair.1) (Some pair.0) (first_conflict s pairs) (ap (λ (o : Option Message). differs o pair.1) none) ∙ empty_no_conflict s pairs empty
+
+pub none_held : (next : ℕ) (slots : List Slot) → count_held slots ≡ 0 → store_of next slots ≡ finite.empty
+none_held next slots none = finite.empty_of_len (store_of next slots) (len-slots next slots ∙ none)
+
+-- the refusals in their order
+first_before : (refusals : List (Option Refused)) (last : Option Refused) → first_some refusals ≡ None → first_some (refusals ++ last ∷ []) ≡ first_some (last ∷ [])
+first_before [] last none = refl
+first_before (None ∷ refusals) last none = first_before refusals last none
+first_before (Some r ∷ refusals) last none = absurd (none_some (sym none))
+
+first_found : (refusals : List (Option Refused)) (last : Option Refused) (r : Refused) → first_some refusals ≡ Some r → first_some (refusals ++ last ∷ []) ≡ Some r
+first_found [] last r found = absurd (none_some found)
+first_found (None ∷ refusals) last r found = first_found refusals last r found
+first_found (Some x ∷ refusals) last r found = found
+
+pub refused_by_header : (v : View) (p : Packet) (r : Refused) → first_some (header_refusals v.session v.known v.ended p) ≡ Some r → first_some (refusals v p) ≡ Some r
+refused_by_header v p r found = first_found (header_refusals v.session v.known v.ended p) (conflict v p.sequence (messages_of p.body)) r found
+
+pub refused_by_conflict : (v : View) (p : Packet) → first_some (header_refusals v.session v.known v.ended p) ≡ None
+    → first_some (refusals v p) ≡ first_some (conflict v p.sequence (messages_of p.body) ∷ [])
+refused_by_conflict v p none = first_before (header_refusals v.session v.known v.ended p) (conflict v p.sequence (messages_of p.body)) none
+
+-- each of some refusals is none
+abbrev pub AllNone : List (Option Refused) → Type 0
+AllNone [] = Unit {0}
+AllNone (r ∷ rs) = (r ≡ None) × AllNone rs
+
+pub all_none : (refusals : List (Option Refused)) → first_some refusals ≡ None → AllNone refusals
+all_none [] none = tt
+all_none (None ∷ refusals) none = (refl, all_none refusals none)
+all_none (Some r ∷ refusals) none = absurd (none_some (sym none))
+
+pub above_handed : (v : View) (n : ℕ) (ms : List Message) → IsWellFormed v → v.next < n → handed_on v n ms ≡ []
+above_handed v n ms well above = ahead_handed v.store v.next v.window (max v.known (n + length ms) - v.next) n ms (between_of v well) above
+
+-- a packet that has the message `next` hands something on
+pub some_handed : (session : Session) (next known : ℕ) (ended : Option ℕ) (slots : List Slot) (n top : ℕ) (ms : List Message)
+    → IsWellFormed (view_over session next known ended slots) → n ≤ next → next < top → n + length ms ≡ top
+    → 0 < next + length (handed_on (view_over session next known ended slots) n ms) - next
+some_handed session next known ended slots n top ms well low high tops =
+    let run = ap (λ (t : List Message). length t) (at_run session next known ended slots n top ms well low high tops) in
+    omega (arith, run, length-run_of slots next n top ms low high tops)

@@ -1,22 +1,24 @@
 //! The receiver.
 
-ghost use Rattle.std.specs.Prelude.{◌≡◌, ◌+◌, ◌-◌, ◌<◌, ◌≤◌, ◌^◌, min, length, Some, None, Ok, Err, IfOk, IfErr, OnOk, OnErr};
+ghost use Rattle.std.specs.Prelude.{◌≡◌, ◌⊎◌, [], ◌+◌, ◌-◌, ◌<◌, ◌≤◌, ◌^◌, min, length, Some, None, Ok, Err, IfOk, IfErr, OnOk, OnErr};
 ghost use Rattle.std.specs.FinMap as finite;
-ghost use Rattle.mold_wire.specs.Packet.{top_of};
+ghost use Rattle.mold_wire.specs.Packet.{messages_of, top_of};
 ghost use Rattle.mold_wire.specs.declared.packet.Body.TheVariants.{Data};
 ghost use Rattle.mold_receiver.specs.Batch.{Follows, followed_by};
-ghost use Rattle.mold_receiver.specs.Receive.{data_packet, first_some, handed_on, past_end, refusals, taken_of, view_after};
+ghost use Rattle.mold_receiver.specs.Receive.{data_packet, end_below, ended_after, first_some, handed_on, past_end, refusals, taken_of, view_after};
 ghost use Rattle.mold_receiver.specs.Store.{first_conflict, from_next};
 ghost use Rattle.mold_receiver.specs.View.{View, IsWellFormed, IsWindow, fresh};
 ghost use Rattle.mold_receiver.specs.declared.refused.ReceiverError.TheVariants.{NextZero, Window, Memory};
 
 use crate::batch::Batch;
+use crate::conflict::conflict_of;
 use crate::hand::hand_on;
 use crate::keep::{copy_fresh, put_copies};
+use crate::refusal::check_header;
 use crate::refused::{ReceiverError, Refused};
 use crate::slots::Slots;
 use crate::taken::Taken;
-use mold_wire::{Blocks, Session};
+use mold_wire::{Blocks, Body, Packet, Session};
 use std::alloc::{AllocError, Global};
 use std::marker::Model;
 
@@ -30,6 +32,16 @@ fn count_beyond(next: u64, window: usize, top: u64, count: u16) -> u32
 {
     let past = (top - next).saturating_sub(window as u64);
     past.min(u64::from(count)) as u32
+}
+
+// The end that is known when the packet was taken.
+fn told_end(packet: &Packet<'_>, ended: Option<u64>) -> Option<u64>
+    ensures { result ≡ ended_after packet.now.body packet.now.sequence ended }
+{
+    match packet.body {
+        Body::End => Some(packet.sequence),
+        Body::Data(_) | Body::Heartbeat => ended,
+    }
 }
 
 /// A receiver of one session's downstream packets. It hands each message on once, in the order of their
@@ -94,6 +106,8 @@ impl Receiver {
         requires same { first_conflict self.old.store (from_next self.old.next first blocks.now) ≡ None }
         ensures view { OnOk result (self.new ≡ view_after self.old (data_packet self.old.session first blocks.now)) }
         ensures taken { IfOk result (λ taken. taken ≡ taken_of self.old (data_packet self.old.session first blocks.now) (view_after self.old (data_packet self.old.session first blocks.now))) }
+        ensures handed { handed_on self.old first blocks.now ≡ [] }
+        ensures needed { OnErr result (0 < (taken_of self.old (data_packet self.old.session first blocks.now) (view_after self.old (data_packet self.old.session first blocks.now))).kept) }
         ensures unchanged { OnErr result (self.new ≡ self.old) }
     {
         let copies = copy_fresh(self.alloc, &self.slots, first - self.next, blocks)?;
@@ -119,6 +133,7 @@ impl Receiver {
         ensures view { OnOk result (self.new ≡ view_after self.old (data_packet self.old.session first blocks.now)) }
         ensures handed { OnOk result (batch.new ≡ followed_by batch.old self.old.next (handed_on self.old first blocks.now)) }
         ensures taken { IfOk result (λ taken. taken ≡ taken_of self.old (data_packet self.old.session first blocks.now) (view_after self.old (data_packet self.old.session first blocks.now))) }
+        ensures needed { OnErr result (0 < (taken_of self.old (data_packet self.old.session first blocks.now) (view_after self.old (data_packet self.old.session first blocks.now))).handed) }
         ensures unchanged { OnErr result (self.new ≡ self.old) }
         ensures batch { OnErr result (batch.new ≡ batch.old) }
     {
@@ -133,5 +148,38 @@ impl Receiver {
             kept: 0,
             beyond: 0,
         })
+    }
+
+    // Notes what a packet tells that has no message from `next` on.
+    fn note(&mut self, packet: &Packet<'_>, top: u64) -> Taken
+        requires top { top_of packet.now ≡ top }
+        requires last { top < 2 ^ 64 }
+        requires nothing { (top ≤ self.old.next) ⊎ (messages_of packet.now.body ≡ []) }
+        requires below { end_below packet.now.body packet.now.sequence self.old.known ≡ None }
+        requires past { past_end self.old.ended packet.now.body top ≡ None }
+        ensures view { self.new ≡ view_after self.old packet.now }
+        ensures handed { handed_on self.old packet.now.sequence (messages_of packet.now.body) ≡ [] }
+        ensures taken { result ≡ taken_of self.old packet.now (view_after self.old packet.now) }
+    {
+        self.known = self.known.max(top);
+        self.ended = told_end(packet, self.ended);
+        Taken {
+            handed: 0,
+            kept: 0,
+            beyond: 0,
+        }
+    }
+
+    // The packet's top, or the first refusal that it meets.
+    fn check(&self, packet: &Packet<'_>) -> Result<u64, Refused>
+        ensures top { IfOk result (λ top. top ≡ top_of packet.now) }
+        ensures taken { OnOk result (first_some (refusals self.now packet.now) ≡ None) }
+        ensures refused { IfErr result (λ refused. first_some (refusals self.now packet.now) ≡ Some refused) }
+    {
+        let top = check_header(packet, &self.session, self.known, self.ended)?;
+        match conflict_of(&self.slots, self.next, packet, top) {
+            Some(number) => Err(Refused::Conflict { number }),
+            None => Ok(top),
+        }
     }
 }
