@@ -1,5 +1,5 @@
 -- The receiving rule: what any datagram does to a view, as a function of whole maps.
-use Rattle.std.specs.Prelude.{◌≡◌, ℕ, ◌+◌, ◌-◌, ◌^◌, max, Bool, ◌&&◌, nat_le, nat_lt, nat_eq, not, List, [], ◌∷◌, length, Option, None, Some, is_some, is_none, Result, Ok, Err, ◌==◌, if◌then◌else◌}
+use Rattle.std.specs.Prelude.{◌≡◌, ◌<◌, ℕ, ◌+◌, ◌-◌, ◌^◌, max, Bool, ◌&&◌, nat_le, nat_lt, nat_eq, not, List, [], ◌∷◌, length, Option, None, Some, is_some, is_none, Result, Ok, Err, ◌==◌, if◌then◌else◌}
 use Rattle.std.specs.List.{filter}
 use Rattle.std.specs.FinMap as finite
 use Rattle.std.specs.Str.{bytes_eq}
@@ -13,6 +13,7 @@ use Rattle.mold_wire.specs.declared.error.DecodeError.{DecodeError}
 use Rattle.mold_receiver.specs.declared.taken.Taken.{Taken}
 use Rattle.mold_receiver.specs.declared.refused.Refused.{Refused}
 use Rattle.mold_receiver.specs.declared.refused.Refused.TheVariants.{Malformed, WrongSession, SequenceZero, PastLast, EndConflict, EndBelow, PastEnd, Conflict, Memory}
+use Rattle.mold_receiver.specs.Batch.{Handed, followed_by}
 use Rattle.mold_receiver.specs.Store.{Message, Store, numbered, from_next, available, run_from, cut, first_conflict}
 use Rattle.mold_receiver.specs.View.{View}
 
@@ -165,3 +166,17 @@ receive_read v (Err error) = Err (Malformed error)
 -- a datagram is refused or taken
 abbrev pub receive : View → List ℕ → Result Reception Refused
 receive v bytes = receive_read v (reading bytes)
+
+-- a receiver took a datagram: its view and the batch are what the rule says, and so is what it tells
+pub record HasTaken (old : View) (bytes : List ℕ) (before : Handed) (new : View) (after : Handed) (taken : Taken) : Type 0 where
+  pub reception : Reception
+  pub received : receive old bytes ≡ Ok reception
+  pub view : new ≡ reception.view
+  pub batch : after ≡ followed_by before old.next reception.handed
+  pub told : taken ≡ reception.taken
+
+-- a datagram that is taken, and of which something is handed on or stored: it is copied
+pub record IsCopied (v : View) (bytes : List ℕ) : Type 0 where
+  pub reception : Reception
+  pub received : receive v bytes ≡ Ok reception
+  pub some : 0 < reception.taken.handed + reception.taken.kept

@@ -1,14 +1,15 @@
 //! The receiver.
 
-ghost use Rattle.std.specs.Prelude.{◌≡◌, ◌⊎◌, [], ◌+◌, ◌-◌, ◌<◌, ◌≤◌, ◌^◌, min, length, Some, None, Ok, Err, IfOk, IfErr, OnOk, OnErr};
+ghost use Rattle.std.specs.Prelude.{◌≡◌, ◌↔◌, IsTrue, ◌⊎◌, [], ◌+◌, ◌-◌, ◌<◌, ◌≤◌, ◌^◌, min, length, Some, None, Ok, Err, IfOk, IfErr, OnOk, OnErr};
 ghost use Rattle.std.specs.FinMap as finite;
-ghost use Rattle.mold_wire.specs.Packet.{messages_of, top_of};
+ghost use Rattle.mold_wire.specs.Packet.{IsBody, messages_of, top_of};
 ghost use Rattle.mold_wire.specs.declared.packet.Body.TheVariants.{Data};
 ghost use Rattle.mold_receiver.specs.Batch.{Follows, followed_by};
-ghost use Rattle.mold_receiver.specs.Receive.{data_packet, end_below, ended_after, first_some, handed_on, past_end, refusals, taken_of, view_after};
+ghost use Rattle.mold_receiver.specs.Receive.{HasTaken, IsCopied, data_packet, end_below, ended_after, first_some, handed_on, past_end, receive, refusals, taken_of, view_after};
 ghost use Rattle.mold_receiver.specs.Store.{first_conflict, from_next};
 ghost use Rattle.mold_receiver.specs.View.{View, IsWellFormed, IsWindow, fresh};
 ghost use Rattle.mold_receiver.specs.declared.refused.ReceiverError.TheVariants.{NextZero, Window, Memory};
+ghost use Rattle.mold_receiver.specs.declared.refused.Refused.TheVariants.{Memory as OutOfMemory};
 
 use crate::batch::Batch;
 use crate::conflict::conflict_of;
@@ -18,7 +19,7 @@ use crate::refusal::check_header;
 use crate::refused::{ReceiverError, Refused};
 use crate::slots::Slots;
 use crate::taken::Taken;
-use mold_wire::{Blocks, Body, Packet, Session};
+use mold_wire::{decode, Blocks, Body, Packet, Session};
 use std::alloc::{AllocError, Global};
 use std::marker::Model;
 
@@ -181,5 +182,101 @@ impl Receiver {
             Some(number) => Err(Refused::Conflict { number }),
             None => Ok(top),
         }
+    }
+
+    // Takes a packet that meets no refusal.
+    fn take_packet(&mut self, packet: &Packet<'_>, top: u64, batch: &mut Batch) -> Result<Taken, AllocError>
+        requires follows { Follows batch.old self.old.next }
+        requires top { top_of packet.now ≡ top }
+        requires body { IsBody packet.now.body }
+        requires taken { first_some (refusals self.old packet.now) ≡ None }
+        ensures view { OnOk result (self.new ≡ view_after self.old packet.now) }
+        ensures handed { OnOk result (batch.new ≡ followed_by batch.old self.old.next (handed_on self.old packet.now.sequence (messages_of packet.now.body))) }
+        ensures taken { IfOk result (λ taken. taken ≡ taken_of self.old packet.now (view_after self.old packet.now)) }
+        ensures needed { OnErr result (0 < (taken_of self.old packet.now (view_after self.old packet.now)).handed + (taken_of self.old packet.now (view_after self.old packet.now)).kept) }
+        ensures unchanged { OnErr result (self.new ≡ self.old) }
+        ensures batch { OnErr result (batch.new ≡ batch.old) }
+    {
+        let Body::Data(blocks) = &packet.body else {
+            return Ok(self.note(packet, top));
+        };
+        if top <= self.next {
+            return Ok(self.note(packet, top));
+        }
+        if self.next < packet.sequence {
+            return self.keep(packet.sequence, top, blocks);
+        }
+        self.hand(packet.sequence, top, blocks, batch)
+    }
+
+    /// Takes a datagram: what it brings is handed on to the end of `batch`, or stored, or known already.
+    /// Every refusal but `Memory` is found before any memory is asked for, and after each of them receiver
+    /// and batch are as before. The batch must be empty or end just before `next`.
+    pub fn take(&mut self, bytes: &[u8], batch: &mut Batch) -> Result<Taken, Refused>
+        requires { Follows batch.old self.old.next }
+        ensures taken { IfOk result (λ taken. HasTaken self.old bytes.now batch.old self.new batch.new taken) }
+        ensures refused { IfErr result (λ refused. ((refused ≡ OutOfMemory) × IsCopied self.old bytes.now) ⊎ (receive self.old bytes.now ≡ Err refused)) }
+        ensures view { OnErr result (self.new ≡ self.old) }
+        ensures batch { OnErr result (batch.new ≡ batch.old) }
+    {
+        let packet = match decode(bytes) {
+            Ok(packet) => packet,
+            Err(error) => return Err(Refused::Malformed(error)),
+        };
+        let top = self.check(&packet)?;
+        match self.take_packet(&packet, top, batch) {
+            Ok(taken) => Ok(taken),
+            Err(_) => Err(Refused::Memory),
+        }
+    }
+
+    /// The session that it receives.
+    pub fn session(&self) -> Session
+        ensures { result ≡ self.now.session }
+    {
+        self.session
+    }
+
+    /// The number of the message to be handed on next.
+    pub fn next(&self) -> u64
+        ensures { result ≡ self.now.next }
+    {
+        self.next
+    }
+
+    /// One more than the greatest number that it has heard of; `next` where it has heard of none above.
+    pub fn known(&self) -> u64
+        ensures { result ≡ self.now.known }
+    {
+        self.known
+    }
+
+    /// One more than the number of messages of the session, once an end packet told it.
+    pub fn ended(&self) -> Option<u64>
+        ensures { result ≡ self.now.ended }
+    {
+        self.ended
+    }
+
+    /// Whether every message up to the session's end was handed on.
+    pub fn finished(&self) -> bool
+        ensures { IsTrue result ↔ (self.now.ended ≡ Some self.now.next) }
+    {
+        self.ended == Some(self.next)
+    }
+
+    /// How many messages are stored, fewer than the window.
+    pub fn stored(&self) -> u32
+        ensures count { result ≡ finite.len self.now.store }
+    {
+        self.slots.held()
+    }
+
+    /// How many numbers from `next` on it stores messages for, 1 to 65,536.
+    pub fn window(&self) -> u32
+        ensures window { result ≡ self.now.window }
+        ensures range { IsWindow self.now.window }
+    {
+        self.slots.len() as u32
     }
 }
