@@ -5,3 +5,4 @@ pub mod CaseLemmas
 pub mod BatchLemmas
 pub mod KeepLemmas
 pub mod ViewLemmas
+pub mod WantedLemmas

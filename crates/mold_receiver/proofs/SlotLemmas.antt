@@ -212,3 +212,9 @@ pub conflict_is : (slots : List Slot) (next number : ℕ) (message : Message) �
 conflict_is slots next number message low =
     ap (λ (b : Bool). b && differs (finite.get (store_of next slots) number) message) (le-leb next number low)
     ∙ ap (λ (o : Option Message). differs o message) (get-slots next slots number ∙ cond-true (leb next number) (slot_at slots (number - next)) None (le-leb next number low))
+
+pub all_empty : (slots : List Slot) → count_held slots ≡ 0 → (i : ℕ) → slot_at slots i ≡ None
+all_empty [] none i = refl
+all_empty (None ∷ slots) none zero = refl
+all_empty (None ∷ slots) none (suc i) = all_empty slots (omega (arith, none)) i
+all_empty (Some m ∷ slots) none i = absurd (omega (arith, none))

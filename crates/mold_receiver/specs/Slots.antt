@@ -1,5 +1,5 @@
 -- The ring of the gap store: slot i stands for the number that lies i behind the first one's.
-use Rattle.std.specs.Prelude.{◌≡◌, ℕ, zero, suc, ◌+◌, ◌<◌, ◌≤◌, length, List, [], ◌∷◌, Option, None, Some, slice_get, map, is_some, if◌then◌else◌}
+use Rattle.std.specs.Prelude.{◌≡◌, ℕ, zero, suc, ◌+◌, ◌<◌, ◌≤◌, ◌⊎◌, true, length, List, [], ◌∷◌, Option, None, Some, slice_get, map, is_some, if◌then◌else◌}
 use Rattle.std.specs.FinMap as finite
 use Rattle.std.specs.Option.{option_flatten, option_map}
 use Rattle.mold_receiver.specs.Store.{Message, Store}
@@ -37,3 +37,9 @@ pub record AreSlots (slots : List Slot) (capacity count : ℕ) : Type 0 where
   pub few : length slots ≤ 65536
   pub full : length slots ≡ capacity
   pub counted : count ≡ count_held slots
+
+-- among so many slots from the front this is the first that has a message, or their number
+pub record IsFirstHeld (slots : List Slot) (most slot : ℕ) : Type 0 where
+  pub within : slot ≤ most
+  pub none : (i : ℕ) → i < slot → slot_at slots i ≡ None
+  pub stops : (slot ≡ most) ⊎ (is_some (slot_at slots slot) ≡ true)

@@ -7,6 +7,7 @@ ghost use Rattle.mold_wire.specs.declared.packet.Body.TheVariants.{Data};
 ghost use Rattle.mold_receiver.specs.Batch.{Follows, followed_by};
 ghost use Rattle.mold_receiver.specs.Receive.{HasTaken, IsCopied, data_packet, end_below, ended_after, first_some, handed_on, past_end, receive, refusals, taken_of, view_after};
 ghost use Rattle.mold_receiver.specs.Store.{first_conflict, from_next};
+ghost use Rattle.mold_receiver.specs.Wanted.{wanted};
 ghost use Rattle.mold_receiver.specs.View.{View, IsWellFormed, IsWindow, fresh};
 ghost use Rattle.mold_receiver.specs.declared.refused.ReceiverError.TheVariants.{NextZero, Window, Memory};
 ghost use Rattle.mold_receiver.specs.declared.refused.Refused.TheVariants.{Memory as OutOfMemory};
@@ -19,12 +20,15 @@ use crate::refusal::check_header;
 use crate::refused::{ReceiverError, Refused};
 use crate::slots::Slots;
 use crate::taken::Taken;
-use mold_wire::{decode, Blocks, Body, Packet, Session};
+use mold_wire::{decode, Blocks, Body, Packet, Request, Session};
 use std::alloc::{AllocError, Global};
 use std::marker::Model;
 
 /// The greatest window.
 const GREATEST: u32 = 65536;
+
+/// The most messages that a request asks for.
+const MOST_WANTED: u64 = 65534;
 
 // How many of a packet's messages lie behind the window, by its top and the number of its messages.
 fn count_beyond(next: u64, window: usize, top: u64, count: u16) -> u32
@@ -278,5 +282,23 @@ impl Receiver {
         ensures range { IsWindow self.now.window }
     {
         self.slots.len() as u32
+    }
+
+    /// The request for what is lacking: from `next` on to below the first stored message, or to below
+    /// `known` where nothing is stored, but for no more than 65,534. None where nothing is lacking.
+    pub fn wanted(&self) -> Option<Request>
+        ensures wanted { result ≡ wanted self.now }
+        ensures well_formed { IsWellFormed self.now }
+    {
+        if self.next == self.known {
+            return None;
+        }
+        let most = (self.known - self.next).min(MOST_WANTED);
+        let count = self.slots.first_held(most as usize);
+        Some(Request {
+            session: self.session,
+            sequence: self.next,
+            count: count as u16,
+        })
     }
 }

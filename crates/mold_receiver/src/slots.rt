@@ -2,7 +2,7 @@
 
 ghost use Rattle.std.specs.Prelude.{◌≡◌, ◌+◌, ◌^◌, if◌then◌else◌, ◌<◌, ◌≤◌, ◌++◌, ◌∷◌, [], length, drop, replicate, slice_set, slice_get, is_some, IfOk, None, Some};
 ghost use Rattle.std.specs.Option.{option_copied, option_flatten};
-ghost use Rattle.mold_receiver.specs.Slots.{slot_at, count_held};
+ghost use Rattle.mold_receiver.specs.Slots.{slot_at, count_held, IsFirstHeld};
 
 use circular_buffer::HeapCircularBuffer;
 use std::alloc::{AllocError, Global};
@@ -148,5 +148,26 @@ impl Slots {
         for _ in 0..count {
             self.advance();
         }
+    }
+
+    /// The first slot that has a message, among so many from the front; their number where none has.
+    pub(crate) fn first_held(&self, most: usize) -> usize
+        ensures { IsFirstHeld self.now most result }
+    {
+        if self.held == 0 {
+            return most;
+        }
+        self.search(most)
+    }
+
+    // The first slot that has a message, as `first_held` tells it.
+    fn search(&self, most: usize) -> usize
+        ensures { IsFirstHeld self.now most result }
+    {
+        let mut slot = 0;
+        while slot < most && !self.has(slot) {
+            slot += 1;
+        }
+        slot
     }
 }
