@@ -36,7 +36,7 @@ followed_twice batch next (m ∷ more) at [] is = ap (followed_by batch next) (s
 followed_twice batch next (m ∷ more) at (o ∷ others) is =
     λ i. record {
       first = first_twice batch.first batch.messages next m more at i;
-      messages = append_assoc batch.messages (m ∷ more) (o ∷ others) i
+      messages = append_assoc batch.messages (m ∷ more) (o ∷ others) i;
     }
 
 cut_back : (first : ℕ) (messages : List Message) (next : ℕ) (m : Message) (more : List Message)
@@ -63,11 +63,11 @@ handing_none old next whole = record { handed = []; batch = refl; parts = refl; 
 pub handing_one : (old new newer : Handed) (next at : ℕ) (m : Message) (left whole : List Message) → IsHanding old new next at (m ∷ left) whole
     → newer ≡ followed_by new at (m ∷ []) → IsHanding old newer next (suc at) left whole
 handing_one old new newer next at m left whole is pushed = record {
-      handed = is.handed ++ m ∷ [];
-      batch = pushed ∙ ap (λ (b : Handed). followed_by b at (m ∷ [])) is.batch ∙ followed_twice old next is.handed at (m ∷ []) is.counted;
-      parts = append_assoc is.handed (m ∷ []) left ∙ is.parts;
-      counted = omega (arith, is.counted, length-append is.handed (m ∷ []));
-    }
+  handed = is.handed ++ m ∷ [];
+  batch = pushed ∙ ap (λ (b : Handed). followed_by b at (m ∷ [])) is.batch ∙ followed_twice old next is.handed at (m ∷ []) is.counted;
+  parts = append_assoc is.handed (m ∷ []) left ∙ is.parts;
+  counted = omega (arith, is.counted, length-append is.handed (m ∷ []));
+}
 
 pub handing_follows : (old new : Handed) (next at : ℕ) (left whole : List Message) → IsHanding old new next at left whole → Follows old next → Follows new at
 handing_follows old new next at left whole is follows =
@@ -82,21 +82,21 @@ pub handing_from : (old new newer : Handed) (next n : ℕ) (m : Message) (ms who
 handing_from old new newer next n m ms whole is pushed =
     elim (cases_lt n next) [
       | inl below ↦
-        let one : next - n ≡ suc (next - (n + 1)) = omega arith in
-        let same : max n next ≡ max (n + 1) next = omega arith in
-        subst (λ (b : Handed). IsHanding old b next (max (n + 1) next) (drop (next - (n + 1)) ms) whole) (sym (pushed ∙ cond-true (ltb n next) new (followed_by new n (m ∷ [])) (lt-ltb n next below)))
-        (subst (λ (k : ℕ). IsHanding old new next k (drop (next - (n + 1)) ms) whole) same
-        (subst (λ (k : ℕ). IsHanding old new next (max n next) (drop k (m ∷ ms)) whole) one is))
+          let one : next - n ≡ suc (next - (n + 1)) = omega arith in
+          let same : max n next ≡ max (n + 1) next = omega arith in
+          subst (λ (b : Handed). IsHanding old b next (max (n + 1) next) (drop (next - (n + 1)) ms) whole) (sym (pushed ∙ cond-true (ltb n next) new (followed_by new n (m ∷ [])) (lt-ltb n next below)))
+          (subst (λ (k : ℕ). IsHanding old new next k (drop (next - (n + 1)) ms) whole) same
+          (subst (λ (k : ℕ). IsHanding old new next (max n next) (drop k (m ∷ ms)) whole) one is))
       | inr above ↦
-        let none : next - n ≡ 0 = omega arith in
-        let at : max n next ≡ n = omega arith in
-        let behind : suc n ≡ max (n + 1) next = omega arith in
-        let left : 0 ≡ next - (n + 1) = omega arith in
-        subst (λ (k : ℕ). IsHanding old newer next k (drop (next - (n + 1)) ms) whole) behind
-        (subst (λ (k : ℕ). IsHanding old newer next (suc n) (drop k ms) whole) left
-        (handing_one old new newer next n m ms whole
-        (subst (λ (k : ℕ). IsHanding old new next k (m ∷ ms) whole) at (subst (λ (k : ℕ). IsHanding old new next (max n next) (drop k (m ∷ ms)) whole) none is))
-        (pushed ∙ cond-false (ltb n next) new (followed_by new n (m ∷ [])) (le-ltb n next above))))
+          let none : next - n ≡ 0 = omega arith in
+          let at : max n next ≡ n = omega arith in
+          let behind : suc n ≡ max (n + 1) next = omega arith in
+          let left : 0 ≡ next - (n + 1) = omega arith in
+          subst (λ (k : ℕ). IsHanding old newer next k (drop (next - (n + 1)) ms) whole) behind
+          (subst (λ (k : ℕ). IsHanding old newer next (suc n) (drop k ms) whole) left
+          (handing_one old new newer next n m ms whole
+          (subst (λ (k : ℕ). IsHanding old new next k (m ∷ ms) whole) at (subst (λ (k : ℕ). IsHanding old new next (max n next) (drop k (m ∷ ms)) whole) none is))
+          (pushed ∙ cond-false (ltb n next) new (followed_by new n (m ∷ [])) (le-ltb n next above))))
     ]
 
 pub handing_begins : (old : Handed) (next n : ℕ) (ms : List Message) → n ≤ next → IsHanding old old next (max n next) (drop (next - n) ms) (drop (next - n) ms)
@@ -139,9 +139,9 @@ handing_length old new next at whole is = ap (λ (t : List Message). next + leng
 -- what grew twice grew
 pub grew_twice : (old new newer : Handed) (next at : ℕ) (more : List Message) → new ≡ followed_by old next more → next + length more ≡ at → Grew new newer at → Grew old newer next
 grew_twice old new newer next at more is counted grew = record {
-      handed = more ++ grew.handed;
-      batch = grew.batch ∙ ap (λ (b : Handed). followed_by b at grew.handed) is ∙ followed_twice old next more at grew.handed counted;
-    }
+  handed = more ++ grew.handed;
+  batch = grew.batch ∙ ap (λ (b : Handed). followed_by b at grew.handed) is ∙ followed_twice old next more at grew.handed counted;
+}
 
 -- a batch that grew and is cut to its old length is the old one
 pub cut_grown : (old new : Handed) (next : ℕ) → old ≡ handed_from old.first old.messages → Grew old new next → handed_from new.first (take (length old.messages) new.messages) ≡ old

@@ -68,14 +68,14 @@ no_conflict s (pair ∷ pairs) none q m x is stored =
     elim (cases_Bool (differs (finite.get s pair.0) pair.1)) [
       | inl t ↦ absurd (none_some (sym none ∙ cond-true _ (Some pair.0) (first_conflict s pairs) t))
       | inr f ↦
-        elim (cases_Bool (eqb q pair.0)) [
-          | inl here ↦
-            let same : pair.1 ≡ m = some_same (sym (cond-true _ (Some pair.1) (lookup (eqb q) pairs) here) ∙ is) in
-            agree (finite.get s pair.0) pair.1 x f (subst (λ (k : ℕ). finite.get s k ≡ Some x) (eqb-true q pair.0 here) stored) ∙ same
-          | inr other ↦
-            no_conflict s pairs (sym (cond-false _ (Some pair.0) (first_conflict s pairs) f) ∙ none) q m x
-            (sym (cond-false _ (Some pair.1) (lookup (eqb q) pairs) other) ∙ is) stored
-        ]
+          elim (cases_Bool (eqb q pair.0)) [
+            | inl here ↦
+                let same : pair.1 ≡ m = some_same (sym (cond-true _ (Some pair.1) (lookup (eqb q) pairs) here) ∙ is) in
+                agree (finite.get s pair.0) pair.1 x f (subst (λ (k : ℕ). finite.get s k ≡ Some x) (eqb-true q pair.0 here) stored) ∙ same
+            | inr other ↦
+                no_conflict s pairs (sym (cond-false _ (Some pair.0) (first_conflict s pairs) f) ∙ none) q m x
+                (sym (cond-false _ (Some pair.1) (lookup (eqb q) pairs) other) ∙ is) stored
+          ]
     ]
 
 -- a store and a packet without a conflict agree at each number from `next` on
@@ -113,15 +113,15 @@ ahead_stored s t next window n ms between above none looks =
     elim (finite.get s q) as (λ o. finite.get s q ≡ o → (next < q) × (q < next + window)) [
       | Some x ↦ λ e. between q x e
       | None ↦ λ e.
-        let new : cond (ltb q (next + window)) (message_at n ms q) None ≡ Some m =
-        sym (looks q ∙ ap (λ (o : Option Message). option_or o (cond (ltb q (next + window)) (message_at n ms q) None)) e) ∙ is
-        in
-        elim (cases_lt q (next + window)) [
-          | inl below ↦
-            let bounds = message_bounds n ms q m (sym (cond-true (ltb q (next + window)) (message_at n ms q) None (lt-ltb q (next + window) below)) ∙ new) in
-            (omega (arith, bounds.0), below)
-          | inr past ↦ absurd (none_some (sym (cond-false (ltb q (next + window)) (message_at n ms q) None (le-ltb q (next + window) past)) ∙ new))
-        ]
+          let new : cond (ltb q (next + window)) (message_at n ms q) None ≡ Some m =
+          sym (looks q ∙ ap (λ (o : Option Message). option_or o (cond (ltb q (next + window)) (message_at n ms q) None)) e) ∙ is
+          in
+          elim (cases_lt q (next + window)) [
+            | inl below ↦
+                let bounds = message_bounds n ms q m (sym (cond-true (ltb q (next + window)) (message_at n ms q) None (lt-ltb q (next + window) below)) ∙ new) in
+                (omega (arith, bounds.0), below)
+            | inr past ↦ absurd (none_some (sym (cond-false (ltb q (next + window)) (message_at n ms q) None (le-ltb q (next + window) past)) ∙ new))
+          ]
     ] refl)
     (λ q low high.
     available_from s next n ms q (omega arith)
@@ -141,22 +141,22 @@ at_handed s next window most n top ms stored between low high tops each stops fe
     (λ i m is.
     elim (cases_lt i (top - next)) [
       | inl inside ↦
-        let place : next + i - n ≡ next - n + i = omega arith in
-        let found : message_at n ms (next + i) ≡ Some m =
-        message_within n ms (next + i) (omega arith) ∙ ap (slice_get ms) place ∙ sym (get-drop (next - n) ms i)
-        ∙ sym (get-append_left (drop (next - n) ms) stored i (omega (arith, size))) ∙ is
-        in
-        available_from s next n ms (next + i) (omega arith) ∙ ap (λ (o : Option Message). option_or o (finite.get s (next + i))) found
+          let place : next + i - n ≡ next - n + i = omega arith in
+          let found : message_at n ms (next + i) ≡ Some m =
+          message_within n ms (next + i) (omega arith) ∙ ap (slice_get ms) place ∙ sym (get-drop (next - n) ms i)
+          ∙ sym (get-append_left (drop (next - n) ms) stored i (omega (arith, size))) ∙ is
+          in
+          available_from s next n ms (next + i) (omega arith) ∙ ap (λ (o : Option Message). option_or o (finite.get s (next + i))) found
       | inr outside ↦
-        let place : i ≡ length (drop (next - n) ms) + (i - (top - next)) = omega (arith, size) in
-        let at : top + (i - (top - next)) ≡ next + i = omega arith in
-        let kept : finite.get s (next + i) ≡ Some m =
-        subst (λ (q : ℕ). finite.get s q ≡ Some m) at
-        (each (i - (top - next)) m (sym (get-append_right (drop (next - n) ms) stored (i - (top - next))) ∙ ap (slice_get (drop (next - n) ms ++ stored)) (sym place) ∙ is))
-        in
-        available_from s next n ms (next + i) (omega arith)
-        ∙ ap (λ (o : Option Message). option_or o (finite.get s (next + i))) (message_past n ms (next + i) (omega arith))
-        ∙ kept
+          let place : i ≡ length (drop (next - n) ms) + (i - (top - next)) = omega (arith, size) in
+          let at : top + (i - (top - next)) ≡ next + i = omega arith in
+          let kept : finite.get s (next + i) ≡ Some m =
+          subst (λ (q : ℕ). finite.get s q ≡ Some m) at
+          (each (i - (top - next)) m (sym (get-append_right (drop (next - n) ms) stored (i - (top - next))) ∙ ap (slice_get (drop (next - n) ms ++ stored)) (sym place) ∙ is))
+          in
+          available_from s next n ms (next + i) (omega arith)
+          ∙ ap (λ (o : Option Message). option_or o (finite.get s (next + i))) (message_past n ms (next + i) (omega arith))
+          ∙ kept
     ])
     (subst (λ (q : ℕ). finite.get (available s next n ms) q ≡ None) (sym whole)
     (available_from s next n ms (top + length stored) (omega arith)
@@ -175,8 +175,8 @@ at_stored s t next window n new ms between ahead top stops looks =
       | inl same ↦ absurd (none_some (sym (looks q ∙ cond-false (ltb q new) None (finite.get s q) (le-ltb q new (omega arith)) ∙ subst (λ (k : ℕ). finite.get s k ≡ None) (sym same) stops) ∙ is))
       | inr (inl below) ↦ absurd (none_some (sym (looks q ∙ cond-true (ltb q new) None (finite.get s q) (lt-ltb q new below)) ∙ is))
       | inr (inr above) ↦
-        let lies = between q m (sym (looks q ∙ cond-false (ltb q new) None (finite.get s q) (le-ltb q new (omega arith))) ∙ is) in
-        (above, omega (arith, lies.1))
+          let lies = between q m (sym (looks q ∙ cond-false (ltb q new) None (finite.get s q) (le-ltb q new (omega arith))) ∙ is) in
+          (above, omega (arith, lies.1))
     ])
     (λ q low high.
     available_from s next n ms q (omega arith)

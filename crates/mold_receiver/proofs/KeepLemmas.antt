@@ -30,17 +30,17 @@ slot_put_pairs slots test within [] at = refl
 slot_put_pairs slots test within (pair ∷ pairs) at =
     let rest = slot_put_pairs slots test within pairs at in
     elim (test pair.0) as (λ b. test pair.0 ≡ b → slot_at (put_pairs slots (cond b (pair ∷ filter (λ (p : ℕ × Message). test p.0) pairs) (filter (λ (p : ℕ × Message). test p.0) pairs))) at
-      ≡ option_or (lookup (eqb at) (cond b (pair ∷ filter (λ (p : ℕ × Message). test p.0) pairs) (filter (λ (p : ℕ × Message). test p.0) pairs))) (slot_at slots at)) [
+    ≡ option_or (lookup (eqb at) (cond b (pair ∷ filter (λ (p : ℕ × Message). test p.0) pairs) (filter (λ (p : ℕ × Message). test p.0) pairs))) (slot_at slots at)) [
       | true ↦ λ e.
-        let others = filter (λ (p : ℕ × Message). test p.0) pairs in
-        let inside : pair.0 < length (put_pairs slots others) = omega (arith, within pair.0 e, length-put_pairs slots others) in
-        slot_put (put_pairs slots others) pair.0 (Some pair.1) at inside
-        ∙ elim (cases_Bool (eqb at pair.0)) [
-          | inl here ↦ cond-true (eqb at pair.0) (Some pair.1) (slot_at (put_pairs slots others) at) here
-            ∙ sym (ap (λ (o : Option Message). option_or o (slot_at slots at)) (cond-true (eqb at pair.0) (Some pair.1) (lookup (eqb at) others) here))
-          | inr other ↦ cond-false (eqb at pair.0) (Some pair.1) (slot_at (put_pairs slots others) at) other ∙ rest
-            ∙ sym (ap (λ (o : Option Message). option_or o (slot_at slots at)) (cond-false (eqb at pair.0) (Some pair.1) (lookup (eqb at) others) other))
-        ]
+          let others = filter (λ (p : ℕ × Message). test p.0) pairs in
+          let inside : pair.0 < length (put_pairs slots others) = omega (arith, within pair.0 e, length-put_pairs slots others) in
+          slot_put (put_pairs slots others) pair.0 (Some pair.1) at inside
+          ∙ elim (cases_Bool (eqb at pair.0)) [
+            | inl here ↦ cond-true (eqb at pair.0) (Some pair.1) (slot_at (put_pairs slots others) at) here
+                ∙ sym (ap (λ (o : Option Message). option_or o (slot_at slots at)) (cond-true (eqb at pair.0) (Some pair.1) (lookup (eqb at) others) here))
+            | inr other ↦ cond-false (eqb at pair.0) (Some pair.1) (slot_at (put_pairs slots others) at) other ∙ rest
+                ∙ sym (ap (λ (o : Option Message). option_or o (slot_at slots at)) (cond-false (eqb at pair.0) (Some pair.1) (lookup (eqb at) others) other))
+          ]
       | false ↦ λ e. rest
     ] refl
 

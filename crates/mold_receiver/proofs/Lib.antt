@@ -6,3 +6,4 @@ pub mod BatchLemmas
 pub mod KeepLemmas
 pub mod ViewLemmas
 pub mod WantedLemmas
+pub mod LawLemmas

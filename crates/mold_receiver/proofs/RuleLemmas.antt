@@ -42,8 +42,8 @@ message_bounds n ms q m is =
     elim (cases_lt q n) [
       | inl below ↦ absurd (none_some (sym (message_below n ms q below) ∙ is))
       | inr low ↦
-        let within = slice_get_within ms (q - n) m (sym (message_within n ms q low) ∙ is) in
-        (low, omega arith)
+          let within = slice_get_within ms (q - n) m (sym (message_within n ms q low) ∙ is) in
+          (low, omega arith)
     ]
 
 pub available_below : (s : Store) (next n : ℕ) (ms : List Message) (q : ℕ) → q < next → finite.get (available s next n ms) q ≡ finite.get s q
@@ -61,10 +61,10 @@ available_cases s next n ms q m is =
     elim (cases_lt q next) [
       | inl below ↦ inr (sym (available_below s next n ms q below) ∙ is)
       | inr low ↦
-        elim (message_at n ms q) as (λ o. message_at n ms q ≡ o → ((next ≤ q) × (o ≡ Some m)) ⊎ (finite.get s q ≡ Some m)) [
-          | None ↦ λ e. inr (sym (available_from s next n ms q low ∙ ap (λ (o : Option Message). option_or o (finite.get s q)) e) ∙ is)
-          | Some x ↦ λ e. inl (low, sym (available_from s next n ms q low ∙ ap (λ (o : Option Message). option_or o (finite.get s q)) e) ∙ is)
-        ] refl
+          elim (message_at n ms q) as (λ o. message_at n ms q ≡ o → ((next ≤ q) × (o ≡ Some m)) ⊎ (finite.get s q ≡ Some m)) [
+            | None ↦ λ e. inr (sym (available_from s next n ms q low ∙ ap (λ (o : Option Message). option_or o (finite.get s q)) e) ∙ is)
+            | Some x ↦ λ e. inl (low, sym (available_from s next n ms q low ∙ ap (λ (o : Option Message). option_or o (finite.get s q)) e) ∙ is)
+          ] refl
     ]
 
 -- the store and a packet of which nothing is at or above `next` have only the store available
@@ -80,11 +80,11 @@ pub cut_is : (s t : Store) (next window : ℕ) → IsBetween t next window → (
 cut_is s t next window between agrees = same_store _ _ (λ q.
     elim (cases_Bool (ltb next q && ltb q (next + window))) [
       | inl inside ↦
-        let parts = and_parts (ltb next q) (ltb q (next + window)) inside in
-        get-cut s next window q ∙ cond-true _ _ _ inside ∙ agrees q (ltb-true next q parts.0) (ltb-true q (next + window) parts.1)
+          let parts = and_parts (ltb next q) (ltb q (next + window)) inside in
+          get-cut s next window q ∙ cond-true _ _ _ inside ∙ agrees q (ltb-true next q parts.0) (ltb-true q (next + window) parts.1)
       | inr outside ↦
-        get-cut s next window q ∙ cond-false _ _ _ outside
-        ∙ sym (none_unless (finite.get t q) (λ m is.
+          get-cut s next window q ∙ cond-false _ _ _ outside
+          ∙ sym (none_unless (finite.get t q) (λ m is.
           let lies = between q m is in
           true≢false (sym (and_from (ltb next q) (ltb q (next + window)) (lt-ltb next q lies.0) (lt-ltb q (next + window) lies.1)) ∙ outside)))
     ])
@@ -103,9 +103,9 @@ count_same P Q n f [] same = refl
 count_same P Q n f (m ∷ ms) same =
     let here : P n ≡ Q f = (let a : n + 0 ≡ n = omega arith in let b : f + 0 ≡ f = omega arith in ap P (sym a) ∙ same 0 (omega arith) ∙ ap Q b) in
     let rest = count_same P Q (suc n) (suc f) ms (λ i within.
-      let a : n + suc i ≡ suc n + i = omega arith in
-      let b : f + suc i ≡ suc f + i = omega arith in
-      ap P (sym a) ∙ same (suc i) (omega (arith, within)) ∙ ap Q b)
+    let a : n + suc i ≡ suc n + i = omega arith in
+    let b : f + suc i ≡ suc f + i = omega arith in
+    ap P (sym a) ∙ same (suc i) (omega (arith, within)) ∙ ap Q b)
     in
     elim (cases_Bool (Q f)) [
       | inl t ↦ ap length (cond-true (P n) _ _ (here ∙ t)) ∙ ap suc rest ∙ sym (ap length (cond-true (Q f) _ _ t))

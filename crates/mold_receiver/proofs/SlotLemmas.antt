@@ -159,30 +159,30 @@ lookup_behind : (number : ℕ) (slot : Slot) (slots : List Slot) (at : ℕ)
 lookup_behind number None slots at rest =
     elim (cases_order at number) [
       | inl same ↦
-        let zero_at : at - number ≡ zero = omega arith in
-        rest ∙ cond-false _ _ _ (lt-leb (suc number) at (omega arith))
-        ∙ sym (cond-true _ _ _ (le-leb number at (omega arith)) ∙ ap (slot_at (None ∷ slots)) zero_at)
+          let zero_at : at - number ≡ zero = omega arith in
+          rest ∙ cond-false _ _ _ (lt-leb (suc number) at (omega arith))
+          ∙ sym (cond-true _ _ _ (le-leb number at (omega arith)) ∙ ap (slot_at (None ∷ slots)) zero_at)
       | inr (inl below) ↦
-        rest ∙ cond-false _ _ _ (lt-leb (suc number) at (omega arith)) ∙ sym (cond-false _ _ _ (lt-leb number at below))
+          rest ∙ cond-false _ _ _ (lt-leb (suc number) at (omega arith)) ∙ sym (cond-false _ _ _ (lt-leb number at below))
       | inr (inr above) ↦
-        let more : at - number ≡ suc (at - suc number) = omega arith in
-        rest ∙ cond-true _ _ _ (le-leb (suc number) at above)
-        ∙ sym (cond-true _ _ _ (le-leb number at (omega arith)) ∙ ap (slot_at (None ∷ slots)) more)
+          let more : at - number ≡ suc (at - suc number) = omega arith in
+          rest ∙ cond-true _ _ _ (le-leb (suc number) at above)
+          ∙ sym (cond-true _ _ _ (le-leb number at (omega arith)) ∙ ap (slot_at (None ∷ slots)) more)
     ]
 lookup_behind number (Some message) slots at rest =
     elim (cases_order at number) [
       | inl same ↦
-        let zero_at : at - number ≡ zero = omega arith in
-        cond-true _ _ _ (eq-eqb at number same)
-        ∙ sym (cond-true _ _ _ (le-leb number at (omega arith)) ∙ ap (slot_at (Some message ∷ slots)) zero_at)
+          let zero_at : at - number ≡ zero = omega arith in
+          cond-true _ _ _ (eq-eqb at number same)
+          ∙ sym (cond-true _ _ _ (le-leb number at (omega arith)) ∙ ap (slot_at (Some message ∷ slots)) zero_at)
       | inr (inl below) ↦
-        cond-false _ _ _ (ne_eqb at number (λ e. omega (arith, e)))
-        ∙ rest ∙ cond-false _ _ _ (lt-leb (suc number) at (omega arith)) ∙ sym (cond-false _ _ _ (lt-leb number at below))
+          cond-false _ _ _ (ne_eqb at number (λ e. omega (arith, e)))
+          ∙ rest ∙ cond-false _ _ _ (lt-leb (suc number) at (omega arith)) ∙ sym (cond-false _ _ _ (lt-leb number at below))
       | inr (inr above) ↦
-        let more : at - number ≡ suc (at - suc number) = omega arith in
-        cond-false _ _ _ (ne_eqb at number (λ e. omega (arith, e)))
-        ∙ rest ∙ cond-true _ _ _ (le-leb (suc number) at above)
-        ∙ sym (cond-true _ _ _ (le-leb number at (omega arith)) ∙ ap (slot_at (Some message ∷ slots)) more)
+          let more : at - number ≡ suc (at - suc number) = omega arith in
+          cond-false _ _ _ (ne_eqb at number (λ e. omega (arith, e)))
+          ∙ rest ∙ cond-true _ _ _ (le-leb (suc number) at above)
+          ∙ sym (cond-true _ _ _ (le-leb number at (omega arith)) ∙ ap (slot_at (Some message ∷ slots)) more)
     ]
 
 lookup-slots : (number : ℕ) (slots : List Slot) (at : ℕ) → lookup (eqb at) (slot_entries number slots) ≡ cond (leb number at) (slot_at slots (at - number)) None

@@ -25,20 +25,20 @@ lookup-numbered number [] at =
 lookup-numbered number (message ∷ messages) at =
     elim (cases_order at number) [
       | inl same ↦
-        let zero_at : at - number ≡ zero = omega arith in
-        cond-true _ _ _ (eq-eqb at number same)
-        ∙ sym (cond-true _ _ _ (le-leb number at (omega arith)) ∙ ap (slice_get (message ∷ messages)) zero_at)
+          let zero_at : at - number ≡ zero = omega arith in
+          cond-true _ _ _ (eq-eqb at number same)
+          ∙ sym (cond-true _ _ _ (le-leb number at (omega arith)) ∙ ap (slice_get (message ∷ messages)) zero_at)
       | inr (inl below) ↦
-        cond-false _ _ _ (ne_eqb at number (λ e. omega (arith, e)))
-        ∙ lookup-numbered (suc number) messages at
-        ∙ cond-false _ _ _ (lt-leb (suc number) at (omega arith))
-        ∙ sym (cond-false _ _ _ (lt-leb number at below))
+          cond-false _ _ _ (ne_eqb at number (λ e. omega (arith, e)))
+          ∙ lookup-numbered (suc number) messages at
+          ∙ cond-false _ _ _ (lt-leb (suc number) at (omega arith))
+          ∙ sym (cond-false _ _ _ (lt-leb number at below))
       | inr (inr above) ↦
-        let more : at - number ≡ suc (at - suc number) = omega arith in
-        cond-false _ _ _ (ne_eqb at number (λ e. omega (arith, e)))
-        ∙ lookup-numbered (suc number) messages at
-        ∙ cond-true _ _ _ (le-leb (suc number) at above)
-        ∙ sym (cond-true _ _ _ (le-leb number at (omega arith)) ∙ ap (slice_get (message ∷ messages)) more)
+          let more : at - number ≡ suc (at - suc number) = omega arith in
+          cond-false _ _ _ (ne_eqb at number (λ e. omega (arith, e)))
+          ∙ lookup-numbered (suc number) messages at
+          ∙ cond-true _ _ _ (le-leb (suc number) at above)
+          ∙ sym (cond-true _ _ _ (le-leb number at (omega arith)) ∙ ap (slice_get (message ∷ messages)) more)
     ]
 
 pub find-lookup : {X : Type 0} (at : ℕ) (es : List (ℕ × X)) → find nat_cmp at es ≡ lookup (eqb at) es
@@ -142,8 +142,8 @@ run_ends look number (suc most) stops =
     elim (look number) as (λ o. look number ≡ o → look (number + length (behind_some o (run_from look (suc number) most))) ≡ None) [
       | None ↦ λ e. subst (λ (n : ℕ). look n ≡ None) here e
       | Some m ↦ λ e.
-        let behind : suc number + length (run_from look (suc number) most) ≡ number + suc (length (run_from look (suc number) most)) = omega arith in
-        subst (λ (n : ℕ). look n ≡ None) behind (run_ends look (suc number) most (subst (λ (n : ℕ). look n ≡ None) at stops))
+          let behind : suc number + length (run_from look (suc number) most) ≡ number + suc (length (run_from look (suc number) most)) = omega arith in
+          subst (λ (n : ℕ). look n ≡ None) behind (run_ends look (suc number) most (subst (λ (n : ℕ). look n ≡ None) at stops))
     ] refl
 
 -- each number of a run has a message

@@ -68,18 +68,20 @@ stays_well v p well fits below past =
       ahead = omega (arith, well.ahead, short);
       last = omega (arith, well.last, fits);
       stored = λ q m is.
-        let limit = ltb new q && ltb q (new + v.window) in
-        elim (cases_Bool limit) [
-          | inr out ↦ absurd (none_some (sym (get-cut (available v.store v.next p.sequence ms) new v.window q ∙ cond-false limit _ _ out) ∙ is))
-          | inl inside ↦
-            let parts = and_parts (ltb new q) (ltb q (new + v.window)) inside in
-            let found : finite.get (available v.store v.next p.sequence ms) q ≡ Some m = sym (cond-true limit (finite.get (available v.store v.next p.sequence ms) q) None inside) ∙ sym (get-cut (available v.store v.next p.sequence ms) new v.window q) ∙ is in
-            (ltb-true new q parts.0, ltb-true q (new + v.window) parts.1,
-            elim (available_cases v.store v.next p.sequence ms q m found) [
-              | inl carried ↦ (let bounds = message_bounds p.sequence ms q m carried.1 in omega (arith, bounds.1))
-              | inr had ↦ (let lies = well.stored q m had in omega (arith, lies.2))
-            ])
-        ];
+          let limit = ltb new q && ltb q (new + v.window) in
+          elim (cases_Bool limit) [
+            | inr out ↦ absurd (none_some (sym (get-cut (available v.store v.next p.sequence ms) new v.window q ∙ cond-false limit _ _ out) ∙ is))
+            | inl inside ↦
+                let parts = and_parts (ltb new q) (ltb q (new + v.window)) inside in
+                let found : finite.get (available v.store v.next p.sequence ms) q ≡ Some m = sym (cond-true limit (finite.get (available v.store v.next p.sequence ms) q) None inside) ∙ sym (get-cut (available v.store v.next p.sequence ms) new v.window q) ∙ is in (
+                  ltb-true new q parts.0,
+                  ltb-true q (new + v.window) parts.1,
+                  elim (available_cases v.store v.next p.sequence ms q m found) [
+                    | inl carried ↦ (let bounds = message_bounds p.sequence ms q m carried.1 in omega (arith, bounds.1))
+                    | inr had ↦ (let lies = well.stored q m had in omega (arith, lies.2))
+                  ],
+                )
+          ];
       ends = ends_well v.ended p.body p.sequence v.known (top_of p) refl well.ends below past;
     }
 
@@ -95,8 +97,8 @@ message_shifted next n ms q low at =
     elim (cases_lt q n) [
       | inl below ↦ message_below (n - next) ms (q - next) (omega arith) ∙ sym (message_below n ms q below)
       | inr above ↦
-        let same : q - next - (n - next) ≡ q - n = omega arith in
-        message_within (n - next) ms (q - next) (omega arith) ∙ ap (slice_get ms) same ∙ sym (message_within n ms q above)
+          let same : q - next - (n - next) ≡ q - n = omega arith in
+          message_within (n - next) ms (q - next) (omega arith) ∙ ap (slice_get ms) same ∙ sym (message_within n ms q above)
     ]
 
 limit_shifted : (next window q : ℕ) → next ≤ q → ltb (q - next) window ≡ ltb q (next + window)
@@ -112,15 +114,15 @@ pub ahead_looks : (next n : ℕ) (slots : List Slot) (ms : List Message) → nex
 ahead_looks next n slots ms above q =
     elim (cases_lt q next) [
       | inl below ↦
-        get_below next (put_pairs slots (fresh slots (n - next) ms)) q below
-        ∙ sym (ap (λ (o : Option Message). option_or o (cond (ltb q (next + length slots)) (message_at n ms q) None)) (get_below next slots q below)
-        ∙ cond-true (ltb q (next + length slots)) (message_at n ms q) None (lt-ltb q (next + length slots) (omega arith)) ∙ message_below n ms q (omega arith))
+          get_below next (put_pairs slots (fresh slots (n - next) ms)) q below
+          ∙ sym (ap (λ (o : Option Message). option_or o (cond (ltb q (next + length slots)) (message_at n ms q) None)) (get_below next slots q below)
+          ∙ cond-true (ltb q (next + length slots)) (message_at n ms q) None (lt-ltb q (next + length slots) (omega arith)) ∙ message_below n ms q (omega arith))
       | inr low ↦
-        get_from next (put_pairs slots (fresh slots (n - next) ms)) q low
-        ∙ slot_fresh slots (n - next) ms (q - next)
-        ∙ ap (λ (o : Option Message). option_or o (cond (ltb (q - next) (length slots)) (message_at (n - next) ms (q - next)) None)) (sym (get_from next slots q low))
-        ∙ ap (λ (b : Bool). option_or (finite.get (store_of next slots) q) (cond b (message_at (n - next) ms (q - next)) None)) (limit_shifted next (length slots) q low)
-        ∙ ap (λ (o : Option Message). option_or (finite.get (store_of next slots) q) (cond (ltb q (next + length slots)) o None)) (message_shifted next n ms q (omega arith) low)
+          get_from next (put_pairs slots (fresh slots (n - next) ms)) q low
+          ∙ slot_fresh slots (n - next) ms (q - next)
+          ∙ ap (λ (o : Option Message). option_or o (cond (ltb (q - next) (length slots)) (message_at (n - next) ms (q - next)) None)) (sym (get_from next slots q low))
+          ∙ ap (λ (b : Bool). option_or (finite.get (store_of next slots) q) (cond b (message_at (n - next) ms (q - next)) None)) (limit_shifted next (length slots) q low)
+          ∙ ap (λ (o : Option Message). option_or (finite.get (store_of next slots) q) (cond (ltb q (next + length slots)) o None)) (message_shifted next n ms q (omega arith) low)
     ]
 
 -- a packet above `next`: the new view is over the slots with its fresh messages
@@ -169,21 +171,21 @@ ahead_kept next n slots ms above =
     let new = store_of next (put_pairs slots (fresh slots (n - next) ms)) in
     count_same (λ q. is_some (finite.get new q) && is_none (finite.get old q)) (is_fresh slots) n (n - next) ms
     (λ i within.
-      let place : n + i - n ≡ i = omega arith in
-      let shifted : n + i - next ≡ n - next + i = omega arith in
-      let there : message_at n ms (n + i) ≡ Some (get_or ms i []) = message_within n ms (n + i) (omega arith) ∙ ap (slice_get ms) place ∙ slice_get-get_or ms i [] within in
-      ap (λ (o : Option Message). is_some o && is_none (finite.get old (n + i))) (ahead_looks next n slots ms above (n + i))
-      ∙ new_or_not (finite.get old (n + i)) (message_at n ms (n + i)) (ltb (n + i) (next + length slots)) (get_or ms i []) there
-      ∙ ap (λ (b : Bool). b && is_none (finite.get old (n + i))) (sym (limit_shifted next (length slots) (n + i) (omega arith)))
-      ∙ ap (λ (o : Option Message). ltb (n + i - next) (length slots) && is_none o) (get_from next slots (n + i) (omega arith))
-      ∙ ap (is_fresh slots) shifted)
+    let place : n + i - n ≡ i = omega arith in
+    let shifted : n + i - next ≡ n - next + i = omega arith in
+    let there : message_at n ms (n + i) ≡ Some (get_or ms i []) = message_within n ms (n + i) (omega arith) ∙ ap (slice_get ms) place ∙ slice_get-get_or ms i [] within in
+    ap (λ (o : Option Message). is_some o && is_none (finite.get old (n + i))) (ahead_looks next n slots ms above (n + i))
+    ∙ new_or_not (finite.get old (n + i)) (message_at n ms (n + i)) (ltb (n + i) (next + length slots)) (get_or ms i []) there
+    ∙ ap (λ (b : Bool). b && is_none (finite.get old (n + i))) (sym (limit_shifted next (length slots) (n + i) (omega arith)))
+    ∙ ap (λ (o : Option Message). ltb (n + i - next) (length slots) && is_none o) (get_from next slots (n + i) (omega arith))
+    ∙ ap (is_fresh slots) shifted)
 
 -- the counts of a packet above `next`
 pub ahead_taken : (session : Session) (next known : ℕ) (ended : Option ℕ) (slots : List Slot) (n top : ℕ) (ms : List Message)
     → IsWellFormed (view_over session next known ended slots) → next < n → n + length ms ≡ top
     → first_conflict (store_of next slots) (from_next next n ms) ≡ None
     → taken_of (view_over session next known ended slots) (data_packet session n ms) (view_after (view_over session next known ended slots) (data_packet session n ms))
-      ≡ record { handed = 0; kept = length (fresh slots (n - next) ms); beyond = top - max n (next + length slots) }
+    ≡ record { handed = 0; kept = length (fresh slots (n - next) ms); beyond = top - max n (next + length slots) }
 ahead_taken session next known ended slots n top ms well above tops none =
     let v = view_over session next known ended slots in
     let new = put_pairs slots (fresh slots (n - next) ms) in
@@ -199,14 +201,14 @@ moved_looks next new slots count ahead is q =
     elim (cases_lt q new) [
       | inl below ↦ get_below new (drop count slots ++ replicate count None) q below ∙ sym (cond-true (ltb q new) None (finite.get (store_of next slots) q) (lt-ltb q new below))
       | inr low ↦
-        get_from new (drop count slots ++ replicate count None) q low
-        ∙ slot_moved count slots (q - new)
-        ∙ elim (cases_lt (new - next) (length slots)) [
-          | inl within ↦ ap (slot_at slots) (let e : count + (q - new) ≡ q - next = omega (arith, is) in e)
-          | inr past ↦ slot_past slots (count + (q - new)) (omega (arith, is)) ∙ sym (slot_past slots (q - next) (omega arith))
-        ]
-        ∙ sym (get_from next slots q (omega arith))
-        ∙ sym (cond-false (ltb q new) None (finite.get (store_of next slots) q) (le-ltb q new low))
+          get_from new (drop count slots ++ replicate count None) q low
+          ∙ slot_moved count slots (q - new)
+          ∙ elim (cases_lt (new - next) (length slots)) [
+            | inl within ↦ ap (slot_at slots) (let e : count + (q - new) ≡ q - next = omega (arith, is) in e)
+            | inr past ↦ slot_past slots (count + (q - new)) (omega (arith, is)) ∙ sym (slot_past slots (q - next) (omega arith))
+          ]
+          ∙ sym (get_from next slots q (omega arith))
+          ∙ sym (cond-false (ltb q new) None (finite.get (store_of next slots) q) (le-ltb q new low))
     ]
 
 -- the stored run behind a packet
@@ -222,22 +224,22 @@ run_of_slots session next known ended slots top well ahead =
     let stored = run_in slots start in
     let each : (i : ℕ) (m : Message) → slice_get stored i ≡ Some m → finite.get (store_of next slots) (top + i) ≡ Some m =
     λ i m is.
-      let place : start + i ≡ top + i - next = omega arith in
-      get_from next slots (top + i) (omega arith) ∙ ap (slot_at slots) (sym place) ∙ run_reads (slot_at slots) start (length slots - start) i m is
+    let place : start + i ≡ top + i - next = omega arith in
+    get_from next slots (top + i) (omega arith) ∙ ap (slot_at slots) (sym place) ∙ run_reads (slot_at slots) start (length slots - start) i m is
     in
     let place : start + length stored ≡ top + length stored - next = omega arith in
     record {
       each = each;
       stops = get_from next slots (top + length stored) (omega arith) ∙ ap (slot_at slots) (sym place)
-        ∙ run_ends (slot_at slots) start (length slots - start) (slot_past slots (start + (length slots - start)) (omega arith));
+          ∙ run_ends (slot_at slots) start (length slots - start) (slot_past slots (start + (length slots - start)) (omega arith));
       within =
-        elim (cases_eq (length stored) 0) [
-          | inl none ↦ omega (arith, none)
-          | inr some ↦
-            let last = length stored - 1 in
-            let lies = well.stored (top + last) (get_or stored last []) (each last (get_or stored last []) (slice_get-get_or stored last [] (omega (arith, some)))) in
-            omega (arith, some, lies.2)
-        ];
+          elim (cases_eq (length stored) 0) [
+            | inl none ↦ omega (arith, none)
+            | inr some ↦
+                let last = length stored - 1 in
+                let lies = well.stored (top + last) (get_or stored last []) (each last (get_or stored last []) (slice_get-get_or stored last [] (omega (arith, some)))) in
+                omega (arith, some, lies.2)
+          ];
     }
 
 -- a packet that has the message `next`: what is handed on
@@ -281,7 +283,7 @@ pub at_taken : (session : Session) (next known : ℕ) (ended : Option ℕ) (slot
     → IsWellFormed (view_over session next known ended slots) → n ≤ next → next < top → n + length ms ≡ top
     → new ≡ next + length (run_of slots next n top ms) → count ≡ min (new - next) (length slots)
     → taken_of (view_over session next known ended slots) (data_packet session n ms) (view_after (view_over session next known ended slots) (data_packet session n ms))
-      ≡ record { handed = new - next; kept = 0; beyond = 0 }
+    ≡ record { handed = new - next; kept = 0; beyond = 0 }
 at_taken session next known ended slots n top ms new count well low high tops is counted =
     let v = view_over session next known ended slots in
     let moved = drop count slots ++ replicate count None in
@@ -350,12 +352,12 @@ empty_store next (suc n) = empty_store (suc next) n
 
 pub fresh_well : (session : Session) (next n : ℕ) → 1 ≤ next → next < 2 ^ 64 → IsWellFormed (view_over session next next None (replicate n None))
 fresh_well session next n first last = record {
-      first = first;
-      ahead = omega arith;
-      last = last;
-      stored = λ q m is. absurd (none_some (sym (ap (λ (s : Store). finite.get s q) (empty_store next n) ∙ finite.get-empty nat_cmp q) ∙ is));
-      ends = λ e is. absurd (none_some is);
-    }
+  first = first;
+  ahead = omega arith;
+  last = last;
+  stored = λ q m is. absurd (none_some (sym (ap (λ (s : Store). finite.get s q) (empty_store next n) ∙ finite.get-empty nat_cmp q) ∙ is));
+  ends = λ e is. absurd (none_some is);
+}
 
 -- where the packet ends at or below `next`, or has no messages, nothing of it is at or above `next`
 pub nothing_there : (next n : ℕ) (ms : List Message) → (n + length ms ≤ next) ⊎ (ms ≡ []) → (q : ℕ) → next ≤ q → message_at n ms q ≡ None

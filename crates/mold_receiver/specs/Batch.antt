@@ -46,6 +46,6 @@ joined_first first (message ∷ messages) next = first
 abbrev pub followed_by : Handed → ℕ → List Message → Handed
 followed_by batch next [] = batch
 followed_by batch next (message ∷ messages) = record {
-      first = joined_first batch.first batch.messages next;
-      messages = batch.messages ++ message ∷ messages
-    }
+  first = joined_first batch.first batch.messages next;
+  messages = batch.messages ++ message ∷ messages;
+}

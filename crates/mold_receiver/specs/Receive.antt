@@ -1,5 +1,5 @@
 -- The receiving rule: what any datagram does to a view, as a function of whole maps.
-use Rattle.std.specs.Prelude.{◌≡◌, ◌<◌, ℕ, ◌+◌, ◌-◌, ◌^◌, max, Bool, ◌&&◌, nat_le, nat_lt, nat_eq, not, List, [], ◌∷◌, length, Option, None, Some, is_some, is_none, Result, Ok, Err, ◌==◌, if◌then◌else◌}
+use Rattle.std.specs.Prelude.{◌≡◌, ◌<◌, ℕ, ◌+◌, ◌-◌, ◌^◌, max, Bool, ◌&&◌, nat_le, nat_lt, nat_eq, not, List, [], ◌∷◌, length, Option, None, Some, slice_get, is_some, is_none, Result, Ok, Err, ◌==◌, if◌then◌else◌}
 use Rattle.std.specs.List.{filter}
 use Rattle.std.specs.FinMap as finite
 use Rattle.std.specs.Str.{bytes_eq}
@@ -16,6 +16,10 @@ use Rattle.mold_receiver.specs.declared.refused.Refused.TheVariants.{Malformed, 
 use Rattle.mold_receiver.specs.Batch.{Handed, followed_by}
 use Rattle.mold_receiver.specs.Store.{Message, Store, numbered, from_next, available, run_from, cut, first_conflict}
 use Rattle.mold_receiver.specs.View.{View}
+
+-- what a packet carries at a number
+abbrev pub carried_at : Packet → ℕ → Option Message
+carried_at p number = if nat_le p.sequence number then slice_get (messages_of p.body) (number - p.sequence) else None
 
 -- the refusal, where the test says so
 abbrev pub refuse_if : Bool → Refused → Option Refused
@@ -119,21 +123,21 @@ pub record Reception : Type 0 where
 -- the new view where the new `next` is the given one
 abbrev pub view_at : View → Packet → ℕ → View
 view_at v p next = record {
-      session = v.session;
-      next = next;
-      known = max v.known (top_of p);
-      ended = ended_after p.body p.sequence v.ended;
-      store = cut (available v.store v.next p.sequence (messages_of p.body)) next v.window;
-      window = v.window
-    }
+  session = v.session;
+  next = next;
+  known = max v.known (top_of p);
+  ended = ended_after p.body p.sequence v.ended;
+  store = cut (available v.store v.next p.sequence (messages_of p.body)) next v.window;
+  window = v.window;
+}
 
 -- the counts that are told, by the new view
 abbrev pub taken_of : View → Packet → View → Taken
 taken_of v p new = record {
-      handed = new.next - v.next;
-      kept = count_kept v.store new.store (numbered p.sequence (messages_of p.body));
-      beyond = count_beyond (new.next + v.window) (numbered p.sequence (messages_of p.body))
-    }
+  handed = new.next - v.next;
+  kept = count_kept v.store new.store (numbered p.sequence (messages_of p.body));
+  beyond = count_beyond (new.next + v.window) (numbered p.sequence (messages_of p.body));
+}
 
 -- the new view of a packet that is taken
 abbrev pub view_after : View → Packet → View
@@ -142,10 +146,10 @@ view_after v p = view_at v p (v.next + length (handed_on v p.sequence (messages_
 -- a packet is taken
 abbrev pub reception : View → Packet → Reception
 reception v p = record {
-      view = view_after v p;
-      handed = handed_on v p.sequence (messages_of p.body);
-      taken = taken_of v p (view_after v p)
-    }
+  view = view_after v p;
+  handed = handed_on v p.sequence (messages_of p.body);
+  taken = taken_of v p (view_after v p);
+}
 
 -- a data packet
 abbrev pub data_packet : Session → ℕ → List Message → Packet

@@ -57,7 +57,7 @@ impl Batch {
         if self.list.is_empty() {
             None
         } else {
-            Some(self.first + self.list.len() as u64)
+            Some(self.first + self.len() as u64)
         }
     }
 

@@ -25,7 +25,12 @@ fn push_from(batch: &mut Batch, next: u64, number: u64, message: &[u8]) -> Resul
 }
 
 // Adds the packet's messages from `next` on.
-fn push_messages(batch: &mut Batch, next: u64, first: u64, blocks: &Blocks<'_>) -> Result<(), AllocError>
+fn push_messages(
+    batch: &mut Batch,
+    next: u64,
+    first: u64,
+    blocks: &Blocks<'_>,
+) -> Result<(), AllocError>
     requires follows { Follows batch.old next }
     requires begun { first ≤ next }
     requires counted { first + length blocks.now < 2 ^ 64 }
@@ -42,7 +47,12 @@ fn push_messages(batch: &mut Batch, next: u64, first: u64, blocks: &Blocks<'_>) 
 
 // Adds the stored messages from a slot on up to the first empty one, and tells that one; `next` is the
 // number of the first slot.
-fn push_stored(batch: &mut Batch, next: u64, slots: &Slots, start: usize) -> Result<usize, AllocError>
+fn push_stored(
+    batch: &mut Batch,
+    next: u64,
+    slots: &Slots,
+    start: usize,
+) -> Result<usize, AllocError>
     requires follows { Follows batch.old (next + start) }
     requires counted { next + start < 2 ^ 64 }
     requires numbered { (i : ℕ) (m : Message) → slot_at slots.now i ≡ Some m → next + i + 1 < 2 ^ 64 }
@@ -60,7 +70,14 @@ fn push_stored(batch: &mut Batch, next: u64, slots: &Slots, start: usize) -> Res
 }
 
 // Adds the packet's messages from `next` on, and the stored ones behind them; the new `next`.
-fn push_run(batch: &mut Batch, next: u64, first: u64, top: u64, blocks: &Blocks<'_>, slots: &Slots) -> Result<u64, AllocError>
+fn push_run(
+    batch: &mut Batch,
+    next: u64,
+    first: u64,
+    top: u64,
+    blocks: &Blocks<'_>,
+    slots: &Slots,
+) -> Result<u64, AllocError>
     requires follows { Follows batch.old next }
     requires begun { first ≤ next }
     requires ahead { next < top }
@@ -77,7 +94,14 @@ fn push_run(batch: &mut Batch, next: u64, first: u64, top: u64, blocks: &Blocks<
 
 /// Hands on the packet's messages from `next` on, and the stored ones behind them; the new `next`. An error
 /// comes where a growth is refused, and the batch is then as before.
-pub(crate) fn hand_on(batch: &mut Batch, next: u64, first: u64, top: u64, blocks: &Blocks<'_>, slots: &Slots) -> Result<u64, AllocError>
+pub(crate) fn hand_on(
+    batch: &mut Batch,
+    next: u64,
+    first: u64,
+    top: u64,
+    blocks: &Blocks<'_>,
+    slots: &Slots,
+) -> Result<u64, AllocError>
     requires follows { Follows batch.old next }
     requires begun { first ≤ next }
     requires ahead { next < top }

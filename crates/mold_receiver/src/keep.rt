@@ -25,7 +25,12 @@ fn is_free(slots: &Slots, slot: u64) -> bool
 }
 
 // Adds the copy of a message.
-fn push_copy(alloc: Global, copies: &mut Vec<Copied>, slot: usize, message: &[u8]) -> Result<(), AllocError>
+fn push_copy(
+    alloc: Global,
+    copies: &mut Vec<Copied>,
+    slot: usize,
+    message: &[u8],
+) -> Result<(), AllocError>
     ensures { OnOk result (pairs_of copies.new.items ≡ pairs_of copies.old.items ++ (slot, message.now) ∷ []) }
 {
     let message = Vec::from_slice(alloc, message)?;
@@ -35,7 +40,12 @@ fn push_copy(alloc: Global, copies: &mut Vec<Copied>, slot: usize, message: &[u8
 
 /// Copies of the packet's messages for which there is an empty slot; `first` is the slot of its first
 /// message. An error comes where a growth is refused.
-pub(crate) fn copy_fresh(alloc: Global, slots: &Slots, first: u64, blocks: &Blocks<'_>) -> Result<Vec<Copied>, AllocError>
+pub(crate) fn copy_fresh(
+    alloc: Global,
+    slots: &Slots,
+    first: u64,
+    blocks: &Blocks<'_>,
+) -> Result<Vec<Copied>, AllocError>
     requires { first + length blocks.now < 2 ^ 64 }
     ensures copied { IfOk result (λ copies. pairs_of copies.items ≡ fresh slots.now first blocks.now) }
     ensures needed { OnErr result (0 < length (fresh slots.now first blocks.now)) }

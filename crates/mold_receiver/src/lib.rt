@@ -6,11 +6,14 @@ mod batch;
 mod conflict;
 mod hand;
 mod keep;
+pub mod laws;
 mod receiver;
 mod refusal;
 mod refused;
 mod slots;
 mod taken;
+#[cfg(test)]
+mod tests;
 
 pub use batch::Batch;
 pub use receiver::Receiver;

@@ -20,7 +20,7 @@ use crate::refusal::check_header;
 use crate::refused::{ReceiverError, Refused};
 use crate::slots::Slots;
 use crate::taken::Taken;
-use mold_wire::{decode, Blocks, Body, Packet, Request, Session};
+use mold_wire::{Blocks, Body, Packet, Request, Session, decode};
 use std::alloc::{AllocError, Global};
 use std::marker::Model;
 
@@ -77,7 +77,12 @@ impl Model for Receiver {
 impl Receiver {
     /// A receiver that begins at the message `next` and stores messages of less than `next + window`. It
     /// makes its window here; later only messages take memory.
-    pub fn new(alloc: Global, session: Session, next: u64, window: u32) -> Result<Receiver, ReceiverError>
+    pub fn new(
+        alloc: Global,
+        session: Session,
+        next: u64,
+        window: u32,
+    ) -> Result<Receiver, ReceiverError>
         ensures made { IfOk result (λ receiver. receiver ≡ fresh session next window) }
         ensures ok { OnOk result ((0 < next) × IsWindow window) }
         ensures zero { next ≡ 0 → result ≡ Err NextZero }
@@ -128,7 +133,13 @@ impl Receiver {
     }
 
     // Hands on from a packet that has the message `next`.
-    fn hand(&mut self, first: u64, top: u64, blocks: &Blocks<'_>, batch: &mut Batch) -> Result<Taken, AllocError>
+    fn hand(
+        &mut self,
+        first: u64,
+        top: u64,
+        blocks: &Blocks<'_>,
+        batch: &mut Batch,
+    ) -> Result<Taken, AllocError>
         requires follows { Follows batch.old self.old.next }
         requires begun { first ≤ self.old.next }
         requires ahead { self.old.next < top }
@@ -189,7 +200,12 @@ impl Receiver {
     }
 
     // Takes a packet that meets no refusal.
-    fn take_packet(&mut self, packet: &Packet<'_>, top: u64, batch: &mut Batch) -> Result<Taken, AllocError>
+    fn take_packet(
+        &mut self,
+        packet: &Packet<'_>,
+        top: u64,
+        batch: &mut Batch,
+    ) -> Result<Taken, AllocError>
         requires follows { Follows batch.old self.old.next }
         requires top { top_of packet.now ≡ top }
         requires body { IsBody packet.now.body }

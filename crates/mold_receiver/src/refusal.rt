@@ -44,7 +44,12 @@ fn refuse_by_end(packet: &Packet<'_>, top: u64, known: u64, ended: Option<u64>) 
 }
 
 /// The packet's top, or the first refusal that its header and its number of messages meet.
-pub(crate) fn check_header(packet: &Packet<'_>, session: &Session, known: u64, ended: Option<u64>) -> Result<u64, Refused>
+pub(crate) fn check_header(
+    packet: &Packet<'_>,
+    session: &Session,
+    known: u64,
+    ended: Option<u64>,
+) -> Result<u64, Refused>
     ensures top { IfOk result (λ top. (top ≡ top_of packet.now) × (top_of packet.now < 2 ^ 64) × (first_some (header_refusals session.now known ended packet.now) ≡ None)) }
     ensures refused { IfErr result (λ refused. first_some (header_refusals session.now known ended packet.now) ≡ Some refused) }
 {

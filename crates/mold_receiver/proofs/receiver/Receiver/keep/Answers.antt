@@ -17,8 +17,15 @@ overflow_cast-kept c =
     let copies = c.in_ok-copies.copies.items in
     let size : c.in_ok-copies.copies.len ≡ length copies = c.in_ok-copies.copies.ok.0 in
     let found = ap (λ (pairs : List (ℕ × Message)). length pairs) (rw c.in_ok-copies.was at c.copy_fresh.ensures.copied) in
-    omega (arith, size, length-map {B = ℕ × Message} copies (λ (copied : Copied). (copied.slot, copied.message.items)), found,
-    fresh_short c.self.inside.slots (c.args.first - c.self.inside.next) c.args.blocks.now, c.len-kept.ensures, c.len-2.ensures.range.1)
+    omega (
+      arith,
+      size,
+      length-map {B = ℕ × Message} copies (λ (copied : Copied). (copied.slot, copied.message.items)),
+      found,
+      fresh_short c.self.inside.slots (c.args.first - c.self.inside.next) c.args.blocks.now,
+      c.len-kept.ensures,
+      c.len-2.ensures.range.1,
+    )
 
 pub invariant_of-self : goal.invariant_of-self
 invariant_of-self c =

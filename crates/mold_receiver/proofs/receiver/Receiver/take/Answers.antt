@@ -25,8 +25,11 @@ returns-in-Err-take_packet-clause-refused c =
     let v = c.args.self.now in
     let p = c.in-Ok.packet in
     let read : reading c.args.bytes.now ≡ Ok p = sym c.decode.ensures.exact ∙ c.in-Ok.is in
-    inl (refl, record {
-      reception = reception v p;
-      received = ap (receive_read v) read ∙ ap (λ (o : Option Refused). decide o (reception v p)) (rw c.in_ok-top.was at c.check.ensures.taken);
-      some = c.in-Err-take_packet.ensures.needed;
-    })
+    inl (
+      refl,
+      record {
+        reception = reception v p;
+        received = ap (receive_read v) read ∙ ap (λ (o : Option Refused). decide o (reception v p)) (rw c.in_ok-top.was at c.check.ensures.taken);
+        some = c.in-Err-take_packet.ensures.needed;
+      },
+    )
