@@ -1,3 +1,4 @@
+pub mod Datagrams
 pub mod Journal
 pub mod Packing
 pub mod Publisher

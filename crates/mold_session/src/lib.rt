@@ -3,6 +3,7 @@
 
 mod error;
 mod journal;
+pub mod laws;
 mod packing;
 mod publisher;
 #[cfg(test)]

@@ -103,7 +103,8 @@ impl Publisher {
 
     /// Whether the messages that were not yet put in a datagram don't all fit one, in constant time.
     pub fn is_full(&self) -> bool
-        ensures { IsTrue result ↔ (¬ Fits self.now.limit (unsent_of self.now)) }
+        ensures full { IsTrue result ↔ (¬ Fits self.now.limit (unsent_of self.now)) }
+        ensures publisher { IsPublisher self.now }
     {
         let room = self.limit - HEADER;
         let lengths = self.unsent();

@@ -1,0 +1,9 @@
+pub mod StoreLemmas
+pub mod SlotLemmas
+pub mod RuleLemmas
+pub mod CaseLemmas
+pub mod BatchLemmas
+pub mod KeepLemmas
+pub mod ViewLemmas
+pub mod WantedLemmas
+pub mod LawLemmas

@@ -1,0 +1,58 @@
+-- How long the gap at `next` is.
+use Rattle.std.proofs.Common.{◌≡◌, ℕ, zero, suc, ◌+◌, ◌-◌, ◌<◌, ◌≤◌, ◌⊎◌, min, Bool, true, false, cond, List, [], ◌∷◌, length, refl, sym, ap, subst, ◌∙◌, inl, inr, arith}
+use Rattle.std.specs.Prelude.{Option, None, Some, is_some}
+use Rattle.std.specs.FinMap as finite
+use Rattle.std.proofs.lemmas.Bool.{true≢false, cases_eq, cases_lt}
+use Rattle.mold_receiver.specs.Slots.{Slot, slot_at, store_of, IsFirstHeld}
+use Rattle.mold_receiver.specs.Store.{Message, Store}
+use Rattle.mold_receiver.specs.Wanted.{lacking_run}
+use Rattle.mold_receiver.proofs.StoreLemmas.{none_some}
+use Rattle.mold_receiver.proofs.ViewLemmas.{get_from}
+
+pub lacking_short : (look : ℕ → Option Message) (number most : ℕ) → lacking_run look number most ≤ most
+unfolding lacking_run
+lacking_short look number zero = omega arith
+lacking_short look number (suc most) =
+    elim (look number) as (λ o. cond (is_some o) 0 (suc (lacking_run look (suc number) most)) ≤ suc most) [
+      | None ↦ omega (arith, lacking_short look (suc number) most)
+      | Some m ↦ omega arith
+    ]
+
+-- as long as no number has a message, the gap goes on
+pub lacking_long : (look : ℕ → Option Message) (number most count : ℕ) → count ≤ most → ((i : ℕ) → i < count → look (number + i) ≡ None) → count ≤ lacking_run look number most
+unfolding lacking_run
+lacking_long look number zero count few none = omega (arith, few)
+lacking_long look number (suc most) zero few none = omega arith
+lacking_long look number (suc most) (suc count) few none =
+    let here : number + 0 ≡ number = omega arith in
+    let empty : look number ≡ None = subst (λ (n : ℕ). look n ≡ None) here (none 0 (omega arith)) in
+    let rest = lacking_long look (suc number) most count (omega (arith, few)) (λ i below. let at : number + suc i ≡ suc number + i = omega arith in subst (λ (n : ℕ). look n ≡ None) at (none (suc i) (omega (arith, below)))) in
+    subst (λ (n : ℕ). suc count ≤ n) (sym (ap (λ (o : Option Message). cond (is_some o) 0 (suc (lacking_run look (suc number) most))) empty)) (omega (arith, rest))
+
+-- and it ends where one has
+pub lacking_ends : (look : ℕ → Option Message) (number most count : ℕ) → count ≤ most → is_some (look (number + count)) ≡ true → lacking_run look number most ≤ count
+unfolding lacking_run
+lacking_ends look number zero count few some = omega arith
+lacking_ends look number (suc most) zero few some =
+    let here : number + 0 ≡ number = omega arith in
+    subst (λ (n : ℕ). n ≤ 0) (sym (ap (λ (b : Bool). cond b 0 (suc (lacking_run look (suc number) most))) (subst (λ (n : ℕ). is_some (look n) ≡ true) here some))) (omega arith)
+lacking_ends look number (suc most) (suc count) few some =
+    let at : number + suc count ≡ suc number + count = omega arith in
+    let rest = lacking_ends look (suc number) most count (omega (arith, few)) (subst (λ (n : ℕ). is_some (look n) ≡ true) at some) in
+    elim (look number) as (λ o. cond (is_some o) 0 (suc (lacking_run look (suc number) most)) ≤ suc count) [
+      | None ↦ omega (arith, rest)
+      | Some m ↦ omega arith
+    ]
+
+-- the lesser of a bound and the gap is what the search among so many slots finds
+pub gap_found : (next known bound : ℕ) (slots : List Slot) (slot : ℕ) → IsFirstHeld slots (min (known - next) bound) slot
+    → min bound (next + lacking_run (finite.get (store_of next slots)) next (known - next) - next) ≡ slot
+gap_found next known bound slots slot first =
+    let look = finite.get (store_of next slots) in
+    let at : (i : ℕ) → look (next + i) ≡ slot_at slots i = λ i. get_from next slots (next + i) (omega arith) ∙ ap (slot_at slots) (let e : next + i - next ≡ i = omega arith in e) in
+    let short = lacking_short look next (known - next) in
+    let long = lacking_long look next (known - next) slot (omega (arith, first.within)) (λ i below. at i ∙ first.none i below) in
+    elim first.stops [
+      | inl whole ↦ omega (arith, whole, short, long)
+      | inr some ↦ omega (arith, lacking_ends look next (known - next) slot (omega (arith, first.within)) (ap is_some (at slot) ∙ some), long, first.within)
+    ]

@@ -1,0 +1,13 @@
+use Rattle.std.proofs.Common.{◌≡◌, ◌<◌, ◌^◌, ◌+◌, ◌-◌, length}
+use Rattle.mold_receiver.specs.Handing.{run_in}
+use Rattle.mold_receiver.proofs.BatchLemmas.{IsHanding}
+use Rattle.mold_receiver.proofs.hand.push_stored.Given as goal
+
+abbrev pub invariant-loop-message : goal.invariant-loop-message
+invariant-loop-message l = record {
+  handing : IsHanding l.fn.batch l.batch (l.next + l.start) (l.next + l.end) (run_in l.slots l.end) (run_in l.slots l.start);
+  fits : l.next + l.end < 2 ^ 64;
+}
+
+abbrev pub decreases-loop-message : goal.decreases-loop-message
+decreases-loop-message l = length l.slots - l.end

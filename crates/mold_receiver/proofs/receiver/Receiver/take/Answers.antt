@@ -1,0 +1,35 @@
+use Rattle.std.proofs.Common.{◌≡◌, ℕ, sym, ap, ◌∙◌, refl, subst, inl, Option}
+use Rattle.std.specs.Prelude.{Result, Ok}
+use Rattle.mold_wire.specs.Reading.{reading}
+use Rattle.mold_wire.specs.declared.packet.Packet.{Packet}
+use Rattle.mold_wire.specs.declared.error.DecodeError.{DecodeError}
+use Rattle.mold_receiver.specs.declared.refused.Refused.{Refused}
+use Rattle.mold_receiver.specs.Receive.{receive_read, decide, reception}
+use Rattle.mold_receiver.proofs.receiver.Receiver.take.Goals as goal
+
+pub returns-in-Ok-take_packet-clause-taken : goal.returns-in-Ok-take_packet-clause-taken
+returns-in-Ok-take_packet-clause-taken c =
+    let v = c.args.self.now in
+    let p = c.in-Ok.packet in
+    let read : reading c.args.bytes.now ≡ Ok p = sym c.decode.ensures.exact ∙ c.in-Ok.is in
+    record {
+      reception = reception v p;
+      received = ap (receive_read v) read ∙ ap (λ (o : Option Refused). decide o (reception v p)) (rw c.in_ok-top.was at c.check.ensures.taken);
+      view = c.in-Ok-take_packet.ensures.view;
+      batch = c.in-Ok-take_packet.ensures.handed;
+      told = c.in-Ok-take_packet.ensures.taken;
+    }
+
+pub returns-in-Err-take_packet-clause-refused : goal.returns-in-Err-take_packet-clause-refused
+returns-in-Err-take_packet-clause-refused c =
+    let v = c.args.self.now in
+    let p = c.in-Ok.packet in
+    let read : reading c.args.bytes.now ≡ Ok p = sym c.decode.ensures.exact ∙ c.in-Ok.is in
+    inl (
+      refl,
+      record {
+        reception = reception v p;
+        received = ap (receive_read v) read ∙ ap (λ (o : Option Refused). decide o (reception v p)) (rw c.in_ok-top.was at c.check.ensures.taken);
+        some = c.in-Err-take_packet.ensures.needed;
+      },
+    )

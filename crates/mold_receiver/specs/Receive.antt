@@ -1,0 +1,186 @@
+-- The receiving rule: what any datagram does to a view, as a function of whole maps.
+use Rattle.std.specs.Prelude.{◌≡◌, ◌<◌, ℕ, ◌+◌, ◌-◌, ◌^◌, max, Bool, ◌&&◌, nat_le, nat_lt, nat_eq, not, List, [], ◌∷◌, length, Option, None, Some, slice_get, is_some, is_none, Result, Ok, Err, ◌==◌, if◌then◌else◌}
+use Rattle.std.specs.List.{filter}
+use Rattle.std.specs.FinMap as finite
+use Rattle.std.specs.Str.{bytes_eq}
+use Rattle.mold_wire.specs.Packet.{messages_of, top_of}
+use Rattle.mold_wire.specs.Reading.{reading}
+use Rattle.mold_wire.specs.declared.packet.Packet.{Packet}
+use Rattle.mold_wire.specs.declared.packet.Body.{Body}
+use Rattle.mold_wire.specs.declared.packet.Body.TheVariants.{Data, Heartbeat, End}
+use Rattle.mold_wire.specs.declared.session.Session.{Session}
+use Rattle.mold_wire.specs.declared.error.DecodeError.{DecodeError}
+use Rattle.mold_receiver.specs.declared.taken.Taken.{Taken}
+use Rattle.mold_receiver.specs.declared.refused.Refused.{Refused}
+use Rattle.mold_receiver.specs.declared.refused.Refused.TheVariants.{Malformed, WrongSession, SequenceZero, PastLast, EndConflict, EndBelow, PastEnd, Conflict, Memory}
+use Rattle.mold_receiver.specs.Batch.{Handed, followed_by}
+use Rattle.mold_receiver.specs.Store.{Message, Store, numbered, from_next, available, run_from, cut, first_conflict}
+use Rattle.mold_receiver.specs.View.{View}
+
+-- what a packet carries at a number
+abbrev pub carried_at : Packet → ℕ → Option Message
+carried_at p number = if nat_le p.sequence number then slice_get (messages_of p.body) (number - p.sequence) else None
+
+-- the refusal, where the test says so
+abbrev pub refuse_if : Bool → Refused → Option Refused
+refuse_if refused refusal = if refused then Some refusal else None
+
+-- the packet is of another session
+abbrev pub wrong_session : Session → Packet → Option Refused
+wrong_session session p = refuse_if (not (bytes_eq p.session.0 session.0)) WrongSession
+
+abbrev pub sequence_zero : Packet → Option Refused
+sequence_zero p = refuse_if (p.sequence == 0) SequenceZero
+
+abbrev pub past_last : Packet → Option Refused
+past_last p = refuse_if (nat_lt 18446744073709551615 (top_of p)) PastLast
+
+-- an end packet, and another end is known
+abbrev pub end_conflict : Body → ℕ → Option ℕ → Option Refused
+end_conflict (Data messages) sequence ended = None
+end_conflict Heartbeat sequence ended = None
+end_conflict End sequence None = None
+end_conflict End sequence (Some end) = refuse_if (not (sequence == end)) (EndConflict end)
+
+-- an end packet below what is known
+abbrev pub end_below : Body → ℕ → ℕ → Option Refused
+end_below (Data messages) sequence known = None
+end_below Heartbeat sequence known = None
+end_below End sequence known = refuse_if (nat_lt sequence known) (EndBelow known)
+
+-- a data packet or a heartbeat, and a known end is below its top
+abbrev pub past_end : Option ℕ → Body → ℕ → Option Refused
+past_end None body top = None
+past_end (Some end) (Data messages) top = refuse_if (nat_lt end top) (PastEnd end)
+past_end (Some end) Heartbeat top = refuse_if (nat_lt end top) (PastEnd end)
+past_end (Some end) End top = None
+
+-- a refusal that carries the number, where there is one
+abbrev pub conflict_at : Option ℕ → Option Refused
+conflict_at None = None
+conflict_at (Some number) = Some (Conflict number)
+
+-- packet and store have different messages at a number not below `next`; the least such number
+abbrev pub conflict : View → ℕ → List Message → Option Refused
+conflict v number messages = conflict_at (first_conflict v.store (from_next v.next number messages))
+
+-- the refusals of a packet in order of precedence, each where it applies
+abbrev pub refusals : View → Packet → List (Option Refused)
+refusals v p =
+    wrong_session v.session p
+    ∷ sequence_zero p
+    ∷ past_last p
+    ∷ end_conflict p.body p.sequence v.ended
+    ∷ end_below p.body p.sequence v.known
+    ∷ past_end v.ended p.body (top_of p)
+    ∷ conflict v p.sequence (messages_of p.body)
+    ∷ []
+
+-- those of them that the store has no part in
+abbrev pub header_refusals : Session → ℕ → Option ℕ → Packet → List (Option Refused)
+header_refusals session known ended p =
+    wrong_session session p
+    ∷ sequence_zero p
+    ∷ past_last p
+    ∷ end_conflict p.body p.sequence ended
+    ∷ end_below p.body p.sequence known
+    ∷ past_end ended p.body (top_of p)
+    ∷ []
+
+-- the first that is there
+abbrev pub first_some : List (Option Refused) → Option Refused
+first_some [] = None
+first_some (None ∷ refusals) = first_some refusals
+first_some (Some refusal ∷ refusals) = Some refusal
+
+-- what is handed on of a packet that is taken: what is available from `next` on up to the first number
+-- that is lacking. No number from the greater of `known` and the packet's top on is available.
+abbrev pub handed_on : View → ℕ → List Message → List Message
+handed_on v number messages =
+    run_from (finite.get (available v.store v.next number messages)) v.next (max v.known (number + length messages) - v.next)
+
+-- the number of the packet's messages that are in the new store and weren't in the old one
+abbrev pub count_kept : Store → Store → List (ℕ × Message) → ℕ
+count_kept old new pairs = length (filter (λ pair. is_some (finite.get new pair.0) && is_none (finite.get old pair.0)) pairs)
+
+-- the number of the packet's messages from a limit on
+abbrev pub count_beyond : ℕ → List (ℕ × Message) → ℕ
+count_beyond limit pairs = length (filter (λ pair. nat_le limit pair.0) pairs)
+
+-- an end packet tells the end
+abbrev pub ended_after : Body → ℕ → Option ℕ → Option ℕ
+ended_after (Data messages) sequence ended = ended
+ended_after Heartbeat sequence ended = ended
+ended_after End sequence ended = Some sequence
+
+-- what a datagram that is taken does: the new view, what is handed on from the old `next` on, and the
+-- three counts that the receiver tells
+pub record Reception : Type 0 where
+  pub view : View
+  pub handed : List Message
+  pub taken : Taken
+
+-- the new view where the new `next` is the given one
+abbrev pub view_at : View → Packet → ℕ → View
+view_at v p next = record {
+  session = v.session;
+  next = next;
+  known = max v.known (top_of p);
+  ended = ended_after p.body p.sequence v.ended;
+  store = cut (available v.store v.next p.sequence (messages_of p.body)) next v.window;
+  window = v.window;
+}
+
+-- the counts that are told, by the new view
+abbrev pub taken_of : View → Packet → View → Taken
+taken_of v p new = record {
+  handed = new.next - v.next;
+  kept = count_kept v.store new.store (numbered p.sequence (messages_of p.body));
+  beyond = count_beyond (new.next + v.window) (numbered p.sequence (messages_of p.body));
+}
+
+-- the new view of a packet that is taken
+abbrev pub view_after : View → Packet → View
+view_after v p = view_at v p (v.next + length (handed_on v p.sequence (messages_of p.body)))
+
+-- a packet is taken
+abbrev pub reception : View → Packet → Reception
+reception v p = record {
+  view = view_after v p;
+  handed = handed_on v p.sequence (messages_of p.body);
+  taken = taken_of v p (view_after v p);
+}
+
+-- a data packet
+abbrev pub data_packet : Session → ℕ → List Message → Packet
+data_packet session sequence messages = record { session = session; sequence = sequence; body = Data messages }
+
+-- a packet is refused or taken
+abbrev pub decide : Option Refused → Reception → Result Reception Refused
+decide None taken = Ok taken
+decide (Some refusal) taken = Err refusal
+
+abbrev pub receive_packet : View → Packet → Result Reception Refused
+receive_packet v p = decide (first_some (refusals v p)) (reception v p)
+
+abbrev pub receive_read : View → Result Packet DecodeError → Result Reception Refused
+receive_read v (Ok packet) = receive_packet v packet
+receive_read v (Err error) = Err (Malformed error)
+
+-- a datagram is refused or taken
+abbrev pub receive : View → List ℕ → Result Reception Refused
+receive v bytes = receive_read v (reading bytes)
+
+-- a receiver took a datagram: its view and the batch are what the rule says, and so is what it tells
+pub record HasTaken (old : View) (bytes : List ℕ) (before : Handed) (new : View) (after : Handed) (taken : Taken) : Type 0 where
+  pub reception : Reception
+  pub received : receive old bytes ≡ Ok reception
+  pub view : new ≡ reception.view
+  pub batch : after ≡ followed_by before old.next reception.handed
+  pub told : taken ≡ reception.taken
+
+-- a datagram that is taken, and of which something is handed on or stored: it is copied
+pub record IsCopied (v : View) (bytes : List ℕ) : Type 0 where
+  pub reception : Reception
+  pub received : receive v bytes ≡ Ok reception
+  pub some : 0 < reception.taken.handed + reception.taken.kept

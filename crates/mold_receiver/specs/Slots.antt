@@ -1,0 +1,45 @@
+-- The ring of the gap store: slot i stands for the number that lies i behind the first one's.
+use Rattle.std.specs.Prelude.{◌≡◌, ℕ, zero, suc, ◌+◌, ◌<◌, ◌≤◌, ◌⊎◌, true, length, List, [], ◌∷◌, Option, None, Some, slice_get, map, is_some, if◌then◌else◌}
+use Rattle.std.specs.FinMap as finite
+use Rattle.std.specs.Option.{option_flatten, option_map}
+use Rattle.mold_receiver.specs.Store.{Message, Store}
+
+-- a slot, which is empty or has a message
+abbrev pub Slot : Type 0
+Slot = Option Message
+
+-- the message in a slot; none where there is no such slot
+abbrev pub slot_at : List Slot → ℕ → Option Message
+slot_at slots i = option_flatten (slice_get slots i)
+
+-- the messages in the slots with their numbers, of which the first slot's is given
+abbrev pub slot_entries : ℕ → List Slot → List (ℕ × Message)
+slot_entries number [] = []
+slot_entries number (None ∷ slots) = slot_entries (suc number) slots
+slot_entries number (Some message ∷ slots) = (number, message) ∷ slot_entries (suc number) slots
+
+-- the store that the slots hold
+abbrev pub store_of : ℕ → List Slot → Store
+store_of number slots = finite.from_entries (slot_entries number slots)
+
+-- slots by what they hold, whatever form a message has there
+abbrev pub slots_of : {V : Type 0} → (V → Message) → List (Option V) → List Slot
+slots_of bytes slots = map (option_map bytes) slots
+
+-- how many slots have a message
+abbrev pub count_held : List Slot → ℕ
+count_held [] = 0
+count_held (slot ∷ slots) = (if is_some slot then 1 else 0) + count_held slots
+
+-- the ring is full of slots, as many as a window may have, and so many have a message
+pub record AreSlots (slots : List Slot) (capacity count : ℕ) : Type 0 where
+  pub some : 0 < length slots
+  pub few : length slots ≤ 65536
+  pub full : length slots ≡ capacity
+  pub counted : count ≡ count_held slots
+
+-- among so many slots from the front this is the first that has a message, or their number
+pub record IsFirstHeld (slots : List Slot) (most slot : ℕ) : Type 0 where
+  pub within : slot ≤ most
+  pub none : (i : ℕ) → i < slot → slot_at slots i ≡ None
+  pub stops : (slot ≡ most) ⊎ (is_some (slot_at slots slot) ≡ true)

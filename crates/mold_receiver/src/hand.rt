@@ -1,0 +1,120 @@
+//! A packet with the message that is to be handed on next.
+
+ghost use Rattle.std.specs.Prelude.{◌≡◌, ◌+◌, ◌-◌, ◌<◌, ◌≤◌, ◌^◌, ◌++◌, ◌∷◌, [], max, nat_lt, if◌then◌else◌, length, drop, ℕ, Some, OnOk, OnErr, IfOk, IfErr};
+ghost use Rattle.mold_receiver.specs.Batch.{Follows, followed_by, handed_from};
+ghost use Rattle.mold_receiver.specs.Handing.{Grew, run_in, run_of};
+ghost use Rattle.mold_receiver.specs.Slots.{slot_at};
+ghost use Rattle.mold_receiver.specs.Store.{Message};
+
+use crate::batch::Batch;
+use crate::slots::Slots;
+use mold_wire::Blocks;
+use std::alloc::AllocError;
+
+// Adds a message of the packet, where its number isn't below `next`.
+fn push_from(batch: &mut Batch, next: u64, number: u64, message: &[u8]) -> Result<(), AllocError>
+    requires follows { Follows batch.old (max number next) }
+    requires counted { number + 1 < 2 ^ 64 }
+    ensures handed { OnOk result (batch.new ≡ (if nat_lt number next then batch.old else followed_by batch.old number (message.now ∷ []))) }
+    ensures same { OnErr result (batch.new ≡ batch.old) }
+{
+    if number < next {
+        return Ok(());
+    }
+    batch.push(number, message)
+}
+
+// Adds the packet's messages from `next` on.
+fn push_messages(
+    batch: &mut Batch,
+    next: u64,
+    first: u64,
+    blocks: &Blocks<'_>,
+) -> Result<(), AllocError>
+    requires follows { Follows batch.old next }
+    requires begun { first ≤ next }
+    requires counted { first + length blocks.now < 2 ^ 64 }
+    ensures handed { OnOk result (batch.new ≡ followed_by batch.old next (drop (next - first) blocks.now)) }
+    ensures grew { OnErr result (Grew batch.old batch.new next) }
+{
+    let mut number = first;
+    for message in blocks.iter() {
+        push_from(batch, next, number, message)?;
+        number += 1;
+    }
+    Ok(())
+}
+
+// Adds the stored messages from a slot on up to the first empty one, and tells that one; `next` is the
+// number of the first slot.
+fn push_stored(
+    batch: &mut Batch,
+    next: u64,
+    slots: &Slots,
+    start: usize,
+) -> Result<usize, AllocError>
+    requires follows { Follows batch.old (next + start) }
+    requires counted { next + start < 2 ^ 64 }
+    requires numbered { (i : ℕ) (m : Message) → slot_at slots.now i ≡ Some m → next + i + 1 < 2 ^ 64 }
+    ensures handed { OnOk result (batch.new ≡ followed_by batch.old (next + start) (run_in slots.now start)) }
+    ensures stopped { IfOk result (λ end. end ≡ start + length (run_in slots.now start)) }
+    ensures fits { IfOk result (λ end. next + end < 2 ^ 64) }
+    ensures grew { OnErr result (Grew batch.old batch.new (next + start)) }
+{
+    let mut end = start;
+    while let Some(message) = slots.get(end) {
+        batch.push(next + end as u64, message)?;
+        end += 1;
+    }
+    Ok(end)
+}
+
+// Adds the packet's messages from `next` on, and the stored ones behind them; the new `next`.
+fn push_run(
+    batch: &mut Batch,
+    next: u64,
+    first: u64,
+    top: u64,
+    blocks: &Blocks<'_>,
+    slots: &Slots,
+) -> Result<u64, AllocError>
+    requires follows { Follows batch.old next }
+    requires begun { first ≤ next }
+    requires ahead { next < top }
+    requires top { first + length blocks.now ≡ top }
+    requires numbered { (i : ℕ) (m : Message) → slot_at slots.now i ≡ Some m → next + i + 1 < 2 ^ 64 }
+    ensures handed { OnOk result (batch.new ≡ followed_by batch.old next (run_of slots.now next first top blocks.now)) }
+    ensures next { IfOk result (λ new. new ≡ next + length (run_of slots.now next first top blocks.now)) }
+    ensures grew { OnErr result (Grew batch.old batch.new next) }
+{
+    push_messages(batch, next, first, blocks)?;
+    let end = push_stored(batch, next, slots, (top - next) as usize)?;
+    Ok(next + end as u64)
+}
+
+/// Hands on the packet's messages from `next` on, and the stored ones behind them; the new `next`. An error
+/// comes where a growth is refused, and the batch is then as before.
+pub(crate) fn hand_on(
+    batch: &mut Batch,
+    next: u64,
+    first: u64,
+    top: u64,
+    blocks: &Blocks<'_>,
+    slots: &Slots,
+) -> Result<u64, AllocError>
+    requires follows { Follows batch.old next }
+    requires begun { first ≤ next }
+    requires ahead { next < top }
+    requires top { first + length blocks.now ≡ top }
+    requires numbered { (i : ℕ) (m : Message) → slot_at slots.now i ≡ Some m → next + i + 1 < 2 ^ 64 }
+    ensures handed { OnOk result (batch.new ≡ followed_by batch.old next (run_of slots.now next first top blocks.now)) }
+    ensures next { IfOk result (λ new. new ≡ next + length (run_of slots.now next first top blocks.now)) }
+    ensures same { OnErr result (batch.new ≡ batch.old) }
+{
+    let before = batch.len();
+    let handed = push_run(batch, next, first, top, blocks, slots);
+    if handed.is_err() {
+        batch.truncate(before);
+    }
+    handed
+}

@@ -1,0 +1,21 @@
+//! The receiver of MoldUDP64 downstream packets: it hands messages on in sequence, each once, and stores
+//! what comes above a gap.
+#![tactic(auto)]
+
+mod batch;
+mod conflict;
+mod hand;
+mod keep;
+pub mod laws;
+mod receiver;
+mod refusal;
+mod refused;
+mod slots;
+mod taken;
+#[cfg(test)]
+mod tests;
+
+pub use batch::Batch;
+pub use receiver::Receiver;
+pub use refused::{ReceiverError, Refused};
+pub use taken::Taken;

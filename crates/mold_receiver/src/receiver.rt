@@ -1,0 +1,320 @@
+//! The receiver.
+
+ghost use Rattle.std.specs.Prelude.{◌≡◌, ◌↔◌, IsTrue, ◌⊎◌, [], ◌+◌, ◌-◌, ◌<◌, ◌≤◌, ◌^◌, min, length, Some, None, Ok, Err, IfOk, IfErr, OnOk, OnErr};
+ghost use Rattle.std.specs.FinMap as finite;
+ghost use Rattle.mold_wire.specs.Packet.{IsBody, messages_of, top_of};
+ghost use Rattle.mold_wire.specs.declared.packet.Body.TheVariants.{Data};
+ghost use Rattle.mold_receiver.specs.Batch.{Follows, followed_by};
+ghost use Rattle.mold_receiver.specs.Receive.{HasTaken, IsCopied, data_packet, end_below, ended_after, first_some, handed_on, past_end, receive, refusals, taken_of, view_after};
+ghost use Rattle.mold_receiver.specs.Store.{first_conflict, from_next};
+ghost use Rattle.mold_receiver.specs.Wanted.{wanted};
+ghost use Rattle.mold_receiver.specs.View.{View, IsWellFormed, IsWindow, fresh};
+ghost use Rattle.mold_receiver.specs.declared.refused.ReceiverError.TheVariants.{NextZero, Window, Memory};
+ghost use Rattle.mold_receiver.specs.declared.refused.Refused.TheVariants.{Memory as OutOfMemory};
+
+use crate::batch::Batch;
+use crate::conflict::conflict_of;
+use crate::hand::hand_on;
+use crate::keep::{copy_fresh, put_copies};
+use crate::refusal::check_header;
+use crate::refused::{ReceiverError, Refused};
+use crate::slots::Slots;
+use crate::taken::Taken;
+use mold_wire::{Blocks, Body, Packet, Request, Session, decode};
+use std::alloc::{AllocError, Global};
+use std::marker::Model;
+
+/// The greatest window.
+const GREATEST: u32 = 65536;
+
+/// The most messages that a request asks for.
+const MOST_WANTED: u64 = 65534;
+
+// How many of a packet's messages lie behind the window, by its top and the number of its messages.
+fn count_beyond(next: u64, window: usize, top: u64, count: u16) -> u32
+    requires { next ≤ top }
+    ensures { result ≡ min (top - next - window) count }
+{
+    let past = (top - next).saturating_sub(window as u64);
+    past.min(u64::from(count)) as u32
+}
+
+// The end that is known when the packet was taken.
+fn told_end(packet: &Packet<'_>, ended: Option<u64>) -> Option<u64>
+    ensures { result ≡ ended_after packet.now.body packet.now.sequence ended }
+{
+    match packet.body {
+        Body::End => Some(packet.sequence),
+        Body::Data(_) | Body::Heartbeat => ended,
+    }
+}
+
+/// A receiver of one session's downstream packets. It hands each message on once, in the order of their
+/// numbers from the first one that it was made for, and stores what comes above a gap, as far as its
+/// window goes. Packets may come late, repeated and in any order.
+#[derive(Debug, Drop)]
+pub struct Receiver {
+    session: Session,
+    next: u64,
+    known: u64,
+    ended: Option<u64>,
+    slots: Slots,
+    alloc: Global,
+}
+
+impl Model for Receiver {
+    ghost use Rattle.mold_receiver.specs.View.{View, view_code, IsWellFormed, view_over};
+
+    ghost Value = { View };
+
+    ghost coded = { view_code };
+
+    ghost view = { λ r. view_over r.session r.next r.known r.ended r.slots };
+
+    ghost invariant = { λ r. IsWellFormed (view_over r.session r.next r.known r.ended r.slots) };
+}
+
+impl Receiver {
+    /// A receiver that begins at the message `next` and stores messages of less than `next + window`. It
+    /// makes its window here; later only messages take memory.
+    pub fn new(
+        alloc: Global,
+        session: Session,
+        next: u64,
+        window: u32,
+    ) -> Result<Receiver, ReceiverError>
+        ensures made { IfOk result (λ receiver. receiver ≡ fresh session next window) }
+        ensures ok { OnOk result ((0 < next) × IsWindow window) }
+        ensures zero { next ≡ 0 → result ≡ Err NextZero }
+        ensures window { 0 < next → (IsWindow window → ⊥) → result ≡ Err Window }
+        ensures memory { 0 < next → IsWindow window → IfErr result (λ error. error ≡ Memory) }
+    {
+        if next == 0 {
+            return Err(ReceiverError::NextZero);
+        }
+        if window == 0 || window > GREATEST {
+            return Err(ReceiverError::Window);
+        }
+        match Slots::new(alloc, window) {
+            Ok(slots) => Ok(Receiver {
+                session,
+                next,
+                known: next,
+                ended: None,
+                slots,
+                alloc,
+            }),
+            Err(_) => Err(ReceiverError::Memory),
+        }
+    }
+
+    // Stores the messages of a packet that begins above `next`.
+    fn keep(&mut self, first: u64, top: u64, blocks: &Blocks<'_>) -> Result<Taken, AllocError>
+        requires above { self.old.next < first }
+        requires top { first + length blocks.now ≡ top }
+        requires end { past_end self.old.ended (Data blocks.now) top ≡ None }
+        requires same { first_conflict self.old.store (from_next self.old.next first blocks.now) ≡ None }
+        ensures view { OnOk result (self.new ≡ view_after self.old (data_packet self.old.session first blocks.now)) }
+        ensures taken { IfOk result (λ taken. taken ≡ taken_of self.old (data_packet self.old.session first blocks.now) (view_after self.old (data_packet self.old.session first blocks.now))) }
+        ensures handed { handed_on self.old first blocks.now ≡ [] }
+        ensures needed { OnErr result (0 < (taken_of self.old (data_packet self.old.session first blocks.now) (view_after self.old (data_packet self.old.session first blocks.now))).kept) }
+        ensures unchanged { OnErr result (self.new ≡ self.old) }
+    {
+        let copies = copy_fresh(self.alloc, &self.slots, first - self.next, blocks)?;
+        let beyond = count_beyond(self.next, self.slots.len(), top, blocks.len());
+        let kept = copies.len() as u32;
+        put_copies(&mut self.slots, copies);
+        self.known = self.known.max(top);
+        Ok(Taken {
+            handed: 0,
+            kept,
+            beyond,
+        })
+    }
+
+    // Hands on from a packet that has the message `next`.
+    fn hand(
+        &mut self,
+        first: u64,
+        top: u64,
+        blocks: &Blocks<'_>,
+        batch: &mut Batch,
+    ) -> Result<Taken, AllocError>
+        requires follows { Follows batch.old self.old.next }
+        requires begun { first ≤ self.old.next }
+        requires ahead { self.old.next < top }
+        requires few { length blocks.now < 65535 }
+        requires top { first + length blocks.now ≡ top }
+        requires end { past_end self.old.ended (Data blocks.now) top ≡ None }
+        ensures view { OnOk result (self.new ≡ view_after self.old (data_packet self.old.session first blocks.now)) }
+        ensures handed { OnOk result (batch.new ≡ followed_by batch.old self.old.next (handed_on self.old first blocks.now)) }
+        ensures taken { IfOk result (λ taken. taken ≡ taken_of self.old (data_packet self.old.session first blocks.now) (view_after self.old (data_packet self.old.session first blocks.now))) }
+        ensures needed { OnErr result (0 < (taken_of self.old (data_packet self.old.session first blocks.now) (view_after self.old (data_packet self.old.session first blocks.now))).handed) }
+        ensures unchanged { OnErr result (self.new ≡ self.old) }
+        ensures batch { OnErr result (batch.new ≡ batch.old) }
+    {
+        let next = hand_on(batch, self.next, first, top, blocks, &self.slots)?;
+        let handed = next - self.next;
+        let count = (handed as usize).min(self.slots.len());
+        self.slots.skip(count);
+        self.next = next;
+        self.known = self.known.max(top);
+        Ok(Taken {
+            handed: handed as u32,
+            kept: 0,
+            beyond: 0,
+        })
+    }
+
+    // Notes what a packet tells that has no message from `next` on.
+    fn note(&mut self, packet: &Packet<'_>, top: u64) -> Taken
+        requires top { top_of packet.now ≡ top }
+        requires last { top < 2 ^ 64 }
+        requires nothing { (top ≤ self.old.next) ⊎ (messages_of packet.now.body ≡ []) }
+        requires below { end_below packet.now.body packet.now.sequence self.old.known ≡ None }
+        requires past { past_end self.old.ended packet.now.body top ≡ None }
+        ensures view { self.new ≡ view_after self.old packet.now }
+        ensures handed { handed_on self.old packet.now.sequence (messages_of packet.now.body) ≡ [] }
+        ensures taken { result ≡ taken_of self.old packet.now (view_after self.old packet.now) }
+    {
+        self.known = self.known.max(top);
+        self.ended = told_end(packet, self.ended);
+        Taken {
+            handed: 0,
+            kept: 0,
+            beyond: 0,
+        }
+    }
+
+    // The packet's top, or the first refusal that it meets.
+    fn check(&self, packet: &Packet<'_>) -> Result<u64, Refused>
+        ensures top { IfOk result (λ top. top ≡ top_of packet.now) }
+        ensures taken { OnOk result (first_some (refusals self.now packet.now) ≡ None) }
+        ensures refused { IfErr result (λ refused. first_some (refusals self.now packet.now) ≡ Some refused) }
+    {
+        let top = check_header(packet, &self.session, self.known, self.ended)?;
+        match conflict_of(&self.slots, self.next, packet, top) {
+            Some(number) => Err(Refused::Conflict { number }),
+            None => Ok(top),
+        }
+    }
+
+    // Takes a packet that meets no refusal.
+    fn take_packet(
+        &mut self,
+        packet: &Packet<'_>,
+        top: u64,
+        batch: &mut Batch,
+    ) -> Result<Taken, AllocError>
+        requires follows { Follows batch.old self.old.next }
+        requires top { top_of packet.now ≡ top }
+        requires body { IsBody packet.now.body }
+        requires taken { first_some (refusals self.old packet.now) ≡ None }
+        ensures view { OnOk result (self.new ≡ view_after self.old packet.now) }
+        ensures handed { OnOk result (batch.new ≡ followed_by batch.old self.old.next (handed_on self.old packet.now.sequence (messages_of packet.now.body))) }
+        ensures taken { IfOk result (λ taken. taken ≡ taken_of self.old packet.now (view_after self.old packet.now)) }
+        ensures needed { OnErr result (0 < (taken_of self.old packet.now (view_after self.old packet.now)).handed + (taken_of self.old packet.now (view_after self.old packet.now)).kept) }
+        ensures unchanged { OnErr result (self.new ≡ self.old) }
+        ensures batch { OnErr result (batch.new ≡ batch.old) }
+    {
+        let Body::Data(blocks) = &packet.body else {
+            return Ok(self.note(packet, top));
+        };
+        if top <= self.next {
+            return Ok(self.note(packet, top));
+        }
+        if self.next < packet.sequence {
+            return self.keep(packet.sequence, top, blocks);
+        }
+        self.hand(packet.sequence, top, blocks, batch)
+    }
+
+    /// Takes a datagram: what it brings is handed on to the end of `batch`, or stored, or known already.
+    /// Every refusal but `Memory` is found before any memory is asked for, and after each of them receiver
+    /// and batch are as before. The batch must be empty or end just before `next`.
+    pub fn take(&mut self, bytes: &[u8], batch: &mut Batch) -> Result<Taken, Refused>
+        requires { Follows batch.old self.old.next }
+        ensures taken { IfOk result (λ taken. HasTaken self.old bytes.now batch.old self.new batch.new taken) }
+        ensures refused { IfErr result (λ refused. ((refused ≡ OutOfMemory) × IsCopied self.old bytes.now) ⊎ (receive self.old bytes.now ≡ Err refused)) }
+        ensures view { OnErr result (self.new ≡ self.old) }
+        ensures batch { OnErr result (batch.new ≡ batch.old) }
+    {
+        let packet = match decode(bytes) {
+            Ok(packet) => packet,
+            Err(error) => return Err(Refused::Malformed(error)),
+        };
+        let top = self.check(&packet)?;
+        match self.take_packet(&packet, top, batch) {
+            Ok(taken) => Ok(taken),
+            Err(_) => Err(Refused::Memory),
+        }
+    }
+
+    /// The session that it receives.
+    pub fn session(&self) -> Session
+        ensures { result ≡ self.now.session }
+    {
+        self.session
+    }
+
+    /// The number of the message to be handed on next.
+    pub fn next(&self) -> u64
+        ensures { result ≡ self.now.next }
+    {
+        self.next
+    }
+
+    /// One more than the greatest number that it has heard of; `next` where it has heard of none above.
+    pub fn known(&self) -> u64
+        ensures { result ≡ self.now.known }
+    {
+        self.known
+    }
+
+    /// One more than the number of messages of the session, once an end packet told it.
+    pub fn ended(&self) -> Option<u64>
+        ensures { result ≡ self.now.ended }
+    {
+        self.ended
+    }
+
+    /// Whether every message up to the session's end was handed on.
+    pub fn finished(&self) -> bool
+        ensures { IsTrue result ↔ (self.now.ended ≡ Some self.now.next) }
+    {
+        self.ended == Some(self.next)
+    }
+
+    /// How many messages are stored, fewer than the window.
+    pub fn stored(&self) -> u32
+        ensures count { result ≡ finite.len self.now.store }
+    {
+        self.slots.held()
+    }
+
+    /// How many numbers from `next` on it stores messages for, 1 to 65,536.
+    pub fn window(&self) -> u32
+        ensures window { result ≡ self.now.window }
+        ensures range { IsWindow self.now.window }
+    {
+        self.slots.len() as u32
+    }
+
+    /// The request for what is lacking: from `next` on to below the first stored message, or to below
+    /// `known` where nothing is stored, but for no more than 65,534. None where nothing is lacking.
+    pub fn wanted(&self) -> Option<Request>
+        ensures wanted { result ≡ wanted self.now }
+        ensures well_formed { IsWellFormed self.now }
+    {
+        if self.next == self.known {
+            return None;
+        }
+        let most = (self.known - self.next).min(MOST_WANTED);
+        let count = self.slots.first_held(most as usize);
+        Some(Request {
+            session: self.session,
+            sequence: self.next,
+            count: count as u16,
+        })
+    }
+}
