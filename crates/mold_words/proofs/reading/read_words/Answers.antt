@@ -1,4 +1,4 @@
-use Rattle.std.proofs.Common.{◌∙◌, ap, string_bytes, sym}
+use Rattle.std.proofs.Common.{◌∙◌, ap, refl, string_bytes, sym}
 use Rattle.clap.specs.Words.{app_of, is_simple_and_free}
 use Rattle.mold_words.proofs.FaultLemmas.{tells-nothing, tells-parse}
 use Rattle.mold_words.proofs.OrderLemmas.{mold_is_free, none-order, none-taken, order_of-matches, taken-by}
@@ -11,6 +11,9 @@ returns-then-is_empty-clause-taken c =
 pub returns-then-is_empty-clause-order : goal.returns-then-is_empty-clause-order
 returns-then-is_empty-clause-order c =
     none-order string_bytes c.args.words.now (sym c.is_empty.ensures ∙ c.if-is_empty.true)
+
+pub returns-then-is_empty-clause-no_words : goal.returns-then-is_empty-clause-no_words
+returns-then-is_empty-clause-no_words c = λ _. refl
 
 pub returns-in-Ok-clause-taken : goal.returns-in-Ok-clause-taken
 returns-in-Ok-clause-taken c =
