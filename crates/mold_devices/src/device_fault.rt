@@ -1,3 +1,3 @@
 /// A device failed. Its count of failures tells how often.
-#[derive(Clone, Copy, Debug, PartialEq)]
+#[derive(Clone, Copy, Debug, PartialEq, Eq)]
 pub struct DeviceFault;

@@ -15,7 +15,8 @@ use std::marker::Model;
 /// The byte that ends a line.
 const LINE_END: u8 = b'\n';
 
-/// A reader of lines. A line lies where it was read, and is copied only where it came in pieces.
+/// A reader of lines. A line lies where it was read, and is copied only where it came in pieces or
+/// nothing ends it.
 #[derive(Drop)]
 pub struct Lines {
     piece: Piece,
@@ -60,7 +61,7 @@ impl Lines {
     }
 
     /// Goes on to the next line, and answers whether there is one. It reads only where no whole line
-    /// was read before, and takes memory only for a line that comes in pieces.
+    /// was read before, and takes memory only for a line that comes in pieces or that nothing ends.
     pub fn advance<S: Source>(&mut self, source: &mut S) -> Result<bool, ReadFault>
         ensures line { IfOk result (λ found. GivesLine
             (prepend_known self.old.rest (S.left source.old))
