@@ -1,9 +1,9 @@
 -- Messages by the places where they end.
 use Rattle.std.proofs.Common.{◌≡◌, ℕ, zero, suc, ◌+◌, ◌-◌, ◌<◌, ◌≤◌, List, [], ◌∷◌, ◌++◌, length, length-append}
-use Rattle.std.proofs.Common.{get_or, take, drop, min, refl, sym, ap, subst, ◌∙◌, Some, arith, slice_get, add-zero}
-use Rattle.std.proofs.Common.{add-suc, add-one}
-use Rattle.std.proofs.lemmas.List.{take_rest, drop_min, take_at, drop_at, take_all, append-nil, length-take-le}
-use Rattle.std.proofs.lemmas.List.{length-drop, take-append-le, drop-append-le, take-append-drop, nil_from_length}
+use Rattle.std.proofs.Common.{get_or, take, drop, min, refl, sym, ap, subst, ◌∙◌, Some, arith, slice_get}
+use Rattle.std.proofs.Common.{add-one}
+use Rattle.std.proofs.lemmas.List.{take_rest, drop_min, drop_at, take_all, length-take-le}
+use Rattle.std.proofs.lemmas.List.{length-drop, take-append-le, drop-append-le, take-append-drop}
 use Rattle.std.proofs.lemmas.List.Sums.{sum_by-cons}
 use Rattle.mold_messages.specs.Listed.{byte_count}
 use Rattle.mold_messages.specs.Places.{pieces, IsRising, place}

@@ -1,12 +1,11 @@
 -- What a publisher puts into its next datagram.
-use Rattle.std.proofs.Common.{◌≡◌, ◌==◌, ◌↔◌, ltb, ⊎_elim, ℕ, zero, suc, ◌+◌, ◌-◌, ◌*◌, ◌/◌, ◌<◌, ◌≤◌, Bool, true}
-use Rattle.std.proofs.Common.{false, List, [], ◌∷◌, ◌++◌, length, length-append, drop, None, Some, refl, sym, ap}
+use Rattle.std.proofs.Common.{◌≡◌, ◌==◌, ◌↔◌, ltb, ⊎_elim, ℕ, zero, suc, ◌+◌, ◌-◌, ◌*◌, ◌/◌, ◌<◌, ◌≤◌, true}
+use Rattle.std.proofs.Common.{false, List, [], ◌∷◌, length, length-append, drop, None, Some, refl, ap}
 use Rattle.std.proofs.Common.{subst, ◌∙◌, arith}
-use Rattle.std.proofs.lemmas.List.{length-drop, drop_all, nil_from_length}
+use Rattle.std.proofs.lemmas.List.{length-drop}
 use Rattle.std.proofs.lemmas.Bool.{eq-eqb, ne_eqb, ltb-true, lt-ltb, cases_lt}
 use Rattle.std.specs.List.{AllByRecursion}
 use Rattle.mold_wire.specs.declared.session.Session.{Session}
-use Rattle.mold_wire.specs.declared.packet.Packet.{Packet}
 use Rattle.mold_wire.specs.declared.packet.Body.{Body}
 use Rattle.mold_wire.specs.declared.packet.Body.TheVariants.{Data}
 use Rattle.mold_wire.specs.Packet.{Spells}
@@ -14,7 +13,7 @@ use Rattle.mold_wire.specs.Packer.{PackerState, Open, SpellsBegun, body_with, op
 use Rattle.mold_wire.specs.Packing.{packet_length, Fits, IsFront, front}
 use Rattle.mold_messages.specs.Listed.{byte_count}
 use Rattle.mold_session.proofs.PackingLemmas.{packet_bytes}
-use Rattle.mold_session.specs.Journal.{JournalState, IsWithin}
+use Rattle.mold_session.specs.Journal.{IsWithin}
 use Rattle.mold_session.specs.Packing.{HasPacked}
 use Rattle.mold_session.specs.Publisher.{PublisherState, IsPublisher, unsent_of, next_front, next_datagram}
 use Rattle.mold_session.specs.Publisher.{after_datagram, Lends}

@@ -1,4 +1,4 @@
-use Rattle.std.proofs.Common.{◌≡◌, ℕ, suc, ◌-◌, sym, ap, ◌∙◌, arith}
+use Rattle.std.proofs.Common.{◌≡◌, suc, ◌-◌, sym, ap, ◌∙◌, arith}
 use Rattle.mold_messages.specs.Places.{place}
 use Rattle.mold_messages.proofs.PlaceLemmas.{place_first, place_behind}
 use Rattle.mold_messages.proofs.list.place_of.Goals as goal

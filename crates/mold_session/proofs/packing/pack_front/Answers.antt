@@ -1,4 +1,4 @@
-use Rattle.std.proofs.Common.{◌≡◌, ℕ, ◌+◌, ◌<◌, true, false, sym, ◌∙◌, arith}
+use Rattle.std.proofs.Common.{◌≡◌, true, false, sym, ◌∙◌, arith}
 use Rattle.mold_session.proofs.PackingLemmas.{gathers_none, gathers_more, gathers_counts, packed_all, packed_full}
 use Rattle.mold_session.proofs.packing.pack_front.Goals as goal
 

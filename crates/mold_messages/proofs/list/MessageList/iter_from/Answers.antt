@@ -1,7 +1,6 @@
-use Rattle.std.proofs.Common.{◌≡◌, ℕ, ◌+◌, ◌-◌, ◌≤◌, List, length, take, drop, min, sym, ap, subst, ◌∙◌, arith}
-use Rattle.std.proofs.lemmas.List.{take_rest, drop_min}
+use Rattle.std.proofs.Common.{ℕ, List, length, ap, ◌∙◌, arith}
 use Rattle.mold_messages.specs.Listed.{Listed}
-use Rattle.mold_messages.specs.Places.{pieces, place, IsRising}
+use Rattle.mold_messages.specs.Places.{place}
 use Rattle.mold_messages.proofs.PlaceLemmas.{rising_from, pieces_from}
 use Rattle.mold_messages.proofs.list.MessageList.iter_from.Goals as goal
 

@@ -1,4 +1,4 @@
-use Rattle.std.proofs.Common.{◌≡◌, length, ap, arith}
+use Rattle.std.proofs.Common.{length, ap, arith}
 use Rattle.mold_messages.specs.Listed.{Listed}
 use Rattle.mold_messages.proofs.PlaceLemmas.{length-pieces}
 use Rattle.mold_messages.proofs.list.MessageList.len.Goals as goal

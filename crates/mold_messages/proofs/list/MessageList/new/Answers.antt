@@ -1,5 +1,4 @@
-use Rattle.std.proofs.Common.{◌≡◌, ℕ, List, [], length, refl, sym, ap, subst, ◌∙◌, arith, rules}
-use Rattle.mold_messages.specs.Listed.{Listed}
+use Rattle.std.proofs.Common.{◌≡◌, [], refl, rules}
 use Rattle.mold_messages.specs.Places.{pieces, IsRising}
 use Rattle.mold_messages.proofs.list.MessageList.new.Goals as goal
 

@@ -1,7 +1,6 @@
-use Rattle.std.proofs.Common.{◌≡◌, ℕ, ◌+◌, ◌≤◌, List, [], ◌∷◌, ◌++◌, length, length-append, IsOk, sym, ap, subst, ◌∙◌}
+use Rattle.std.proofs.Common.{ℕ, List, [], ◌∷◌, ◌++◌, length, IsOk, ap, subst, ◌∙◌}
 use Rattle.std.proofs.Common.{arith}
 use Rattle.mold_messages.specs.Listed.{Listed, HasRoom}
-use Rattle.mold_messages.specs.Places.{pieces, IsRising}
 use Rattle.mold_messages.proofs.PlaceLemmas.{length-pieces, joined_all, pushed}
 use Rattle.mold_messages.proofs.list.MessageList.push.Goals as goal
 

@@ -1,7 +1,7 @@
-use Rattle.std.proofs.Common.{◌≡◌, ℕ, ◌+◌, ◌≤◌, List, [], ◌∷◌, ◌++◌, length, take, sym, ap, subst, ◌∙◌, arith, rules}
+use Rattle.std.proofs.Common.{ℕ, List, length, sym, ap, ◌∙◌, arith, rules}
 use Rattle.std.proofs.lemmas.List.{take_all}
 use Rattle.mold_messages.specs.Listed.{Listed}
-use Rattle.mold_messages.specs.Places.{pieces, place, IsRising}
+use Rattle.mold_messages.specs.Places.{place}
 use Rattle.mold_messages.proofs.PlaceLemmas.{length-pieces, cut}
 use Rattle.mold_messages.proofs.list.MessageList.truncate.Goals as goal
 

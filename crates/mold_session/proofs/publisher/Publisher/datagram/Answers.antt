@@ -1,4 +1,4 @@
-use Rattle.std.proofs.Common.{◌≡◌, ℕ, ◌+◌, None, Some, refl, sym, ap, subst, ◌∙◌, arith}
+use Rattle.std.proofs.Common.{◌≡◌, ℕ, ◌+◌, None, Some, refl, sym, ap, subst, ◌∙◌}
 use Rattle.mold_session.specs.Publisher.{PublisherState, Lends, next_datagram, after_datagram}
 use Rattle.mold_session.proofs.PublisherLemmas.{stays_idle, is_next, lends_next, still_publisher}
 use Rattle.mold_session.proofs.publisher.Publisher.datagram.Goals as goal
