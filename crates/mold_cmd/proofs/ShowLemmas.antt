@@ -42,8 +42,8 @@ more_goes s (Some xs) None line added asked gives text refused = absurd gives
 more_goes s (Some xs) (Some ys) line added asked gives text refused = (
   show_text-line s.requests xs line ys gives ∙ ap (λ (t : List ℕ). t ++ show_text s.requests ys) (sym text),
   ap (λ (b : Bool). cond (s.refused || b) 2 0)
-  (show_refused-line s.requests xs line ys gives ∙ ap (λ (b : Bool). b || show_refused s.requests ys) (sym refused))
-  ∙ ap (λ (b : Bool). cond b 2 0) (or_assoc s.refused asked (show_refused s.requests ys)),
+      (show_refused-line s.requests xs line ys gives ∙ ap (λ (b : Bool). b || show_refused s.requests ys) (sym refused))
+      ∙ ap (λ (b : Bool). cond b 2 0) (or_assoc s.refused asked (show_refused s.requests ys)),
 )
 
 -- a turn shows a line
@@ -60,8 +60,8 @@ done_goes s (Some xs) None line status gives is = absurd gives
 done_goes s (Some xs) (Some ys) line status gives is = (
   ap (show_text s.requests) gives ∙ show_text-nil s.requests,
   ap (λ (b : Bool). cond (s.refused || b) 2 0) (ap (show_refused s.requests) gives ∙ show_refused-nil s.requests)
-  ∙ ap (λ (b : Bool). cond b 2 0) (or-false s.refused)
-  ∙ sym is,
+      ∙ ap (λ (b : Bool). cond b 2 0) (or-false s.refused)
+      ∙ sym is,
 )
 
 -- the last turn shows nothing

@@ -8,7 +8,7 @@ ghost use Rattle.mold_wire.specs.Request.{request_reading};
 
 use mold_devices::{LineCommand, Lines, ReadFault, Source, Turn};
 use mold_text::{
-    packet_fault_words, push_packet, push_refused, push_request, request_fault_words, Word,
+    Word, packet_fault_words, push_packet, push_refused, push_request, request_fault_words,
 };
 use mold_wire::Request;
 use std::alloc::{AllocError, Global};

@@ -20,8 +20,8 @@ packing_within limit (suc most) session sequence messages =
     if length (first_part limit messages) == 0
     then []
     else data_packet session sequence (first_part limit messages)
-        ∷ packing_within limit most session (sequence + length (first_part limit messages))
-        (drop (length (first_part limit messages)) messages)
+    ∷ packing_within limit most session (sequence + length (first_part limit messages))
+    (drop (length (first_part limit messages)) messages)
 
 -- the messages as data packets, the first of which has this sequence number: each is the longest front
 -- that fits of what is left
