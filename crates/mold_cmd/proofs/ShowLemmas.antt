@@ -16,11 +16,13 @@ or-false true = refl
 or-false false = refl
 
 -- the first line prints first
-show_text-line : (requests : Bool) (bytes line behind : List ℕ) → lines_of bytes ≡ line ∷ lines_of behind → show_text requests bytes ≡ line_text requests line ++ show_text requests behind
+show_text-line : (requests : Bool) (bytes line behind : List ℕ) → lines_of bytes ≡ line ∷ lines_of behind →
+    show_text requests bytes ≡ line_text requests line ++ show_text requests behind
 unfolding show_text
 show_text-line requests bytes line behind cut = ap (flat_map (line_text requests)) cut
 
-show_refused-line : (requests : Bool) (bytes line behind : List ℕ) → lines_of bytes ≡ line ∷ lines_of behind → show_refused requests bytes ≡ (line_refused requests line || show_refused requests behind)
+show_refused-line : (requests : Bool) (bytes line behind : List ℕ) → lines_of bytes ≡ line ∷ lines_of behind →
+    show_refused requests bytes ≡ (line_refused requests line || show_refused requests behind)
 unfolding show_refused
 show_refused-line requests bytes line behind cut = ap (list_any (line_refused requests)) cut
 
@@ -36,7 +38,9 @@ show_refused-nil requests = refl
 abbrev pub shown_more : ShowState → Bool → ShowState
 shown_more s asked = record { requests = s.requests; refused = s.refused || asked }
 
-more_goes : (s : ShowState) (known left : Option (List ℕ)) (line added : List ℕ) (asked : Bool) → GivesLine known left true line → added ≡ line_text s.requests line → asked ≡ line_refused s.requests line → GoesOver (show_printing s) (show_printing (shown_more s asked)) known left added More
+more_goes : (s : ShowState) (known left : Option (List ℕ)) (line added : List ℕ) (asked : Bool) →
+    GivesLine known left true line → added ≡ line_text s.requests line → asked ≡ line_refused s.requests line →
+    GoesOver (show_printing s) (show_printing (shown_more s asked)) known left added More
 more_goes s None left line added asked gives text refused = tt
 more_goes s (Some xs) None line added asked gives text refused = absurd gives
 more_goes s (Some xs) (Some ys) line added asked gives text refused = (
@@ -47,14 +51,18 @@ more_goes s (Some xs) (Some ys) line added asked gives text refused = (
 )
 
 -- a turn shows a line
-pub shown_line : (s : ShowState) (known left : Option (List ℕ)) (old new line : List ℕ) (asked : Bool) → GivesLine known left true line → new ≡ old ++ line_text s.requests line → asked ≡ line_refused s.requests line → IsTurn (show_printing s) (show_printing (shown_more s asked)) known left old new More
+pub shown_line : (s : ShowState) (known left : Option (List ℕ)) (old new line : List ℕ) (asked : Bool) →
+    GivesLine known left true line → new ≡ old ++ line_text s.requests line → asked ≡ line_refused s.requests line →
+    IsTurn (show_printing s) (show_printing (shown_more s asked)) known left old new More
 shown_line s known left old new line asked gives written refused = record {
   added = line_text s.requests line;
   written = written;
   goes = more_goes s known left line (line_text s.requests line) asked gives refl refused;
 }
 
-done_goes : (s : ShowState) (known left : Option (List ℕ)) (line : List ℕ) (status : ℕ) → GivesLine known left false line → status ≡ cond s.refused 2 0 → GoesOver (show_printing s) (show_printing s) known left [] (Done status)
+done_goes : (s : ShowState) (known left : Option (List ℕ)) (line : List ℕ) (status : ℕ) →
+    GivesLine known left false line → status ≡ cond s.refused 2 0 →
+    GoesOver (show_printing s) (show_printing s) known left [] (Done status)
 done_goes s None left line status gives is = tt
 done_goes s (Some xs) None line status gives is = absurd gives
 done_goes s (Some xs) (Some ys) line status gives is = (
@@ -65,6 +73,8 @@ done_goes s (Some xs) (Some ys) line status gives is = (
 )
 
 -- the last turn shows nothing
-pub shown_all : (s : ShowState) (known left : Option (List ℕ)) (old line : List ℕ) (status : ℕ) → GivesLine known left false line → status ≡ cond s.refused 2 0 → IsTurn (show_printing s) (show_printing s) known left old old (Done status)
+pub shown_all : (s : ShowState) (known left : Option (List ℕ)) (old line : List ℕ) (status : ℕ) →
+    GivesLine known left false line → status ≡ cond s.refused 2 0 →
+    IsTurn (show_printing s) (show_printing s) known left old old (Done status)
 shown_all s known left old line status gives is =
     record { added = []; written = sym (append-nil old); goes = done_goes s known left line status gives is }

@@ -5,12 +5,19 @@ use Rattle.std.proofs.KnownBytes.{Appends-trans}
 use Rattle.mold_devices.specs.Devices.{AppendsFront}
 
 -- a front of a text is a front of the text and more
-pub front_more : (old new : Option (List ℕ)) (text more : List ℕ) → AppendsFront old new text → AppendsFront old new (text ++ more)
+pub front_more : (old new : Option (List ℕ)) (text more : List ℕ) → AppendsFront old new text →
+    AppendsFront old new (text ++ more)
 front_more old new text more p =
-    record { front = p.front; rest = p.rest ++ more; parts = ap (λ l. l ++ more) p.parts ∙ append_assoc p.front p.rest more; appended = p.appended }
+    record {
+      front = p.front;
+      rest = p.rest ++ more;
+      parts = ap (λ l. l ++ more) p.parts ∙ append_assoc p.front p.rest more;
+      appended = p.appended;
+    }
 
 -- a whole text and then a front of the rest are a front of both
-pub front_after : (old mid new : Option (List ℕ)) (text more : List ℕ) → Appends old mid text → AppendsFront mid new more → AppendsFront old new (text ++ more)
+pub front_after : (old mid new : Option (List ℕ)) (text more : List ℕ) → Appends old mid text →
+    AppendsFront mid new more → AppendsFront old new (text ++ more)
 front_after old mid new text more p q = record {
   front = text ++ q.front;
   rest = q.rest;

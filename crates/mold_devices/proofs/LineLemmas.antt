@@ -29,7 +29,8 @@ one_line (byte ∷ next ∷ bytes) some none =
     ∙ ap (onto_first byte) (one_line (next ∷ bytes) (omega arith) (λ k lt is. none (suc k) (omega arith) is))
 
 -- the first end cuts off the first line
-first_line : (bytes : List ℕ) (at : ℕ) → at < length bytes → IsEnd bytes at → ((k : ℕ) → k < at → IsEnd bytes k → ⊥) → lines_of bytes ≡ take at bytes ∷ lines_of (drop (suc at) bytes)
+first_line : (bytes : List ℕ) (at : ℕ) → at < length bytes → IsEnd bytes at → ((k : ℕ) → k < at → IsEnd bytes k → ⊥) →
+    lines_of bytes ≡ take at bytes ∷ lines_of (drop (suc at) bytes)
 first_line [] at lt is none = absurd (omega arith)
 first_line (byte ∷ bytes) zero lt is none = cond-true (eqb byte 10) _ _ is
 first_line (byte ∷ bytes) (suc at) lt is none =
@@ -37,7 +38,8 @@ first_line (byte ∷ bytes) (suc at) lt is none =
     ∙ ap (onto_first byte) (first_line bytes at (omega arith) is (λ k below end. none (suc k) (omega arith) end))
 
 -- the line that begins in what was joined goes on to the first end of the piece
-joined_line : (joined piece more : List ℕ) (at : ℕ) → HasNoEnd joined → FirstEnd piece at → lines_of (joined ++ (piece ++ more)) ≡ (joined ++ take at piece) ∷ lines_of (drop (at + 1) piece ++ more)
+joined_line : (joined piece more : List ℕ) (at : ℕ) → HasNoEnd joined → FirstEnd piece at →
+    lines_of (joined ++ (piece ++ more)) ≡ (joined ++ take at piece) ∷ lines_of (drop (at + 1) piece ++ more)
 joined_line [] piece more at none end =
     let within = end.within in
     let place = λ (k : ℕ) (lt : k < length piece). get_or_append_left piece more 0 k lt in
@@ -66,7 +68,9 @@ consumes_prepended piece None = tt
 consumes_prepended piece (Some xs) = refl
 
 -- an end in the piece gives the line that was joined so far and goes on to it
-pub gives_joined : (old mid new : Option (List ℕ)) (joined piece : List ℕ) (at : ℕ) → Consumes old mid joined → HasNoEnd joined → Consumes mid new piece → FirstEnd piece at → GivesLine old (prepend_known (drop (at + 1) piece) new) true (joined ++ take at piece)
+pub gives_joined : (old mid new : Option (List ℕ)) (joined piece : List ℕ) (at : ℕ) → Consumes old mid joined →
+    HasNoEnd joined → Consumes mid new piece → FirstEnd piece at →
+    GivesLine old (prepend_known (drop (at + 1) piece) new) true (joined ++ take at piece)
 gives_joined None mid new joined piece at begun none read end = tt
 gives_joined (Some xs) None new joined piece at begun none read end = absurd begun
 gives_joined (Some xs) (Some ys) None joined piece at begun none read end = absurd read
@@ -74,12 +78,15 @@ gives_joined (Some xs) (Some ys) (Some zs) joined piece at begun none read end =
     ap lines_of (begun ∙ ap (λ (t : List ℕ). joined ++ t) read) ∙ joined_line joined piece zs at none end
 
 -- an end in what was read before gives the line up to it
-pub gives_read : (known : Option (List ℕ)) (piece : List ℕ) (at : ℕ) → FirstEnd piece at → GivesLine (prepend_known piece known) (prepend_known (drop (at + 1) piece) known) true (take at piece)
+pub gives_read : (known : Option (List ℕ)) (piece : List ℕ) (at : ℕ) → FirstEnd piece at →
+    GivesLine (prepend_known piece known) (prepend_known (drop (at + 1) piece) known) true (take at piece)
 gives_read None piece at end = tt
 gives_read (Some xs) piece at end = joined_line [] piece xs at (λ k lt is. absurd (omega arith)) end
 
 -- at the end of the source what was joined is the last line
-pub gives_last : (old mid new : Option (List ℕ)) (joined piece : List ℕ) → Consumes old mid joined → HasNoEnd joined → Consumes mid new piece → length piece ≡ 0 → IsAtEnd new → 0 < length joined → GivesLine old (prepend_known piece new) true joined
+pub gives_last : (old mid new : Option (List ℕ)) (joined piece : List ℕ) → Consumes old mid joined → HasNoEnd joined →
+    Consumes mid new piece → length piece ≡ 0 → IsAtEnd new → 0 < length joined →
+    GivesLine old (prepend_known piece new) true joined
 gives_last None mid new joined piece begun none read len end some = tt
 gives_last (Some xs) None new joined piece begun none read len end some = absurd begun
 gives_last (Some xs) (Some ys) None joined piece begun none read len end some = absurd read
@@ -90,7 +97,9 @@ gives_last (Some xs) (Some ys) (Some zs) joined piece begun none read len end so
     ap lines_of all ∙ one_line joined some none ∙ ap (λ (t : List ℕ). joined ∷ lines_of t) (sym nothing)
 
 -- at the end of the source, with nothing joined, nothing was left
-pub gives_none : (old mid new : Option (List ℕ)) (joined piece line : List ℕ) → Consumes old mid joined → Consumes mid new piece → length piece ≡ 0 → IsAtEnd new → length joined ≡ 0 → GivesLine old (prepend_known piece new) false line
+pub gives_none : (old mid new : Option (List ℕ)) (joined piece line : List ℕ) → Consumes old mid joined →
+    Consumes mid new piece → length piece ≡ 0 → IsAtEnd new → length joined ≡ 0 →
+    GivesLine old (prepend_known piece new) false line
 gives_none None mid new joined piece line begun read len end none = tt
 gives_none (Some xs) None new joined piece line begun read len end none = absurd begun
 gives_none (Some xs) (Some ys) None joined piece line begun read len end none = absurd read
@@ -100,7 +109,8 @@ gives_none (Some xs) (Some ys) (Some zs) joined piece line begun read len end no
     begun ∙ ap (λ (t : List ℕ). t ++ ys) (nil_from_length joined none) ∙ read ∙ nothing
 
 -- a part of a buffer, without its first bytes
-pub skipped : (bytes : List ℕ) (start end n : ℕ) → n + start ≤ end → take (end - (start + n)) (drop (start + n) bytes) ≡ drop n (take (end - start) (drop start bytes))
+pub skipped : (bytes : List ℕ) (start end n : ℕ) → n + start ≤ end →
+    take (end - (start + n)) (drop (start + n) bytes) ≡ drop n (take (end - start) (drop start bytes))
 skipped bytes start end n within =
     let left = end - (start + n) in
     let whole : end - start ≡ n + left = omega arith in
@@ -111,13 +121,16 @@ skipped bytes start end n within =
     )
 
 -- the first byte 0A that a search found is the first end
-pub found_end : (bytes piece : List ℕ) (at : ℕ) → bytes ≡ piece → NoneBefore (Passes (is_byte 10) bytes) 0 (length bytes) at × Passes (is_byte 10) bytes at → FirstEnd piece at
+pub found_end : (bytes piece : List ℕ) (at : ℕ) → bytes ≡ piece →
+    NoneBefore (Passes (is_byte 10) bytes) 0 (length bytes) at × Passes (is_byte 10) bytes at → FirstEnd piece at
 found_end bytes piece at same found =
     subst (λ (t : List ℕ). FirstEnd t at) same
     (record { within = found.0.high; here = found.1; before = λ k lt is. found.0.before k (omega arith) lt is })
 
 -- at the end of the source there is a line exactly where something was joined
-pub gives_end : (old mid new : Option (List ℕ)) (joined piece : List ℕ) (empty : Bool) → Consumes old mid joined → HasNoEnd joined → Consumes mid new piece → length piece ≡ 0 → IsAtEnd new → empty ≡ eqb (length joined) 0 → GivesLine old (prepend_known piece new) (not empty) joined
+pub gives_end : (old mid new : Option (List ℕ)) (joined piece : List ℕ) (empty : Bool) → Consumes old mid joined →
+    HasNoEnd joined → Consumes mid new piece → length piece ≡ 0 → IsAtEnd new → empty ≡ eqb (length joined) 0 →
+    GivesLine old (prepend_known piece new) (not empty) joined
 gives_end old mid new joined piece true begun none read len end is =
     gives_none old mid new joined piece joined begun read len end (eqb-true (length joined) 0 (sym is))
 gives_end old mid new joined piece false begun none read len end is =

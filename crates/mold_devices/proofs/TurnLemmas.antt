@@ -17,7 +17,8 @@ pub record ToldSoFar (begun now : Printing) (input left : List ℕ) (old new : O
   pub ends : begun.status input ≡ now.status left
 
 -- the same where the source tells its bytes, and nothing where it doesn't
-abbrev pub Told : Printing → Printing → Option (List ℕ) → Option (List ℕ) → Option (List ℕ) → Option (List ℕ) → List ℕ → Type 0
+abbrev pub Told : Printing → Printing → Option (List ℕ) → Option (List ℕ) →
+    Option (List ℕ) → Option (List ℕ) → List ℕ → Type 0
 Told begun now None left old new text = Unit {0}
 Told begun now (Some input) None old new text = ⊥
 Told begun now (Some input) (Some left) old new text = ToldSoFar begun now input left old new text
@@ -30,7 +31,9 @@ told_nothing begun (Some input) (Some bytes) =
     record { written = []; sent = sym (append-nil bytes); parts = refl; ends = refl }
 
 -- one turn more
-pub told_turn : (begun before after : Printing) (known left behind old new : Option (List ℕ)) (text next : List ℕ) → Told begun before known left old new text → IsTurn before after left behind text next More → Told begun after known behind old new next
+pub told_turn : (begun before after : Printing) (known left behind old new : Option (List ℕ)) (text next : List ℕ) →
+    Told begun before known left old new text → IsTurn before after left behind text next More →
+    Told begun after known behind old new next
 told_turn begun before after None left behind old new text next told turn = tt
 told_turn begun before after (Some input) None behind old new text next told turn = absurd told
 told_turn begun before after (Some input) (Some xs) None old new text next told turn = absurd turn.goes
@@ -46,7 +49,8 @@ told_turn begun before after (Some input) (Some xs) (Some ys) old new text next 
 }
 
 -- the text is written, and begins anew
-pub told_sent : (begun now : Printing) (known left old mid new : Option (List ℕ)) (text next : List ℕ) → Told begun now known left old mid text → Appends mid new text → next ≡ [] → Told begun now known left old new next
+pub told_sent : (begun now : Printing) (known left old mid new : Option (List ℕ)) (text next : List ℕ) →
+    Told begun now known left old mid text → Appends mid new text → next ≡ [] → Told begun now known left old new next
 told_sent begun now None left old mid new text next told sent empty = tt
 told_sent begun now (Some input) None old mid new text next told sent empty = absurd told
 told_sent begun now (Some input) (Some xs) old mid new text next told sent empty = record {
@@ -66,7 +70,10 @@ pub record ToldLast (begun : Printing) (input : List ℕ) (old new : Option (Lis
   pub parts : begun.text input ≡ written ++ text
   pub ends : status ≡ begun.status input
 
-pub told_last : (begun before after : Printing) (known left behind old new : Option (List ℕ)) (text next : List ℕ) (status : ℕ) → Told begun before known left old new text → IsTurn before after left behind text next (Done status) → IfSome known (λ input. ToldLast begun input old new next status)
+pub told_last : (begun before after : Printing) (known left behind old new : Option (List ℕ)) (text next : List ℕ)
+    (status : ℕ) → Told begun before known left old new text →
+    IsTurn before after left behind text next (Done status) →
+    IfSome known (λ input. ToldLast begun input old new next status)
 told_last begun before after None left behind old new text next status told turn = tt
 told_last begun before after (Some input) None behind old new text next status told turn = absurd told
 told_last begun before after (Some input) (Some xs) None old new text next status told turn = absurd turn.goes
@@ -81,20 +88,28 @@ told_last begun before after (Some input) (Some xs) (Some ys) old new text next 
 }
 
 -- the last turn's text is written, all of it or a front
-pub told_all : (begun : Printing) (known old mid new : Option (List ℕ)) (text : List ℕ) (status : ℕ) → IfSome known (λ input. ToldLast begun input old mid text status) → Appends mid new text → IfSome known (λ input. Appends old new (begun.text input) × (status ≡ begun.status input))
+pub told_all : (begun : Printing) (known old mid new : Option (List ℕ)) (text : List ℕ) (status : ℕ) →
+    IfSome known (λ input. ToldLast begun input old mid text status) → Appends mid new text →
+    IfSome known (λ input. Appends old new (begun.text input) × (status ≡ begun.status input))
 told_all begun None old mid new text status told sent = tt
 told_all begun (Some input) old mid new text status told sent = (
-  subst (λ (t : List ℕ). Appends old new t) (sym told.parts) (Appends-trans old mid new told.written text told.sent sent),
+  subst (λ (t : List ℕ). Appends old new t) (sym told.parts)
+      (Appends-trans old mid new told.written text told.sent sent),
   told.ends,
 )
 
-pub told_last_front : (begun : Printing) (known old mid new : Option (List ℕ)) (text : List ℕ) (status : ℕ) → IfSome known (λ input. ToldLast begun input old mid text status) → AppendsFront mid new text → IfSome known (λ input. AppendsFront old new (begun.text input))
+pub told_last_front : (begun : Printing) (known old mid new : Option (List ℕ)) (text : List ℕ) (status : ℕ) →
+    IfSome known (λ input. ToldLast begun input old mid text status) → AppendsFront mid new text →
+    IfSome known (λ input. AppendsFront old new (begun.text input))
 told_last_front begun None old mid new text status told sent = tt
 told_last_front begun (Some input) old mid new text status told sent =
-    subst (λ (t : List ℕ). AppendsFront old new t) (sym told.parts) (front_after old mid new told.written text told.sent sent)
+    subst (λ (t : List ℕ). AppendsFront old new t) (sym told.parts)
+    (front_after old mid new told.written text told.sent sent)
 
 -- a front of the text is written
-pub told_front : (begun now : Printing) (known left old mid new : Option (List ℕ)) (text : List ℕ) → Told begun now known left old mid text → AppendsFront mid new text → IfSome known (λ input. AppendsFront old new (begun.text input))
+pub told_front : (begun now : Printing) (known left old mid new : Option (List ℕ)) (text : List ℕ) →
+    Told begun now known left old mid text → AppendsFront mid new text →
+    IfSome known (λ input. AppendsFront old new (begun.text input))
 told_front begun now None left old mid new text told sent = tt
 told_front begun now (Some input) None old mid new text told sent = absurd told
 told_front begun now (Some input) (Some xs) old mid new text told sent =

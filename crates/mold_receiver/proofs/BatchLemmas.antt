@@ -13,13 +13,15 @@ take_all : (messages : List Message) → take (length messages) messages ≡ mes
 take_all [] = refl
 take_all (m ∷ messages) = ap (λ (t : List Message). m ∷ t) (take_all messages)
 
-follows_in : (first : ℕ) (messages : List Message) (next : ℕ) (m : Message) (more : List Message) → FollowsIn first messages next
+follows_in : (first : ℕ) (messages : List Message) (next : ℕ) (m : Message) (more : List Message) →
+    FollowsIn first messages next
     → FollowsIn (joined_first first messages next) (messages ++ m ∷ more) (next + suc (length more))
 follows_in first [] next m more follows = refl
 follows_in first (x ∷ messages) next m more follows = omega (arith, follows, length-append messages (m ∷ more))
 
 -- a batch that was followed by messages is followed by the next one
-pub follows_after : (batch : Handed) (next : ℕ) (more : List Message) → Follows batch next → Follows (followed_by batch next more) (next + length more)
+pub follows_after : (batch : Handed) (next : ℕ) (more : List Message) → Follows batch next →
+    Follows (followed_by batch next more) (next + length more)
 follows_after batch next [] follows = subst (λ (n : ℕ). Follows batch n) (let e : next ≡ next + 0 = omega arith in e) follows
 follows_after batch next (m ∷ more) follows = follows_in batch.first batch.messages next m more follows
 
@@ -29,7 +31,8 @@ first_twice first [] next m more at = refl
 first_twice first (x ∷ messages) next m more at = refl
 
 -- to be followed by some messages and then by others is to be followed by both
-pub followed_twice : (batch : Handed) (next : ℕ) (more : List Message) (at : ℕ) (others : List Message) → next + length more ≡ at
+pub followed_twice : (batch : Handed) (next : ℕ) (more : List Message) (at : ℕ) (others : List Message) →
+    next + length more ≡ at
     → followed_by (followed_by batch next more) at others ≡ followed_by batch next (more ++ others)
 followed_twice batch next [] at others is = ap (λ (n : ℕ). followed_by batch n others) (let e : at ≡ next = omega (arith, is) in e)
 followed_twice batch next (m ∷ more) at [] is = ap (followed_by batch next) (sym (append-nil (m ∷ more)))
@@ -60,7 +63,8 @@ pub record IsHanding (old new : Handed) (next at : ℕ) (left whole : List Messa
 pub handing_none : (old : Handed) (next : ℕ) (whole : List Message) → IsHanding old old next next whole whole
 handing_none old next whole = record { handed = []; batch = refl; parts = refl; counted = omega arith }
 
-pub handing_one : (old new newer : Handed) (next at : ℕ) (m : Message) (left whole : List Message) → IsHanding old new next at (m ∷ left) whole
+pub handing_one : (old new newer : Handed) (next at : ℕ) (m : Message) (left whole : List Message) →
+    IsHanding old new next at (m ∷ left) whole
     → newer ≡ followed_by new at (m ∷ []) → IsHanding old newer next (suc at) left whole
 handing_one old new newer next at m left whole is pushed = record {
   handed = is.handed ++ m ∷ [];
@@ -69,15 +73,18 @@ handing_one old new newer next at m left whole is pushed = record {
   counted = omega (arith, is.counted, length-append is.handed (m ∷ []));
 }
 
-pub handing_follows : (old new : Handed) (next at : ℕ) (left whole : List Message) → IsHanding old new next at left whole → Follows old next → Follows new at
+pub handing_follows : (old new : Handed) (next at : ℕ) (left whole : List Message) →
+    IsHanding old new next at left whole → Follows old next → Follows new at
 handing_follows old new next at left whole is follows =
     subst (λ (b : Handed). Follows b at) (sym is.batch) (subst (λ (n : ℕ). Follows (followed_by old next is.handed) n) is.counted (follows_after old next is.handed follows))
 
-pub handing_done : (old new : Handed) (next at : ℕ) (whole : List Message) → IsHanding old new next at [] whole → new ≡ followed_by old next whole
+pub handing_done : (old new : Handed) (next at : ℕ) (whole : List Message) → IsHanding old new next at [] whole →
+    new ≡ followed_by old next whole
 handing_done old new next at whole is = is.batch ∙ ap (followed_by old next) (sym (append-nil is.handed) ∙ is.parts)
 
 -- a message of a packet is handed on where its number isn't below the first that is handed on
-pub handing_from : (old new newer : Handed) (next n : ℕ) (m : Message) (ms whole : List Message) → IsHanding old new next (max n next) (drop (next - n) (m ∷ ms)) whole
+pub handing_from : (old new newer : Handed) (next n : ℕ) (m : Message) (ms whole : List Message) →
+    IsHanding old new next (max n next) (drop (next - n) (m ∷ ms)) whole
     → newer ≡ cond (ltb n next) new (followed_by new n (m ∷ [])) → IsHanding old newer next (max (n + 1) next) (drop (next - (n + 1)) ms) whole
 handing_from old new newer next n m ms whole is pushed =
     elim (cases_lt n next) [
@@ -99,14 +106,16 @@ handing_from old new newer next n m ms whole is pushed =
           (pushed ∙ cond-false (ltb n next) new (followed_by new n (m ∷ [])) (le-ltb n next above))))
     ]
 
-pub handing_begins : (old : Handed) (next n : ℕ) (ms : List Message) → n ≤ next → IsHanding old old next (max n next) (drop (next - n) ms) (drop (next - n) ms)
+pub handing_begins : (old : Handed) (next n : ℕ) (ms : List Message) → n ≤ next →
+    IsHanding old old next (max n next) (drop (next - n) ms) (drop (next - n) ms)
 handing_begins old next n ms begun = subst (λ (k : ℕ). IsHanding old old next k (drop (next - n) ms) (drop (next - n) ms)) (let e : next ≡ max n next = omega arith in e) (handing_none old next (drop (next - n) ms))
 
 drop_none : (n : ℕ) → drop {A = Message} n [] ≡ []
 drop_none zero = refl
 drop_none (suc n) = refl
 
-pub handing_ends : (old new : Handed) (next n : ℕ) (whole : List Message) → IsHanding old new next (max n next) (drop (next - n) []) whole → new ≡ followed_by old next whole
+pub handing_ends : (old new : Handed) (next n : ℕ) (whole : List Message) →
+    IsHanding old new next (max n next) (drop (next - n) []) whole → new ≡ followed_by old next whole
 handing_ends old new next n whole is = handing_done old new next (max n next) whole (subst (λ (t : List Message). IsHanding old new next (max n next) t whole) (drop_none (next - n)) is)
 
 none_run : (look : ℕ → Option Message) (at most : ℕ) → look at ≡ None → run_from look at most ≡ []
@@ -120,7 +129,8 @@ slot_within (s ∷ slots) zero m is = omega arith
 slot_within (s ∷ slots) (suc at) m is = omega (arith, slot_within slots at m is)
 
 -- a slot with a message before the others of a run, and an empty one behind it
-pub run_more : (slots : List Slot) (at : ℕ) (m : Message) → slot_at slots at ≡ Some m → run_in slots at ≡ m ∷ run_in slots (at + 1)
+pub run_more : (slots : List Slot) (at : ℕ) (m : Message) → slot_at slots at ≡ Some m →
+    run_in slots at ≡ m ∷ run_in slots (at + 1)
 unfolding run_from
 run_more slots at m is =
     let within : at < length slots = omega (arith, slot_within slots at m is) in
@@ -133,17 +143,20 @@ run_more slots at m is =
 pub run_none : (slots : List Slot) (at : ℕ) → slot_at slots at ≡ None → run_in slots at ≡ []
 run_none slots at is = none_run (slot_at slots) at (length slots - at) is
 
-pub handing_length : (old new : Handed) (next at : ℕ) (whole : List Message) → IsHanding old new next at [] whole → next + length whole ≡ at
+pub handing_length : (old new : Handed) (next at : ℕ) (whole : List Message) → IsHanding old new next at [] whole →
+    next + length whole ≡ at
 handing_length old new next at whole is = ap (λ (t : List Message). next + length t) (sym is.parts ∙ append-nil is.handed) ∙ is.counted
 
 -- what grew twice grew
-pub grew_twice : (old new newer : Handed) (next at : ℕ) (more : List Message) → new ≡ followed_by old next more → next + length more ≡ at → Grew new newer at → Grew old newer next
+pub grew_twice : (old new newer : Handed) (next at : ℕ) (more : List Message) → new ≡ followed_by old next more →
+    next + length more ≡ at → Grew new newer at → Grew old newer next
 grew_twice old new newer next at more is counted grew = record {
   handed = more ++ grew.handed;
   batch = grew.batch ∙ ap (λ (b : Handed). followed_by b at grew.handed) is ∙ followed_twice old next more at grew.handed counted;
 }
 
 -- a batch that grew and is cut to its old length is the old one
-pub cut_grown : (old new : Handed) (next : ℕ) → old ≡ handed_from old.first old.messages → Grew old new next → handed_from new.first (take (length old.messages) new.messages) ≡ old
+pub cut_grown : (old new : Handed) (next : ℕ) → old ≡ handed_from old.first old.messages → Grew old new next →
+    handed_from new.first (take (length old.messages) new.messages) ≡ old
 cut_grown old new next normal grew =
     ap (λ (b : Handed). handed_from b.first (take (length old.messages) b.messages)) grew.batch ∙ cut_followed old next grew.handed normal

@@ -16,7 +16,8 @@ use Rattle.mold_receiver.proofs.StoreLemmas.{message_at, get-available, get-cut,
 use Rattle.mold_receiver.proofs.RuleLemmas.{IsBetween, none_unless, option_or-none, message_below, message_past, message_within, message_bounds, available_from, available_nothing, cut_is, stored_none, stored_past, count_same, count_none, count_from}
 
 -- nothing of the packet is at or above `next`: nothing is handed on, and the store stays
-pub nothing_handed : (s : Store) (next window most n : ℕ) (ms : List Message) → IsBetween s next window → ((q : ℕ) → next ≤ q → message_at n ms q ≡ None)
+pub nothing_handed : (s : Store) (next window most n : ℕ) (ms : List Message) → IsBetween s next window →
+    ((q : ℕ) → next ≤ q → message_at n ms q ≡ None)
     → run_from (finite.get (available s next n ms)) next most ≡ []
 nothing_handed s next window most n ms between nothing =
     run_is (finite.get (available s next n ms)) next most [] (λ i m is. absurd (none_some is))
@@ -25,7 +26,8 @@ nothing_handed s next window most n ms between nothing =
     (ap (λ (t : Store). finite.get t next) (available_nothing s next n ms nothing) ∙ stored_none s next window between next (omega arith)))
     (omega arith)
 
-pub nothing_stored : (s : Store) (next window n : ℕ) (ms : List Message) → IsBetween s next window → ((q : ℕ) → next ≤ q → message_at n ms q ≡ None)
+pub nothing_stored : (s : Store) (next window n : ℕ) (ms : List Message) → IsBetween s next window →
+    ((q : ℕ) → next ≤ q → message_at n ms q ≡ None)
     → cut (available s next n ms) next window ≡ s
 nothing_stored s next window n ms between nothing =
     ap (λ (t : Store). cut t next window) (available_nothing s next n ms nothing) ∙ cut_is s s next window between (λ q low high. refl)
@@ -62,7 +64,8 @@ agree (Some y) m x same stored =
     held ∙ equal
 
 -- pairs without a conflict agree with the store
-no_conflict : (s : Store) (pairs : List (ℕ × Message)) → first_conflict s pairs ≡ None → (q : ℕ) (m x : Message) → lookup (eqb q) pairs ≡ Some m → finite.get s q ≡ Some x → x ≡ m
+no_conflict : (s : Store) (pairs : List (ℕ × Message)) → first_conflict s pairs ≡ None → (q : ℕ) (m x : Message) →
+    lookup (eqb q) pairs ≡ Some m → finite.get s q ≡ Some x → x ≡ m
 no_conflict s [] none q m x is stored = absurd (none_some is)
 no_conflict s (pair ∷ pairs) none q m x is stored =
     elim (cases_Bool (differs (finite.get s pair.0) pair.1)) [
@@ -97,14 +100,16 @@ ahead_handed s next window most n ms between above =
     ∙ stored_none s next window between next (omega arith)))
     (omega arith)
 
-either_way : (o p : Option Message) → ((m x : Message) → o ≡ Some m → p ≡ Some x → x ≡ m) → option_or o p ≡ option_or p o
+either_way : (o p : Option Message) → ((m x : Message) → o ≡ Some m → p ≡ Some x → x ≡ m) →
+    option_or o p ≡ option_or p o
 either_way None None same = refl
 either_way None (Some x) same = refl
 either_way (Some m) None same = refl
 either_way (Some m) (Some x) same = ap (λ (y : Message). Some y) (sym (same m x refl refl))
 
 -- and what is stored afterwards is the cut of what is available
-pub ahead_stored : (s t : Store) (next window n : ℕ) (ms : List Message) → IsBetween s next window → next < n → first_conflict s (from_next next n ms) ≡ None
+pub ahead_stored : (s t : Store) (next window n : ℕ) (ms : List Message) → IsBetween s next window → next < n →
+    first_conflict s (from_next next n ms) ≡ None
     → ((q : ℕ) → finite.get t q ≡ option_or (finite.get s q) (cond (ltb q (next + window)) (message_at n ms q) None))
     → cut (available s next n ms) next window ≡ t
 ahead_stored s t next window n ms between above none looks =
@@ -129,7 +134,8 @@ ahead_stored s t next window n ms between above none looks =
     ∙ sym (looks q ∙ ap (option_or (finite.get s q)) (cond-true (ltb q (next + window)) (message_at n ms q) None (lt-ltb q (next + window) high))))
 
 -- the packet has the message `next`: it is handed on from there to its end, and then what is stored there
-pub at_handed : (s : Store) (next window most n top : ℕ) (ms stored : List Message) → IsBetween s next window → n ≤ next → next < top → n + length ms ≡ top
+pub at_handed : (s : Store) (next window most n top : ℕ) (ms stored : List Message) → IsBetween s next window →
+    n ≤ next → next < top → n + length ms ≡ top
     → ((i : ℕ) (m : Message) → slice_get stored i ≡ Some m → finite.get s (top + i) ≡ Some m)
     → finite.get s (top + length stored) ≡ None
     → top + length stored ≤ next + most
@@ -165,7 +171,8 @@ at_handed s next window most n top ms stored between low high tops each stops fe
     (omega (arith, whole, few))
 
 -- the store then keeps what is behind the new `next`
-pub at_stored : (s t : Store) (next window n new : ℕ) (ms : List Message) → IsBetween s next window → next ≤ new → n + length ms ≤ new → finite.get s new ≡ None
+pub at_stored : (s t : Store) (next window n new : ℕ) (ms : List Message) → IsBetween s next window → next ≤ new →
+    n + length ms ≤ new → finite.get s new ≡ None
     → ((q : ℕ) → finite.get t q ≡ cond (ltb q new) None (finite.get s q))
     → cut (available s next n ms) new window ≡ t
 at_stored s t next window n new ms between ahead top stops looks =
@@ -184,7 +191,8 @@ at_stored s t next window n new ms between ahead top stops looks =
     ∙ sym (looks q ∙ cond-false (ltb q new) None (finite.get s q) (le-ltb q new (omega arith))))
 
 -- nothing of it is stored or lies behind the window
-pub at_kept : (s t : Store) (n new : ℕ) (ms : List Message) → n + length ms ≤ new → ((q : ℕ) → finite.get t q ≡ cond (ltb q new) None (finite.get s q)) → count_kept s t (numbered n ms) ≡ 0
+pub at_kept : (s t : Store) (n new : ℕ) (ms : List Message) → n + length ms ≤ new →
+    ((q : ℕ) → finite.get t q ≡ cond (ltb q new) None (finite.get s q)) → count_kept s t (numbered n ms) ≡ 0
 at_kept s t n new ms top looks =
     count_none (λ q. is_some (finite.get t q) && is_none (finite.get s q)) n ms
     (λ i within. and_left (is_some (finite.get t (n + i))) (is_none (finite.get s (n + i)))

@@ -15,7 +15,8 @@ use Rattle.mold_receiver.proofs.SlotLemmas.{slot_put}
 use Rattle.mold_receiver.proofs.StoreLemmas.{message_at, lookup-numbered}
 
 -- the last copy is put first
-pub put_last : (slots : List Slot) (copies : List Copied) (copy : Copied) → put_pairs slots (pairs_of (copies ++ copy ∷ [])) ≡ put_pairs (slice_set slots copy.slot (Some copy.message.items)) (pairs_of copies)
+pub put_last : (slots : List Slot) (copies : List Copied) (copy : Copied) →
+    put_pairs slots (pairs_of (copies ++ copy ∷ [])) ≡ put_pairs (slice_set slots copy.slot (Some copy.message.items)) (pairs_of copies)
 put_last slots [] copy = refl
 put_last slots (c ∷ copies) copy = ap (λ (t : List Slot). slice_set t c.slot (Some c.message.items)) (put_last slots copies copy)
 
@@ -24,7 +25,8 @@ length-put_pairs slots [] = refl
 length-put_pairs slots (pair ∷ pairs) = length-set (put_pairs slots pairs) pair.0 (Some pair.1) ∙ length-put_pairs slots pairs
 
 -- what is put is found, the first pair's before the others', where each test passes only slots that there are
-pub slot_put_pairs : (slots : List Slot) (test : ℕ → Bool) → ((i : ℕ) → test i ≡ true → i < length slots) → (pairs : List (ℕ × Message)) (at : ℕ)
+pub slot_put_pairs : (slots : List Slot) (test : ℕ → Bool) → ((i : ℕ) → test i ≡ true → i < length slots) →
+    (pairs : List (ℕ × Message)) (at : ℕ)
     → slot_at (put_pairs slots (filter (λ (p : ℕ × Message). test p.0) pairs)) at ≡ option_or (lookup (eqb at) (filter (λ (p : ℕ × Message). test p.0) pairs)) (slot_at slots at)
 slot_put_pairs slots test within [] at = refl
 slot_put_pairs slots test within (pair ∷ pairs) at =
@@ -44,7 +46,8 @@ slot_put_pairs slots test within (pair ∷ pairs) at =
       | false ↦ λ e. rest
     ] refl
 
-fresh_or : (o : Option Message) (b : Bool) (p : Option Message) → option_or (cond (b && is_none o) p None) o ≡ option_or o (cond b p None)
+fresh_or : (o : Option Message) (b : Bool) (p : Option Message) →
+    option_or (cond (b && is_none o) p None) o ≡ option_or o (cond b p None)
 fresh_or None true None = refl
 fresh_or None true (Some x) = refl
 fresh_or None false p = refl

@@ -30,7 +30,8 @@ err_ok : {x : Refused} {y : Reception} → ◌≡◌ {A = Result Reception Refus
 err_ok e = cc
 
 -- past what was heard of nothing is available
-past_known : (v : View) (p : Packet) → IsWellFormed v → finite.get (available v.store v.next p.sequence (messages_of p.body)) (v.next + (max v.known (top_of p) - v.next)) ≡ None
+past_known : (v : View) (p : Packet) → IsWellFormed v →
+    finite.get (available v.store v.next p.sequence (messages_of p.body)) (v.next + (max v.known (top_of p) - v.next)) ≡ None
 past_known v p well =
     let q = v.next + (max v.known (top_of p) - v.next) in
     none_unless (finite.get (available v.store v.next p.sequence (messages_of p.body)) q) (λ m is.
@@ -39,14 +40,17 @@ past_known v p well =
       | inr had ↦ (let lies = well.stored q m had in omega (arith, lies.2, well.ahead))
     ])
 
-pub next_lacks : (v : View) (p : Packet) → IsWellFormed v → finite.get (available v.store v.next p.sequence (messages_of p.body)) (view_after v p).next ≡ None
+pub next_lacks : (v : View) (p : Packet) → IsWellFormed v →
+    finite.get (available v.store v.next p.sequence (messages_of p.body)) (view_after v p).next ≡ None
 next_lacks v p well = run_ends (finite.get (available v.store v.next p.sequence (messages_of p.body))) v.next (max v.known (top_of p) - v.next) (past_known v p well)
 
-pub handed_reads : (v : View) (p : Packet) (i : ℕ) (m : Message) → slice_get (handed_on v p.sequence (messages_of p.body)) i ≡ Some m
+pub handed_reads : (v : View) (p : Packet) (i : ℕ) (m : Message) →
+    slice_get (handed_on v p.sequence (messages_of p.body)) i ≡ Some m
     → finite.get (available v.store v.next p.sequence (messages_of p.body)) (v.next + i) ≡ Some m
 handed_reads v p i m is = run_reads (finite.get (available v.store v.next p.sequence (messages_of p.body))) v.next (max v.known (top_of p) - v.next) i m is
 
-had_or_carried : (v : View) (p : Packet) (q : ℕ) (m : Message) → finite.get (available v.store v.next p.sequence (messages_of p.body)) q ≡ Some m
+had_or_carried : (v : View) (p : Packet) (q : ℕ) (m : Message) →
+    finite.get (available v.store v.next p.sequence (messages_of p.body)) q ≡ Some m
     → (finite.get v.store q ≡ Some m) ⊎ (carried_at p q ≡ Some m)
 had_or_carried v p q m is =
     elim (available_cases v.store v.next p.sequence (messages_of p.body) q m is) [
@@ -54,11 +58,13 @@ had_or_carried v p q m is =
       | inr had ↦ inl had
     ]
 
-pub handed_had : (v : View) (p : Packet) (i : ℕ) (m : Message) → slice_get (handed_on v p.sequence (messages_of p.body)) i ≡ Some m
+pub handed_had : (v : View) (p : Packet) (i : ℕ) (m : Message) →
+    slice_get (handed_on v p.sequence (messages_of p.body)) i ≡ Some m
     → (finite.get v.store (v.next + i) ≡ Some m) ⊎ (carried_at p (v.next + i) ≡ Some m)
 handed_had v p i m is = had_or_carried v p (v.next + i) m (handed_reads v p i m is)
 
-pub cut_had : (s : Store) (next window q : ℕ) (m : Message) → finite.get (cut s next window) q ≡ Some m → (finite.get s q ≡ Some m) × (next < q) × (q < next + window)
+pub cut_had : (s : Store) (next window q : ℕ) (m : Message) → finite.get (cut s next window) q ≡ Some m →
+    (finite.get s q ≡ Some m) × (next < q) × (q < next + window)
 cut_had s next window q m is =
     let limit = ltb next q && ltb q (next + window) in
     elim (cases_Bool limit) [
@@ -78,14 +84,16 @@ pub record WasTaken (v : View) (p : Packet) (r : Reception) : Type 0 where
   pub none : first_some (refusals v p) ≡ None
   pub is : r ≡ reception v p
 
-taken_packet : (v : View) (p : Packet) (r : Reception) → decide (first_some (refusals v p)) (reception v p) ≡ Ok r → WasTaken v p r
+taken_packet : (v : View) (p : Packet) (r : Reception) → decide (first_some (refusals v p)) (reception v p) ≡ Ok r →
+    WasTaken v p r
 taken_packet v p r is =
     elim (first_some (refusals v p)) as (λ o. first_some (refusals v p) ≡ o → decide o (reception v p) ≡ Ok r → WasTaken v p r) [
       | None ↦ λ e is. record { none = e; is = same_ok (sym is) }
       | Some x ↦ λ e is. absurd (err_ok is)
     ] refl is
 
-pub was_taken : (v : View) (bytes : List ℕ) (r : Reception) → receive v bytes ≡ Ok r → (p : Packet) × (reading bytes ≡ Ok p) × WasTaken v p r
+pub was_taken : (v : View) (bytes : List ℕ) (r : Reception) → receive v bytes ≡ Ok r →
+    (p : Packet) × (reading bytes ≡ Ok p) × WasTaken v p r
 was_taken v bytes r is =
     elim (reading bytes) as (λ o. reading bytes ≡ o → receive_read v o ≡ Ok r → (p : Packet) × (reading bytes ≡ Ok p) × WasTaken v p r) [
       | Ok p ↦ λ e is. (p, e, taken_packet v p r is)
@@ -99,12 +107,14 @@ not_past p none =
       | inr within ↦ omega arith
     ]
 
-pub takes_well : (v : View) (p : Packet) → IsWellFormed v → first_some (refusals v p) ≡ None → IsWellFormed (view_after v p)
+pub takes_well : (v : View) (p : Packet) → IsWellFormed v → first_some (refusals v p) ≡ None →
+    IsWellFormed (view_after v p)
 takes_well v p well none =
     let each = all_none (refusals v p) none in
     stays_well v p well (not_past p each.1.1.0) each.1.1.1.1.0 each.1.1.1.1.1.0
 
-pub receives_well : (v : View) (bytes : List ℕ) (r : Reception) → IsWellFormed v → receive v bytes ≡ Ok r → IsWellFormed r.view
+pub receives_well : (v : View) (bytes : List ℕ) (r : Reception) → IsWellFormed v → receive v bytes ≡ Ok r →
+    IsWellFormed r.view
 receives_well v bytes r well is =
     let taken = was_taken v bytes r is in
     subst (λ (r : Reception). IsWellFormed r.view) (sym taken.2.is) (takes_well v taken.0 well taken.2.none)
@@ -123,13 +133,15 @@ wanted_none v is =
 pub wanted_lacks : (v : View) (r : Request) → wanted v ≡ Some r → v.next ≡ v.known → ⊥
 wanted_lacks v r is same = none_some (sym (cond-true (eqb v.next v.known) None _ (eq-eqb v.next v.known same)) ∙ is)
 
-pub wanted_is : (v : View) (r : Request) → wanted v ≡ Some r → (r.session ≡ v.session) × (r.sequence ≡ v.next) × (r.count ≡ min 65534 (gap_end v - v.next))
+pub wanted_is : (v : View) (r : Request) → wanted v ≡ Some r →
+    (r.session ≡ v.session) × (r.sequence ≡ v.next) × (r.count ≡ min 65534 (gap_end v - v.next))
 wanted_is v r is =
     let asked = some_same (sym (cond-false (eqb v.next v.known) None _ (ne_eqb v.next v.known (wanted_lacks v r is))) ∙ is) in
     (ap (λ (q : Request). q.session) (sym asked), ap (λ (q : Request). q.sequence) (sym asked), ap (λ (q : Request). q.count) (sym asked))
 
 -- the gap ends at a stored message or at `known`
-gap_stops : (look : ℕ → Option Message) (number most : ℕ) → (lacking_run look number most ≡ most) ⊎ (is_some (look (number + lacking_run look number most)) ≡ true)
+gap_stops : (look : ℕ → Option Message) (number most : ℕ) →
+    (lacking_run look number most ≡ most) ⊎ (is_some (look (number + lacking_run look number most)) ≡ true)
 unfolding lacking_run
 gap_stops look number zero = inl refl
 gap_stops look number (suc most) =
@@ -143,7 +155,8 @@ gap_stops look number (suc most) =
       | Some m ↦ λ e. inr (subst (λ (n : ℕ). is_some (look n) ≡ true) here (ap is_some e))
     ] refl
 
-gap_lacks : (look : ℕ → Option Message) (number most i : ℕ) → i < lacking_run look number most → look (number + i) ≡ None
+gap_lacks : (look : ℕ → Option Message) (number most i : ℕ) → i < lacking_run look number most →
+    look (number + i) ≡ None
 gap_lacks look number most i below =
     none_unless (look (number + i)) (λ m is. omega (arith, below, lacking_ends look number most i (omega (arith, below, lacking_short look number most)) (ap is_some is)))
 

@@ -37,7 +37,8 @@ pub message_within : (n : ℕ) (ms : List Message) (q : ℕ) → n ≤ q → mes
 message_within n ms q low = cond-true _ _ _ (le-leb n q low)
 
 -- a packet's message stands within the packet's numbers
-pub message_bounds : (n : ℕ) (ms : List Message) (q : ℕ) (m : Message) → message_at n ms q ≡ Some m → (n ≤ q) × (q < n + length ms)
+pub message_bounds : (n : ℕ) (ms : List Message) (q : ℕ) (m : Message) → message_at n ms q ≡ Some m →
+    (n ≤ q) × (q < n + length ms)
 message_bounds n ms q m is =
     elim (cases_lt q n) [
       | inl below ↦ absurd (none_some (sym (message_below n ms q below) ∙ is))
@@ -46,16 +47,19 @@ message_bounds n ms q m is =
           (low, omega arith)
     ]
 
-pub available_below : (s : Store) (next n : ℕ) (ms : List Message) (q : ℕ) → q < next → finite.get (available s next n ms) q ≡ finite.get s q
+pub available_below : (s : Store) (next n : ℕ) (ms : List Message) (q : ℕ) → q < next →
+    finite.get (available s next n ms) q ≡ finite.get s q
 available_below s next n ms q below =
     get-available s next n ms q ∙ ap (λ (o : Option Message). option_or o (finite.get s q)) (cond-false _ _ _ (lt-leb next q below))
 
-pub available_from : (s : Store) (next n : ℕ) (ms : List Message) (q : ℕ) → next ≤ q → finite.get (available s next n ms) q ≡ option_or (message_at n ms q) (finite.get s q)
+pub available_from : (s : Store) (next n : ℕ) (ms : List Message) (q : ℕ) → next ≤ q →
+    finite.get (available s next n ms) q ≡ option_or (message_at n ms q) (finite.get s q)
 available_from s next n ms q low =
     get-available s next n ms q ∙ ap (λ (o : Option Message). option_or o (finite.get s q)) (cond-true _ _ _ (le-leb next q low))
 
 -- what is available is the packet's, or it was stored
-pub available_cases : (s : Store) (next n : ℕ) (ms : List Message) (q : ℕ) (m : Message) → finite.get (available s next n ms) q ≡ Some m
+pub available_cases : (s : Store) (next n : ℕ) (ms : List Message) (q : ℕ) (m : Message) →
+    finite.get (available s next n ms) q ≡ Some m
     → ((next ≤ q) × (message_at n ms q ≡ Some m)) ⊎ (finite.get s q ≡ Some m)
 available_cases s next n ms q m is =
     elim (cases_lt q next) [
@@ -68,7 +72,8 @@ available_cases s next n ms q m is =
     ]
 
 -- the store and a packet of which nothing is at or above `next` have only the store available
-pub available_nothing : (s : Store) (next n : ℕ) (ms : List Message) → ((q : ℕ) → next ≤ q → message_at n ms q ≡ None) → available s next n ms ≡ s
+pub available_nothing : (s : Store) (next n : ℕ) (ms : List Message) →
+    ((q : ℕ) → next ≤ q → message_at n ms q ≡ None) → available s next n ms ≡ s
 available_nothing s next n ms nothing = same_store _ _ (λ q.
     elim (cases_lt q next) [
       | inl below ↦ available_below s next n ms q below
@@ -76,7 +81,8 @@ available_nothing s next n ms nothing = same_store _ _ (λ q.
     ])
 
 -- a store whose messages lie between, and that agrees there, is the cut
-pub cut_is : (s t : Store) (next window : ℕ) → IsBetween t next window → ((q : ℕ) → next < q → q < next + window → finite.get s q ≡ finite.get t q) → cut s next window ≡ t
+pub cut_is : (s t : Store) (next window : ℕ) → IsBetween t next window →
+    ((q : ℕ) → next < q → q < next + window → finite.get s q ≡ finite.get t q) → cut s next window ≡ t
 cut_is s t next window between agrees = same_store _ _ (λ q.
     elim (cases_Bool (ltb next q && ltb q (next + window))) [
       | inl inside ↦
@@ -93,7 +99,8 @@ cut_is s t next window between agrees = same_store _ _ (λ q.
 pub stored_none : (s : Store) (next window : ℕ) → IsBetween s next window → (q : ℕ) → q ≤ next → finite.get s q ≡ None
 stored_none s next window between q low = none_unless (finite.get s q) (λ m is. let lies = between q m is in omega (arith, lies.0))
 
-pub stored_past : (s : Store) (next window : ℕ) → IsBetween s next window → (q : ℕ) → next + window ≤ q → finite.get s q ≡ None
+pub stored_past : (s : Store) (next window : ℕ) → IsBetween s next window → (q : ℕ) → next + window ≤ q →
+    finite.get s q ≡ None
 stored_past s next window between q past = none_unless (finite.get s q) (λ m is. let lies = between q m is in omega (arith, lies.1))
 
 -- numbers are counted by a test of them
@@ -112,7 +119,8 @@ count_same P Q n f (m ∷ ms) same =
       | inr t ↦ ap length (cond-false (P n) _ _ (here ∙ t)) ∙ rest ∙ sym (ap length (cond-false (Q f) _ _ t))
     ]
 
-pub count_none : (P : ℕ → Bool) (n : ℕ) (ms : List Message) → ((i : ℕ) → i < length ms → P (n + i) ≡ false) → length (filter (λ (p : ℕ × Message). P p.0) (numbered n ms)) ≡ 0
+pub count_none : (P : ℕ → Bool) (n : ℕ) (ms : List Message) → ((i : ℕ) → i < length ms → P (n + i) ≡ false) →
+    length (filter (λ (p : ℕ × Message). P p.0) (numbered n ms)) ≡ 0
 count_none P n [] never = refl
 count_none P n (m ∷ ms) never =
     let a : n ≡ n + 0 = omega arith in

@@ -22,7 +22,8 @@ count-push [] = refl
 count-push (None ∷ slots) = ap (λ (n : ℕ). 0 + n) (count-push slots)
 count-push (Some m ∷ slots) = ap (λ (n : ℕ). 1 + n) (count-push slots)
 
-pub count_moved : (slots : List Slot) → count_held (drop 1 slots ++ None ∷ []) ≡ count_held slots - cond (is_some (slot_at slots 0)) 1 0
+pub count_moved : (slots : List Slot) →
+    count_held (drop 1 slots ++ None ∷ []) ≡ count_held slots - cond (is_some (slot_at slots 0)) 1 0
 count_moved [] = omega arith
 count_moved (None ∷ slots) = omega (arith, count-push slots)
 count_moved (Some m ∷ slots) = omega (arith, count-push slots)
@@ -31,7 +32,8 @@ count_behind : (b : Bool) (one n m : ℕ) → m ≡ cond b n (n + 1) → one + m
 count_behind true one n m is = ap (λ (k : ℕ). one + k) is
 count_behind false one n m is = omega (arith, is)
 
-pub count_put : (slots : List Slot) (i : ℕ) (message : Message) → i < length slots → count_held (slice_set slots i (Some message)) ≡ cond (is_some (slot_at slots i)) (count_held slots) (count_held slots + 1)
+pub count_put : (slots : List Slot) (i : ℕ) (message : Message) → i < length slots →
+    count_held (slice_set slots i (Some message)) ≡ cond (is_some (slot_at slots i)) (count_held slots) (count_held slots + 1)
 count_put [] i message within = absurd (omega arith)
 count_put (None ∷ slots) zero message within = omega arith
 count_put (Some m ∷ slots) zero message within = refl
@@ -43,7 +45,8 @@ slot_put_same [] i slot within = absurd (omega arith)
 slot_put_same (s ∷ slots) zero slot within = refl
 slot_put_same (s ∷ slots) (suc i) slot within = slot_put_same slots i slot (omega arith)
 
-slot_put_other : (slots : List Slot) (i : ℕ) (slot : Slot) (at : ℕ) → (at ≡ i → ⊥) → slot_at (slice_set slots i slot) at ≡ slot_at slots at
+slot_put_other : (slots : List Slot) (i : ℕ) (slot : Slot) (at : ℕ) → (at ≡ i → ⊥) →
+    slot_at (slice_set slots i slot) at ≡ slot_at slots at
 slot_put_other [] i slot at other = refl
 slot_put_other (s ∷ slots) zero slot zero other = absurd (other refl)
 slot_put_other (s ∷ slots) zero slot (suc at) other = refl
@@ -51,7 +54,8 @@ slot_put_other (s ∷ slots) (suc i) slot zero other = refl
 slot_put_other (s ∷ slots) (suc i) slot (suc at) other = slot_put_other slots i slot at (λ e. other (ap suc e))
 
 -- a slot that is written has the message, and the others have what they had
-pub slot_put : (slots : List Slot) (i : ℕ) (slot : Slot) (at : ℕ) → i < length slots → slot_at (slice_set slots i slot) at ≡ cond (eqb at i) slot (slot_at slots at)
+pub slot_put : (slots : List Slot) (i : ℕ) (slot : Slot) (at : ℕ) → i < length slots →
+    slot_at (slice_set slots i slot) at ≡ cond (eqb at i) slot (slot_at slots at)
 slot_put slots i slot at within =
     elim (cases_eq at i) [
       | inl same ↦ subst (λ (n : ℕ). slot_at (slice_set slots i slot) n ≡ slot) (sym same) (slot_put_same slots i slot within) ∙ sym (cond-true _ _ _ (eq-eqb at i same))
@@ -77,26 +81,31 @@ slot_dropped (suc count) [] at = refl
 slot_dropped (suc count) (slot ∷ slots) at = slot_dropped count slots at ∙ ap (slot_at (slot ∷ slots)) (let e : suc (count + at) ≡ suc count + at = omega arith in e)
 
 -- when the slots have moved on, each has what was so many slots behind it
-pub slot_moved : (count : ℕ) (slots : List Slot) (at : ℕ) → slot_at (drop count slots ++ replicate count None) at ≡ slot_at slots (count + at)
+pub slot_moved : (count : ℕ) (slots : List Slot) (at : ℕ) →
+    slot_at (drop count slots ++ replicate count None) at ≡ slot_at slots (count + at)
 slot_moved count slots at = slot_padded (drop count slots) count at ∙ slot_dropped count slots at
 
 -- so many slots and one more
-pub moved_more : (count : ℕ) (slots : List Slot) → count < length slots → drop 1 (drop count slots ++ replicate count None) ++ None ∷ [] ≡ drop (count + 1) slots ++ replicate (count + 1) None
+pub moved_more : (count : ℕ) (slots : List Slot) → count < length slots →
+    drop 1 (drop count slots ++ replicate count None) ++ None ∷ [] ≡ drop (count + 1) slots ++ replicate (count + 1) None
 moved_more count slots within =
     let behind : drop 1 (drop count slots) ≡ drop (count + 1) slots = drop-drop 1 count slots in
     rw (drop-append-le 1 (drop count slots) (replicate count None) (omega (arith, length-drop count slots)), behind, append_assoc (drop (count + 1) slots) (replicate count None) (None ∷ []), replicate_more {X = Slot} count None)
     refl
 
-pushed_view : {V : Type 0} (g : V → Message) (xs : List (Option V)) → map (option_map g) (xs ++ None ∷ []) ≡ map (option_map g) xs ++ None ∷ []
+pushed_view : {V : Type 0} (g : V → Message) (xs : List (Option V)) →
+    map (option_map g) (xs ++ None ∷ []) ≡ map (option_map g) xs ++ None ∷ []
 pushed_view g [] = refl
 pushed_view g (x ∷ xs) = ap (λ (t : List Slot). option_map g x ∷ t) (pushed_view g xs)
 
 -- what the ring holds, when it has moved on by a slot
-pub moved_view : {V : Type 0} (g : V → Message) (xs : List (Option V)) → map (option_map g) (drop 1 xs ++ None ∷ []) ≡ drop 1 (map (option_map g) xs) ++ None ∷ []
+pub moved_view : {V : Type 0} (g : V → Message) (xs : List (Option V)) →
+    map (option_map g) (drop 1 xs ++ None ∷ []) ≡ drop 1 (map (option_map g) xs) ++ None ∷ []
 moved_view g [] = refl
 moved_view g (x ∷ xs) = pushed_view g xs
 
-pub head_view : {V : Type 0} (g : V → Message) (xs : List (Option V)) → is_some (option_flatten (slice_get xs 0)) ≡ is_some (slot_at (map (option_map g) xs) 0)
+pub head_view : {V : Type 0} (g : V → Message) (xs : List (Option V)) →
+    is_some (option_flatten (slice_get xs 0)) ≡ is_some (slot_at (map (option_map g) xs) 0)
 head_view g [] = refl
 head_view g (None ∷ xs) = refl
 head_view g (Some x ∷ xs) = refl
@@ -110,7 +119,8 @@ count_empty zero = refl
 count_empty (suc n) = omega (arith, count_empty n)
 
 -- the ring stays one
-pub are_moved : (slots : List Slot) (capacity count : ℕ) → AreSlots slots capacity count → AreSlots (drop 1 slots ++ None ∷ []) capacity (count - cond (is_some (slot_at slots 0)) 1 0)
+pub are_moved : (slots : List Slot) (capacity count : ℕ) → AreSlots slots capacity count →
+    AreSlots (drop 1 slots ++ None ∷ []) capacity (count - cond (is_some (slot_at slots 0)) 1 0)
 are_moved slots capacity count are =
     let same : length (drop 1 slots ++ None ∷ []) ≡ length slots = omega (arith, are.some, length-append (drop 1 slots) (None ∷ []), length-drop 1 slots) in
     record {
@@ -120,7 +130,8 @@ are_moved slots capacity count are =
       counted = ap (λ (n : ℕ). n - cond (is_some (slot_at slots 0)) 1 0) are.counted ∙ sym (count_moved slots);
     }
 
-pub are_put : (slots : List Slot) (capacity count i : ℕ) (message : Message) → AreSlots slots capacity count → i < length slots
+pub are_put : (slots : List Slot) (capacity count i : ℕ) (message : Message) → AreSlots slots capacity count →
+    i < length slots
     → AreSlots (slice_set slots i (Some message)) capacity (cond (is_some (slot_at slots i)) count (count + 1))
 are_put slots capacity count i message are within =
     let same : length (slice_set slots i (Some message)) ≡ length slots = length-set slots i (Some message) in
@@ -131,7 +142,8 @@ are_put slots capacity count i message are within =
       counted = ap (λ (n : ℕ). cond (is_some (slot_at slots i)) n (n + 1)) are.counted ∙ sym (count_put slots i message within);
     }
 
-pub slot_view : {V : Type 0} (g : V → Message) (xs : List (Option V)) (i : ℕ) → is_some (option_flatten (slice_get xs i)) ≡ is_some (slot_at (map (option_map g) xs) i)
+pub slot_view : {V : Type 0} (g : V → Message) (xs : List (Option V)) (i : ℕ) →
+    is_some (option_flatten (slice_get xs i)) ≡ is_some (slot_at (map (option_map g) xs) i)
 slot_view g [] i = refl
 slot_view g (None ∷ xs) zero = refl
 slot_view g (Some x ∷ xs) zero = refl
@@ -185,7 +197,8 @@ lookup_behind number (Some message) slots at rest =
           ∙ sym (cond-true _ _ _ (le-leb number at (omega arith)) ∙ ap (slot_at (Some message ∷ slots)) more)
     ]
 
-lookup-slots : (number : ℕ) (slots : List Slot) (at : ℕ) → lookup (eqb at) (slot_entries number slots) ≡ cond (leb number at) (slot_at slots (at - number)) None
+lookup-slots : (number : ℕ) (slots : List Slot) (at : ℕ) →
+    lookup (eqb at) (slot_entries number slots) ≡ cond (leb number at) (slot_at slots (at - number)) None
 lookup-slots number [] at =
     elim (cases_Bool (leb number at)) [
       | inl t ↦ sym (cond-true _ None None t)
@@ -194,7 +207,8 @@ lookup-slots number [] at =
 lookup-slots number (slot ∷ slots) at = lookup_behind number slot slots at (lookup-slots (suc number) slots at)
 
 -- the store has at each number what its slot has
-pub get-slots : (number : ℕ) (slots : List Slot) (at : ℕ) → finite.get (store_of number slots) at ≡ cond (leb number at) (slot_at slots (at - number)) None
+pub get-slots : (number : ℕ) (slots : List Slot) (at : ℕ) →
+    finite.get (store_of number slots) at ≡ cond (leb number at) (slot_at slots (at - number)) None
 get-slots number slots at = get_made (slot_entries number slots) at ∙ lookup-slots number slots at
 
 pub len-slots : (number : ℕ) (slots : List Slot) → finite.len (store_of number slots) ≡ count_held slots

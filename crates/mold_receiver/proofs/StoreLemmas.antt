@@ -16,7 +16,8 @@ use Rattle.mold_receiver.specs.Store.{Message, Store, numbered, from_next, avail
 abbrev pub message_at : ℕ → List Message → ℕ → Option Message
 message_at number messages at = cond (leb number at) (slice_get messages (at - number)) None
 
-pub lookup-numbered : (number : ℕ) (messages : List Message) (at : ℕ) → lookup (eqb at) (numbered number messages) ≡ message_at number messages at
+pub lookup-numbered : (number : ℕ) (messages : List Message) (at : ℕ) →
+    lookup (eqb at) (numbered number messages) ≡ message_at number messages at
 lookup-numbered number [] at =
     elim (cases_Bool (leb number at)) [
       | inl t ↦ sym (cond-true _ None None t)
@@ -45,7 +46,8 @@ pub find-lookup : {X : Type 0} (at : ℕ) (es : List (ℕ × X)) → find nat_cm
 find-lookup at [] = refl
 find-lookup at (e ∷ es) = ap (λ (b : Bool). cond b (Some e.1) (find nat_cmp at es)) (unsigned_tied at e.0) ∙ ap (cond (eqb at e.0) (Some e.1)) (find-lookup at es)
 
-pub lookup-append : {X : Type 0} (test : ℕ → Bool) (es fs : List (ℕ × X)) → lookup test (es ++ fs) ≡ option_or (lookup test es) (lookup test fs)
+pub lookup-append : {X : Type 0} (test : ℕ → Bool) (es fs : List (ℕ × X)) →
+    lookup test (es ++ fs) ≡ option_or (lookup test es) (lookup test fs)
 lookup-append test [] fs = refl
 lookup-append test (e ∷ es) fs =
     elim (cases_Bool (test e.0)) [
@@ -56,16 +58,19 @@ lookup-append test (e ∷ es) fs =
 pub get-entries_of : (store : Store) (at : ℕ) → lookup (eqb at) (finite.entries store) ≡ finite.get store at
 get-entries_of store at = sym (find-lookup at (finite.entries store)) ∙ sym (finite.get-entries store at)
 
-pub get_made : (es : List (ℕ × Message)) (at : ℕ) → finite.get {R = nat_cmp} (finite.from_entries es) at ≡ lookup (eqb at) es
+pub get_made : (es : List (ℕ × Message)) (at : ℕ) →
+    finite.get {R = nat_cmp} (finite.from_entries es) at ≡ lookup (eqb at) es
 get_made es at = finite.get-from_entries nat_cmp_total es at ∙ find-lookup at es
 
-pub lookup-from_next : (next number : ℕ) (messages : List Message) (at : ℕ) → lookup (eqb at) (from_next next number messages) ≡ cond (leb next at) (message_at number messages at) None
+pub lookup-from_next : (next number : ℕ) (messages : List Message) (at : ℕ) →
+    lookup (eqb at) (from_next next number messages) ≡ cond (leb next at) (message_at number messages at) None
 lookup-from_next next number messages at =
     lookup-filter-keys (eqb at) (λ k. nat_le next k) (leb next at) (λ k t. ap (leb next) (sym (eqb-true at k t))) (numbered number messages)
     ∙ ap (λ (o : Option Message). cond (leb next at) o None) (lookup-numbered number messages at)
 
 -- what is available is the packet's from `next` on, and else the store's
-pub get-available : (store : Store) (next number : ℕ) (messages : List Message) (at : ℕ) → finite.get (available store next number messages) at ≡ option_or (cond (leb next at) (message_at number messages at) None) (finite.get store at)
+pub get-available : (store : Store) (next number : ℕ) (messages : List Message) (at : ℕ) →
+    finite.get (available store next number messages) at ≡ option_or (cond (leb next at) (message_at number messages at) None) (finite.get store at)
 get-available store next number messages at =
     get_made (from_next next number messages ++ finite.entries store) at
     ∙ lookup-append (eqb at) (from_next next number messages) (finite.entries store)
@@ -73,7 +78,8 @@ get-available store next number messages at =
     ∙ ap (option_or (cond (leb next at) (message_at number messages at) None)) (get-entries_of store at)
 
 -- what is cut is as before between `next` and the window's end, and nothing else
-pub get-cut : (store : Store) (next window at : ℕ) → finite.get (cut store next window) at ≡ cond (ltb next at && ltb at (next + window)) (finite.get store at) None
+pub get-cut : (store : Store) (next window at : ℕ) →
+    finite.get (cut store next window) at ≡ cond (ltb next at && ltb at (next + window)) (finite.get store at) None
 get-cut store next window at =
     finite.get-retain_keys store (λ k. nat_lt next k && nat_lt k (next + window)) at
     (λ k tied. ap (λ (k : ℕ). ltb next k && ltb k (next + window)) (sym (finite.nat_cmp-IsAntisymmetric at k tied)))
@@ -107,7 +113,8 @@ pub none_some : {X : Type 0} {x : X} → ◌≡◌ {A = Option X} None (Some x) 
 none_some e = cc
 
 -- each message of a run is the one looked up
-pub run_reads : (look : ℕ → Option Message) (number most : ℕ) (i : ℕ) (message : Message) → slice_get (run_from look number most) i ≡ Some message → look (number + i) ≡ Some message
+pub run_reads : (look : ℕ → Option Message) (number most : ℕ) (i : ℕ) (message : Message) →
+    slice_get (run_from look number most) i ≡ Some message → look (number + i) ≡ Some message
 unfolding run_from
 run_reads look number zero i message is = absurd (none_some is)
 run_reads look number (suc most) zero message is =
@@ -133,7 +140,8 @@ run_short look number (suc most) =
     ]
 
 -- behind a run one is lacking, where one is at its greatest end
-pub run_ends : (look : ℕ → Option Message) (number most : ℕ) → look (number + most) ≡ None → look (number + length (run_from look number most)) ≡ None
+pub run_ends : (look : ℕ → Option Message) (number most : ℕ) → look (number + most) ≡ None →
+    look (number + length (run_from look number most)) ≡ None
 unfolding run_from
 run_ends look number zero stops = stops
 run_ends look number (suc most) stops =
@@ -147,7 +155,8 @@ run_ends look number (suc most) stops =
     ] refl
 
 -- each number of a run has a message
-pub run_had : (look : ℕ → Option Message) (number most : ℕ) (at : ℕ) → number ≤ at → at < number + length (run_from look number most) → is_some (look at) ≡ true
+pub run_had : (look : ℕ → Option Message) (number most : ℕ) (at : ℕ) → number ≤ at →
+    at < number + length (run_from look number most) → is_some (look at) ≡ true
 run_had look number most at low high =
     let messages = run_from look number most in
     let place : at - number < length messages = omega arith in

@@ -29,7 +29,8 @@ use Rattle.mold_receiver.proofs.StoreLemmas.{message_at, get-cut, none_some, run
 pub between_of : (v : View) → IsWellFormed v → IsBetween v.store v.next v.window
 between_of v well q m is = let lies = well.stored q m is in (lies.0, lies.1)
 
-ends_data : (ended : Option ℕ) (known top : ℕ) → ((end : ℕ) → ended ≡ Some end → end ≡ known) → past_end ended Heartbeat top ≡ None
+ends_data : (ended : Option ℕ) (known top : ℕ) → ((end : ℕ) → ended ≡ Some end → end ≡ known) →
+    past_end ended Heartbeat top ≡ None
     → (end : ℕ) → ended ≡ Some end → end ≡ max known top
 ends_data None known top ends past end is = absurd (none_some is)
 ends_data (Some e) known top ends past end is =
@@ -40,7 +41,8 @@ ends_data (Some e) known top ends past end is =
       | inr above ↦ omega (arith, same, at)
     ]
 
-past_data : (ended : Option ℕ) (ms : List Message) (top : ℕ) → past_end ended (Data ms) top ≡ None → past_end ended Heartbeat top ≡ None
+past_data : (ended : Option ℕ) (ms : List Message) (top : ℕ) → past_end ended (Data ms) top ≡ None →
+    past_end ended Heartbeat top ≡ None
 past_data None ms top past = refl
 past_data (Some e) ms top past = past
 
@@ -57,7 +59,8 @@ ends_well ended End sequence known top tops ends below past end is =
     ]
 
 -- a view that takes a packet stays well formed
-pub stays_well : (v : View) (p : Packet) → IsWellFormed v → top_of p < 2 ^ 64 → end_below p.body p.sequence v.known ≡ None → past_end v.ended p.body (top_of p) ≡ None
+pub stays_well : (v : View) (p : Packet) → IsWellFormed v → top_of p < 2 ^ 64 →
+    end_below p.body p.sequence v.known ≡ None → past_end v.ended p.body (top_of p) ≡ None
     → IsWellFormed (view_after v p)
 stays_well v p well fits below past =
     let ms = messages_of p.body in
@@ -86,13 +89,15 @@ stays_well v p well fits below past =
     }
 
 -- the store over slots, by number
-pub get_from : (next : ℕ) (slots : List Slot) (q : ℕ) → next ≤ q → finite.get (store_of next slots) q ≡ slot_at slots (q - next)
+pub get_from : (next : ℕ) (slots : List Slot) (q : ℕ) → next ≤ q →
+    finite.get (store_of next slots) q ≡ slot_at slots (q - next)
 get_from next slots q low = get-slots next slots q ∙ cond-true (leb next q) (slot_at slots (q - next)) None (le-leb next q low)
 
 pub get_below : (next : ℕ) (slots : List Slot) (q : ℕ) → q < next → finite.get (store_of next slots) q ≡ None
 get_below next slots q low = get-slots next slots q ∙ cond-false (leb next q) (slot_at slots (q - next)) None (lt-leb next q low)
 
-message_shifted : (next n : ℕ) (ms : List Message) (q : ℕ) → next ≤ n → next ≤ q → message_at (n - next) ms (q - next) ≡ message_at n ms q
+message_shifted : (next n : ℕ) (ms : List Message) (q : ℕ) → next ≤ n → next ≤ q →
+    message_at (n - next) ms (q - next) ≡ message_at n ms q
 message_shifted next n ms q low at =
     elim (cases_lt q n) [
       | inl below ↦ message_below (n - next) ms (q - next) (omega arith) ∙ sym (message_below n ms q below)
@@ -126,7 +131,8 @@ ahead_looks next n slots ms above q =
     ]
 
 -- a packet above `next`: the new view is over the slots with its fresh messages
-pub ahead_view : (session : Session) (next known : ℕ) (ended : Option ℕ) (slots : List Slot) (n top : ℕ) (ms : List Message)
+pub ahead_view : (session : Session) (next known : ℕ) (ended : Option ℕ) (slots : List Slot) (n top : ℕ)
+    (ms : List Message)
     → IsWellFormed (view_over session next known ended slots) → next < n → n + length ms ≡ top
     → first_conflict (store_of next slots) (from_next next n ms) ≡ None
     → view_after (view_over session next known ended slots) (data_packet session n ms) ≡ view_over session next (max known top) ended (put_pairs slots (fresh slots (n - next) ms))
@@ -157,7 +163,8 @@ length-numbered n (m ∷ ms) = ap suc (length-numbered (suc n) ms)
 pub fresh_short : (slots : List Slot) (first : ℕ) (ms : List Message) → length (fresh slots first ms) ≤ length ms
 fresh_short slots first ms = omega (arith, filter_short (λ pair. is_fresh slots pair.0) (numbered first ms), length-numbered first ms)
 
-new_or_not : (o p : Option Message) (b : Bool) (m : Message) → p ≡ Some m → (is_some (option_or o (cond b p None)) && is_none o) ≡ (b && is_none o)
+new_or_not : (o p : Option Message) (b : Bool) (m : Message) → p ≡ Some m →
+    (is_some (option_or o (cond b p None)) && is_none o) ≡ (b && is_none o)
 new_or_not None p true m is = ap (λ (o : Option Message). is_some o && true) is
 new_or_not None p false m is = refl
 new_or_not (Some x) p true m is = refl
@@ -181,7 +188,8 @@ ahead_kept next n slots ms above =
     ∙ ap (is_fresh slots) shifted)
 
 -- the counts of a packet above `next`
-pub ahead_taken : (session : Session) (next known : ℕ) (ended : Option ℕ) (slots : List Slot) (n top : ℕ) (ms : List Message)
+pub ahead_taken : (session : Session) (next known : ℕ) (ended : Option ℕ) (slots : List Slot) (n top : ℕ)
+    (ms : List Message)
     → IsWellFormed (view_over session next known ended slots) → next < n → n + length ms ≡ top
     → first_conflict (store_of next slots) (from_next next n ms) ≡ None
     → taken_of (view_over session next known ended slots) (data_packet session n ms) (view_after (view_over session next known ended slots) (data_packet session n ms))
@@ -195,7 +203,8 @@ ahead_taken session next known ended slots n top ms well above tops none =
     ∙ (λ i. record { handed = zero_handed i; kept = ahead_kept next n slots ms above i; beyond = past i })
 
 -- what is stored when the slots have moved on
-pub moved_looks : (next new : ℕ) (slots : List Slot) (count : ℕ) → next ≤ new → count ≡ min (new - next) (length slots) → (q : ℕ)
+pub moved_looks : (next new : ℕ) (slots : List Slot) (count : ℕ) → next ≤ new →
+    count ≡ min (new - next) (length slots) → (q : ℕ)
     → finite.get (store_of new (drop count slots ++ replicate count None)) q ≡ cond (ltb q new) None (finite.get (store_of next slots) q)
 moved_looks next new slots count ahead is q =
     elim (cases_lt q new) [
@@ -217,7 +226,8 @@ pub record IsRun (next known top : ℕ) (slots : List Slot) (stored : List Messa
   pub stops : finite.get (store_of next slots) (top + length stored) ≡ None
   pub within : top + length stored ≤ max known top
 
-pub run_of_slots : (session : Session) (next known : ℕ) (ended : Option ℕ) (slots : List Slot) (top : ℕ) → IsWellFormed (view_over session next known ended slots) → next ≤ top
+pub run_of_slots : (session : Session) (next known : ℕ) (ended : Option ℕ) (slots : List Slot) (top : ℕ) →
+    IsWellFormed (view_over session next known ended slots) → next ≤ top
     → IsRun next known top slots (run_in slots (top - next))
 run_of_slots session next known ended slots top well ahead =
     let start = top - next in
@@ -252,13 +262,15 @@ at_run session next known ended slots n top ms well low high tops =
     at_handed v.store next v.window (max known (n + length ms) - next) n top ms (run_in slots (top - next)) (between_of v well) low high tops run.each run.stops
     (omega (arith, tops, run.within, well.ahead))
 
-pub length-run_of : (slots : List Slot) (next n top : ℕ) (ms : List Message) → n ≤ next → next < top → n + length ms ≡ top
+pub length-run_of : (slots : List Slot) (next n top : ℕ) (ms : List Message) → n ≤ next → next < top →
+    n + length ms ≡ top
     → next + length (run_of slots next n top ms) ≡ top + length (run_in slots (top - next))
 length-run_of slots next n top ms low high tops =
     omega (arith, tops, length-append (drop (next - n) ms) (run_in slots (top - next)), length-drop (next - n) ms)
 
 -- and the new view is over the slots that moved on
-pub at_view : (session : Session) (next known : ℕ) (ended : Option ℕ) (slots : List Slot) (n top : ℕ) (ms : List Message) (new count : ℕ)
+pub at_view : (session : Session) (next known : ℕ) (ended : Option ℕ) (slots : List Slot) (n top : ℕ)
+    (ms : List Message) (new count : ℕ)
     → IsWellFormed (view_over session next known ended slots) → n ≤ next → next < top → n + length ms ≡ top
     → new ≡ next + length (run_of slots next n top ms) → count ≡ min (new - next) (length slots)
     → view_after (view_over session next known ended slots) (data_packet session n ms) ≡ view_over session new (max known top) ended (drop count slots ++ replicate count None)
@@ -279,7 +291,8 @@ at_view session next known ended slots n top ms new count well low high tops is 
     ap (view_at v (data_packet session n ms)) here
     ∙ (λ i. record { session = session; next = new; known = max known (tops i); ended = ended; store = stored i; window = size i })
 
-pub at_taken : (session : Session) (next known : ℕ) (ended : Option ℕ) (slots : List Slot) (n top : ℕ) (ms : List Message) (new count : ℕ)
+pub at_taken : (session : Session) (next known : ℕ) (ended : Option ℕ) (slots : List Slot) (n top : ℕ)
+    (ms : List Message) (new count : ℕ)
     → IsWellFormed (view_over session next known ended slots) → n ≤ next → next < top → n + length ms ≡ top
     → new ≡ next + length (run_of slots next n top ms) → count ≡ min (new - next) (length slots)
     → taken_of (view_over session next known ended slots) (data_packet session n ms) (view_after (view_over session next known ended slots) (data_packet session n ms))
@@ -297,7 +310,8 @@ at_taken session next known ended slots n top ms new count well low high tops is
     ∙ (λ i. record { handed = new - next; kept = kept i; beyond = past i })
 
 -- a packet of which nothing is at or above `next`
-pub nothing_view : (v : View) (p : Packet) (top : ℕ) → IsWellFormed v → top_of p ≡ top → ((q : ℕ) → v.next ≤ q → message_at p.sequence (messages_of p.body) q ≡ None)
+pub nothing_view : (v : View) (p : Packet) (top : ℕ) → IsWellFormed v → top_of p ≡ top →
+    ((q : ℕ) → v.next ≤ q → message_at p.sequence (messages_of p.body) q ≡ None)
     → view_after v p ≡ record v { known = max v.known top; ended = ended_after p.body p.sequence v.ended }
 nothing_view v p top well tops nothing =
     let ms = messages_of p.body in
@@ -307,7 +321,8 @@ nothing_view v p top well tops nothing =
     ap (view_at v p) here
     ∙ (λ i. record { session = v.session; next = v.next; known = max v.known (tops i); ended = ended_after p.body p.sequence v.ended; store = stored i; window = v.window })
 
-pub nothing_taken : (v : View) (p : Packet) (top : ℕ) → IsWellFormed v → top_of p ≡ top → ((q : ℕ) → v.next ≤ q → message_at p.sequence (messages_of p.body) q ≡ None)
+pub nothing_taken : (v : View) (p : Packet) (top : ℕ) → IsWellFormed v → top_of p ≡ top →
+    ((q : ℕ) → v.next ≤ q → message_at p.sequence (messages_of p.body) q ≡ None)
     → count_beyond (v.next + v.window) (numbered p.sequence (messages_of p.body)) ≡ 0
     → taken_of v p (view_after v p) ≡ record { handed = 0; kept = 0; beyond = 0 }
 nothing_taken v p top well tops nothing past =
@@ -316,7 +331,8 @@ nothing_taken v p top well tops nothing past =
     ∙ (λ i. record { handed = zero_handed i; kept = nothing_kept v.store p.sequence (messages_of p.body) i; beyond = past i })
 
 -- the fields after a packet above `next`, and after one that has it, are those of the new view
-pub kept_view : (session : Session) (next known : ℕ) (ended : Option ℕ) (slots : List Slot) (n top : ℕ) (ms : List Message) (new_known : ℕ) (new_slots : List Slot)
+pub kept_view : (session : Session) (next known : ℕ) (ended : Option ℕ) (slots : List Slot) (n top : ℕ)
+    (ms : List Message) (new_known : ℕ) (new_slots : List Slot)
     → IsWellFormed (view_over session next known ended slots) → next < n → n + length ms ≡ top
     → first_conflict (store_of next slots) (from_next next n ms) ≡ None
     → new_known ≡ max known top → new_slots ≡ put_pairs slots (fresh slots (n - next) ms)
@@ -324,7 +340,8 @@ pub kept_view : (session : Session) (next known : ℕ) (ended : Option ℕ) (slo
 kept_view session next known ended slots n top ms new_known new_slots well above tops none knows puts =
     (λ i. view_over session next (knows i) ended (puts i)) ∙ sym (ahead_view session next known ended slots n top ms well above tops none)
 
-pub handed_view : (session : Session) (next known : ℕ) (ended : Option ℕ) (slots : List Slot) (n top : ℕ) (ms : List Message) (new count : ℕ) (new_known : ℕ) (new_slots : List Slot)
+pub handed_view : (session : Session) (next known : ℕ) (ended : Option ℕ) (slots : List Slot) (n top : ℕ)
+    (ms : List Message) (new count : ℕ) (new_known : ℕ) (new_slots : List Slot)
     → IsWellFormed (view_over session next known ended slots) → n ≤ next → next < top → n + length ms ≡ top
     → new ≡ next + length (run_of slots next n top ms) → count ≡ min (new - next) (length slots)
     → new_known ≡ max known top → new_slots ≡ drop count slots ++ replicate count None
@@ -333,12 +350,14 @@ handed_view session next known ended slots n top ms new count new_known new_slot
     (λ i. view_over session new (knows i) ended (moved i)) ∙ sym (at_view session next known ended slots n top ms new count well low high tops is counted)
 
 -- a run is no longer than the packet and the slots
-pub run_few : (slots : List Slot) (next n top : ℕ) (ms : List Message) → n ≤ next → next < top → n + length ms ≡ top → length (run_of slots next n top ms) ≤ length ms + length slots
+pub run_few : (slots : List Slot) (next n top : ℕ) (ms : List Message) → n ≤ next → next < top → n + length ms ≡ top →
+    length (run_of slots next n top ms) ≤ length ms + length slots
 run_few slots next n top ms low high tops =
     omega (arith, length-run_of slots next n top ms low high tops, tops, run_short (slot_at slots) (top - next) (length slots - (top - next)))
 
 -- what is stored has a number below the last
-pub slot_numbers : (session : Session) (next known : ℕ) (ended : Option ℕ) (slots : List Slot) → IsWellFormed (view_over session next known ended slots)
+pub slot_numbers : (session : Session) (next known : ℕ) (ended : Option ℕ) (slots : List Slot) →
+    IsWellFormed (view_over session next known ended slots)
     → (i : ℕ) (m : Message) → slot_at slots i ≡ Some m → next + i + 1 < 2 ^ 64
 slot_numbers session next known ended slots well i m is =
     let place : next + i - next ≡ i = omega arith in
@@ -350,7 +369,8 @@ pub empty_store : (next n : ℕ) → store_of next (replicate n None) ≡ finite
 empty_store next zero = refl
 empty_store next (suc n) = empty_store (suc next) n
 
-pub fresh_well : (session : Session) (next n : ℕ) → 1 ≤ next → next < 2 ^ 64 → IsWellFormed (view_over session next next None (replicate n None))
+pub fresh_well : (session : Session) (next n : ℕ) → 1 ≤ next → next < 2 ^ 64 →
+    IsWellFormed (view_over session next next None (replicate n None))
 fresh_well session next n first last = record {
   first = first;
   ahead = omega arith;
@@ -360,7 +380,8 @@ fresh_well session next n first last = record {
 }
 
 -- where the packet ends at or below `next`, or has no messages, nothing of it is at or above `next`
-pub nothing_there : (next n : ℕ) (ms : List Message) → (n + length ms ≤ next) ⊎ (ms ≡ []) → (q : ℕ) → next ≤ q → message_at n ms q ≡ None
+pub nothing_there : (next n : ℕ) (ms : List Message) → (n + length ms ≤ next) ⊎ (ms ≡ []) → (q : ℕ) → next ≤ q →
+    message_at n ms q ≡ None
 nothing_there next n ms (inl below) q low = message_past n ms q (omega arith)
 nothing_there next n ms (inr none) q low =
     elim (cases_lt q n) [
@@ -368,15 +389,18 @@ nothing_there next n ms (inr none) q low =
       | inr above ↦ message_within n ms q above ∙ ap (λ (t : List Message). slice_get t (q - n)) none
     ]
 
-pub nothing_beyond : (next n window : ℕ) (ms : List Message) → (n + length ms ≤ next) ⊎ (ms ≡ []) → count_beyond (next + window) (numbered n ms) ≡ 0
+pub nothing_beyond : (next n window : ℕ) (ms : List Message) → (n + length ms ≤ next) ⊎ (ms ≡ []) →
+    count_beyond (next + window) (numbered n ms) ≡ 0
 nothing_beyond next n window ms (inl below) = count_from (next + window) n ms ∙ (let e : n + length ms - max n (next + window) ≡ 0 = omega arith in e)
 nothing_beyond next n window ms (inr none) = ap (λ (t : List Message). count_beyond (next + window) (numbered n t)) none
 
-pub none_handed : (v : View) (n : ℕ) (ms : List Message) → IsWellFormed v → (n + length ms ≤ v.next) ⊎ (ms ≡ []) → handed_on v n ms ≡ []
+pub none_handed : (v : View) (n : ℕ) (ms : List Message) → IsWellFormed v → (n + length ms ≤ v.next) ⊎ (ms ≡ []) →
+    handed_on v n ms ≡ []
 none_handed v n ms well nothing = nothing_handed v.store v.next v.window (max v.known (n + length ms) - v.next) n ms (between_of v well) (nothing_there v.next n ms nothing)
 
 -- a packet wholly below `next` meets no conflict, and none does where nothing is stored
-pub below_no_conflict : (s : Store) (next n : ℕ) (ms : List Message) → n + length ms ≤ next → first_conflict s (from_next next n ms) ≡ None
+pub below_no_conflict : (s : Store) (next n : ℕ) (ms : List Message) → n + length ms ≤ next →
+    first_conflict s (from_next next n ms) ≡ None
 below_no_conflict s next n [] below = refl
 below_no_conflict s next n (m ∷ ms) below =
     ap (first_conflict s) (cond-false (leb next n) ((n, m) ∷ from_next next (suc n) ms) (from_next next (suc n) ms) (lt-leb next n (omega arith)))
@@ -392,17 +416,20 @@ pub none_held : (next : ℕ) (slots : List Slot) → count_held slots ≡ 0 → 
 none_held next slots none = finite.empty_of_len (store_of next slots) (len-slots next slots ∙ none)
 
 -- the refusals in their order
-first_before : (refusals : List (Option Refused)) (last : Option Refused) → first_some refusals ≡ None → first_some (refusals ++ last ∷ []) ≡ first_some (last ∷ [])
+first_before : (refusals : List (Option Refused)) (last : Option Refused) → first_some refusals ≡ None →
+    first_some (refusals ++ last ∷ []) ≡ first_some (last ∷ [])
 first_before [] last none = refl
 first_before (None ∷ refusals) last none = first_before refusals last none
 first_before (Some r ∷ refusals) last none = absurd (none_some (sym none))
 
-first_found : (refusals : List (Option Refused)) (last : Option Refused) (r : Refused) → first_some refusals ≡ Some r → first_some (refusals ++ last ∷ []) ≡ Some r
+first_found : (refusals : List (Option Refused)) (last : Option Refused) (r : Refused) →
+    first_some refusals ≡ Some r → first_some (refusals ++ last ∷ []) ≡ Some r
 first_found [] last r found = absurd (none_some found)
 first_found (None ∷ refusals) last r found = first_found refusals last r found
 first_found (Some x ∷ refusals) last r found = found
 
-pub refused_by_header : (v : View) (p : Packet) (r : Refused) → first_some (header_refusals v.session v.known v.ended p) ≡ Some r → first_some (refusals v p) ≡ Some r
+pub refused_by_header : (v : View) (p : Packet) (r : Refused) →
+    first_some (header_refusals v.session v.known v.ended p) ≡ Some r → first_some (refusals v p) ≡ Some r
 refused_by_header v p r found = first_found (header_refusals v.session v.known v.ended p) (conflict v p.sequence (messages_of p.body)) r found
 
 pub refused_by_conflict : (v : View) (p : Packet) → first_some (header_refusals v.session v.known v.ended p) ≡ None
@@ -423,7 +450,8 @@ pub above_handed : (v : View) (n : ℕ) (ms : List Message) → IsWellFormed v �
 above_handed v n ms well above = ahead_handed v.store v.next v.window (max v.known (n + length ms) - v.next) n ms (between_of v well) above
 
 -- a packet that has the message `next` hands something on
-pub some_handed : (session : Session) (next known : ℕ) (ended : Option ℕ) (slots : List Slot) (n top : ℕ) (ms : List Message)
+pub some_handed : (session : Session) (next known : ℕ) (ended : Option ℕ) (slots : List Slot) (n top : ℕ)
+    (ms : List Message)
     → IsWellFormed (view_over session next known ended slots) → n ≤ next → next < top → n + length ms ≡ top
     → 0 < next + length (handed_on (view_over session next known ended slots) n ms) - next
 some_handed session next known ended slots n top ms well low high tops =

@@ -19,7 +19,8 @@ lacking_short look number (suc most) =
     ]
 
 -- as long as no number has a message, the gap goes on
-pub lacking_long : (look : ℕ → Option Message) (number most count : ℕ) → count ≤ most → ((i : ℕ) → i < count → look (number + i) ≡ None) → count ≤ lacking_run look number most
+pub lacking_long : (look : ℕ → Option Message) (number most count : ℕ) → count ≤ most →
+    ((i : ℕ) → i < count → look (number + i) ≡ None) → count ≤ lacking_run look number most
 unfolding lacking_run
 lacking_long look number zero count few none = omega (arith, few)
 lacking_long look number (suc most) zero few none = omega arith
@@ -30,7 +31,8 @@ lacking_long look number (suc most) (suc count) few none =
     subst (λ (n : ℕ). suc count ≤ n) (sym (ap (λ (o : Option Message). cond (is_some o) 0 (suc (lacking_run look (suc number) most))) empty)) (omega (arith, rest))
 
 -- and it ends where one has
-pub lacking_ends : (look : ℕ → Option Message) (number most count : ℕ) → count ≤ most → is_some (look (number + count)) ≡ true → lacking_run look number most ≤ count
+pub lacking_ends : (look : ℕ → Option Message) (number most count : ℕ) → count ≤ most →
+    is_some (look (number + count)) ≡ true → lacking_run look number most ≤ count
 unfolding lacking_run
 lacking_ends look number zero count few some = omega arith
 lacking_ends look number (suc most) zero few some =
@@ -45,7 +47,8 @@ lacking_ends look number (suc most) (suc count) few some =
     ]
 
 -- the lesser of a bound and the gap is what the search among so many slots finds
-pub gap_found : (next known bound : ℕ) (slots : List Slot) (slot : ℕ) → IsFirstHeld slots (min (known - next) bound) slot
+pub gap_found : (next known bound : ℕ) (slots : List Slot) (slot : ℕ) →
+    IsFirstHeld slots (min (known - next) bound) slot
     → min bound (next + lacking_run (finite.get (store_of next slots)) next (known - next) - next) ≡ slot
 gap_found next known bound slots slot first =
     let look = finite.get (store_of next slots) in

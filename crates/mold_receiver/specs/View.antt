@@ -35,7 +35,8 @@ pub record IsWellFormed (v : View) : Type 0 where
   pub first : 1 ≤ v.next
   pub ahead : v.next ≤ v.known
   pub last : v.known < 2 ^ 64
-  pub stored : (number : ℕ) (message : Message) → finite.get v.store number ≡ Some message → (v.next < number) × (number < v.next + v.window) × (number < v.known)
+  pub stored : (number : ℕ) (message : Message) → finite.get v.store number ≡ Some message →
+      (v.next < number) × (number < v.next + v.window) × (number < v.known)
   pub ends : (end : ℕ) → v.ended ≡ Some end → end ≡ v.known
 
 -- the view of a receiver that begins at `next`: nothing heard, nothing stored

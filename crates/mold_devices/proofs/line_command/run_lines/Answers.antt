@@ -32,7 +32,8 @@ returns-in_err-send-in-Err-clause-front g c =
     ∙ c.in-Err.ensures.kept
     in
     told_front _ _ _ _ _ _ _ c.turns.text.items c.turns.invariant.told
-    (subst (λ (t : List ℕ). AppendsFront (g.K.Sink.held c.turns.sink) (g.K.Sink.held c.send-in-Err.new.sink) t) restored c.send-in-Err.ensures.front)
+    (subst (λ (t : List ℕ). AppendsFront (g.K.Sink.held c.turns.sink) (g.K.Sink.held c.send-in-Err.new.sink) t)
+    restored c.send-in-Err.ensures.front)
 
 pub returns-in-Err-clause-front : goal.returns-in-Err-clause-front
 returns-in-Err-clause-front g c =
@@ -42,7 +43,8 @@ returns-in-Err-clause-front g c =
     ∙ c.in-Err.ensures.kept
     in
     told_front _ _ _ _ _ _ _ c.turns.text.items c.turns.invariant.told
-    (subst (λ (t : List ℕ). AppendsFront (g.K.Sink.held c.turns.sink) (g.K.Sink.held c.send-in-Err.new.sink) t) restored c.send-in-Err.ensures.front)
+    (subst (λ (t : List ℕ). AppendsFront (g.K.Sink.held c.turns.sink) (g.K.Sink.held c.send-in-Err.new.sink) t)
+    restored c.send-in-Err.ensures.front)
 
 pub turns-preserved-in-Continue-branch-4 : goal.turns-preserved-in-Continue-branch-4
 turns-preserved-in-Continue-branch-4 g c = record {

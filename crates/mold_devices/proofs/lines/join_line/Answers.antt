@@ -35,7 +35,8 @@ returns-in-Some-clause-line g c =
     in
     let behind : drop (at + 1) piece ≡ c.skip.new.self = sym c.skip.ensures in
     let line : joined ++ take at piece ≡ c.extend_from_slice-in-Some.new.self.items =
-    ap (λ (t : List ℕ). joined ++ take at t) (sym c.rest-in-Some.ensures.value) ∙ sym c.in_ok-extend_from_slice-2.ensures.items
+    ap (λ (t : List ℕ). joined ++ take at t) (sym c.rest-in-Some.ensures.value)
+    ∙ sym c.in_ok-extend_from_slice-2.ensures.items
     in
     subst (λ (t : List ℕ). GivesLine old (prepend_known c.skip.new.self new) true t) line
     (subst (λ (t : List ℕ). GivesLine old (prepend_known t new) true (joined ++ take at piece)) behind whole)

@@ -9,7 +9,8 @@ invariant-pieces g l = record {
   read : Consumes (prepend_known l.fn.piece (g.S.Source.left l.fn.source)) (g.S.Source.left l.source) l.joined.items;
   no_end : HasNoEnd l.joined.items;
   lower : g.S.Source.bound l.source ≤ g.S.Source.bound l.fn.source;
-  work : 0 < length l.joined.items → g.S.Source.bound l.source * 65537 < work_left (g.S.Source.bound l.fn.source) l.fn.piece;
+  work : 0 < length l.joined.items →
+      g.S.Source.bound l.source * 65537 < work_left (g.S.Source.bound l.fn.source) l.fn.piece;
   failures : g.S.Source.failed l.source ≡ g.S.Source.failed l.fn.source;
 }
 

@@ -5,7 +5,8 @@ use Rattle.std.proofs.KnownBytes.{Appends-trans}
 use Rattle.mold_devices.proofs.sink.write_all.Goals as goal
 
 -- a front of the rest that joins what is done leaves the rest behind it
-moved : (all done rest : List ℕ) (n : ℕ) → all ≡ done ++ rest → all ≡ (done ++ take n rest) ++ take (length rest - n) (drop n rest)
+moved : (all done rest : List ℕ) (n : ℕ) → all ≡ done ++ rest →
+    all ≡ (done ++ take n rest) ++ take (length rest - n) (drop n rest)
 moved all done rest n e =
     e ∙ ap (λ l. done ++ l) (sym (take-append-drop n rest) ∙ ap (λ l. take n rest ++ l) (sym (take_rest rest n)))
     ∙ sym (append_assoc done (take n rest) (take (length rest - n) (drop n rest)))

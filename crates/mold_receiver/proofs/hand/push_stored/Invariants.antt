@@ -5,7 +5,8 @@ use Rattle.mold_receiver.proofs.hand.push_stored.Given as goal
 
 abbrev pub invariant-loop-message : goal.invariant-loop-message
 invariant-loop-message l = record {
-  handing : IsHanding l.fn.batch l.batch (l.next + l.start) (l.next + l.end) (run_in l.slots l.end) (run_in l.slots l.start);
+  handing :
+      IsHanding l.fn.batch l.batch (l.next + l.start) (l.next + l.end) (run_in l.slots l.end) (run_in l.slots l.start);
   fits : l.next + l.end < 2 ^ 64;
 }
 

@@ -11,7 +11,9 @@ returns-in-Some-memchr-clause-line g c =
     let known = g.S.Source.left c.args.source.now in
     let piece = c.match-self.self-inside.piece in
     let at = c.in-Some-memchr.at in
-    let shown : c.args.self.now.rest ≡ rest_in c.self.inside.inside c.self.inside.piece = sym (ap (λ (s : LineState). s.rest) c.self.view_is) in
+    let shown : c.args.self.now.rest ≡ rest_in c.self.inside.inside c.self.inside.piece =
+    sym (ap (λ (s : LineState). s.rest) c.self.view_is)
+    in
     let same : c.args.self.now.rest ≡ piece =
     elim c.match-self.branch [
       | in-Some w ↦
@@ -25,5 +27,6 @@ returns-in-Some-memchr-clause-line g c =
           ∙ sym (ap (λ (l : Inside). l.piece) w.self-inside-is)
     ]
     in
-    subst (λ (t : List ℕ). GivesLine (prepend_known t known) (prepend_known (drop (at + 1) piece) known) true (take at piece)) (sym same)
+    let behind = prepend_known (drop (at + 1) piece) known in
+    subst (λ (t : List ℕ). GivesLine (prepend_known t known) behind true (take at piece)) (sym same)
     (gives_read known piece at (found_end c.rest.result.now piece at c.rest.ensures.value c.in-Some-memchr.ensures))

@@ -10,6 +10,13 @@ returns c =
     let end = c.self.inside.end in
     let is = ap (λ (t : List ℕ). length t) c.self.view_is in
     let within : c.args.n + start ≤ end =
-    omega (arith, is, c.requires, length-take (end - start) (drop start bytes), length-drop start bytes, c.self.invariant)
+    omega (
+      arith,
+      is,
+      c.requires,
+      length-take (end - start) (drop start bytes),
+      length-drop start bytes,
+      c.self.invariant,
+    )
     in
     skipped bytes start end c.args.n within ∙ ap (drop c.args.n) c.self.view_is

@@ -8,7 +8,8 @@ use Rattle.mold_receiver.proofs.ViewLemmas.{nothing_there, nothing_beyond, nothi
 use Rattle.mold_receiver.proofs.receiver.Receiver.note.Goals as goal
 
 -- at the fields, where the packet ends by its own numbers
-at_fields : (n top next : ℕ) (ms : List Message) → n + length ms ≡ top → (top ≤ next) ⊎ (ms ≡ []) → (n + length ms ≤ next) ⊎ (ms ≡ [])
+at_fields : (n top next : ℕ) (ms : List Message) → n + length ms ≡ top → (top ≤ next) ⊎ (ms ≡ []) →
+    (n + length ms ≤ next) ⊎ (ms ≡ [])
 at_fields n top next ms tops (inl below) = inl (omega (arith, tops, below))
 at_fields n top next ms tops (inr none) = inr none
 
