@@ -1,19 +1,16 @@
 -- The three cases of a packet that is taken, each with what the new store looks up.
-use Rattle.std.proofs.Common.{◌≡◌, ℕ, zero, suc, ◌+◌, ◌-◌, ◌<◌, ◌≤◌, ◌^◌, max, Bool, true, false, not, cond, eqb, leb, ltb, ◌&&◌, List, [], ◌∷◌, ◌++◌, length, length-append, length-drop, take, drop, get_or, refl, sym, ap, subst, ◌∙◌, inl, inr, ◌⊎◌, arith, nat_cmp, nat_le, nat_lt}
+use Rattle.std.proofs.Common.{◌≡◌, ℕ, zero, suc, ◌+◌, ◌-◌, ◌<◌, ◌≤◌, false, cond, eqb, leb, ltb, ◌&&◌, List, [], ◌∷◌, ◌++◌, length, length-append, length-drop, drop, refl, sym, ap, subst, ◌∙◌, inl, inr, arith}
 use Rattle.std.specs.Prelude.{Option, None, Some, is_some, is_none, slice_get}
-use Rattle.std.specs.List.{filter}
 use Rattle.std.specs.Map.{lookup}
 use Rattle.std.specs.FinMap as finite
 use Rattle.std.specs.Str.{bytes_eq}
 use Rattle.std.specs.Option.{option_or}
-use Rattle.std.proofs.lemmas.Bool.{true≢false, cases_eq, cases_order, cases_lt, cases_Bool, cond-true, cond-false, le-leb, lt-leb, lt-ltb, le-ltb, leb-true, leb-false, ltb-true, ltb-false, and_from, and_parts, and_left, and_right, not-false, eqb-true}
+use Rattle.std.proofs.lemmas.Bool.{cases_order, cases_lt, cases_Bool, cond-true, cond-false, le-leb, lt-ltb, le-ltb, and_left, not-false, eqb-true}
 use Rattle.std.proofs.lemmas.Slice.Eq.{bytes_eq-Decides}
-use Rattle.std.proofs.lemmas.Option.{slice_get_past, slice_get_within, slice_get-get_or}
 use Rattle.mold_receiver.specs.Store.{Message, Store, numbered, from_next, available, run_from, cut, differs, first_conflict}
-use Rattle.mold_receiver.specs.Receive.{count_kept, count_beyond}
-use Rattle.mold_receiver.specs.View.{View, IsWellFormed}
-use Rattle.mold_receiver.proofs.StoreLemmas.{message_at, get-available, get-cut, same_store, run_is, run_had, none_some, lookup-from_next}
-use Rattle.mold_receiver.proofs.RuleLemmas.{IsBetween, none_unless, option_or-none, message_below, message_past, message_within, message_bounds, available_from, available_nothing, cut_is, stored_none, stored_past, count_same, count_none, count_from}
+use Rattle.mold_receiver.specs.Receive.{count_kept}
+use Rattle.mold_receiver.proofs.StoreLemmas.{message_at, run_is, none_some, lookup-from_next}
+use Rattle.mold_receiver.proofs.RuleLemmas.{IsBetween, message_below, message_past, message_within, message_bounds, available_from, available_nothing, cut_is, stored_none, count_none}
 
 -- nothing of the packet is at or above `next`: nothing is handed on, and the store stays
 pub nothing_handed : (s : Store) (next window most n : ℕ) (ms : List Message) → IsBetween s next window →

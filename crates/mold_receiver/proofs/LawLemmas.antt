@@ -1,22 +1,19 @@
 -- The laws, over the definitions alone.
-use Rattle.std.proofs.Common.{◌≡◌, ℕ, zero, suc, ◌+◌, ◌-◌, ◌<◌, ◌≤◌, ◌^◌, ◌⊎◌, max, min, Bool, true, false, cond, eqb, leb, ltb, ◌&&◌, List, [], ◌∷◌, ◌++◌, length, refl, sym, ap, subst, ◌∙◌, inl, inr, arith}
+use Rattle.std.proofs.Common.{◌≡◌, ℕ, zero, suc, ◌+◌, ◌-◌, ◌<◌, ◌^◌, ◌⊎◌, max, min, true, cond, eqb, ltb, ◌&&◌, List, refl, sym, ap, subst, ◌∙◌, inl, inr, arith}
 use Rattle.std.specs.Prelude.{Option, None, Some, Result, Ok, Err, is_some, slice_get}
 use Rattle.std.specs.FinMap as finite
-use Rattle.std.proofs.lemmas.Bool.{true≢false, cases_eq, cases_lt, cases_Bool, cond-true, cond-false, lt-ltb, le-ltb, ltb-true, eq-eqb, ne_eqb, and_parts}
+use Rattle.std.proofs.lemmas.Bool.{cases_eq, cases_lt, cases_Bool, cond-true, cond-false, lt-ltb, ltb-true, eq-eqb, ne_eqb, and_parts}
 use Rattle.mold_wire.specs.Packet.{messages_of, top_of}
 use Rattle.mold_wire.specs.Reading.{reading}
 use Rattle.mold_wire.specs.declared.packet.Packet.{Packet}
-use Rattle.mold_wire.specs.declared.packet.Body.{Body}
-use Rattle.mold_wire.specs.declared.packet.Body.TheVariants.{Data, Heartbeat, End}
 use Rattle.mold_wire.specs.declared.request.Request.{Request}
-use Rattle.mold_wire.specs.declared.error.DecodeError.{DecodeError}
 use Rattle.mold_receiver.specs.declared.refused.Refused.{Refused}
 use Rattle.mold_receiver.specs.Receive.{Reception, carried_at, decide, first_some, handed_on, past_last, receive, receive_read, reception, refusals, view_after}
-use Rattle.mold_receiver.specs.Store.{Message, Store, available, run_from, cut}
+use Rattle.mold_receiver.specs.Store.{Message, Store, available, cut}
 use Rattle.mold_receiver.specs.View.{View, IsWellFormed}
 use Rattle.mold_receiver.specs.Wanted.{IsGap, gap_end, lacking_run, wanted}
-use Rattle.mold_receiver.proofs.RuleLemmas.{available_cases, available_from, message_past, none_unless, message_bounds}
-use Rattle.mold_receiver.proofs.StoreLemmas.{get-cut, none_some, run_reads, run_ends, run_short}
+use Rattle.mold_receiver.proofs.RuleLemmas.{available_cases, none_unless, message_bounds}
+use Rattle.mold_receiver.proofs.StoreLemmas.{get-cut, none_some, run_reads, run_ends}
 use Rattle.mold_receiver.proofs.ViewLemmas.{stays_well, all_none}
 use Rattle.mold_receiver.proofs.WantedLemmas.{lacking_short, lacking_long, lacking_ends}
 

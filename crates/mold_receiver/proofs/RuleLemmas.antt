@@ -1,18 +1,15 @@
 -- What the receiving rule says in its three cases: nothing of the packet is at or above `next`, the packet
 -- begins above `next`, or it has the message `next`.
-use Rattle.std.proofs.Common.{◌≡◌, ℕ, zero, suc, ◌+◌, ◌-◌, ◌<◌, ◌≤◌, ◌^◌, max, Bool, true, false, not, cond, eqb, leb, ltb, ◌&&◌, List, [], ◌∷◌, ◌++◌, length, length-append, length-drop, take, drop, get_or, refl, sym, ap, subst, ◌∙◌, inl, inr, ◌⊎◌, arith, nat_cmp, nat_le, nat_lt}
-use Rattle.std.specs.Prelude.{Option, None, Some, is_some, is_none, slice_get}
+use Rattle.std.proofs.Common.{◌≡◌, ℕ, suc, ◌+◌, ◌-◌, ◌<◌, ◌≤◌, max, Bool, false, leb, ltb, ◌&&◌, List, [], ◌∷◌, length, refl, sym, ap, ◌∙◌, inl, inr, ◌⊎◌, arith, nat_le}
+use Rattle.std.specs.Prelude.{Option, None, Some, slice_get}
 use Rattle.std.specs.List.{filter}
-use Rattle.std.specs.Map.{lookup}
 use Rattle.std.specs.FinMap as finite
-use Rattle.std.specs.Str.{bytes_eq}
 use Rattle.std.specs.Option.{option_or}
-use Rattle.std.proofs.lemmas.Bool.{true≢false, cases_eq, cases_order, cases_lt, cases_Bool, cond-true, cond-false, le-leb, lt-leb, lt-ltb, le-ltb, eq-eqb, ne_eqb, leb-true, leb-false, ltb-true, ltb-false, and_from, and_parts, and_left, and_right}
+use Rattle.std.proofs.lemmas.Bool.{true≢false, cases_lt, cases_Bool, cond-true, cond-false, le-leb, lt-leb, lt-ltb, ltb-true, and_from, and_parts}
 use Rattle.std.proofs.lemmas.Option.{slice_get_past, slice_get_within}
-use Rattle.mold_receiver.specs.Store.{Message, Store, numbered, from_next, available, run_from, cut, differs, first_conflict}
-use Rattle.mold_receiver.specs.Receive.{count_kept, count_beyond}
-use Rattle.mold_receiver.specs.View.{View, IsWellFormed}
-use Rattle.mold_receiver.proofs.StoreLemmas.{message_at, get-available, get-cut, same_store, run_is, none_some}
+use Rattle.mold_receiver.specs.Store.{Message, Store, numbered, available, cut}
+use Rattle.mold_receiver.specs.Receive.{count_beyond}
+use Rattle.mold_receiver.proofs.StoreLemmas.{message_at, get-available, get-cut, same_store, none_some}
 
 -- what is stored lies between `next` and the window's end
 abbrev pub IsBetween : Store → ℕ → ℕ → Type 0

@@ -1,16 +1,16 @@
 -- Slots and the store that they hold.
-use Rattle.std.proofs.Common.{◌≡◌, ℕ, zero, suc, ◌+◌, ◌-◌, ◌<◌, ◌≤◌, Bool, true, false, cond, eqb, leb, ltb, ◌&&◌, List, [], ◌∷◌, ◌++◌, length, length-append, take, drop, replicate, slice_set, append_assoc, refl, sym, ap, subst, ◌∙◌, inl, inr, arith, nat_cmp}
+use Rattle.std.proofs.Common.{◌≡◌, ℕ, zero, suc, ◌+◌, ◌-◌, ◌<◌, ◌≤◌, Bool, true, false, cond, eqb, leb, ◌&&◌, List, [], ◌∷◌, ◌++◌, length, length-append, drop, replicate, slice_set, append_assoc, refl, sym, ap, subst, ◌∙◌, inl, inr, arith, nat_cmp}
 use Rattle.std.specs.Prelude.{Option, None, Some, is_some, slice_get, map}
 use Rattle.std.specs.Cmp.{nat_cmp_total}
 use Rattle.std.specs.Map.{lookup}
 use Rattle.std.specs.FinMap as finite
 use Rattle.std.specs.Option.{option_flatten, option_map}
-use Rattle.std.proofs.lemmas.Bool.{cases_eq, cases_order, cases_lt, cases_Bool, cond-true, cond-false, le-leb, lt-leb, lt-ltb, le-ltb, eq-eqb, ne_eqb}
+use Rattle.std.proofs.lemmas.Bool.{cases_eq, cases_order, cases_Bool, cond-true, cond-false, le-leb, lt-leb, eq-eqb, ne_eqb}
 use Rattle.std.proofs.lemmas.Option.{slice_get_past}
 use Rattle.std.proofs.lemmas.List.{length-replicate, length-set, length-drop, drop-drop, drop-append-le, replicate_more}
-use Rattle.mold_receiver.specs.Store.{Message, Store, differs}
+use Rattle.mold_receiver.specs.Store.{Message, differs}
 use Rattle.mold_receiver.specs.Slots.{Slot, slot_at, slot_entries, store_of, count_held, AreSlots}
-use Rattle.mold_receiver.proofs.StoreLemmas.{get_made, none_some}
+use Rattle.mold_receiver.proofs.StoreLemmas.{get_made}
 
 pub count_within : (slots : List Slot) → count_held slots ≤ length slots
 count_within [] = omega arith

@@ -1,28 +1,27 @@
 -- What becomes of a view over slots in each of the three cases.
-use Rattle.std.proofs.Common.{◌≡◌, ℕ, zero, suc, ◌+◌, ◌-◌, ◌<◌, ◌≤◌, ◌^◌, max, min, Bool, true, false, not, cond, eqb, leb, ltb, ◌&&◌, List, [], ◌∷◌, ◌++◌, length, length-append, length-drop, take, drop, replicate, get_or, refl, sym, ap, subst, ◌∙◌, inl, inr, ◌⊎◌, arith, nat_cmp, nat_le, nat_lt}
+use Rattle.std.proofs.Common.{◌≡◌, ℕ, zero, suc, ◌+◌, ◌-◌, ◌<◌, ◌≤◌, ◌^◌, max, min, Bool, true, false, cond, leb, ltb, ◌&&◌, List, [], ◌∷◌, ◌++◌, length, length-append, length-drop, drop, replicate, get_or, refl, sym, ap, subst, ◌∙◌, inl, inr, ◌⊎◌, arith, nat_cmp}
 use Rattle.std.specs.Prelude.{Option, None, Some, is_some, is_none, slice_get}
 use Rattle.std.specs.List.{filter}
 use Rattle.std.specs.FinMap as finite
 use Rattle.std.specs.Option.{option_or}
-use Rattle.std.proofs.lemmas.Bool.{cases_eq, cases_order, cases_lt, cases_Bool, cond-true, cond-false, le-leb, lt-leb, lt-ltb, le-ltb, leb-true, ltb-true, and_from, and_parts}
+use Rattle.std.proofs.lemmas.Bool.{cases_eq, cases_lt, cases_Bool, cond-true, cond-false, le-leb, lt-leb, lt-ltb, le-ltb, ltb-true, and_parts}
 use Rattle.std.proofs.lemmas.List.{length-replicate}
-use Rattle.std.proofs.lemmas.Option.{slice_get_past, slice_get_within, slice_get-get_or}
+use Rattle.std.proofs.lemmas.Option.{slice_get-get_or}
 use Rattle.mold_wire.specs.Packet.{messages_of, top_of}
 use Rattle.mold_wire.specs.declared.packet.Packet.{Packet}
 use Rattle.mold_wire.specs.declared.packet.Body.{Body}
 use Rattle.mold_wire.specs.declared.packet.Body.TheVariants.{Data, Heartbeat, End}
 use Rattle.mold_wire.specs.declared.session.Session.{Session}
-use Rattle.mold_receiver.specs.declared.taken.Taken.{Taken}
 use Rattle.mold_receiver.specs.declared.refused.Refused.{Refused}
 use Rattle.mold_receiver.specs.Handing.{run_in, run_of}
 use Rattle.mold_receiver.specs.Keeping.{is_fresh, fresh, put_pairs}
-use Rattle.mold_receiver.specs.Receive.{refuse_if, refusals, header_refusals, conflict, end_below, past_end, first_some, handed_on, count_kept, count_beyond, ended_after, view_at, view_after, taken_of, data_packet}
+use Rattle.mold_receiver.specs.Receive.{refusals, header_refusals, conflict, end_below, past_end, first_some, handed_on, count_kept, count_beyond, ended_after, view_at, view_after, taken_of, data_packet}
 use Rattle.mold_receiver.specs.Slots.{Slot, slot_at, store_of, count_held}
-use Rattle.mold_receiver.specs.Store.{Message, Store, differs, numbered, from_next, available, run_from, cut, first_conflict}
+use Rattle.mold_receiver.specs.Store.{Message, Store, differs, numbered, from_next, available, cut, first_conflict}
 use Rattle.mold_receiver.specs.View.{View, IsWellFormed, view_over}
 use Rattle.mold_receiver.proofs.CaseLemmas.{nothing_handed, nothing_stored, nothing_kept, ahead_handed, ahead_stored, at_handed, at_stored, at_kept}
 use Rattle.mold_receiver.proofs.KeepLemmas.{slot_fresh, length-put_pairs}
-use Rattle.mold_receiver.proofs.RuleLemmas.{IsBetween, none_unless, option_or-none, message_below, message_past, message_within, message_bounds, available_cases, count_same, count_none, count_from}
+use Rattle.mold_receiver.proofs.RuleLemmas.{IsBetween, message_below, message_past, message_within, message_bounds, available_cases, count_same, count_from}
 use Rattle.mold_receiver.proofs.SlotLemmas.{get-slots, len-slots, slot_past, slot_moved}
 use Rattle.mold_receiver.proofs.StoreLemmas.{message_at, get-cut, none_some, run_reads, run_ends, run_short}
 

@@ -1,12 +1,10 @@
 -- How long the gap at `next` is.
-use Rattle.std.proofs.Common.{◌≡◌, ℕ, zero, suc, ◌+◌, ◌-◌, ◌<◌, ◌≤◌, ◌⊎◌, min, Bool, true, false, cond, List, [], ◌∷◌, length, refl, sym, ap, subst, ◌∙◌, inl, inr, arith}
+use Rattle.std.proofs.Common.{◌≡◌, ℕ, zero, suc, ◌+◌, ◌-◌, ◌<◌, ◌≤◌, min, Bool, true, cond, List, sym, ap, subst, ◌∙◌, inl, inr, arith}
 use Rattle.std.specs.Prelude.{Option, None, Some, is_some}
 use Rattle.std.specs.FinMap as finite
-use Rattle.std.proofs.lemmas.Bool.{true≢false, cases_eq, cases_lt}
 use Rattle.mold_receiver.specs.Slots.{Slot, slot_at, store_of, IsFirstHeld}
-use Rattle.mold_receiver.specs.Store.{Message, Store}
+use Rattle.mold_receiver.specs.Store.{Message}
 use Rattle.mold_receiver.specs.Wanted.{lacking_run}
-use Rattle.mold_receiver.proofs.StoreLemmas.{none_some}
 use Rattle.mold_receiver.proofs.ViewLemmas.{get_from}
 
 pub lacking_short : (look : ℕ → Option Message) (number most : ℕ) → lacking_run look number most ≤ most

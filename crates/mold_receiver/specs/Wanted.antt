@@ -1,5 +1,5 @@
 -- What a receiver asks for, and how much it lacks.
-use Rattle.std.specs.Prelude.{◌≡◌, true, ℕ, zero, suc, ◌+◌, ◌-◌, ◌<◌, ◌≤◌, ◌⊎◌, min, List, Option, None, Some, is_some, ◌==◌, if◌then◌else◌}
+use Rattle.std.specs.Prelude.{◌≡◌, true, ℕ, zero, suc, ◌+◌, ◌-◌, ◌<◌, ◌≤◌, ◌⊎◌, min, Option, None, Some, is_some, ◌==◌, if◌then◌else◌}
 use Rattle.std.specs.FinMap as finite
 use Rattle.mold_wire.specs.declared.request.Request.{Request}
 use Rattle.mold_receiver.specs.Store.{Message}

@@ -1,4 +1,4 @@
-use Rattle.std.proofs.Common.{◌≡◌, ℕ, ◌≤◌, sym, ap, ◌∙◌, arith}
+use Rattle.std.proofs.Common.{sym, ◌∙◌, arith}
 use Rattle.mold_wire.specs.Packet.{messages_of}
 use Rattle.mold_receiver.specs.Slots.{store_of}
 use Rattle.mold_receiver.specs.Store.{from_next}

@@ -1,5 +1,4 @@
-use Rattle.std.proofs.Common.{◌≡◌, ℕ, sym, ap, ◌∙◌, Option}
-use Rattle.std.specs.Option.{option_copied}
+use Rattle.std.proofs.Common.{sym, ap, ◌∙◌, Option}
 use Rattle.mold_receiver.specs.Store.{Message, differs}
 use Rattle.mold_receiver.proofs.SlotLemmas.{conflict_is}
 use Rattle.mold_receiver.proofs.conflict.is_conflict.Goals as goal

@@ -1,6 +1,6 @@
-use Rattle.std.proofs.Common.{◌≡◌, ℕ, ◌+◌, ◌-◌, arith, max, List, ◌∷◌, drop, length, ap, subst}
+use Rattle.std.proofs.Common.{◌≡◌, ◌-◌, arith, max, List, ◌∷◌, drop, length, ap, subst}
 use Rattle.mold_receiver.specs.Store.{Message}
-use Rattle.mold_receiver.proofs.BatchLemmas.{IsHanding, handing_from, handing_begins, handing_ends, handing_follows}
+use Rattle.mold_receiver.proofs.BatchLemmas.{IsHanding, handing_from, handing_follows}
 use Rattle.mold_receiver.proofs.hand.push_messages.Goals as goal
 
 pub push_from-requires-clause-follows : goal.push_from-requires-clause-follows

@@ -1,8 +1,6 @@
-use Rattle.std.proofs.Common.{◌≡◌, ℕ, ◌+◌, ◌-◌, sym, ap, subst, ◌∙◌, arith, List, length, length-drop, drop}
+use Rattle.std.proofs.Common.{◌≡◌, ℕ, ◌+◌, ◌-◌, sym, subst, arith, length, length-drop, drop}
 use Rattle.std.specs.Prelude.{Result, Ok, Err, OnErr}
 use Rattle.mold_receiver.specs.Batch.{Handed, Follows, followed_by}
-use Rattle.mold_receiver.specs.Handing.{Grew}
-use Rattle.mold_receiver.specs.Store.{Message}
 use Rattle.mold_receiver.proofs.BatchLemmas.{follows_after, grew_twice}
 use Rattle.mold_receiver.proofs.hand.push_run.Goals as goal
 

@@ -1,6 +1,5 @@
-use Rattle.std.proofs.Common.{◌≡◌, ℕ, suc, ◌+◌, sym, ap, subst, ◌∙◌, arith, List, [], ◌∷◌}
+use Rattle.std.proofs.Common.{◌≡◌, ℕ, suc, ◌+◌, sym, ap, subst, ◌∙◌, arith, List}
 use Rattle.std.specs.Option.{option_copied}
-use Rattle.mold_receiver.specs.Batch.{Handed}
 use Rattle.mold_receiver.specs.Handing.{run_in}
 use Rattle.mold_receiver.specs.Store.{Message}
 use Rattle.mold_receiver.proofs.BatchLemmas.{IsHanding, handing_one, handing_done, handing_length, run_more, run_none}

@@ -1,4 +1,4 @@
-use Rattle.std.proofs.Common.{◌≡◌, ◌<◌, ◌^◌, ◌+◌, ◌-◌, length}
+use Rattle.std.proofs.Common.{◌<◌, ◌^◌, ◌+◌, ◌-◌, length}
 use Rattle.mold_receiver.specs.Handing.{run_in}
 use Rattle.mold_receiver.proofs.BatchLemmas.{IsHanding}
 use Rattle.mold_receiver.proofs.hand.push_stored.Given as goal

@@ -1,4 +1,4 @@
-use Rattle.std.proofs.Common.{◌≡◌, ℕ, sym, ap, ◌∙◌, List, ◌++◌, ◌∷◌, []}
+use Rattle.std.proofs.Common.{sym, ap, ◌∙◌, List}
 use Rattle.mold_receiver.specs.declared.keep.Copied.{Copied}
 use Rattle.mold_receiver.specs.Keeping.{pairs_of, put_pairs}
 use Rattle.mold_receiver.specs.Slots.{Slot}

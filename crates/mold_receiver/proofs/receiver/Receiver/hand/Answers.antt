@@ -1,12 +1,10 @@
-use Rattle.std.proofs.Common.{◌≡◌, ℕ, ◌+◌, ◌-◌, ◌<◌, ◌≤◌, max, min, List, length, subst, sym, ap, ◌∙◌, arith, None, refl}
+use Rattle.std.proofs.Common.{◌≡◌, ◌+◌, ◌-◌, ◌<◌, ◌≤◌, min, length, subst, sym, ap, ◌∙◌, arith, None, refl}
 use Rattle.std.specs.Prelude.{Result, Ok, Err, OnErr}
 use Rattle.mold_wire.specs.declared.packet.Body.TheVariants.{Data}
 use Rattle.mold_receiver.specs.declared.taken.Taken.{Taken}
-use Rattle.mold_receiver.specs.Batch.{Handed, followed_by}
+use Rattle.mold_receiver.specs.Batch.{followed_by}
 use Rattle.mold_receiver.specs.Handing.{run_of}
 use Rattle.mold_receiver.specs.Receive.{data_packet, handed_on, past_end, view_after, taken_of}
-use Rattle.mold_receiver.specs.Slots.{Slot}
-use Rattle.mold_receiver.specs.Store.{Message}
 use Rattle.mold_receiver.specs.View.{View, IsWellFormed, view_over}
 use Rattle.mold_receiver.proofs.ViewLemmas.{stays_well, handed_view, at_run, at_taken, run_few, slot_numbers, some_handed}
 use Rattle.mold_receiver.proofs.receiver.Receiver.hand.Goals as goal

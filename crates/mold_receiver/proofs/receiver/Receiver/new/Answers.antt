@@ -1,4 +1,4 @@
-use Rattle.std.proofs.Common.{◌≡◌, ℕ, List, subst, sym, arith, None, replicate}
+use Rattle.std.proofs.Common.{List, subst, sym, arith, None}
 use Rattle.std.proofs.lemmas.List.{length-replicate}
 use Rattle.mold_receiver.specs.Slots.{Slot}
 use Rattle.mold_receiver.specs.View.{IsWellFormed, view_over}

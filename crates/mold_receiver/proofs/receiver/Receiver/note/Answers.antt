@@ -1,9 +1,9 @@
-use Rattle.std.proofs.Common.{◌≡◌, ℕ, ◌+◌, ◌<◌, ◌≤◌, ◌⊎◌, List, [], length, subst, sym, ap, ◌∙◌, arith, Option, None, inl, inr, max}
-use Rattle.mold_wire.specs.Packet.{messages_of, top_of}
+use Rattle.std.proofs.Common.{◌≡◌, ℕ, ◌+◌, ◌≤◌, ◌⊎◌, List, [], length, subst, sym, ◌∙◌, arith, inl, inr}
+use Rattle.mold_wire.specs.Packet.{messages_of}
 use Rattle.mold_receiver.specs.declared.taken.Taken.{Taken}
-use Rattle.mold_receiver.specs.Receive.{handed_on, ended_after, view_after, taken_of}
+use Rattle.mold_receiver.specs.Receive.{handed_on, view_after, taken_of}
 use Rattle.mold_receiver.specs.Store.{Message}
-use Rattle.mold_receiver.specs.View.{View, IsWellFormed, view_over}
+use Rattle.mold_receiver.specs.View.{View, view_over}
 use Rattle.mold_receiver.proofs.ViewLemmas.{nothing_there, nothing_beyond, nothing_view, nothing_taken, none_handed}
 use Rattle.mold_receiver.proofs.receiver.Receiver.note.Goals as goal
 

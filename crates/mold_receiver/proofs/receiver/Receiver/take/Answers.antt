@@ -1,8 +1,6 @@
-use Rattle.std.proofs.Common.{◌≡◌, ℕ, sym, ap, ◌∙◌, refl, subst, inl, Option}
-use Rattle.std.specs.Prelude.{Result, Ok}
+use Rattle.std.proofs.Common.{◌≡◌, sym, ap, ◌∙◌, refl, inl, Option}
+use Rattle.std.specs.Prelude.{Ok}
 use Rattle.mold_wire.specs.Reading.{reading}
-use Rattle.mold_wire.specs.declared.packet.Packet.{Packet}
-use Rattle.mold_wire.specs.declared.error.DecodeError.{DecodeError}
 use Rattle.mold_receiver.specs.declared.refused.Refused.{Refused}
 use Rattle.mold_receiver.specs.Receive.{receive_read, decide, reception}
 use Rattle.mold_receiver.proofs.receiver.Receiver.take.Goals as goal

@@ -1,8 +1,7 @@
-use Rattle.std.proofs.Common.{◌≡◌, ℕ, ◌+◌, ◌-◌, min, eqb, cond, sym, ap, ◌∙◌, subst, arith, Option, None, Some}
-use Rattle.std.specs.FinMap as finite
+use Rattle.std.proofs.Common.{◌≡◌, ℕ, ◌-◌, min, eqb, sym, ap, ◌∙◌, subst, Option, None, Some}
 use Rattle.std.proofs.lemmas.Bool.{cond-false, ne_eqb}
 use Rattle.mold_wire.specs.declared.request.Request.{Request}
-use Rattle.mold_receiver.specs.Slots.{store_of, IsFirstHeld}
+use Rattle.mold_receiver.specs.Slots.{IsFirstHeld}
 use Rattle.mold_receiver.specs.View.{View, view_over}
 use Rattle.mold_receiver.specs.Wanted.{wanted, gap_end}
 use Rattle.mold_receiver.proofs.WantedLemmas.{gap_found}

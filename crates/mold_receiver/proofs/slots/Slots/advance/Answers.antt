@@ -1,5 +1,5 @@
-use Rattle.std.proofs.Common.{◌≡◌, ℕ, ◌+◌, ◌-◌, ◌<◌, ◌++◌, ◌∷◌, [], length, drop, ap, sym, ◌∙◌, subst, cond, Bool, arith, Some, None, List}
-use Rattle.mold_receiver.specs.Slots.{Slot, slot_at, slots_of, AreSlots}
+use Rattle.std.proofs.Common.{◌≡◌, ℕ, ◌-◌, ◌++◌, ◌∷◌, [], drop, sym, ◌∙◌, subst, cond, Bool, arith, None}
+use Rattle.mold_receiver.specs.Slots.{slots_of, AreSlots}
 use Rattle.mold_receiver.proofs.SlotLemmas.{are_moved, moved_view, head_view}
 use Rattle.mold_receiver.proofs.slots.Slots.advance.Goals as goal
 

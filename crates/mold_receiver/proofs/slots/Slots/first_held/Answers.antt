@@ -1,5 +1,5 @@
-use Rattle.std.proofs.Common.{◌≡◌, ℕ, ◌≤◌, ◌<◌, refl, inl, sym, ap, ◌∙◌, subst, List, arith, None}
-use Rattle.mold_receiver.specs.Slots.{Slot, slot_at, IsFirstHeld, count_held}
+use Rattle.std.proofs.Common.{◌≡◌, refl, inl, sym, ap, ◌∙◌, List, arith}
+use Rattle.mold_receiver.specs.Slots.{Slot, count_held}
 use Rattle.mold_receiver.proofs.SlotLemmas.{all_empty}
 use Rattle.mold_receiver.proofs.slots.Slots.first_held.Goals as goal
 

@@ -1,5 +1,4 @@
-use Rattle.std.proofs.Common.{◌≡◌, ℕ, arith, Some, None, List, replicate, refl, Vec, Global}
-use Rattle.mold_receiver.specs.Slots.{Slot, slots_of, AreSlots}
+use Rattle.std.proofs.Common.{ℕ, refl, Vec, Global}
 use Rattle.mold_receiver.proofs.SlotLemmas.{are_empty, empty_view}
 use Rattle.mold_receiver.proofs.slots.Slots.new.Goals as goal
 

@@ -1,8 +1,8 @@
-use Rattle.std.proofs.Common.{◌≡◌, ℕ, ◌+◌, ◌<◌, ◌≤◌, length, slice_set, ap, sym, ◌∙◌, subst, arith, Bool, cond, Some, None, List}
+use Rattle.std.proofs.Common.{◌+◌, ◌<◌, length, slice_set, ap, ◌∙◌, arith, Bool, cond, Some, List}
 use Rattle.std.specs.Option.{option_map}
 use Rattle.std.proofs.lemmas.List.{map-set, length-map}
-use Rattle.mold_receiver.specs.Slots.{Slot, slot_at, slots_of, AreSlots}
-use Rattle.mold_receiver.proofs.SlotLemmas.{are_put, slot_view, put_past, count_within}
+use Rattle.mold_receiver.specs.Slots.{Slot, slots_of}
+use Rattle.mold_receiver.proofs.SlotLemmas.{are_put, slot_view, count_within}
 use Rattle.mold_receiver.proofs.slots.Slots.put.Goals as goal
 
 pub count_with-self-inside-requires : goal.count_with-self-inside-requires

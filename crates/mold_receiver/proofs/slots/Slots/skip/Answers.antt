@@ -1,4 +1,4 @@
-use Rattle.std.proofs.Common.{◌≡◌, ℕ, ◌+◌, ◌<◌, ◌++◌, ◌∷◌, [], drop, ap, ◌∙◌, arith, None, List}
+use Rattle.std.proofs.Common.{◌++◌, ◌∷◌, [], drop, ap, ◌∙◌, arith, None, List}
 use Rattle.mold_receiver.specs.Slots.{Slot}
 use Rattle.mold_receiver.proofs.SlotLemmas.{moved_more}
 use Rattle.mold_receiver.proofs.slots.Slots.skip.Goals as goal
