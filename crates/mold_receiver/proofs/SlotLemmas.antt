@@ -1,5 +1,5 @@
 -- Slots and the store that they hold.
-use Rattle.std.proofs.Common.{◌≡◌, ℕ, zero, suc, ◌+◌, ◌-◌, ◌<◌, ◌≤◌, Bool, true, false, cond, eqb, leb, ◌&&◌, List, [], ◌∷◌, ◌++◌, length, length-append, drop, replicate, slice_set, append_assoc, refl, sym, ap, subst, ◌∙◌, inl, inr, arith, nat_cmp}
+use Rattle.std.proofs.Common.{◌≡◌, ℕ, zero, suc, ◌+◌, ◌-◌, ◌<◌, ◌≤◌, ◌⊎◌, Bool, true, false, cond, eqb, leb, ◌&&◌, List, [], ◌∷◌, ◌++◌, length, length-append, drop, replicate, slice_set, append_assoc, refl, sym, ap, subst, ◌∙◌, inl, inr, arith, nat_cmp}
 use Rattle.std.specs.Prelude.{Option, None, Some, is_some, slice_get, map}
 use Rattle.std.specs.Cmp.{nat_cmp_total}
 use Rattle.std.specs.Map.{lookup}
@@ -7,7 +7,7 @@ use Rattle.std.specs.FinMap as finite
 use Rattle.std.specs.Option.{option_flatten, option_map}
 use Rattle.std.proofs.lemmas.Bool.{cases_eq, cases_order, cases_Bool, cond-true, cond-false, le-leb, lt-leb, eq-eqb, ne_eqb}
 use Rattle.std.proofs.lemmas.Option.{slice_get_past}
-use Rattle.std.proofs.lemmas.List.{length-replicate, length-set, length-drop, drop-drop, drop-append-le, replicate_more}
+use Rattle.std.proofs.lemmas.List.{length-replicate, length-set, length-drop, drop-drop, drop-append-le, replicate_more, drop-replicate, replicate-append-replicate}
 use Rattle.mold_receiver.specs.Store.{Message, differs}
 use Rattle.mold_receiver.specs.Slots.{Slot, slot_at, slot_entries, store_of, count_held, AreSlots}
 use Rattle.mold_receiver.proofs.StoreLemmas.{get_made}
@@ -118,28 +118,39 @@ pub count_empty : (n : ℕ) → count_held (replicate n None) ≡ 0
 count_empty zero = refl
 count_empty (suc n) = omega (arith, count_empty n)
 
+pub all_empty : (slots : List Slot) → count_held slots ≡ 0 → (i : ℕ) → slot_at slots i ≡ None
+all_empty [] none i = refl
+all_empty (None ∷ slots) none zero = refl
+all_empty (None ∷ slots) none (suc i) = all_empty slots (omega (arith, none)) i
+all_empty (Some m ∷ slots) none i = absurd (omega (arith, none))
+
 -- the ring stays one
-pub are_moved : (slots : List Slot) (capacity count : ℕ) → AreSlots slots capacity count →
-    AreSlots (drop 1 slots ++ None ∷ []) capacity (count - cond (is_some (slot_at slots 0)) 1 0)
-are_moved slots capacity count are =
+pub are_moved : (slots : List Slot) (capacity count clear : ℕ) → AreSlots slots capacity count clear →
+    AreSlots (drop 1 slots ++ None ∷ []) capacity (count - cond (is_some (slot_at slots 0)) 1 0) (clear - 1)
+are_moved slots capacity count clear are =
     let same : length (drop 1 slots ++ None ∷ []) ≡ length slots = omega (arith, are.some, length-append (drop 1 slots) (None ∷ []), length-drop 1 slots) in
     record {
       some = omega (arith, are.some, same);
       few = omega (arith, are.few, same);
       full = same ∙ are.full;
       counted = ap (λ (n : ℕ). n - cond (is_some (slot_at slots 0)) 1 0) are.counted ∙ sym (count_moved slots);
+      empty = λ i below. slot_moved 1 slots i ∙ are.empty (1 + i) (omega (arith, below));
     }
 
-pub are_put : (slots : List Slot) (capacity count i : ℕ) (message : Message) → AreSlots slots capacity count →
-    i < length slots
-    → AreSlots (slice_set slots i (Some message)) capacity (cond (is_some (slot_at slots i)) count (count + 1))
-are_put slots capacity count i message are within =
+pub are_put : (slots : List Slot) (capacity count clear i : ℕ) (message : Message) (n : ℕ) →
+    AreSlots slots capacity count clear → i < length slots → n ≤ i → (count ≡ 0) ⊎ (n ≤ clear)
+    → AreSlots (slice_set slots i (Some message)) capacity (cond (is_some (slot_at slots i)) count (count + 1)) n
+are_put slots capacity count clear i message n are within before known =
     let same : length (slice_set slots i (Some message)) ≡ length slots = length-set slots i (Some message) in
     record {
       some = omega (arith, are.some, same);
       few = omega (arith, are.few, same);
       full = same ∙ are.full;
       counted = ap (λ (n : ℕ). cond (is_some (slot_at slots i)) n (n + 1)) are.counted ∙ sym (count_put slots i message within);
+      empty = λ at below. slot_put_other slots i (Some message) at (λ e. omega (arith, below, before, e)) ∙ elim known [
+        | inl none ↦ all_empty slots (sym are.counted ∙ none) at
+        | inr less ↦ are.empty at (omega (arith, below, less))
+      ];
     }
 
 pub slot_view : {V : Type 0} (g : V → Message) (xs : List (Option V)) (i : ℕ) →
@@ -154,7 +165,7 @@ put_past [] i slot past = refl
 put_past (s ∷ slots) zero slot past = absurd (omega arith)
 put_past (s ∷ slots) (suc i) slot past = ap (λ (t : List Slot). s ∷ t) (put_past slots i slot (omega arith))
 
-pub are_empty : (n : ℕ) → 0 < n → n ≤ 65536 → AreSlots (replicate n None) n 0
+pub are_empty : (n : ℕ) → 0 < n → n ≤ 65536 → AreSlots (replicate n None) n 0 0
 are_empty n some few =
     let same : length (replicate {A = Slot} n None) ≡ n = length-replicate n None in
     record {
@@ -162,6 +173,7 @@ are_empty n some few =
       few = omega (arith, same);
       full = same;
       counted = sym (count_empty n);
+      empty = λ i below. absurd (omega (arith, below));
     }
 
 -- a slot before others, whose look-ups are told
@@ -227,8 +239,22 @@ conflict_is slots next number message low =
     ap (λ (b : Bool). b && differs (finite.get (store_of next slots) number) message) (le-leb next number low)
     ∙ ap (λ (o : Option Message). differs o message) (get-slots next slots number ∙ cond-true (leb next number) (slot_at slots (number - next)) None (le-leb next number low))
 
-pub all_empty : (slots : List Slot) → count_held slots ≡ 0 → (i : ℕ) → slot_at slots i ≡ None
-all_empty [] none i = refl
-all_empty (None ∷ slots) none zero = refl
-all_empty (None ∷ slots) none (suc i) = all_empty slots (omega (arith, none)) i
-all_empty (Some m ∷ slots) none i = absurd (omega (arith, none))
+empty_slots : (slots : List Slot) → count_held slots ≡ 0 → slots ≡ replicate (length slots) None
+empty_slots [] none = refl
+empty_slots (None ∷ slots) none = ap (λ (t : List Slot). None ∷ t) (empty_slots slots (omega (arith, none)))
+empty_slots (Some m ∷ slots) none = absurd (omega (arith, none))
+
+moved_empty : (count n : ℕ) → count ≤ n →
+    replicate {A = Slot} n None ≡ drop count (replicate n None) ++ replicate count None
+moved_empty count n within =
+    let whole : n ≡ (n - count) + count = omega (arith, within) in
+    ap (λ (k : ℕ). replicate {A = Slot} k None) whole
+    ∙ sym (replicate-append-replicate (n - count) count None)
+    ∙ ap (λ (t : List Slot). t ++ replicate count None) (sym (drop-replicate {X = Slot} count n None))
+
+-- empty slots that move on stay as they are
+pub moved_none : (count : ℕ) (slots : List Slot) → count ≤ length slots → count_held slots ≡ 0 →
+    slots ≡ drop count slots ++ replicate count None
+moved_none count slots within none =
+    let empty : slots ≡ replicate (length slots) None = empty_slots slots none in
+    empty ∙ moved_empty count (length slots) within ∙ ap (λ (t : List Slot). drop count t ++ replicate count None) (sym empty)

@@ -31,12 +31,14 @@ abbrev pub count_held : List Slot → ℕ
 count_held [] = 0
 count_held (slot ∷ slots) = (if is_some slot then 1 else 0) + count_held slots
 
--- the ring is full of slots, as many as a window may have, and so many have a message
-pub record AreSlots (slots : List Slot) (capacity count : ℕ) : Type 0 where
+-- the ring is full of slots, as many as a window may have; so many have a message, and so many from the
+-- front have none
+pub record AreSlots (slots : List Slot) (capacity count clear : ℕ) : Type 0 where
   pub some : 0 < length slots
   pub few : length slots ≤ 65536
   pub full : length slots ≡ capacity
   pub counted : count ≡ count_held slots
+  pub empty : (i : ℕ) → i < clear → slot_at slots i ≡ None
 
 -- among so many slots from the front this is the first that has a message, or their number
 pub record IsFirstHeld (slots : List Slot) (most slot : ℕ) : Type 0 where

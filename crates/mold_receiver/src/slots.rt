@@ -1,6 +1,6 @@
 //! The ring of the gap store.
 
-ghost use Rattle.std.specs.Prelude.{◌≡◌, ◌+◌, ◌^◌, if◌then◌else◌, ◌<◌, ◌≤◌, ◌++◌, ◌∷◌, [], length, drop, replicate, slice_set, slice_get, is_some, IfOk, None, Some};
+ghost use Rattle.std.specs.Prelude.{◌≡◌, ◌+◌, ◌^◌, if◌then◌else◌, ◌<◌, ◌≤◌, ◌++◌, ◌∷◌, ◌⊎◌, [], length, drop, replicate, slice_set, slice_get, is_some, IfOk, None, Some};
 ghost use Rattle.std.specs.Option.{option_copied, option_flatten};
 ghost use Rattle.mold_receiver.specs.Slots.{slot_at, count_held, IsFirstHeld};
 
@@ -47,6 +47,14 @@ fn count_with(held: u32, had: bool) -> u32
     if had { held } else { held + 1 }
 }
 
+// How many slots from the front have no message when one is written into a slot.
+fn clear_with(clear: usize, held: u32, slot: usize) -> usize
+    ensures before { result ≤ slot }
+    ensures known { (held ≡ 0) ⊎ (result ≤ clear) }
+{
+    if held == 0 { slot } else { clear.min(slot) }
+}
+
 // Writes a message into a slot.
 fn write(ring: &mut HeapCircularBuffer<Option<Vec<u8>>>, slot: usize, message: Vec<u8>)
     requires { slot < length ring.old.items }
@@ -64,6 +72,8 @@ pub(crate) struct Slots {
     ring: HeapCircularBuffer<Option<Vec<u8>>>,
     // How many slots have a message.
     held: u32,
+    // So many slots from the front are known to have none.
+    clear: usize,
 }
 
 impl Model for Slots {
@@ -74,7 +84,7 @@ impl Model for Slots {
 
     ghost view = { λ s. slots_of (λ message. message.items) s.ring.items };
 
-    ghost invariant = { λ s. AreSlots (slots_of (λ message. message.items) s.ring.items) s.ring.capacity s.held };
+    ghost invariant = { λ s. AreSlots (slots_of (λ message. message.items) s.ring.items) s.ring.capacity s.held s.clear };
 }
 
 impl Slots {
@@ -85,7 +95,11 @@ impl Slots {
         ensures { IfOk result (λ slots. slots ≡ replicate window None) }
     {
         let ring = empty_ring(alloc, window)?;
-        Ok(Slots { ring, held: 0 })
+        Ok(Slots {
+            ring,
+            held: 0,
+            clear: 0,
+        })
     }
 
     pub(crate) fn len(&self) -> usize
@@ -127,6 +141,7 @@ impl Slots {
             return;
         }
         let had = has_message(&self.ring, slot);
+        self.clear = clear_with(self.clear, self.held, slot);
         self.held = count_with(self.held, had);
         write(&mut self.ring, slot, message);
     }
@@ -135,18 +150,40 @@ impl Slots {
     fn advance(&mut self)
         ensures { self.new ≡ drop 1 self.old ++ None ∷ [] }
     {
+        self.clear = self.clear.saturating_sub(1);
         if advance(&mut self.ring) {
             self.held -= 1;
         }
     }
 
-    /// Moves on by so many slots: the first ones are dropped, and empty ones follow the last.
+    /// Moves on by so many slots: the first ones are dropped, and empty ones follow the last. Where no slot
+    /// has a message, they stay as they are.
     pub(crate) fn skip(&mut self, count: usize)
+        requires { count ≤ length self.old }
+        ensures { self.new ≡ drop count self.old ++ replicate count None }
+    {
+        if self.held > 0 {
+            self.drop_first(count);
+            self.look_ahead();
+        }
+    }
+
+    // Drops so many slots from the front, and has as many empty ones behind the last.
+    fn drop_first(&mut self, count: usize)
         requires { count ≤ length self.old }
         ensures { self.new ≡ drop count self.old ++ replicate count None }
     {
         for _ in 0..count {
             self.advance();
+        }
+    }
+
+    // Looks for the first slot that has a message, where it isn't known that the first has none.
+    fn look_ahead(&mut self)
+        ensures { self.new ≡ self.old }
+    {
+        if self.held > 0 && self.clear == 0 {
+            self.clear = self.search(self.ring.len());
         }
     }
 
@@ -164,7 +201,7 @@ impl Slots {
     fn search(&self, most: usize) -> usize
         ensures { IsFirstHeld self.now most result }
     {
-        let mut slot = 0;
+        let mut slot = self.clear.min(most);
         while slot < most && !self.has(slot) {
             slot += 1;
         }

@@ -1,9 +1,9 @@
-use Rattle.std.proofs.Common.{◌++◌, ◌∷◌, [], drop, ap, ◌∙◌, arith, None, List}
-use Rattle.mold_receiver.specs.Slots.{Slot}
-use Rattle.mold_receiver.proofs.SlotLemmas.{moved_more}
+use Rattle.std.proofs.Common.{◌≡◌, ap, List, arith}
+use Rattle.mold_receiver.specs.Slots.{Slot, count_held}
+use Rattle.mold_receiver.proofs.SlotLemmas.{moved_none}
 use Rattle.mold_receiver.proofs.slots.Slots.skip.Goals as goal
 
-pub loop-preserved : goal.loop-preserved
-loop-preserved c =
-    c.advance.ensures ∙ ap (λ (slots : List Slot). drop 1 slots ++ None ∷ []) c.loop.invariant
-    ∙ moved_more c.loop.counter c.args.self.now (omega (arith, c.requires))
+pub returns-else-self-gt0 : goal.returns-else-self-gt0
+returns-else-self-gt0 c =
+    let none : count_held c.args.self.now ≡ 0 = omega (arith, c.if-self-gt0.false, ap (λ (slots : List Slot). count_held slots) c.self.view_is, c.self.invariant.counted) in
+    moved_none c.args.count c.args.self.now c.requires none
