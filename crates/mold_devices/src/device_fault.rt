@@ -1,3 +1,5 @@
+//! A failed call of a device.
+
 /// A device failed. Its count of failures tells how often.
 #[derive(Clone, Copy, Debug, PartialEq, Eq)]
 pub struct DeviceFault;

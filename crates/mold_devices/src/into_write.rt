@@ -1,3 +1,5 @@
+//! A writer as a sink.
+
 ghost use Rattle.std.specs.Prelude.{◌≡◌};
 
 use crate::device_fault::DeviceFault;

@@ -1,3 +1,5 @@
+//! Memory as a sink.
+
 ghost use Rattle.std.specs.Prelude.{◌≡◌, ◌+◌, ◌-◌, ◌<◌, ◌≤◌, ◌⊎◌, ◌++◌, min, take, length, [], Some, IfOk, IsErr, MatchResult};
 ghost use Rattle.mold_devices.specs.Devices.{Counts};
 

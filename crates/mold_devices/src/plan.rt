@@ -1,3 +1,5 @@
+//! Which call of a device in memory fails, and how much a call moves.
+
 ghost use Rattle.std.specs.Prelude.{◌≡◌, ◌-◌, ◌<◌, ◌↔◌, IsErr};
 ghost use Rattle.mold_devices.specs.Devices.{Counts, one_more};
 

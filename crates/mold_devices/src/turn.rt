@@ -1,4 +1,6 @@
-/// How a turn of a command ends.
+//! How a turn of a command ends.
+
+/// What follows a turn of a command.
 #[derive(Clone, Copy, Debug, PartialEq, Eq)]
 pub enum Turn {
     /// More may follow.

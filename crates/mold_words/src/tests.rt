@@ -1,3 +1,5 @@
+//! What words come to, and the texts of help, version and usage.
+
 use super::{Order, UsageFault, read_words};
 use std::alloc::Global;
 use std::test::Fail;
