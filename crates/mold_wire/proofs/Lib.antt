@@ -7,4 +7,5 @@ pub mod MeaningLemmas
 pub mod SpellingLemmas
 pub mod PackingLemmas
 pub mod FrontLemmas
+pub mod TruthLemmas
 pub mod PackerLemmas

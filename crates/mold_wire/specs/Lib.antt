@@ -5,5 +5,6 @@ pub mod Fault
 pub mod Reading
 pub mod Request
 pub mod Packing
+pub mod Truth
 pub mod Packer
 pub mod Buffer

@@ -2,16 +2,18 @@
 //! nothing: its contract is the law.
 
 ghost use Rattle.std.specs.Prelude.{◌≡◌, ◌↔◌, ◌≤◌, ◌+◌, ◌-◌, ◌<◌, ◌++◌, ◌∷◌, [], List, ℕ, suc};
-ghost use Rattle.std.specs.Prelude.{length, take, drop, Ok, Err};
+ghost use Rattle.std.specs.Prelude.{length, take, drop, Ok, Err, Bool, true, false, Some};
 ghost use Rattle.mold_wire.specs.Block.{IsBytes};
 ghost use Rattle.mold_wire.specs.Fault.{FaultAt};
-ghost use Rattle.mold_wire.specs.Packet.{IsPacket, Spells, messages_of, spelling_of};
+ghost use Rattle.mold_wire.specs.Packet.{IsPacket, Spells, messages_of, spelling_of, top_of};
 ghost use Rattle.mold_wire.specs.Packer.{HasRoom, Open};
 ghost use Rattle.mold_wire.specs.Packing.{packet_length, Fits, IsFront, front};
 ghost use Rattle.mold_wire.specs.Reading.{reading};
 ghost use Rattle.mold_wire.specs.Request.{IsRequest, SpellsRequest, RequestFaultAt, request_reading, request_spelling};
+ghost use Rattle.mold_wire.specs.Truth.{Carries, IsTrue, published_at};
 ghost use Rattle.mold_wire.specs.declared.error.DecodeError.{DecodeError};
 ghost use Rattle.mold_wire.specs.declared.error.RequestError.{RequestError};
+ghost use Rattle.mold_wire.specs.declared.packet.Body.TheVariants.{Data};
 ghost use Rattle.mold_wire.specs.declared.packet.Packet.{Packet};
 ghost use Rattle.mold_wire.specs.declared.request.Request.{Request};
 ghost use Rattle.mold_wire.specs.declared.session.Session.{Session};
@@ -112,4 +114,33 @@ pub fn front_law()
     ensures more { (limit : ℕ) (message : List ℕ) (messages : List (List ℕ)) (most : ℕ) →
         Fits limit (message ∷ []) → front limit (message ∷ messages) (suc most)
         ≡ message ∷ front (limit - (2 + length message)) messages most }
+{}
+
+/// What a packet says of an open session stays true when one more message is published, as long as there is
+/// a number for it, and when the session is closed.
+pub fn true_stays_law()
+    ensures published { (packet : Packet) (published : List (List ℕ)) (message : List ℕ) →
+        length published < 18446744073709551614 → IsTrue packet published false →
+        IsTrue packet (published ++ message ∷ []) false }
+    ensures closed { (packet : Packet) (published : List (List ℕ)) →
+        IsTrue packet published false → IsTrue packet published true }
+{}
+
+/// What a true packet is: its top is at most one more than the number of messages published, and its
+/// messages are those published from its sequence number on. And a data packet of messages that stand
+/// there is true.
+pub fn true_packet_law()
+    ensures top { (packet : Packet) (published : List (List ℕ)) (closed : Bool) →
+        IsPacket packet → IsTrue packet published closed → top_of packet ≤ length published + 1 }
+    ensures messages { (packet : Packet) (published : List (List ℕ)) (closed : Bool) →
+        IsPacket packet → IsTrue packet published closed → messages_of packet.body
+        ≡ take (length (messages_of packet.body)) (drop (packet.sequence - 1) published) }
+    ensures carried { (packet : Packet) (published : List (List ℕ)) (closed : Bool)
+        (number : ℕ) (message : List ℕ) → IsTrue packet published closed →
+        Carries packet number message → published_at published number ≡ Some message }
+    ensures piece { (packet : Packet) (published behind : List (List ℕ)) (closed : Bool) →
+        length published < 18446744073709551615 → 1 ≤ packet.sequence →
+        packet.body ≡ Data (messages_of packet.body) →
+        drop (packet.sequence - 1) published ≡ messages_of packet.body ++ behind →
+        IsTrue packet published closed }
 {}

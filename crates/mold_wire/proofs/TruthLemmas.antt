@@ -1,0 +1,197 @@
+-- What packets say of a session, and that it stays so while the session goes on.
+use Rattle.std.proofs.Common.{◌≡◌, ℕ, zero, suc, ◌+◌, ◌-◌, ◌<◌, ◌≤◌, leb, List, [], ◌∷◌, ◌++◌, length, length-append}
+use Rattle.std.proofs.Common.{take, drop, refl, sym, ap, subst, ◌∙◌, inl, inr, arith, get_or}
+use Rattle.std.specs.Prelude.{Option, Some, None, Bool, true, false, slice_get}
+use Rattle.std.proofs.lemmas.Bool.{cond_both, cond-true, cond-false, cases_lt, lt-leb, le-leb, false≢true}
+use Rattle.std.proofs.lemmas.Option.{none-some, slice_get_past, slice_get-get_or, slice_get_within, get_or_from_slice_get}
+use Rattle.std.proofs.lemmas.List.{same_lists, get_or_default, length-drop, get_or-drop, get_or-take, length-take-le}
+use Rattle.mold_wire.specs.Packet.{IsPacket, IsBody, messages_of, top_of}
+use Rattle.mold_wire.specs.Truth.{message_at, Carries, published_at, IsTrueBody, IsTrue}
+use Rattle.mold_wire.specs.declared.packet.Packet.{Packet}
+use Rattle.mold_wire.specs.declared.packet.Body.{Body}
+use Rattle.mold_wire.specs.declared.packet.Body.TheVariants.{Data, Heartbeat, End}
+
+-- from the first number on, the messages stand one behind the other
+pub message_at-from :
+    (first : ℕ) (messages : List (List ℕ)) (number place : ℕ) → number ≡ first + place →
+    message_at first messages number ≡ slice_get messages place
+message_at-from first messages number place is =
+    cond-true (leb first number) (slice_get messages (number - first)) None (le-leb first number (omega (arith, is)))
+    ∙ ap (λ (t : ℕ). slice_get messages t) (omega (arith, is))
+
+-- what stands in a list stands there with more behind it
+slice_get-longer :
+    {X : Type 0} (front behind : List X) (place : ℕ) (element : X) → slice_get front place ≡ Some element →
+    slice_get (front ++ behind) place ≡ Some element
+slice_get-longer [] behind place element is = absurd (none-some element is)
+slice_get-longer (first ∷ front) behind zero element is = is
+slice_get-longer (first ∷ front) behind (suc place) element is = slice_get-longer front behind place element is
+
+-- what was published stays published with more behind it
+published_at-longer :
+    (published behind : List (List ℕ)) (number : ℕ) (message : List ℕ) → published_at published number ≡ Some message →
+    published_at (published ++ behind) number ≡ Some message
+published_at-longer published behind zero message is = absurd (none-some message is)
+published_at-longer published behind (suc place) message is =
+    let next : suc place ≡ 1 + place = omega arith in
+    message_at-from 1 (published ++ behind) (suc place) place next
+    ∙ slice_get-longer published behind place message (sym (message_at-from 1 published (suc place) place next) ∙ is)
+
+-- what is true of an open session is true when one more message is published
+true_longer :
+    (body : Body) (sequence : ℕ) (published : List (List ℕ)) (message : List ℕ) →
+    IsTrueBody body sequence published false → IsTrueBody body sequence (published ++ message ∷ []) false
+true_longer (Data messages) sequence published message is = (
+  is.0,
+  λ number carried at.
+      published_at-longer published (message ∷ []) number carried (is.1 number carried at),
+)
+true_longer Heartbeat sequence published message is =
+    (is.0, omega (arith, is.1, length-append published (message ∷ [])))
+true_longer End sequence published message is = absurd (false≢true is.0)
+
+pub true_grows :
+    (packet : Packet) (published : List (List ℕ)) (message : List ℕ) → length published < 18446744073709551614 →
+    IsTrue packet published false → IsTrue packet (published ++ message ∷ []) false
+true_grows packet published message few is = record {
+  few = omega (arith, few, length-append published (message ∷ []));
+  said = true_longer packet.body packet.sequence published message is.said;
+}
+
+true_of_closed :
+    (body : Body) (sequence : ℕ) (published : List (List ℕ)) → IsTrueBody body sequence published false →
+    IsTrueBody body sequence published true
+true_of_closed (Data messages) sequence published is = is
+true_of_closed Heartbeat sequence published is = is
+true_of_closed End sequence published is = absurd (false≢true is.0)
+
+-- what is true of an open session is true when it is closed
+pub true_closes :
+    (packet : Packet) (published : List (List ℕ)) → IsTrue packet published false → IsTrue packet published true
+true_closes packet published is = record {
+  few = is.few;
+  said = true_of_closed packet.body packet.sequence published is.said;
+}
+
+-- each message of a true data packet stands where its number says
+stands_at :
+    (messages published : List (List ℕ)) (sequence place : ℕ) → 1 ≤ sequence →
+    ((number : ℕ) (message : List ℕ) → message_at sequence messages number ≡ Some message →
+    published_at published number ≡ Some message) → place < length messages →
+    slice_get published (sequence - 1 + place) ≡ Some (get_or messages place [])
+stands_at messages published sequence place first said within =
+    sym (message_at-from 1 published (sequence + place) (sequence - 1 + place) (omega (arith, first)))
+    ∙ said (sequence + place) (get_or messages place [])
+    (message_at-from sequence messages (sequence + place) place refl ∙ slice_get-get_or messages place [] within)
+
+-- so the last one's place is within
+within_published :
+    (messages published : List (List ℕ)) (sequence : ℕ) → 1 ≤ sequence →
+    ((number : ℕ) (message : List ℕ) → message_at sequence messages number ≡ Some message →
+    published_at published number ≡ Some message) → 0 < length messages →
+    sequence + length messages ≤ length published + 1
+within_published messages published sequence first said some =
+    let last : ℕ = length messages - 1 in
+    let inside : last < length messages = omega (arith, some) in
+    let stands = slice_get_within published (sequence - 1 + last) (get_or messages last [])
+    (stands_at messages published sequence last first said inside)
+    in
+    omega (arith, first, some, stands)
+
+top_within :
+    (body : Body) (sequence : ℕ) (published : List (List ℕ)) (closed : Bool) → IsBody body →
+    IsTrueBody body sequence published closed → sequence + length (messages_of body) ≤ length published + 1
+top_within (Data messages) sequence published closed is said = within_published messages published sequence said.0 said.1 is.0
+top_within Heartbeat sequence published closed is said = omega (arith, said.1)
+top_within End sequence published closed is said = omega (arith, said.1)
+
+pub true_top :
+    (packet : Packet) (published : List (List ℕ)) (closed : Bool) → IsPacket packet →
+    IsTrue packet published closed → top_of packet ≤ length published + 1
+true_top packet published closed is told =
+    top_within packet.body packet.sequence published closed is.body told.said
+
+piece_of :
+    (body : Body) (sequence : ℕ) (published : List (List ℕ)) (closed : Bool) →
+    IsTrueBody body sequence published closed → sequence + length (messages_of body) ≤ length published + 1 →
+    messages_of body ≡ take (length (messages_of body)) (drop (sequence - 1) published)
+piece_of (Data messages) sequence published closed said within =
+    let all : length messages ≤ length (drop (sequence - 1) published) =
+    omega (arith, said.0, within, length-drop (sequence - 1) published)
+    in
+    same_lists messages (take (length messages) (drop (sequence - 1) published))
+    (sym (length-take-le (length messages) (drop (sequence - 1) published) all)) (λ place other inside.
+    sym
+    (get_or-take (length messages) (drop (sequence - 1) published) place other inside
+    ∙ get_or-drop (sequence - 1) published place other
+    ∙ get_or_from_slice_get published (sequence - 1 + place) (get_or messages place []) other
+    (stands_at messages published sequence place said.0 said.1 inside)
+    ∙ get_or_default messages place [] other inside))
+piece_of Heartbeat sequence published closed said within = refl
+piece_of End sequence published closed said within = refl
+
+-- so a true packet's messages are a piece of what was published
+pub true_messages :
+    (packet : Packet) (published : List (List ℕ)) (closed : Bool) → IsPacket packet →
+    IsTrue packet published closed →
+    messages_of packet.body ≡ take (length (messages_of packet.body)) (drop (packet.sequence - 1) published)
+true_messages packet published closed is told =
+    piece_of packet.body packet.sequence published closed told.said (true_top packet published closed is told)
+
+slice_get-drop :
+    {X : Type 0} (number : ℕ) (elements : List X) (place : ℕ) →
+    slice_get (drop number elements) place ≡ slice_get elements (number + place)
+slice_get-drop zero elements place = ap (λ (t : ℕ). slice_get elements t) (omega arith)
+slice_get-drop (suc number) [] place = sym (slice_get_past [] (suc number + place) (omega arith))
+slice_get-drop (suc number) (element ∷ elements) place =
+    let next : suc (number + place) ≡ suc number + place = omega arith in
+    slice_get-drop number elements place ∙ ap (λ (t : ℕ). slice_get (element ∷ elements) t) next
+
+-- and a data packet of such a piece is true
+pub piece_is_true :
+    (packet : Packet) (published behind : List (List ℕ)) (closed : Bool) →
+    length published < 18446744073709551615 → 1 ≤ packet.sequence →
+    packet.body ≡ Data (messages_of packet.body) →
+    drop (packet.sequence - 1) published ≡ messages_of packet.body ++ behind → IsTrue packet published closed
+piece_is_true packet published behind closed few first carries parts = record {
+  few = few;
+  said = subst (λ (t : Body). IsTrueBody t packet.sequence published closed) (sym carries) (
+    first,
+    λ number message at.
+        let messages : List (List ℕ) = messages_of packet.body in
+        elim (cases_lt number packet.sequence) [
+          | inl below ↦ absurd (none-some message
+              (sym (cond-false (leb packet.sequence number) _ None (lt-leb packet.sequence number below)) ∙ at))
+          | inr behind_it ↦
+              let place : ℕ = number - packet.sequence in
+              let found = sym (message_at-from packet.sequence messages number place (omega (arith, behind_it))) ∙ at in
+              message_at-from 1 published number (packet.sequence - 1 + place) (omega (arith, behind_it, first))
+              ∙ sym (slice_get-drop (packet.sequence - 1) published place)
+              ∙ ap (λ (t : List (List ℕ)). slice_get t place) parts
+              ∙ slice_get-longer messages behind place message found
+        ],
+  );
+}
+
+-- no number is that of a message where there are none
+message_in_none : (first number : ℕ) → message_at first [] number ≡ None
+message_in_none first number =
+    cond_both (leb first number) (slice_get [] (number - first)) None (λ (t : Option (List ℕ)). t ≡ None)
+    (λ _. refl) (λ _. refl)
+
+-- a true packet carries what was published
+carried_body :
+    (body : Body) (sequence : ℕ) (published : List (List ℕ)) (closed : Bool) (number : ℕ) (message : List ℕ) →
+    IsTrueBody body sequence published closed → message_at sequence (messages_of body) number ≡ Some message →
+    published_at published number ≡ Some message
+carried_body (Data messages) sequence published closed number message said at = said.1 number message at
+carried_body Heartbeat sequence published closed number message said at =
+    absurd (none-some message (sym (message_in_none sequence number) ∙ at))
+carried_body End sequence published closed number message said at =
+    absurd (none-some message (sym (message_in_none sequence number) ∙ at))
+
+pub true_carries :
+    (packet : Packet) (published : List (List ℕ)) (closed : Bool) (number : ℕ) (message : List ℕ) →
+    IsTrue packet published closed → Carries packet number message → published_at published number ≡ Some message
+true_carries packet published closed number message told at =
+    carried_body packet.body packet.sequence published closed number message told.said at
