@@ -2,3 +2,4 @@ pub mod FaultLemmas
 pub mod FoldLemmas
 pub mod NameLemmas
 pub mod OrderLemmas
+pub mod ValueLemmas

@@ -1,5 +1,5 @@
 -- The order that the words say, read off the matches of a parse.
-use Rattle.std.proofs.Common.{arith, ◌≡◌, ◌∙◌, List, [], ◌∷◌, ap, length, map, refl, sym, true, false}
+use Rattle.std.proofs.Common.{arith, ◌≡◌, ◌∙◌, List, [], ◌∷◌, ap, length, map, refl, sym, true, false, Some}
 use Rattle.std.specs.Prelude.{◌==◌}
 use Rattle.std.proofs.lemmas.Bool.Decides.{nat_tests}
 use Rattle.clap.proofs.OnLiterals.{clap_on_literals}
@@ -25,7 +25,7 @@ none-taken f [] empty = refl
 none-taken f (x ∷ xs) empty = absurd (grind (arith, nat_tests))
 
 pub none-order : {X : Type 0} (f : X → Text) (xs : List X) → (length xs == 0) ≡ true
-    → order_of (map f xs) ≡ show_wanted false
+    → order_of (map f xs) ≡ Some (show_wanted false)
 unfolding clap_on_literals mold_app order_of
 none-order f [] empty = refl
 none-order f (x ∷ xs) empty = absurd (grind (arith, nat_tests))

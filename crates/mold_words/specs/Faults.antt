@@ -1,11 +1,13 @@
 -- How words are told that give no order.
-use Rattle.std.specs.Prelude.{◌≡◌, ◌⊎◌, Result, Ok, Err}
+use Rattle.std.specs.Prelude.{◌≡◌, ◌⊎◌, List, None, Result, Ok, Err}
 use Rattle.std.specs.declared.string.String.{String}
 use Rattle.std.specs.declared.alloc.AllocError.{AllocError}
 use Rattle.std.specs.declared.alloc.Global.{Global}
-use Rattle.clap.specs.Words.{IsAmong, Kinds}
+use Rattle.clap.specs.Words.{IsAmong, Kinds, Text, fault_of}
 use Rattle.clap.specs.declared.error.kind.ErrorKind.{ErrorKind}
 use Rattle.clap.specs.declared.error.kind.ErrorKind.TheVariants as kind
+use Rattle.mold_words.specs.Orders.{order_of}
+use Rattle.mold_words.specs.Words.{mold_app}
 use Rattle.mold_words.specs.declared.fault.UsageFault.{UsageFault}
 use Rattle.mold_words.specs.declared.fault.UsageFault.TheVariants.{Help, Version, Usage, Memory}
 
@@ -25,3 +27,9 @@ told_if_made error (Err _) = Memory
 abbrev pub Tells : Kinds → UsageFault → Type 0
 Tells kinds fault = (fault ≡ Memory) ⊎ ((error : ErrorKind) × (text : String Global)
     × IsAmong error kinds × (fault ≡ told error text))
+
+-- memory was refused, the fault tells what `clap` has against the words, or it tells a text that is no
+-- value of its option
+abbrev pub TellsOf : List Text → UsageFault → Type 0
+TellsOf words fault = Tells (fault_of mold_app words) fault
+    ⊎ ((order_of words ≡ None) × ((text : String Global) × (fault ≡ Usage text)))

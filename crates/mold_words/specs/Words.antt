@@ -10,7 +10,10 @@ use Rattle.mold_words.specs.declared.table.Kind.TheVariants.{Flag, Optional, Req
 
 -- the commands, each with its options
 abbrev pub commands : List (Text × List (Text × Kind))
-commands = (codes "show", (codes "request", Flag) ∷ []) ∷ []
+commands =
+    (codes "show", (codes "request", Flag) ∷ [])
+    ∷ (codes "pack", (codes "session", Required) ∷ (codes "limit", Optional) ∷ [])
+    ∷ []
 
 -- a command has this name
 abbrev pub is_command : Text → Bool

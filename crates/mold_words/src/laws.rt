@@ -1,20 +1,30 @@
 //! Laws of the program's words: what `clap` makes of them, and what they say.
-ghost use Rattle.std.specs.Prelude.{◌≡◌, [], ◌∷◌, IfSome, IsTrue, List, codes, false, true};
+ghost use Rattle.std.specs.Prelude.{◌≡◌, [], ◌∷◌, IfSome, IsTrue, List, None, codes, false, true};
 ghost use Rattle.clap.specs.Words.{Text, fault_of, subcommand_of};
 ghost use Rattle.clap.specs.declared.error.kind.ErrorKind.TheVariants.{DisplayHelp, DisplayVersion};
 ghost use Rattle.clap.specs.declared.error.kind.ErrorKind.TheVariants.{UnknownArgument};
-ghost use Rattle.mold_words.specs.Orders.{AreTaken, order_of, show_wanted};
+ghost use Rattle.mold_words.specs.Orders.{AreTaken, Say, order_of, pack_wanted, show_wanted};
 ghost use Rattle.mold_words.specs.Words.{is_command, mold_app};
 
 /// The words `show` and `show --request` are taken and say to show, and so is `--` alone, which
 /// names no command: `read_words` refuses them for want of memory alone.
 pub fn show_taken_law()
-    ensures plain { AreTaken (codes "show" ∷ []) }
-    ensures plain_says { order_of (codes "show" ∷ []) ≡ show_wanted false }
-    ensures request { AreTaken (codes "show" ∷ codes "--request" ∷ []) }
-    ensures request_says { order_of (codes "show" ∷ codes "--request" ∷ []) ≡ show_wanted true }
-    ensures no_command { AreTaken (codes "--" ∷ []) }
-    ensures no_command_says { order_of (codes "--" ∷ []) ≡ show_wanted false }
+    ensures plain { Say (codes "show" ∷ []) (show_wanted false) }
+    ensures request { Say (codes "show" ∷ codes "--request" ∷ []) (show_wanted true) }
+    ensures no_command { Say (codes "--" ∷ []) (show_wanted false) }
+{}
+
+/// The words `pack --session MKT` are taken, and say to pack the session `MKT` with seven spaces
+/// behind it into packets of up to 1,400 bytes; `--limit` says another limit. A limit below 64 says
+/// nothing, and is refused.
+pub fn pack_taken_law()
+    ensures usual { Say (codes "pack" ∷ codes "--session" ∷ codes "MKT" ∷ [])
+        (pack_wanted (codes "MKT       ") 1400) }
+    ensures limit { Say
+        (codes "pack" ∷ codes "--session" ∷ codes "SESSION001" ∷ codes "--limit" ∷ codes "64" ∷ [])
+        (pack_wanted (codes "SESSION001") 64) }
+    ensures small { order_of
+        (codes "pack" ∷ codes "--session" ∷ codes "MKT" ∷ codes "--limit" ∷ codes "63" ∷ []) ≡ None }
 {}
 
 /// Help and version are asked for by these words, and nothing else is told of them; other words

@@ -28,12 +28,30 @@ pub struct CommandRow {
 }
 
 /// The commands, in the order in which help lists them.
-pub static COMMANDS: [CommandRow; 1] = [CommandRow {
-    name: "show",
-    about: "Print packets given as lines of hexadecimal digits on standard input",
-    options: &[OptionRow {
-        name: "request",
-        kind: Kind::Flag,
-        help: "Read each line as a request packet",
-    }],
-}];
+pub static COMMANDS: [CommandRow; 2] = [
+    CommandRow {
+        name: "show",
+        about: "Print packets given as lines of hexadecimal digits on standard input",
+        options: &[OptionRow {
+            name: "request",
+            kind: Kind::Flag,
+            help: "Read each line as a request packet",
+        }],
+    },
+    CommandRow {
+        name: "pack",
+        about: "Print the packets of a session whose messages standard input gives",
+        options: &[
+            OptionRow {
+                name: "session",
+                kind: Kind::Required,
+                help: "The session's name, 1 to 10 characters from space to ~",
+            },
+            OptionRow {
+                name: "limit",
+                kind: Kind::Optional,
+                help: "The most bytes of a packet, 64 to 65507 [default: 1400]",
+            },
+        ],
+    },
+];

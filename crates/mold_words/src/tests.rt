@@ -28,6 +28,59 @@ fn words_of_show(rt: HostRuntime) -> Result<(), Fail> {
 }
 
 #[test]
+fn words_of_pack(rt: HostRuntime) -> Result<(), Fail> {
+    for (line, session, limit) in [
+        ("pack --session MKT", *b"MKT       ", 1400),
+        ("pack --limit 64 --session SESSION001", *b"SESSION001", 64),
+        (
+            "pack --session=-~ --limit=00000000000000065507",
+            *b"-~        ",
+            65507,
+        ),
+    ] {
+        let Ok(Order::Pack(order)) = read(rt.alloc(), line)? else {
+            return Err(Fail::from("no order"));
+        };
+        assert_eq!(rt; order.session, session, "{line}");
+        assert_eq!(rt; order.limit, limit, "{line}");
+    }
+    Ok(())
+}
+
+#[test]
+fn texts_that_are_no_values(rt: HostRuntime) -> Result<(), Fail> {
+    for line in [
+        "pack --session=",
+        "pack --session SESSION0012",
+        "pack --session Börse",
+        "pack --session A\u{7f}",
+    ] {
+        let Err(UsageFault::Usage { text }) = read(rt.alloc(), line)? else {
+            return Err(Fail::from("no usage fault"));
+        };
+        let wanted =
+            "error: invalid value for '--session <session>': not 1 to 10 characters from space to ~\n";
+        assert!(rt; text.as_str() == wanted, "{line}: {text}");
+    }
+    for line in [
+        "pack --session A --limit 63",
+        "pack --session A --limit 65508",
+        "pack --session A --limit +64",
+        "pack --session A --limit=",
+        "pack --session A --limit=-64",
+        "pack --session A --limit 000000000000000000064",
+        "pack --session A --limit 18446744073709551680",
+    ] {
+        let Err(UsageFault::Usage { text }) = read(rt.alloc(), line)? else {
+            return Err(Fail::from("no usage fault"));
+        };
+        let wanted = "error: invalid value for '--limit <limit>': not a number from 64 to 65507\n";
+        assert!(rt; text.as_str() == wanted, "{line}: {text}");
+    }
+    Ok(())
+}
+
+#[test]
 fn words_that_are_no_command(rt: HostRuntime) -> Result<(), Fail> {
     for line in [
         "other",
@@ -37,6 +90,10 @@ fn words_that_are_no_command(rt: HostRuntime) -> Result<(), Fail> {
         "show --request=yes",
         "show --request --request",
         "show --version",
+        "pack",
+        "pack --limit 64",
+        "pack --session A --session B",
+        "pack --session A extra",
     ] {
         let Err(UsageFault::Usage { text }) = read(rt.alloc(), line)? else {
             return Err(Fail::from("no usage fault"));
@@ -66,6 +123,7 @@ Usage: mold [COMMAND]
 
 Commands:
   show  Print packets given as lines of hexadecimal digits on standard input
+  pack  Print the packets of a session whose messages standard input gives
   help  Print this message or the help of the given subcommand(s)
 
 Options:
@@ -82,11 +140,21 @@ Options:
       --request  Read each line as a request packet
   -h, --help     Print help
 ";
+    let pack = "Print the packets of a session whose messages standard input gives
+
+Usage: mold pack [OPTIONS] --session <session>
+
+Options:
+      --session <session>  The session's name, 1 to 10 characters from space to ~
+      --limit <limit>      The most bytes of a packet, 64 to 65507 [default: 1400]
+  -h, --help               Print help
+";
     for (line, wanted) in [
         ("--help", top),
         ("help", top),
         ("show --help", show),
         ("help show", show),
+        ("pack --help", pack),
     ] {
         let Err(UsageFault::Help { text }) = read(rt.alloc(), line)? else {
             return Err(Fail::from("no help"));

@@ -1,5 +1,7 @@
 //! What the program can be told to do.
 
+use crate::pack_order::PackOrder;
+
 /// What the program is told to do, one variant for each command.
 #[derive(Debug, PartialEq, Eq, Drop)]
 pub enum Order {
@@ -8,4 +10,7 @@ pub enum Order {
         /// Whether the lines are requests.
         request: bool,
     },
+    /// Print the packets of a session whose messages standard input gives, each as a line of
+    /// hexadecimal digits.
+    Pack(PackOrder),
 }

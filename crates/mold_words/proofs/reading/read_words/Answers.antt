@@ -1,6 +1,6 @@
-use Rattle.std.proofs.Common.{◌∙◌, ap, refl, string_bytes, sym}
+use Rattle.std.proofs.Common.{◌∙◌, ap, inl, refl, string_bytes, sym}
 use Rattle.clap.specs.Words.{app_of, is_simple_and_free}
-use Rattle.mold_words.proofs.FaultLemmas.{tells-nothing, tells-parse}
+use Rattle.mold_words.proofs.FaultLemmas.{tells-nothing, tells-parse, tells-bad, says-nothing}
 use Rattle.mold_words.proofs.OrderLemmas.{mold_is_free, none-order, none-taken, order_of-matches, taken-by}
 use Rattle.mold_words.proofs.reading.read_words.Goals as goal
 
@@ -15,28 +15,41 @@ returns-then-is_empty-clause-order c =
 pub returns-then-is_empty-clause-no_words : goal.returns-then-is_empty-clause-no_words
 returns-then-is_empty-clause-no_words c = λ _. refl
 
-pub returns-in-Ok-clause-taken : goal.returns-in-Ok-clause-taken
-returns-in-Ok-clause-taken c =
+pub returns-in-Ok-order_from-clause-taken : goal.returns-in-Ok-order_from-clause-taken
+returns-in-Ok-order_from-clause-taken c =
     let same = c.in_ok-command.ensures in
     taken-by _ (app_of c.in_ok-command.command) same
     (c.in-Ok.ensures.kinds (ap is_simple_and_free same ∙ mold_is_free))
 
-pub returns-in-Ok-clause-order : goal.returns-in-Ok-clause-order
-returns-in-Ok-clause-order c =
+pub returns-in-Ok-order_from-clause-order : goal.returns-in-Ok-order_from-clause-order
+returns-in-Ok-order_from-clause-order c =
     order_of-matches _ (app_of c.in_ok-command.command) c.in-Ok.matches c.in_ok-command.ensures c.in-Ok.ensures.matches
-    ∙ sym c.order_from.ensures
+    ∙ c.in-Ok-order_from.ensures
 
-pub returns-in-Err-clause-fault : goal.returns-in-Err-clause-fault
-returns-in-Err-clause-fault c =
+pub returns-in-Ok-clause-refused : goal.returns-in-Ok-clause-refused
+returns-in-Ok-clause-refused c =
+    let bad = order_of-matches _ (app_of c.in_ok-command.command) c.in-Ok.matches c.in_ok-command.ensures
+    c.in-Ok.ensures.matches ∙ c.in-Err-order_from.ensures in
+    λ wanted say. says-nothing _ wanted bad say
+
+pub returns-in-Ok-clause-fault : goal.returns-in-Ok-clause-fault
+returns-in-Ok-clause-fault c =
+    tells-bad _ c.text.result c.fault_for.result
+    (order_of-matches _ (app_of c.in_ok-command.command) c.in-Ok.matches c.in_ok-command.ensures c.in-Ok.ensures.matches
+    ∙ c.in-Err-order_from.ensures)
+    c.fault_for.ensures
+
+pub returns-clause-fault : goal.returns-clause-fault
+returns-clause-fault c =
     let same = c.in_ok-command.ensures in
     let has = c.in-Err.ensures.kinds (ap is_simple_and_free same ∙ mold_is_free) in
-    tells-parse _ (app_of c.in_ok-command.command) c.in-Err.error c.kind.result c.to_string.result c.fault_for.result
-    same has c.kind.ensures c.fault_for.ensures
+    inl (tells-parse _ (app_of c.in_ok-command.command) c.in-Err.error c.kind.result c.to_string.result
+    c.fault_for-in-Err.result same has c.kind.ensures c.fault_for-in-Err.ensures)
 
-pub returns-in-Err-clause-refused : goal.returns-in-Err-clause-refused
-returns-in-Err-clause-refused c =
+pub returns-clause-refused : goal.returns-clause-refused
+returns-clause-refused c =
     let same = c.in_ok-command.ensures in
     let has = c.in-Err.ensures.kinds (ap is_simple_and_free same ∙ mold_is_free) in
-    λ taken. tells-nothing _ c.fault_for.result taken
-    (tells-parse _ (app_of c.in_ok-command.command) c.in-Err.error c.kind.result c.to_string.result c.fault_for.result
-    same has c.kind.ensures c.fault_for.ensures)
+    λ wanted say. tells-nothing _ c.fault_for-in-Err.result say.0
+    (tells-parse _ (app_of c.in_ok-command.command) c.in-Err.error c.kind.result c.to_string.result
+    c.fault_for-in-Err.result same has c.kind.ensures c.fault_for-in-Err.ensures)

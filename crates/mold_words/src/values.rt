@@ -1,0 +1,79 @@
+//! The values that texts of options stand for.
+
+ghost use Rattle.std.specs.Prelude.{◌≡◌, ◌≤◌, true, IfSome};
+ghost use Rattle.std.specs.Char.{is_ascii_digit};
+ghost use Rattle.std.specs.List.{list_all};
+ghost use Rattle.mold_words.specs.Values.{is_character, is_number, is_session, is_sized, number_of, session_of};
+
+/// The most digits that a number is given in.
+const MOST_DIGITS: usize = 20;
+
+/// The bytes of a session's name.
+const SESSION_LENGTH: usize = 10;
+
+fn is_character(byte: u8) -> bool
+    ensures { result ≡ is_character byte }
+{
+    32 <= byte && byte <= 126
+}
+
+// Whether the text has 1 to so many bytes.
+fn is_sized(text: &str, most: usize) -> bool
+    ensures { result ≡ is_sized most text.now }
+{
+    !text.is_empty() && text.len() <= most
+}
+
+fn are_characters(text: &str) -> bool
+    ensures { result ≡ list_all is_character text.now }
+{
+    text.as_bytes().iter().all(|byte| is_character(*byte))
+}
+
+fn is_session(text: &str) -> bool
+    ensures { result ≡ is_session text.now }
+{
+    is_sized(text, SESSION_LENGTH) && are_characters(text)
+}
+
+/// The session that 1 to 10 characters name, with spaces behind them.
+pub(crate) fn session_of(text: &str) -> Option<[u8; SESSION_LENGTH]>
+    ensures value { result ≡ session_of text.now }
+    ensures named { IfSome result (λ session. list_all is_character session ≡ true) }
+{
+    if !is_session(text) {
+        return None;
+    }
+    let mut session = [b' '; SESSION_LENGTH];
+    session[..text.len()].copy_from_slice(text.as_bytes());
+    Some(session)
+}
+
+fn are_digits(text: &str) -> bool
+    ensures { result ≡ list_all is_ascii_digit text.now }
+{
+    text.as_bytes().iter().all(|byte| byte.is_ascii_digit())
+}
+
+fn is_number(text: &str) -> bool
+    ensures { result ≡ is_number text.now }
+{
+    is_sized(text, MOST_DIGITS) && are_digits(text)
+}
+
+/// The number in the range that 1 to 20 decimal digits spell.
+pub(crate) fn number_of(text: &str, least: u64, most: u64) -> Option<u64>
+    ensures value { result ≡ number_of least most text.now }
+    ensures within { IfSome result (λ number. (least ≤ number) × (number ≤ most)) }
+{
+    if !is_number(text) {
+        return None;
+    }
+    let Ok(number) = text.parse::<u64>() else {
+        return None;
+    };
+    if number < least || number > most {
+        return None;
+    }
+    Some(number)
+}
