@@ -7,3 +7,7 @@ pub mod KeepLemmas
 pub mod ViewLemmas
 pub mod WantedLemmas
 pub mod LawLemmas
+pub mod RefusalLemmas
+pub mod HonestLemmas
+pub mod MissingLemmas
+pub mod GapLemmas

@@ -6,3 +6,5 @@ pub mod Batch
 pub mod Slots
 pub mod Keeping
 pub mod Handing
+pub mod Honest
+pub mod Gap

@@ -1,16 +1,24 @@
 //! What holds of the definitions alone, for all views and all datagrams. Each law is a function that does
 //! nothing: its contract is the law.
 
-ghost use Rattle.std.specs.Prelude.{◌≡◌, ◌⊎◌, ◌+◌, ◌-◌, ◌<◌, ◌≤◌, ◌^◌, ◌++◌, max, min, length, List, ℕ, Option, None, Some, Ok, is_some, slice_get};
+ghost use Rattle.std.specs.Prelude.{◌≡◌, ◌⊎◌, ◌+◌, ◌-◌, ◌<◌, ◌≤◌, ◌^◌, ◌++◌, ◌∷◌, [], max, min, length, Bool, true, false, List, ℕ, Option, None, Some, Ok, is_some, slice_get};
 ghost use Rattle.std.specs.FinMap as finite;
-ghost use Rattle.mold_wire.specs.Packet.{messages_of, top_of};
+ghost use Rattle.mold_wire.specs.Packet.{Spells, messages_of, top_of};
 ghost use Rattle.mold_wire.specs.declared.packet.Packet.{Packet};
 ghost use Rattle.mold_wire.specs.declared.request.Request.{Request};
+ghost use Rattle.mold_wire.specs.declared.session.Session.{Session};
 ghost use Rattle.mold_receiver.specs.Batch.{Handed, Follows, followed_by};
-ghost use Rattle.mold_receiver.specs.Receive.{Reception, carried_at, first_some, handed_on, receive, refusals, view_after};
+ghost use Rattle.mold_wire.specs.Truth.{Carries, IsTrue};
+ghost use Rattle.mold_receiver.specs.Honest.{IsHonest, IsTakenHonestly};
+ghost use Rattle.mold_receiver.specs.Receive.{IsTakenPacket, Reception, data_packet, first_some, handed_on, receive, refusals, view_after};
 ghost use Rattle.mold_receiver.specs.Store.{Message, available};
-ghost use Rattle.mold_receiver.specs.View.{View, IsWellFormed};
-ghost use Rattle.mold_receiver.specs.Wanted.{IsGap, gap_end, wanted};
+ghost use Rattle.mold_receiver.specs.View.{View, IsWellFormed, fresh};
+ghost use Rattle.mold_receiver.specs.Wanted.{IsGap, gap_end, lacks, missing, wanted};
+ghost use Rattle.mold_receiver.specs.Gap.{IsTakenInGap};
+ghost use Rattle.mold_ranges.specs.Ranges.{lacking};
+
+use mold_ranges::laws::lacking_law;
+use mold_wire::laws::{reading_law, true_packet_law};
 
 /// The new `next` of a packet that is taken is the least number from the old one on that is lacking in what
 /// is available, and what is handed on is what is available there, in order.
@@ -28,16 +36,51 @@ pub fn least_missing_law()
 pub fn nothing_new_law()
     ensures handed { (v : View) (p : Packet) (i : ℕ) (m : Message) →
         slice_get (handed_on v p.sequence (messages_of p.body)) i ≡ Some m →
-        (finite.get v.store (v.next + i) ≡ Some m) ⊎ (carried_at p (v.next + i) ≡ Some m) }
+        (finite.get v.store (v.next + i) ≡ Some m) ⊎ Carries p (v.next + i) m }
     ensures stored { (v : View) (p : Packet) (number : ℕ) (m : Message) →
         finite.get (view_after v p).store number ≡ Some m →
-        (finite.get v.store number ≡ Some m) ⊎ (carried_at p number ≡ Some m) }
+        (finite.get v.store number ≡ Some m) ⊎ Carries p number m }
 {}
 
 /// A view that takes a datagram stays well formed; one that was made is.
 pub fn well_formed_law()
     ensures received { (v : View) (bytes : List ℕ) (r : Reception) →
         IsWellFormed v → receive v bytes ≡ Ok r → IsWellFormed r.view }
+{}
+
+/// Honest taking: an honest view refuses nothing that spells a true packet of its session, and is honest
+/// afterwards. What it hands on is what was published with these numbers.
+pub fn honest_take_law()
+    ensures { (v : View) (packet : Packet) (bytes : List ℕ) (published : List Message) (closed : Bool) →
+        IsHonest v published closed → Spells packet bytes → packet.session ≡ v.session →
+        IsTrue packet published closed → IsTakenHonestly v bytes published closed }
+{
+    reading_law();
+    true_packet_law();
+}
+
+/// A view stays honest while messages are published, and when the session is closed. The view of a receiver
+/// that begins at a published message, or at the next one, is honest.
+pub fn honest_stays_law()
+    ensures published { (v : View) (published : List Message) (message : Message) →
+        IsHonest v published false → IsHonest v (published ++ message ∷ []) false }
+    ensures closed { (v : View) (published : List Message) →
+        IsHonest v published false → IsHonest v published true }
+    ensures fresh { (session : Session) (next window : ℕ) (published : List Message) (closed : Bool) →
+        1 ≤ next → next ≤ length published + 1 → length published < 18446744073709551615 →
+        IsHonest (fresh session next window) published closed }
+{}
+
+/// What is taken is a packet of the view's session that meets no refusal, and it does what the rule says.
+pub fn taken_law()
+    ensures { (v : View) (bytes : List ℕ) (r : Reception) →
+        receive v bytes ≡ Ok r → IsTakenPacket v bytes r }
+{}
+
+/// A packet that is taken and doesn't begin above `next` is handed on to its end.
+pub fn through_law()
+    ensures { (v : View) (p : Packet) →
+        IsWellFormed v → p.sequence ≤ v.next → top_of p ≤ (view_after v p).next }
 {}
 
 /// What is wanted is asked from `next` on, for the gap there as far as a request may ask; nothing is wanted
@@ -49,6 +92,28 @@ pub fn wanted_law()
     ensures gap { (v : View) (r : Request) → IsWellFormed v → wanted v ≡ Some r → IsGap v (gap_end v) }
     ensures none { (v : View) → wanted v ≡ None → v.next ≡ v.known }
 {}
+
+/// How many messages are missing: as many as the store lacks of the numbers from `next` to below `known`.
+pub fn missing_law()
+    ensures { (v : View) → IsWellFormed v →
+        missing v ≡ lacking (lacks v.store) v.next (v.known - v.next) }
+{
+    lacking_law();
+}
+
+/// A data packet that begins at `next` and goes no further than the gap there is refused by nothing, and
+/// as many messages less are missing as it has. So is one that answers what is wanted.
+pub fn round_law()
+    ensures gap { (v : View) (end : ℕ) (messages : List Message) (bytes : List ℕ) →
+        IsWellFormed v → IsGap v end → v.next + length messages ≤ end →
+        Spells (data_packet v.session v.next messages) bytes → IsTakenInGap v messages bytes }
+    ensures wanted { (v : View) (r : Request) (messages : List Message) (bytes : List ℕ) →
+        IsWellFormed v → wanted v ≡ Some r → length messages ≤ r.count →
+        Spells (data_packet v.session v.next messages) bytes → IsTakenInGap v messages bytes }
+{
+    reading_law();
+    lacking_law();
+}
 
 /// A batch that follows goes on to follow, and messages may join it in parts.
 #[tactic(auto, using(crate::proofs::BatchLemmas::follows_after, crate::proofs::BatchLemmas::followed_twice))]

@@ -24,3 +24,7 @@ pub returns-clause-whole : goal.returns-clause-whole
 returns-clause-whole c session steps receiver allowed ended =
     ended_has_all (run (start session) steps) receiver
     (kept_run (laws_of c) (start session) steps (kept_start session) allowed) ended
+
+pub returns-clause-honest : goal.returns-clause-honest
+returns-clause-honest c view packet bytes published closed honest spelled named true_now =
+    c.honest_take_law.ensures view packet bytes published closed honest spelled named true_now
