@@ -27,33 +27,37 @@ abbrev pub packer_with : ℕ → Session → ℕ → List (List ℕ) → PackerS
 packer_with limit session sequence found = record { limit = limit; begun = Open session sequence found }
 
 -- so many of the messages are in the open packet and fit it, and the rest is to come
-pub record Gathers (limit : ℕ) (session : Session) (sequence : ℕ) (messages : List (List ℕ)) (packer : PackerState)
-    (rest : List (List ℕ)) (count : ℕ) : Type 0 where
+pub record Gathers (limit : ℕ) (session : Session) (sequence : ℕ) (messages : List (List ℕ)) (most : ℕ)
+    (packer : PackerState) (rest : List (List ℕ)) (count : ℕ) : Type 0 where
   pub found : List (List ℕ)
   pub parts : messages ≡ found ++ rest
   pub counted : count ≡ length found
+  pub few : count ≤ most
   pub begun : packer ≡ packer_with limit session sequence found
   pub fits : Fits limit found
 
 pub gathers_none :
-    (limit : ℕ) (session : Session) (sequence : ℕ) (messages : List (List ℕ)) (packer : PackerState)
+    (limit : ℕ) (session : Session) (sequence : ℕ) (messages : List (List ℕ)) (most : ℕ) (packer : PackerState)
     (rest : List (List ℕ)) → IsLimit limit → packet_length [] ≡ 20 → packer ≡ packer_with limit session sequence [] →
-    rest ≡ messages → Gathers limit session sequence messages packer rest 0
-gathers_none limit session sequence messages packer rest limited none begun all = record {
+    rest ≡ messages → Gathers limit session sequence messages most packer rest 0
+gathers_none limit session sequence messages most packer rest limited none begun all = record {
   found = [];
   parts = sym all;
   counted = refl;
+  few = omega arith;
   begun = begun;
   fits = omega (arith, none, limited.0);
 }
 
 pub gathers_more :
-    (limit : ℕ) (session : Session) (sequence : ℕ) (messages : List (List ℕ)) (packer : PackerState)
+    (limit : ℕ) (session : Session) (sequence : ℕ) (messages : List (List ℕ)) (most : ℕ) (packer : PackerState)
     (rest : List (List ℕ)) (count : ℕ) (message : List ℕ) (more : List (List ℕ)) (new : PackerState) → OneMore →
-    Gathers limit session sequence messages packer rest count → rest ≡ message ∷ more →
+    Gathers limit session sequence messages most packer rest count → (count ≡ most → ⊥) → rest ≡ message ∷ more →
     new ≡ record { limit = packer.limit; begun = with_message message packer.begun } →
-    HasRoom packer.limit packer.begun (length message) → Gathers limit session sequence messages new more (count + 1)
-gathers_more limit session sequence messages packer rest count message more new one_more had next grown room =
+    HasRoom packer.limit packer.begun (length message) →
+    Gathers limit session sequence messages most new more (count + 1)
+gathers_more limit session sequence messages most packer rest count message more new one_more had fewer next grown
+    room =
     let within : packet_length had.found + (2 + length message) ≤ limit =
     subst (λ (p : PackerState). HasRoom p.limit p.begun (length message)) had.begun room
     in
@@ -62,47 +66,46 @@ gathers_more limit session sequence messages packer rest count message more new 
       parts = had.parts ∙ ap (λ (t : List (List ℕ)). had.found ++ t) next ∙ sym
           (append_assoc had.found (message ∷ []) more);
       counted = omega (arith, had.counted, length-append had.found (message ∷ []));
+      few = omega (arith, had.few, fewer);
       begun = grown ∙ ap (λ (p : PackerState). record { limit = p.limit; begun = with_message message p.begun })
           had.begun;
       fits = omega (arith, within, one_more had.found message);
     }
 
--- one more message is counted in 64 bits
-pub gathers_counts :
-    (limit : ℕ) (session : Session) (sequence : ℕ) (messages : List (List ℕ)) (packer : PackerState)
-    (rest : List (List ℕ)) (count : ℕ) (message : List ℕ) (more : List (List ℕ)) →
-    Gathers limit session sequence messages packer rest count → rest ≡ message ∷ more → count + 1 ≤ length messages
-gathers_counts limit session sequence messages packer rest count message more had next =
-    omega (
-      arith,
-      had.counted,
-      ap (λ (t : List (List ℕ)). length t) had.parts,
-      length-append had.found rest,
-      ap
-          (λ (t : List (List ℕ)). length t) next,
-    )
-
--- once no message is left, or the next one has no room, the longest front is packed
+-- once no message is left, there are as many as may be, or the next one has no room, the longest front is packed
 pub packed_all :
-    (old : PackerState) (session : Session) (sequence : ℕ) (messages : List (List ℕ)) (packer : PackerState)
-    (rest : List (List ℕ)) (count : ℕ) → Stops → Gathers old.limit session sequence messages packer rest count →
-    rest ≡ [] → HasPacked old packer session sequence messages count
-packed_all old session sequence messages packer rest count stops had none = record {
+    (old : PackerState) (session : Session) (sequence : ℕ) (messages : List (List ℕ)) (most : ℕ)
+    (packer : PackerState) (rest : List (List ℕ)) (count : ℕ) → Stops →
+    Gathers old.limit session sequence messages most packer rest count → rest ≡ [] →
+    HasPacked old packer session sequence messages most count
+packed_all old session sequence messages most packer rest count stops had none = record {
   found = had.found;
   counted = had.counted;
   begun = had.begun;
-  longest = λ most enough. stops old.limit messages most had.found rest had.parts
-      (omega (arith, enough, ap (λ (t : List (List ℕ)). length t) had.parts, length-append had.found rest))
-      had.fits
+  longest = stops old.limit messages most had.found rest had.parts (omega (arith, had.counted, had.few)) had.fits
       (λ next more some few fits. let e : [] ≡ next ∷ more = sym none ∙ some in cc);
 }
 
+pub packed_most :
+    (old : PackerState) (session : Session) (sequence : ℕ) (messages : List (List ℕ)) (most : ℕ)
+    (packer new : PackerState) (rest : List (List ℕ)) (count : ℕ) → Stops →
+    Gathers old.limit session sequence messages most packer rest count → count ≡ most → new ≡ packer →
+    HasPacked old new session sequence messages most count
+packed_most old session sequence messages most packer new rest count stops had all same = record {
+  found = had.found;
+  counted = had.counted;
+  begun = same ∙ had.begun;
+  longest = stops old.limit messages most had.found rest had.parts (omega (arith, had.counted, had.few)) had.fits
+      (λ next more some few fits. omega (arith, few, had.counted, all));
+}
+
 pub packed_full :
-    (old : PackerState) (session : Session) (sequence : ℕ) (messages : List (List ℕ)) (packer : PackerState)
-    (rest : List (List ℕ)) (count : ℕ) (message : List ℕ) (more : List (List ℕ)) (new : PackerState) → OneMore →
-    Stops → Gathers old.limit session sequence messages packer rest count → rest ≡ message ∷ more → new ≡ packer →
-    (HasRoom packer.limit packer.begun (length message) → ⊥) → HasPacked old new session sequence messages count
-packed_full old session sequence messages packer rest count message more new one_more stops had next same full =
+    (old : PackerState) (session : Session) (sequence : ℕ) (messages : List (List ℕ)) (most : ℕ)
+    (packer : PackerState) (rest : List (List ℕ)) (count : ℕ) (message : List ℕ) (more : List (List ℕ))
+    (new : PackerState) → OneMore → Stops → Gathers old.limit session sequence messages most packer rest count →
+    rest ≡ message ∷ more → new ≡ packer → (HasRoom packer.limit packer.begun (length message) → ⊥) →
+    HasPacked old new session sequence messages most count
+packed_full old session sequence messages most packer rest count message more new one_more stops had next same full =
     let no_room : packet_length had.found + (2 + length message) ≤ old.limit → ⊥ =
     subst (λ (p : PackerState). HasRoom p.limit p.begun (length message) → ⊥) had.begun full
     in
@@ -110,9 +113,7 @@ packed_full old session sequence messages packer rest count message more new one
       found = had.found;
       counted = had.counted;
       begun = same ∙ had.begun;
-      longest = λ most enough. stops old.limit messages most had.found rest had.parts
-          (omega (arith, enough, ap (λ (t : List (List ℕ)). length t) had.parts, length-append had.found rest))
-          had.fits
+      longest = stops old.limit messages most had.found rest had.parts (omega (arith, had.counted, had.few)) had.fits
           (λ other others some few fits.
           let both : message ∷ more ≡ other ∷ others = sym next ∙ some in
           let one : other ≡ message = cc in

@@ -9,45 +9,16 @@ use Rattle.mold_wire.specs.declared.session.Session.{Session}
 use Rattle.mold_wire.specs.declared.packet.Body.{Body}
 use Rattle.mold_wire.specs.declared.packet.Body.TheVariants.{Data}
 use Rattle.mold_wire.specs.Packet.{Spells}
-use Rattle.mold_wire.specs.Packer.{PackerState, Open, SpellsBegun, body_with, open_packet}
+use Rattle.mold_wire.specs.Packer.{PackerState, Begun, Open, Ended, SpellsBegun, body_with, open_packet}
 use Rattle.mold_wire.specs.Packing.{packet_length, Fits, IsFront, front}
 use Rattle.mold_messages.specs.Listed.{byte_count}
+use Rattle.mold_session.proofs.FrontLemmas.{FrontIs, OnlyFront, SomeFront, Alone, each_drop, front_within, some_front, fit_alone, data_body}
 use Rattle.mold_session.proofs.PackingLemmas.{packet_bytes}
+use Rattle.mold_session.specs.Answer.{FitAlone}
 use Rattle.mold_session.specs.Journal.{IsWithin}
 use Rattle.mold_session.specs.Packing.{HasPacked}
-use Rattle.mold_session.specs.Publisher.{PublisherState, IsPublisher, unsent_of, next_front, next_datagram}
+use Rattle.mold_session.specs.Publisher.{PublisherState, IsPublisher, unsent_of, next_front, next_datagram, next_heartbeat, next_end}
 use Rattle.mold_session.specs.Publisher.{after_datagram, Lends}
-
-each_drop : {X : Type 0} (P : X → Type 0) (n : ℕ) (xs : List X) → AllByRecursion P xs → AllByRecursion P (drop n xs)
-each_drop P zero xs each = each
-each_drop P (suc n) [] each = tt
-each_drop P (suc n) (x ∷ xs) each = each_drop P n xs each.1
-
-abbrev pub FrontIs : Type 0
-FrontIs =
-    (limit : ℕ) (messages : List (List ℕ)) (most : ℕ) → 20 ≤ limit →
-    IsFront limit messages most (front limit messages most)
-
-abbrev pub OnlyFront : Type 0
-OnlyFront =
-    (limit : ℕ) (messages : List (List ℕ)) (most : ℕ) (found : List (List ℕ)) → IsFront limit messages most found →
-    found ≡ front limit messages most
-
-abbrev pub SomeFront : Type 0
-SomeFront =
-    (limit : ℕ) (message : List ℕ) (messages found : List (List ℕ)) (most : ℕ) →
-    IsFront limit (message ∷ messages) most found → 0 < most → Fits limit (message ∷ []) → 0 < length found
-
--- a message of 22 bytes less than the limit fits alone
-abbrev pub Alone : Type 0
-Alone = (limit : ℕ) (message : List ℕ) → length message + 22 ≤ limit → Fits limit (message ∷ [])
-
--- a front has no more messages than there are
-front_within :
-    (limit : ℕ) (messages : List (List ℕ)) (most : ℕ) (found : List (List ℕ)) → IsFront limit messages most found →
-    length found ≤ length messages
-front_within limit messages most found longest =
-    omega (arith, ap (λ (t : List (List ℕ)). length t) longest.parts, length-append found longest.behind)
 
 -- where nothing is unsent, nothing is sent and the publisher stays
 pub record StaysIdle (publisher : PublisherState) : Type 0 where
@@ -82,38 +53,24 @@ pub record IsNext (publisher : PublisherState) (old new : PackerState) (count : 
   pub begun : new.begun ≡ Open publisher.journal.session (publisher.sent + 1) (next_front publisher)
   pub some : 0 < count
 
-some_front :
-    (limit : ℕ) (messages : List (List ℕ)) (most : ℕ) (found : List (List ℕ)) → SomeFront → Alone →
-    AllByRecursion (IsWithin (limit - 22)) messages → 22 ≤ limit → 0 < length messages → 0 < most →
-    IsFront limit messages most found → 0 < length found
-some_front limit [] most found some alone each least more most_some longest = absurd (omega arith)
-some_front limit (message ∷ messages) most found some alone each least more most_some longest =
-    some limit message messages found most longest most_some (alone limit message (omega (arith, each.0)))
-
 pub is_next :
-    (publisher : PublisherState) (old new : PackerState) (session : Session) (messages : List (List ℕ)) (count : ℕ) →
-    OnlyFront → SomeFront → Alone → IsPublisher publisher →
+    (publisher : PublisherState) (old new : PackerState) (session : Session) (messages : List (List ℕ))
+    (most count : ℕ) → OnlyFront → SomeFront → Alone → IsPublisher publisher →
     (length publisher.journal.messages - publisher.sent ≡ 0 → ⊥) → old.limit ≡ publisher.limit →
     session ≡ publisher.journal.session → messages ≡ unsent_of publisher →
-    HasPacked old new session (publisher.sent + 1) messages count → IsNext publisher old new count
-is_next publisher old new session messages count only some alone is unsent limit named all packed =
-    let most : ℕ = length publisher.journal.messages in
-    let len : length messages ≡ length publisher.journal.messages - publisher.sent = ap
-    (λ (t : List (List ℕ)). length t) all ∙ length-drop publisher.sent publisher.journal.messages in
-    let longest : IsFront old.limit messages most packed.found = packed.longest most (omega (arith, len)) in
-    let long : IsFront publisher.limit (unsent_of publisher) most packed.found =
-    subst (λ (n : ℕ). IsFront n (unsent_of publisher) most packed.found) limit
-    (subst (λ (t : List (List ℕ)). IsFront old.limit t most packed.found) all longest)
+    most ≡ length publisher.journal.messages → HasPacked old new session (publisher.sent + 1) messages most count → IsNext publisher old new count
+is_next publisher old new session messages most count only some alone is unsent limit named all every packed =
+    let long : IsFront publisher.limit (unsent_of publisher) (length publisher.journal.messages) packed.found =
+    rw every at rw all at rw limit at packed.longest in
+    let next : packed.found ≡ next_front publisher =
+    only publisher.limit (unsent_of publisher) (length publisher.journal.messages) packed.found long
     in
-    let next : packed.found ≡ next_front publisher = only publisher.limit (unsent_of publisher) most packed.found long
-    in
-    let same : publisher.journal.max_message ≡ publisher.limit - 22 = omega (arith, is.longest) in
-    let each : AllByRecursion (IsWithin (publisher.limit - 22)) (unsent_of publisher) =
-    subst (λ (n : ℕ). AllByRecursion (IsWithin n) (unsent_of publisher)) same
+    let each : FitAlone publisher.limit (unsent_of publisher) =
+    fit_alone publisher.journal.max_message publisher.limit (unsent_of publisher) (omega (arith, is.longest))
     (each_drop (IsWithin publisher.journal.max_message) publisher.sent publisher.journal.messages is.journaled.each)
     in
     let found_some : 0 < length packed.found =
-    some_front publisher.limit (unsent_of publisher) most packed.found some alone each (omega (arith, is.limited.0))
+    some_front publisher.limit (unsent_of publisher) (length publisher.journal.messages) packed.found some alone each
     (omega (arith, unsent, length-drop publisher.sent publisher.journal.messages)) (omega (arith, unsent)) long
     in
     record {
@@ -121,7 +78,7 @@ is_next publisher old new session messages count only some alone is unsent limit
       within = omega (
         arith,
         packed.counted,
-        front_within publisher.limit (unsent_of publisher) most packed.found
+        front_within publisher.limit (unsent_of publisher) (length publisher.journal.messages) packed.found
             long,
         length-drop publisher.sent publisher.journal.messages,
         is.published,
@@ -133,10 +90,6 @@ is_next publisher old new session messages count only some alone is unsent limit
           ∙ ap (λ (t : List (List ℕ)). Open publisher.journal.session (publisher.sent + 1) t) next;
       some = omega (arith, packed.counted, found_some);
     }
-
-data_body : (messages : List (List ℕ)) → 0 < length messages → body_with messages ≡ Data messages
-data_body [] some = absurd (omega arith)
-data_body (message ∷ messages) some = refl
 
 -- the bytes that spell what was begun are the next datagram
 pub lends_next :
@@ -206,3 +159,20 @@ full_tells publisher limit lengths joined is limited counted together few =
           (λ less. absurd (unfit (omega (arith, less, all, few, limited, bounds))))
           (cases_lt (limit - 20 - 2 * lengths) joined),
     )
+
+-- the bytes that spell a begun heartbeat or end packet are the next ones
+pub lends_heartbeat :
+    (publisher : PublisherState) (begun : Begun) (bytes : List ℕ) → publisher.journal.closed ≡ false →
+    begun ≡ Open publisher.journal.session (publisher.sent + 1) [] → SpellsBegun begun bytes →
+    Lends (next_heartbeat publisher) (Some bytes)
+lends_heartbeat publisher begun bytes is_open is spells =
+    let spelled = rw is at spells in
+    rw is_open spelled
+
+pub lends_end :
+    (publisher : PublisherState) (begun : Begun) (bytes : List ℕ) → publisher.journal.closed ≡ true →
+    begun ≡ Ended publisher.journal.session (length publisher.journal.messages + 1) → SpellsBegun begun bytes →
+    Lends (next_end publisher) (Some bytes)
+lends_end publisher begun bytes is_closed is spells =
+    let spelled = rw is at spells in
+    rw is_closed spelled

@@ -1,14 +1,13 @@
 -- What a packer has, once the longest front of some messages was put into a packet.
-use Rattle.std.specs.Prelude.{◌≡◌, ℕ, ◌≤◌, List, length}
+use Rattle.std.specs.Prelude.{◌≡◌, ℕ, List, length}
 use Rattle.mold_wire.specs.declared.session.Session.{Session}
 use Rattle.mold_wire.specs.Packer.{PackerState, Open}
 use Rattle.mold_wire.specs.Packing.{IsFront}
 
--- a data packet was begun with the longest front that fits, of so many messages, whatever number not
--- below that of all messages bounds it
+-- a data packet was begun with the longest front of at most so many messages that fits, and how many it has
 pub record HasPacked (old new : PackerState) (session : Session) (sequence : ℕ) (messages : List (List ℕ))
-    (count : ℕ) : Type 0 where
+    (most count : ℕ) : Type 0 where
   pub found : List (List ℕ)
   pub counted : count ≡ length found
   pub begun : new ≡ record { limit = old.limit; begun = Open session sequence found }
-  pub longest : (most : ℕ) → length messages ≤ most → IsFront old.limit messages most found
+  pub longest : IsFront old.limit messages most found

@@ -101,7 +101,8 @@ impl Journal {
 
     // The messages from a place on, the first message's being 0.
     pub(crate) fn iter_from(&self, place: u64) -> MessageIterator<'_>
-        ensures { result ≡ drop place self.now.messages }
+        ensures from { result ≡ drop place self.now.messages }
+        ensures journal { IsJournal self.now }
     {
         self.list.iter_from(place as usize)
     }

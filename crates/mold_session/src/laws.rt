@@ -1,10 +1,17 @@
 //! What holds of the definitions alone. Each law is a function that does nothing: its contract is the
 //! law.
 
-ghost use Rattle.std.specs.Prelude.{◌≡◌, ◌+◌, ◌<◌, ◌++◌, ◌∷◌, [], List, ℕ, length};
+ghost use Rattle.std.specs.Prelude.{◌≡◌, ◌+◌, ◌<◌, ◌≤◌, ◌++◌, ◌∷◌, [], List, ℕ, length, take, Ok};
 ghost use Rattle.mold_wire.specs.Packing.{front};
 ghost use Rattle.mold_wire.specs.declared.session.Session.{Session};
-ghost use Rattle.mold_session.specs.Datagrams.{data_packet, packing};
+ghost use Rattle.mold_wire.specs.declared.request.Request.{Request};
+ghost use Rattle.mold_wire.specs.Request.{SpellsRequest};
+ghost use Rattle.mold_session.specs.Answer.{answer, PlanState, IsPlan, plan_for, IsSpent, planned, FitAlone, HasFirst, SendsNext};
+ghost use Rattle.mold_session.specs.Datagrams.{data_packet, first_part, packing};
+ghost use Rattle.mold_session.specs.Journal.{JournalState, IsJournal};
+ghost use Rattle.mold_session.specs.Server.{ServerState, IsServer, IsAnswerable, asking, planning};
+
+use mold_wire::laws::{front_law, packet_length_law, reading_law};
 
 /// How messages are packed: none give no packet, and where the longest front that fits has a message, it
 /// is the first packet's, and what is behind it is packed from the next number on.
@@ -16,3 +23,62 @@ pub fn packing_law()
         packing limit session sequence messages
         ≡ data_packet session sequence found ∷ packing limit session (sequence + length found) behind }
 {}
+
+/// Which messages the first packet of an answer has: of at most so many the longest front that fits.
+pub fn first_part_law()
+    ensures { (limit count : ℕ) (messages : List (List ℕ)) → 20 ≤ limit →
+        first_part limit (take count messages) ≡ front limit messages count }
+{
+    front_law();
+}
+
+/// What a plan still sends: nothing, once it is spent; else the next packet, and then what the plan still
+/// sends once it was moved behind that packet's messages. What is published meanwhile changes nothing. So
+/// the datagrams that are lent until none comes are all packets that the plan had at first, in order.
+pub fn planned_law()
+    ensures spent { (published : List (List ℕ)) (limit : ℕ) (plan : PlanState) →
+        IsSpent plan → planned published limit plan ≡ [] }
+    ensures next { (published : List (List ℕ)) (limit : ℕ) (plan : PlanState) →
+        FitAlone limit published → IsPlan plan → plan.to ≤ length published + 1 → ¬ IsSpent plan →
+        SendsNext published limit plan }
+    ensures grown { (published more : List (List ℕ)) (limit : ℕ) (plan : PlanState) →
+        IsPlan plan → plan.to ≤ length published + 1 →
+        planned (published ++ more) limit plan ≡ planned published limit plan }
+{
+    front_law();
+    packet_length_law();
+}
+
+/// A request for messages that the journal has is answered, and no other one is; what its plan sends is the
+/// answer.
+pub fn answered_law()
+    ensures asked { (journal : JournalState) (request : Request) (bytes : List ℕ) →
+        SpellsRequest request bytes → IsAnswerable journal request → asking journal bytes ≡ Ok request }
+    ensures answerable { (journal : JournalState) (request : Request) (bytes : List ℕ) →
+        asking journal bytes ≡ Ok request → IsAnswerable journal request }
+    ensures planned { (journal : JournalState) (burst : ℕ) (request : Request) (bytes : List ℕ) →
+        asking journal bytes ≡ Ok request → planning journal burst bytes ≡ Ok (plan_for journal burst request) }
+    ensures plan { (journal : JournalState) (burst : ℕ) (request : Request) →
+        IsAnswerable journal request → IsPlan (plan_for journal burst request) }
+    ensures within { (journal : JournalState) (burst : ℕ) (request : Request) →
+        (plan_for journal burst request).to ≤ length journal.messages + 1 }
+    ensures answer { (journal : JournalState) (limit burst : ℕ) (request : Request) →
+        IsAnswerable journal request → planned journal.messages limit (plan_for journal burst request)
+        ≡ answer journal.messages journal.session limit request.sequence request.count burst }
+{
+    reading_law();
+}
+
+/// The answer to a request has a first packet, with at least one message, where the number asked is a
+/// message's, at least one message is asked for, and no message is longer than 22 bytes less than the
+/// limit; so it is of a journal and of a server that may answer from it.
+pub fn answer_not_empty_law()
+    ensures first { (published : List (List ℕ)) (session : Session) (limit number count burst : ℕ) →
+        FitAlone limit published → 1 ≤ number → number ≤ length published → 1 ≤ count → 1 ≤ burst →
+        HasFirst session number (answer published session limit number count burst) }
+    ensures fit { (journal : JournalState) (server : ServerState) → IsJournal journal → IsServer server →
+        journal.max_message ≤ server.max_message → FitAlone server.limit journal.messages }
+{
+    front_law();
+    packet_length_law();
+}

@@ -1,18 +1,19 @@
 //! The publisher of a session.
 
-ghost use Rattle.std.specs.Prelude.{◌≡◌, ◌↔◌, ◌+◌, ◌-◌, ◌≤◌, [], true, false, None, Err, length, unwrap_or, not, IfOk, IfErr, IsOk, OnOk, OnErr, IsTrue};
+ghost use Rattle.std.specs.Prelude.{◌≡◌, ◌↔◌, ◌+◌, ◌-◌, ◌≤◌, [], true, false, None, Err, length, unwrap_or, not, IfOk, IfErr, IfSome, IsOk, OnOk, OnErr, IsTrue};
 ghost use Rattle.std.specs.Option.{option_copied};
 ghost use Rattle.mold_wire.specs.Packer.{IsLimit};
 ghost use Rattle.mold_wire.specs.Packing.{Fits};
 ghost use Rattle.mold_session.specs.Journal.{append_refusal};
 ghost use Rattle.mold_session.specs.Publisher.{IsPublisher, unsent_of, next_datagram, next_heartbeat, next_end, after_datagram, published, closed, Lends};
+ghost use Rattle.mold_session.specs.Truthful.{TellsTruth};
 ghost use Rattle.mold_session.specs.declared.error.AppendError.{AppendError};
 ghost use Rattle.mold_session.specs.declared.error.PublisherError.{PublisherError};
 
 use crate::error::{AppendError, PublisherError, Unsent};
 use crate::journal::Journal;
 use crate::packing::pack_front;
-use mold_wire::laws::{front_law, packet_length_law};
+use mold_wire::laws::{front_law, packet_length_law, true_packet_law};
 use mold_wire::{Packer, PackerError, Session};
 use std::alloc::Global;
 use std::marker::Model;
@@ -120,15 +121,23 @@ impl Publisher {
     pub fn datagram(&mut self) -> Option<&[u8]>
         ensures* after { sem 𝓛 (Rests the_row self.entry (λ new. new ≡ after_datagram self.old)) }
         ensures lent { Lends (next_datagram self.old) (option_copied result) }
+        ensures truth { IfSome result (λ bytes. TellsTruth self.old.journal bytes.now) }
     {
         front_law();
         packet_length_law();
+        true_packet_law();
         if self.unsent() == 0 {
             return None;
         }
         let messages = self.journal.iter_from(self.sent);
         let session = self.journal.session();
-        let count = pack_front(&mut self.packer, session, self.sent + 1, messages);
+        let count = pack_front(
+            &mut self.packer,
+            session,
+            self.sent + 1,
+            messages,
+            self.journal.len(),
+        );
         self.sent += count;
         Some(self.packer.bytes())
     }
@@ -138,6 +147,7 @@ impl Publisher {
     pub fn heartbeat(&mut self) -> Option<&[u8]>
         ensures* after { sem 𝓛 (Rests the_row self.entry (λ new. new ≡ self.old)) }
         ensures lent { Lends (next_heartbeat self.old) (option_copied result) }
+        ensures truth { IfSome result (λ bytes. TellsTruth self.old.journal bytes.now) }
     {
         if self.journal.is_closed() {
             return None;
@@ -170,6 +180,7 @@ impl Publisher {
     pub fn end(&mut self) -> Option<&[u8]>
         ensures* after { sem 𝓛 (Rests the_row self.entry (λ new. new ≡ self.old)) }
         ensures lent { Lends (next_end self.old) (option_copied result) }
+        ensures truth { IfSome result (λ bytes. TellsTruth self.old.journal bytes.now) }
     {
         if !self.journal.is_closed() {
             return None;

@@ -1,6 +1,8 @@
 use Rattle.std.proofs.Common.{◌≡◌, ℕ, ◌+◌, None, Some, refl, sym, ap, subst, ◌∙◌}
 use Rattle.mold_session.specs.Publisher.{PublisherState, Lends, next_datagram, after_datagram}
 use Rattle.mold_session.proofs.PublisherLemmas.{stays_idle, is_next, lends_next, still_publisher}
+use Rattle.mold_session.specs.Truthful.{TellsTruth}
+use Rattle.mold_session.proofs.TruthLemmas.{datagram_true}
 use Rattle.mold_session.proofs.publisher.Publisher.datagram.Goals as goal
 
 pub returns-then-unsent-eq0 : goal.returns-then-unsent-eq0
@@ -14,7 +16,7 @@ returns-then-unsent-eq0 c =
     let nothing : Lends (next_datagram c.args.self.now) None =
     subst (λ (p : PublisherState). Lends (next_datagram p) None) c.self.view_is (rw idle.nothing tt)
     in
-    ((refl, (λ _. tt), same), record { after = tt; lent = nothing })
+    ((refl, (λ _. tt), same), record { after = tt; lent = nothing; truth = tt })
 
 pub invariant_of-self-2 : goal.invariant_of-self-2
 invariant_of-self-2 c =
@@ -22,11 +24,11 @@ invariant_of-self-2 c =
     let before : PublisherState = record { journal = f.journal; limit = f.limit; sent = f.sent } in
     let next =
     is_next before f.packer c.pack_front-count.new.packer c.session-session.result c.iter_from-messages.result
-    c.pack_front-count.result
+    c.len.result c.pack_front-count.result
     c.front_law.ensures.only c.front_law.ensures.some
     (λ limit message. (c.packet_length_law.ensures.alone limit message).0)
     c.self.invariant.1 (λ none. c.if-unsent-eq0.false (c.unsent.ensures.value ∙ none)) c.self.invariant.0
-    c.session-session.ensures c.iter_from-messages.ensures c.pack_front-count.ensures
+    c.session-session.ensures c.iter_from-messages.ensures.from c.len.ensures.value c.pack_front-count.ensures
     in (
       next.limit ∙ c.self.invariant.0,
       still_publisher before f.packer c.pack_front-count.new.packer c.pack_front-count.result c.self.invariant.1
@@ -39,20 +41,29 @@ returns c =
     let before : PublisherState = record { journal = f.journal; limit = f.limit; sent = f.sent } in
     let next =
     is_next before f.packer c.pack_front-count.new.packer c.session-session.result c.iter_from-messages.result
-    c.pack_front-count.result
+    c.len.result c.pack_front-count.result
     c.front_law.ensures.only c.front_law.ensures.some
     (λ limit message. (c.packet_length_law.ensures.alone limit message).0)
     c.self.invariant.1 (λ none. c.if-unsent-eq0.false (c.unsent.ensures.value ∙ none)) c.self.invariant.0
-    c.session-session.ensures c.iter_from-messages.ensures c.pack_front-count.ensures
+    c.session-session.ensures c.iter_from-messages.ensures.from c.len.ensures.value c.pack_front-count.ensures
     in
     let same : record before { sent = f.sent + c.pack_front-count.result } ≡ after_datagram c.args.self.now =
     subst (λ (p : PublisherState). record before { sent = f.sent + c.pack_front-count.result } ≡ after_datagram p)
     c.self.view_is
     (ap (λ (n : ℕ). record before { sent = f.sent + n }) next.counted)
     in
-    let lent : Lends (next_datagram c.args.self.now) (Some c.bytes.result.now) =
-    subst (λ (p : PublisherState). Lends (next_datagram p) (Some c.bytes.result.now)) c.self.view_is
-    (lends_next before f.packer c.pack_front-count.new.packer c.pack_front-count.result c.bytes.result.now
-    (λ none. c.if-unsent-eq0.false (c.unsent.ensures.value ∙ none)) next c.bytes.ensures.spelled)
+    let lent =
+    lends_next before f.packer c.pack_front-count.new.packer c.pack_front-count.result c.bytes.result.now
+    (λ none. c.if-unsent-eq0.false (c.unsent.ensures.value ∙ none)) next c.bytes.ensures.spelled
     in
-    ((refl, (λ _. tt), same), record { after = tt; lent = lent })
+    let truth =
+    datagram_true before c.bytes.result.now c.true_packet_law.ensures.piece c.front_law.ensures.front
+    c.self.invariant.1 lent
+    in (
+      (refl, (λ _. tt), same),
+      record {
+        after = tt;
+        lent = subst (λ (p : PublisherState). Lends (next_datagram p) (Some c.bytes.result.now)) c.self.view_is lent;
+        truth = subst (λ (p : PublisherState). TellsTruth p.journal c.bytes.result.now) c.self.view_is truth;
+      },
+    )

@@ -1,0 +1,97 @@
+//! What is left of the answer to a request.
+
+ghost use Rattle.std.specs.Prelude.{◌≡◌, ◌+◌, ◌≤◌, ◌<◌, ◌↔◌, length, IsTrue};
+ghost use Rattle.mold_session.specs.Answer.{IsPlan, IsSpent, plan_for, moved};
+ghost use Rattle.mold_session.specs.Journal.{IsJournal};
+
+use crate::journal::Journal;
+use mold_wire::{Request, Session};
+use std::marker::Model;
+
+/// What is left of the answer to a request: the messages from `from` to below `to`, in at most `left`
+/// datagrams. `from` is at least 1 and at most `to`.
+#[derive(Debug, Drop)]
+pub struct Plan {
+    session: Session,
+    from: u64,
+    to: u64,
+    left: u16,
+}
+
+impl Model for Plan {
+    ghost use Rattle.mold_session.specs.Answer.{PlanState, IsPlan};
+
+    ghost Value = { PlanState };
+
+    ghost view = { λ p. record { session = p.session; from = p.from; to = p.to; left = p.left } };
+
+    ghost invariant = { λ p. IsPlan (record { session = p.session; from = p.from; to = p.to; left = p.left }) };
+}
+
+impl Plan {
+    // The answer to a request that the journal can answer, in at most `burst` datagrams.
+    pub(crate) fn new(journal: &Journal, request: &Request, burst: u16) -> Plan
+        requires session { request.now.session ≡ journal.now.session }
+        requires first { 1 ≤ request.now.sequence }
+        requires last { request.now.sequence ≤ length journal.now.messages }
+        ensures { result ≡ plan_for journal.now burst request.now }
+    {
+        let behind = request.sequence.saturating_add(u64::from(request.count));
+        Plan {
+            session: request.session,
+            from: request.sequence,
+            to: behind.min(journal.next()),
+            left: burst,
+        }
+    }
+
+    /// The session of the messages.
+    pub fn session(&self) -> Session
+        ensures { result ≡ self.now.session }
+    {
+        self.session
+    }
+
+    /// The number of the next message: at first the number asked, then one behind the last message that
+    /// was lent.
+    pub fn from(&self) -> u64
+        ensures value { result ≡ self.now.from }
+        ensures plan { IsPlan self.now }
+    {
+        self.from
+    }
+
+    /// One more than the number of the last message that was asked for and that the journal had when the
+    /// plan was made.
+    pub fn to(&self) -> u64
+        ensures value { result ≡ self.now.to }
+        ensures plan { IsPlan self.now }
+    {
+        self.to
+    }
+
+    /// How many datagrams may still come, 0 to 64.
+    pub fn left(&self) -> u16
+        ensures { result ≡ self.now.left }
+    {
+        self.left
+    }
+
+    // Whether no datagram is left.
+    pub(crate) fn is_spent(&self) -> bool
+        ensures spent { IsTrue result ↔ IsSpent self.now }
+        ensures plan { IsPlan self.now }
+    {
+        self.left == 0 || self.from == self.to
+    }
+
+    // A datagram of so many messages was lent.
+    pub(crate) fn advance(&mut self, count: u64)
+        requires left { ¬ IsSpent self.old }
+        requires within { self.old.from + count ≤ self.old.to }
+        ensures { self.new ≡ moved self.old count }
+    {
+        self.from += count;
+        self.left -= 1;
+    }
+}
