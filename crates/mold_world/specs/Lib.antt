@@ -1,2 +1,4 @@
 pub mod Machine
 pub mod Headline
+pub mod World
+pub mod Effect

@@ -2,3 +2,6 @@
 #![tactic(auto)]
 
 pub mod laws;
+mod report;
+
+pub use report::{Report, SessionRefusal, WorldError};
