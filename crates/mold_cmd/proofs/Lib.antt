@@ -1,1 +1,4 @@
+pub mod DatagramLemmas
+pub mod PackLemmas
+pub mod PublishingLemmas
 pub mod ShowLemmas

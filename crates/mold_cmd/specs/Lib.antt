@@ -1,2 +1,5 @@
 pub mod Command
+pub mod Pack
+pub mod Packets
+pub mod Publishing
 pub mod Show

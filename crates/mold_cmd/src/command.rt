@@ -6,6 +6,7 @@ ghost use Rattle.mold_cmd.specs.Command.{text, status};
 ghost use Rattle.mold_devices.specs.Devices.{AppendsFront};
 ghost use Rattle.mold_devices.specs.Faults.{CountsCommand};
 
+use crate::pack::Pack;
 use crate::show::Show;
 use mold_devices::{CommandFault, Sink, Source, run_lines};
 use mold_words::Order;
@@ -32,5 +33,6 @@ pub fn run_command<S: Source, K: Sink>(
         Order::Show { request } => {
             run_lines(alloc, &mut Show::new(alloc, *request), source, sink)
         }
+        Order::Pack(order) => run_lines(alloc, &mut Pack::new(alloc, order)?, source, sink),
     }
 }

@@ -2,6 +2,9 @@
 #![tactic(auto)]
 
 mod command;
+mod filling;
+mod line_refusal;
+mod pack;
 mod show;
 #[cfg(test)]
 mod tests;

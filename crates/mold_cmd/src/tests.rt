@@ -5,7 +5,7 @@ ghost use Rattle.std.specs.Prelude.{◌<◌};
 
 use crate::command::run_command;
 use mold_devices::{CommandFault, IntoWrite, MemorySink, MemorySource, Sink, Source};
-use mold_words::Order;
+use mold_words::{Order, PackOrder, read_words};
 use std::alloc::Global;
 use std::io;
 use std::io::Write;
@@ -19,6 +19,8 @@ const REQUESTS: Order = Order::Show { request: true };
 const LEAST: &[u8] = b"53455353494f4e30303100000000000000010000\n";
 
 const TWO: &[u8] = b"53455353494f4e30303100000000000000010002000241420000\n";
+
+const END_OF_TWO: &[u8] = b"53455353494f4e3030310000000000000003ffff\n";
 
 const TWO_TEXT: &[u8] = b"data 53455353494f4e303031 1 2\n  1 2 4142\n  2 0 -\n";
 
@@ -230,6 +232,118 @@ fn each_write_that_fails_leaves_a_beginning(rt: HostRuntime) -> Result<(), Fail>
         assert!(rt; TWO_TEXT.starts_with(sink.bytes()), "write {call}");
         assert_eq!(rt; sink.bytes().len() as u64, call - 1);
         assert_eq!(rt; sink.failures(), 1);
+    }
+    Ok(())
+}
+
+// The order to pack `SESSION001` into packets of up to 64 bytes.
+fn pack_64() -> Order {
+    Order::Pack(PackOrder {
+        session: *b"SESSION001",
+        limit: 64,
+    })
+}
+
+#[test]
+fn pack_two_messages(rt: HostRuntime) -> Result<(), Fail> {
+    let mut text = Vec::from_slice(rt.alloc(), TWO)?;
+    text.extend_from_slice(END_OF_TWO)?;
+    expect_done(&rt, &pack_64(), b"4142\n\n", text.as_slice(), 0)
+}
+
+#[test]
+fn pack_empty_input(rt: HostRuntime) -> Result<(), Fail> {
+    let text = b"53455353494f4e3030310000000000000001ffff\n";
+    expect_done(&rt, &pack_64(), b"", text, 0)
+}
+
+#[test]
+fn session_padded(rt: HostRuntime) -> Result<(), Fail> {
+    let mut words = Vec::new(rt.alloc());
+    for word in "pack --session MKT --limit 64".split_whitespace() {
+        words.push(String::from_str(rt.alloc(), word)?)?;
+    }
+    let order = read_words(rt.alloc(), words.as_slice()).map_err(|_| "no order")?;
+    let text = b"4d4b54202020202020200000000000000001ffff\n";
+    expect_done(&rt, &order, b"", text, 0)
+}
+
+#[test]
+fn a_refused_line_leaves_out_the_last_packet(rt: HostRuntime) -> Result<(), Fail> {
+    expect_done(&rt, &pack_64(), b"41\n4\n", b"refused line 2 NotHex\n", 2)?;
+    expect_done(&rt, &pack_64(), b"-\n41\n", b"refused line 1 NotHex\n", 2)
+}
+
+/// Messages of 20, 20 and 21 bytes, and one of 43, which is too long. The first three take 125 bytes.
+const FOUR: &[u8] =
+    b"0101010101010101010101010101010101010101\n0202020202020202020202020202020202020202\n030303030303030303030303030303030303030303\n04040404040404040404040404040404040404040404040404040404040404040404040404040404040404\n";
+
+const FIRST_OF_FOUR: &[u8] =
+    b"53455353494f4e303031000000000000000100020014010101010101010101010101010101010101010100140202020202020202020202020202020202020202\n";
+
+#[test]
+fn packets_before_a_refused_line_stay(rt: HostRuntime) -> Result<(), Fail> {
+    let mut text = Vec::from_slice(rt.alloc(), FIRST_OF_FOUR)?;
+    text.extend_from_slice(b"refused line 4 TooLong 43\n")?;
+    expect_done(&rt, &pack_64(), FOUR, text.as_slice(), 2)
+}
+
+#[test]
+fn each_packet_is_the_longest_front(rt: HostRuntime) -> Result<(), Fail> {
+    let mut text = Vec::from_slice(rt.alloc(), FIRST_OF_FOUR)?;
+    text.extend_from_slice(
+        b"53455353494f4e3030310000000000000003000200150303030303030303030303030303030303030303030000\n",
+    )?;
+    text.extend_from_slice(b"53455353494f4e3030310000000000000005ffff\n")?;
+    // The empty line behind the three is an empty message.
+    let lines = FOUR.get(..125).ok_or("too short")?;
+    let mut input = Vec::from_slice(rt.alloc(), lines)?;
+    input.push(b'\n')?;
+    expect_done(&rt, &pack_64(), input.as_slice(), text.as_slice(), 0)
+}
+
+#[test]
+fn a_packet_is_printed_once_the_publisher_is_full(rt: HostRuntime) -> Result<(), Fail> {
+    let lines = FOUR.get(..125).ok_or("too short")?;
+    let mut source = MemorySource::new(lines);
+    source.at_most(125);
+    source.fail_at(2);
+    let mut sink = MemorySink::new(rt.alloc());
+    let outcome = run_command(rt.alloc(), &pack_64(), &mut source, &mut sink);
+    assert_eq!(rt; outcome, Err(CommandFault::Read));
+    assert_eq!(rt; sink.bytes(), FIRST_OF_FOUR);
+    Ok(())
+}
+
+#[test]
+fn each_read_that_fails_leaves_a_beginning_of_the_packets(rt: HostRuntime) -> Result<(), Fail> {
+    let (_, text) = done(rt.alloc(), &pack_64(), FOUR, 65536)?;
+    // Each of the 212 bytes is a read; the refused line ends the command before it reads on.
+    for call in 1..=212 {
+        let mut source = MemorySource::new(FOUR);
+        source.at_most(1);
+        source.fail_at(call);
+        let mut sink = MemorySink::new(rt.alloc());
+        let outcome = run_command(rt.alloc(), &pack_64(), &mut source, &mut sink);
+        assert_eq!(rt; outcome, Err(CommandFault::Read), "read {call}");
+        assert!(rt; text.as_slice().starts_with(sink.bytes()), "read {call}");
+        assert_eq!(rt; source.failures(), 1);
+    }
+    Ok(())
+}
+
+#[test]
+fn each_write_that_fails_leaves_a_beginning_of_the_packets(rt: HostRuntime) -> Result<(), Fail> {
+    let (_, text) = done(rt.alloc(), &pack_64(), b"4142\n\n", 65536)?;
+    for call in 1..=94 {
+        let mut source = MemorySource::new(b"4142\n\n");
+        let mut sink = MemorySink::new(rt.alloc());
+        sink.at_most(1);
+        sink.fail_at(call);
+        let outcome = run_command(rt.alloc(), &pack_64(), &mut source, &mut sink);
+        assert_eq!(rt; outcome, Err(CommandFault::Write), "write {call}");
+        assert!(rt; text.as_slice().starts_with(sink.bytes()), "write {call}");
+        assert_eq!(rt; sink.bytes().len() as u64, call - 1);
     }
     Ok(())
 }

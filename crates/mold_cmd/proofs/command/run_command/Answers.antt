@@ -1,0 +1,12 @@
+use Rattle.mold_cmd.specs.Pack.{pack_text, pack_status}
+use Rattle.mold_cmd.proofs.command.run_command.Goals as goal
+
+pub returns-in_ok-new-in-Pack-clause-whole : goal.returns-in_ok-new-in-Pack-clause-whole
+unfolding pack_text pack_status
+returns-in_ok-new-in-Pack-clause-whole g c =
+    rw c.in-Pack.is (rw c.in_ok-new-in-Pack.ensures at c.run_lines-in-Pack.ensures.whole)
+
+pub returns-in_ok-new-in-Pack-clause-front : goal.returns-in_ok-new-in-Pack-clause-front
+unfolding pack_text
+returns-in_ok-new-in-Pack-clause-front g c =
+    rw c.in-Pack.is (rw c.in_ok-new-in-Pack.ensures at c.run_lines-in-Pack.ensures.front)

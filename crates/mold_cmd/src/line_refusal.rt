@@ -1,0 +1,48 @@
+//! Why a line is not published.
+
+ghost use Rattle.std.specs.Prelude.{◌≡◌, ◌++◌, length, take, OnErr, OnOk};
+ghost use Rattle.mold_cmd.specs.Publishing.{refused_text};
+
+use mold_session::AppendError;
+use mold_text::{Word, push_refused};
+use std::alloc::AllocError;
+
+/// Why a line is not published as a message.
+#[derive(Clone, Copy, Debug, PartialEq, Eq)]
+pub enum LineRefusal {
+    /// It is no pairs of hexadecimal digits.
+    NotHex,
+    /// The journal does not take the message that its digits spell.
+    NotTaken(AppendError),
+}
+
+/// Writes that the line of this number, the first line's being 1, is refused, and why. After an error,
+/// which is want of memory, a part of it stands behind what was there.
+pub fn push_line_refused(out: &mut Vec<u8>, number: u64, why: LineRefusal) -> Result<(), AllocError>
+    ensures text { OnOk result (out.new.items ≡ out.old.items ++ refused_text number why) }
+    ensures kept { OnErr result (take (length out.old.items) out.new.items ≡ out.old.items) }
+{
+    let line = Word::Text(b"line");
+    let number = Word::Number(number);
+    match why {
+        LineRefusal::NotHex => push_refused(out, &[line, number, Word::Text(b"NotHex")]),
+        LineRefusal::NotTaken(AppendError::Closed) => {
+            push_refused(out, &[line, number, Word::Text(b"Closed")])
+        }
+        LineRefusal::NotTaken(AppendError::TooLong { len }) => push_refused(
+            out,
+            &[
+                line,
+                number,
+                Word::Text(b"TooLong"),
+                Word::Number(len as u64),
+            ],
+        ),
+        LineRefusal::NotTaken(AppendError::Full) => {
+            push_refused(out, &[line, number, Word::Text(b"Full")])
+        }
+        LineRefusal::NotTaken(AppendError::Memory) => {
+            push_refused(out, &[line, number, Word::Text(b"Memory")])
+        }
+    }
+}
