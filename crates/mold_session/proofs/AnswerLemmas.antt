@@ -1,5 +1,5 @@
 -- The packets of an answer: the one that a plan has next, and those behind it.
-use Rattle.std.proofs.Common.{◌≡◌, ◌⊎◌, ℕ, zero, suc, ◌+◌, ◌-◌, ◌<◌, ◌≤◌, List, [], ◌∷◌, ◌++◌, length, length-append, length-drop, take, drop, refl, sym, ap, ◌∙◌, inl, inr, arith}
+use Rattle.std.proofs.Common.{◌≡◌, ℕ, zero, suc, ◌+◌, ◌-◌, ◌<◌, ◌≤◌, List, [], ◌∷◌, ◌++◌, length, length-drop, take, drop, refl, sym, ap, ◌∙◌, inl, inr, arith}
 use Rattle.std.proofs.Math.Seq.{drop-append_seam, drop-append-le}
 use Rattle.std.proofs.lemmas.List.{length-take, drop-drop, drop-take, take_min, take-append-le}
 use Rattle.std.specs.Prelude.{min}
@@ -10,11 +10,11 @@ use Rattle.mold_wire.specs.Packing.{IsFront, front}
 use Rattle.mold_session.proofs.DatagramLemmas.{packing_none, packing_first}
 use Rattle.mold_session.proofs.FrontLemmas.{FrontIs, OnlyFront, SomeFront, Alone, each_drop, each_take, some_front, first_of_taken}
 use Rattle.mold_session.specs.Answer.{from_number, between, answer, PlanState, IsPlan, plan_for, IsSpent, next_part, next_packet, moved, planned, FitAlone, HasFirst, SendsNext}
-use Rattle.mold_session.specs.Datagrams.{data_packet, first_part, packing}
+use Rattle.mold_session.specs.Datagrams.{first_part, packing}
 use Rattle.mold_session.specs.Journal.{JournalState}
 
 -- how many messages stand between two numbers
-between_length :
+pub between_length :
     (published : List (List ℕ)) (from to : ℕ) → 1 ≤ from → from ≤ to → to ≤ length published + 1 →
     length (between published from to) ≡ to - from
 between_length published from to first ordered last =

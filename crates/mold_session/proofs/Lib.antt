@@ -6,3 +6,4 @@ pub mod PackingLemmas
 pub mod PublisherLemmas
 pub mod ServingLemmas
 pub mod TruthLemmas
+pub mod SendingLemmas

@@ -1,17 +1,24 @@
 //! What holds of the definitions alone. Each law is a function that does nothing: its contract is the
 //! law.
 
-ghost use Rattle.std.specs.Prelude.{◌≡◌, ◌+◌, ◌<◌, ◌≤◌, ◌++◌, ◌∷◌, [], List, ℕ, length, take, Ok};
+ghost use Rattle.std.specs.Prelude.{◌≡◌, ◌+◌, ◌<◌, ◌≤◌, ◌++◌, ◌∷◌, [], List, ℕ, length, take, Ok, Some, slice_get};
+ghost use Rattle.mold_wire.specs.Packet.{spelling_of};
 ghost use Rattle.mold_wire.specs.Packing.{front};
+ghost use Rattle.mold_wire.specs.declared.packet.Packet.{Packet};
 ghost use Rattle.mold_wire.specs.declared.session.Session.{Session};
 ghost use Rattle.mold_wire.specs.declared.request.Request.{Request};
 ghost use Rattle.mold_wire.specs.Request.{SpellsRequest};
 ghost use Rattle.mold_session.specs.Answer.{answer, PlanState, IsPlan, plan_for, IsSpent, planned, FitAlone, HasFirst, SendsNext};
 ghost use Rattle.mold_session.specs.Datagrams.{data_packet, first_part, packing};
 ghost use Rattle.mold_session.specs.Journal.{JournalState, IsJournal};
+ghost use Rattle.mold_session.specs.Publisher.{IsPublisher, PublisherState, next_datagram, next_end, next_heartbeat};
+ghost use Rattle.mold_session.specs.Truthful.{MayAnswer, TellsTruth};
 ghost use Rattle.mold_session.specs.Server.{ServerState, IsServer, IsAnswerable, asking, planning};
 
-use mold_wire::laws::{front_law, packet_length_law, reading_law};
+use mold_wire::laws::{
+    front_law, one_spelling_law, packet_length_law, reading_law, spelling_length_law,
+    true_packet_law,
+};
 
 /// How messages are packed: none give no packet, and where the longest front that fits has a message, it
 /// is the first packet's, and what is behind it is packed from the next number on.
@@ -81,4 +88,28 @@ pub fn answer_not_empty_law()
 {
     front_law();
     packet_length_law();
+}
+
+/// What a publisher sends next, and all packets of an answer, have a spelling that tells the truth of the
+/// journal, wherever the session's name has its ten bytes.
+pub fn sending_law()
+    ensures datagram { (publisher : PublisherState) (packet : Packet) → IsPublisher publisher →
+        length publisher.journal.session.0 ≡ 10 → next_datagram publisher ≡ Some packet →
+        TellsTruth publisher.journal (spelling_of packet) }
+    ensures heartbeat { (publisher : PublisherState) (packet : Packet) → IsPublisher publisher →
+        length publisher.journal.session.0 ≡ 10 → next_heartbeat publisher ≡ Some packet →
+        TellsTruth publisher.journal (spelling_of packet) }
+    ensures end { (publisher : PublisherState) (packet : Packet) → IsPublisher publisher →
+        length publisher.journal.session.0 ≡ 10 → next_end publisher ≡ Some packet →
+        TellsTruth publisher.journal (spelling_of packet) }
+    ensures planned { (journal : JournalState) (limit : ℕ) (plan : PlanState) (place : ℕ) (packet : Packet) →
+        MayAnswer journal limit → IsPlan plan → plan.to ≤ length journal.messages + 1 →
+        plan.session ≡ journal.session → slice_get (planned journal.messages limit plan) place ≡ Some packet →
+        TellsTruth journal (spelling_of packet) }
+{
+    front_law();
+    one_spelling_law();
+    packet_length_law();
+    spelling_length_law();
+    true_packet_law();
 }
