@@ -1,16 +1,14 @@
 -- What a publisher puts into its next datagram.
-use Rattle.std.proofs.Common.{◌≡◌, ◌==◌, ◌↔◌, ltb, ⊎_elim, ℕ, zero, suc, ◌+◌, ◌-◌, ◌*◌, ◌/◌, ◌<◌, ◌≤◌, true}
-use Rattle.std.proofs.Common.{false, List, [], ◌∷◌, length, length-append, drop, None, Some, refl, ap}
+use Rattle.std.proofs.Common.{◌≡◌, ◌==◌, ◌↔◌, ltb, ⊎_elim, ℕ, ◌+◌, ◌-◌, ◌*◌, ◌/◌, ◌<◌, ◌≤◌, true}
+use Rattle.std.proofs.Common.{false, List, [], length, None, Some, refl, ap}
 use Rattle.std.proofs.Common.{subst, ◌∙◌, arith}
 use Rattle.std.proofs.lemmas.List.{length-drop}
 use Rattle.std.proofs.lemmas.Bool.{eq-eqb, ne_eqb, ltb-true, lt-ltb, cases_lt}
-use Rattle.std.specs.List.{AllByRecursion}
 use Rattle.mold_wire.specs.declared.session.Session.{Session}
 use Rattle.mold_wire.specs.declared.packet.Body.{Body}
-use Rattle.mold_wire.specs.declared.packet.Body.TheVariants.{Data}
 use Rattle.mold_wire.specs.Packet.{Spells}
-use Rattle.mold_wire.specs.Packer.{PackerState, Begun, Open, Ended, SpellsBegun, body_with, open_packet}
-use Rattle.mold_wire.specs.Packing.{packet_length, Fits, IsFront, front}
+use Rattle.mold_wire.specs.Packer.{PackerState, Begun, Open, Ended, SpellsBegun, open_packet}
+use Rattle.mold_wire.specs.Packing.{packet_length, Fits, IsFront}
 use Rattle.mold_messages.specs.Listed.{byte_count}
 use Rattle.mold_session.proofs.FrontLemmas.{FrontIs, OnlyFront, SomeFront, Alone, each_drop, front_within, some_front, fit_alone, data_body}
 use Rattle.mold_session.proofs.PackingLemmas.{packet_bytes}

@@ -1,16 +1,16 @@
 -- What a server has packed, and what its bytes spell.
-use Rattle.std.proofs.Common.{◌≡◌, ℕ, ◌+◌, ◌-◌, ◌<◌, ◌≤◌, List, ◌∷◌, length, take, drop, Ok, refl, sym, ap, subst, ◌∙◌, arith}
+use Rattle.std.proofs.Common.{◌≡◌, ℕ, ◌+◌, ◌-◌, ◌<◌, ◌≤◌, List, length, drop, Ok, refl, sym, ap, subst, ◌∙◌, arith}
 use Rattle.mold_wire.specs.declared.session.Session.{Session}
 use Rattle.mold_wire.specs.declared.packet.Body.{Body}
 use Rattle.mold_wire.specs.Packet.{Spells}
 use Rattle.mold_wire.specs.Packer.{PackerState, Open, SpellsBegun}
 use Rattle.mold_wire.specs.Packing.{IsFront}
 use Rattle.mold_session.proofs.AnswerLemmas.{is_part, part_some, next_of, plan_is, plan_within, plan_unspent, planned_answer}
-use Rattle.mold_session.proofs.AskingLemmas.{IsPlanned, planned_from}
+use Rattle.mold_session.proofs.AskingLemmas.{planned_from}
 use Rattle.mold_session.proofs.FrontLemmas.{FrontIs, OnlyFront, SomeFront, Alone, fit_alone, front_of_taken, data_body}
 use Rattle.mold_session.proofs.TruthLemmas.{Piece, packet_true}
 use Rattle.mold_session.specs.Truthful.{TellsTruth}
-use Rattle.mold_session.specs.Answer.{from_number, between, PlanState, IsPlan, IsSpent, plan_for, next_part, next_packet, planned, moved}
+use Rattle.mold_session.specs.Answer.{from_number, between, PlanState, IsPlan, plan_for, next_part, next_packet, planned, moved}
 use Rattle.mold_session.specs.Journal.{JournalState, IsJournal}
 use Rattle.mold_session.specs.Packing.{HasPacked}
 use Rattle.mold_session.specs.Server.{ServerState, IsServer, SpellsAnswer, planning}

@@ -1,7 +1,7 @@
 -- What a packer has, once the next datagram of a plan was put into a packet.
 use Rattle.std.specs.Prelude.{◌≡◌, ℕ, ◌+◌, ◌≤◌, ◌<◌, length}
 use Rattle.mold_wire.specs.Packer.{PackerState, Open}
-use Rattle.mold_session.specs.Answer.{PlanState, IsPlan, next_part}
+use Rattle.mold_session.specs.Answer.{PlanState, next_part}
 use Rattle.mold_session.specs.Journal.{JournalState, IsJournal}
 
 -- the packet that the plan has next was begun, and how many messages it has
