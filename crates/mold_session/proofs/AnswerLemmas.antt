@@ -39,7 +39,7 @@ between_behind published from to count first within =
     ∙ ap (λ (t : List (List ℕ)). take (to - (from + count)) t) (drop-drop count (from - 1) published)
     ∙ ap (λ (n : ℕ). take (to - (from + count)) (drop n published)) place
 
--- the part that comes next: a front of what is left, and some message where each fits alone
+-- the part that comes next is a front of what is left
 pub record IsPart (published : List (List ℕ)) (limit : ℕ) (plan : PlanState) (part : List (List ℕ)) : Type 0 where
   pub within : plan.from + length part ≤ plan.to
   pub parts : between published plan.from plan.to ≡ part ++ between published (plan.from + length part) plan.to
@@ -97,6 +97,7 @@ take_first (suc n) packet packets some =
     let one_less : n ≡ suc n - 1 = omega arith in
     ap (λ (m : ℕ). packet ∷ take m packets) one_less
 
+-- nothing more is taken than there is
 take_none : {X : Type 0} (n : ℕ) → take {A = X} n [] ≡ []
 take_none zero = refl
 take_none (suc n) = refl
@@ -136,6 +137,16 @@ none_of published limit plan (inr none) =
     zero_left
     ∙ ap (λ (t : List Packet). take plan.left t) (packing_none limit plan.session plan.from)
     ∙ take_none plan.left
+
+-- no more packets come than may be left
+pub planned_few :
+    (published : List (List ℕ)) (limit : ℕ) (plan : PlanState) →
+    length (planned published limit plan) ≤ plan.left
+planned_few published limit plan =
+    omega (
+      arith,
+      length-take plan.left (packing limit plan.session plan.from (between published plan.from plan.to)),
+    )
 
 -- what more is published changes nothing of what is left
 pub between_grown :
@@ -217,7 +228,7 @@ answer_first published session limit number count burst front_is some alone each
       some = next.some;
     }
 
--- what the server's messages are is what a packet of an answer takes
+-- what the first packet of some of the messages takes
 pub taken_part :
     (limit : ℕ) (messages : List (List ℕ)) (count : ℕ) → FrontIs → OnlyFront → 20 ≤ limit →
     first_part limit (take count messages) ≡ front limit messages count

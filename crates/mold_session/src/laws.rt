@@ -40,14 +40,17 @@ pub fn first_part_law()
 }
 
 /// What a plan still sends: nothing, once it is spent; else the next packet, and then what the plan still
-/// sends once it was moved behind that packet's messages. What is published meanwhile changes nothing. So
-/// the datagrams that are lent until none comes are all packets that the plan had at first, in order.
+/// sends once it was moved behind that packet's messages; and no more packets than may be left. What is
+/// published meanwhile changes nothing. So the datagrams that are lent until none comes are all packets
+/// that the plan had at first, in order.
 pub fn planned_law()
     ensures spent { (published : List (List ℕ)) (limit : ℕ) (plan : PlanState) →
         IsSpent plan → planned published limit plan ≡ [] }
     ensures next { (published : List (List ℕ)) (limit : ℕ) (plan : PlanState) →
         FitAlone limit published → IsPlan plan → plan.to ≤ length published + 1 → ¬ IsSpent plan →
         SendsNext published limit plan }
+    ensures few { (published : List (List ℕ)) (limit : ℕ) (plan : PlanState) →
+        length (planned published limit plan) ≤ plan.left }
     ensures grown { (published more : List (List ℕ)) (limit : ℕ) (plan : PlanState) →
         IsPlan plan → plan.to ≤ length published + 1 →
         planned (published ++ more) limit plan ≡ planned published limit plan }

@@ -121,7 +121,9 @@ impl Server {
         self.answered
     }
 
-    /// Lends the first datagram of the answer to a request, which has at least one message.
+    /// Lends the first datagram of the answer to a request, which has at least one message, and counts the
+    /// request as answered; or refuses it for the first reason of `AnswerError` that applies, and then
+    /// nothing changes. The journal's messages may have at most `max_message` bytes.
     pub fn answer(&mut self, journal: &Journal, request: &[u8]) -> Result<&[u8], AnswerError>
         requires { journal.now.max_message ≤ self.old.max_message }
         ensures* after { sem 𝓛 (Rests the_row self.entry (λ new. new ≡ counted_if (is_ok result) self.old)) }
@@ -139,7 +141,8 @@ impl Server {
         Ok(self.packer.bytes())
     }
 
-    /// Plans the answer to a request, whose datagrams `datagram` lends one by one.
+    /// Plans the answer to a request, whose datagrams `datagram` lends one by one. It refuses what `answer`
+    /// refuses, and counts the request as that does.
     pub fn plan(&mut self, journal: &Journal, request: &[u8]) -> Result<Plan, AnswerError>
         requires { journal.now.max_message ≤ self.old.max_message }
         ensures planned { result ≡ planning journal.now self.old.burst request.now }
@@ -155,8 +158,9 @@ impl Server {
         Ok(Plan::new(journal, &request, burst))
     }
 
-    /// Lends the next datagram of a plan, and moves the plan behind its messages; none, and nothing
-    /// changes, where nothing is left of the plan.
+    /// Lends the next datagram of a plan, the longest front that fits of what is left of it, and moves the
+    /// plan behind its messages; none, and nothing changes, where nothing is left of the plan. The journal is
+    /// the one that the plan was made from, or one of the same session with at least its messages.
     pub fn datagram(&mut self, journal: &Journal, plan: &mut Plan) -> Option<&[u8]>
         requires longest { journal.now.max_message ≤ self.old.max_message }
         requires session { plan.old.session ≡ journal.now.session }
