@@ -15,6 +15,18 @@ returns-then-is_empty-clause-order c =
 pub returns-then-is_empty-clause-no_words : goal.returns-then-is_empty-clause-no_words
 returns-then-is_empty-clause-no_words c = λ _. refl
 
+pub returns-in-Ok-clause-refused : goal.returns-in-Ok-clause-refused
+returns-in-Ok-clause-refused c = tt
+
+pub returns-in-Ok-clause-fault : goal.returns-in-Ok-clause-fault
+returns-in-Ok-clause-fault c = tt
+
+pub returns-in-Err-clause-taken : goal.returns-in-Err-clause-taken
+returns-in-Err-clause-taken c = tt
+
+pub returns-in-Err-clause-order : goal.returns-in-Err-clause-order
+returns-in-Err-clause-order c = tt
+
 pub returns-in-Ok-clause-taken : goal.returns-in-Ok-clause-taken
 returns-in-Ok-clause-taken c =
     let same = c.in_ok-command.ensures in
