@@ -38,27 +38,41 @@ show_refused-nil requests = refl
 abbrev pub shown_more : ShowState → Bool → ShowState
 shown_more s asked = record { requests = s.requests; refused = s.refused || asked }
 
-more_goes : (s : ShowState) (known left : Option (List ℕ)) (line added : List ℕ) (asked : Bool) →
-    GivesLine known left true line → added ≡ line_text s.requests line → asked ≡ line_refused s.requests line →
-    GoesOver (show_printing s) (show_printing (shown_more s asked)) known left added More
-more_goes s None left line added asked gives text refused = tt
-more_goes s (Some xs) None line added asked gives text refused = absurd gives
-more_goes s (Some xs) (Some ys) line added asked gives text refused = (
-  show_text-line s.requests xs line ys gives ∙ ap (λ (t : List ℕ). t ++ show_text s.requests ys) (sym text),
+-- a line was found, and what it prints was written behind what was there
+pub record IsShown (s : ShowState) (asked : Bool) (known left : Option (List ℕ)) (old new : List ℕ) : Type 0 where
+  pub line : List ℕ
+  pub gives : GivesLine known left true line
+  pub written : new ≡ old ++ line_text s.requests line
+  pub refused : asked ≡ line_refused s.requests line
+
+more_goes : (s : ShowState) (asked : Bool) (known left : Option (List ℕ)) (old new : List ℕ)
+    (is : IsShown s asked known left old new) → GivesLine known left true is.line →
+    GoesOver (show_printing s) (show_printing (shown_more s asked)) known left (line_text s.requests is.line) More
+more_goes s asked None left old new is gives = tt
+more_goes s asked (Some xs) None old new is gives = absurd gives
+more_goes s asked (Some xs) (Some ys) old new is gives = (
+  show_text-line s.requests xs is.line ys gives,
   ap (λ (b : Bool). cond (s.refused || b) 2 0)
-      (show_refused-line s.requests xs line ys gives ∙ ap (λ (b : Bool). b || show_refused s.requests ys) (sym refused))
+      (show_refused-line s.requests xs is.line ys gives
+      ∙ ap (λ (b : Bool). b || show_refused s.requests ys) (sym is.refused))
       ∙ ap (λ (b : Bool). cond b 2 0) (or_assoc s.refused asked (show_refused s.requests ys)),
 )
 
 -- a turn shows a line
-pub shown_line : (s : ShowState) (known left : Option (List ℕ)) (old new line : List ℕ) (asked : Bool) →
-    GivesLine known left true line → new ≡ old ++ line_text s.requests line → asked ≡ line_refused s.requests line →
+pub shown_line : (s : ShowState) (asked : Bool) {known left : Option (List ℕ)} {old new : List ℕ} →
+    IsShown s asked known left old new →
     IsTurn (show_printing s) (show_printing (shown_more s asked)) known left old new More
-shown_line s known left old new line asked gives written refused = record {
-  added = line_text s.requests line;
-  written = written;
-  goes = more_goes s known left line (line_text s.requests line) asked gives refl refused;
+shown_line s asked {known} {left} {old} {new} is = record {
+  added = line_text s.requests is.line;
+  written = is.written;
+  goes = more_goes s asked known left old new is is.gives;
 }
+
+-- no line was left, and the status tells whether one was refused
+pub record IsOver (s : ShowState) (known left : Option (List ℕ)) (status : ℕ) : Type 0 where
+  pub line : List ℕ
+  pub gives : GivesLine known left false line
+  pub status_is : status ≡ cond s.refused 2 0
 
 done_goes : (s : ShowState) (known left : Option (List ℕ)) (line : List ℕ) (status : ℕ) →
     GivesLine known left false line → status ≡ cond s.refused 2 0 →
@@ -73,8 +87,10 @@ done_goes s (Some xs) (Some ys) line status gives is = (
 )
 
 -- the last turn shows nothing
-pub shown_all : (s : ShowState) (known left : Option (List ℕ)) (old line : List ℕ) (status : ℕ) →
-    GivesLine known left false line → status ≡ cond s.refused 2 0 →
-    IsTurn (show_printing s) (show_printing s) known left old old (Done status)
-shown_all s known left old line status gives is =
-    record { added = []; written = sym (append-nil old); goes = done_goes s known left line status gives is }
+pub shown_all : (s : ShowState) {known left : Option (List ℕ)} {old : List ℕ} {status : ℕ} →
+    IsOver s known left status → IsTurn (show_printing s) (show_printing s) known left old old (Done status)
+shown_all s {known} {left} {old} {status} is = record {
+  added = [];
+  written = sym (append-nil old);
+  goes = done_goes s known left is.line status is.gives is.status_is;
+}

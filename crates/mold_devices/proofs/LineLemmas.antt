@@ -1,7 +1,10 @@
 -- Where lines are cut, and what a reader of lines has read.
-use Rattle.std.proofs.Common.{◌≡◌, ℕ, zero, suc, ◌+◌, ◌-◌, ◌<◌, ◌≤◌, Bool, true, false, not, eqb, List, [], ◌∷◌, ◌++◌, length, length-append, take, drop, get_or, Option, None, Some, refl, sym, ap, subst, ◌∙◌, append-nil, add-one, inl, inr, arith}
+use Rattle.std.proofs.Common.{◌≡◌, ℕ, zero, suc, ◌+◌, ◌-◌, ◌<◌, ◌≤◌, Bool, true, false, not, eqb, List, [], ◌∷◌, ◌++◌}
+use Rattle.std.proofs.Common.{length, length-append, take, drop, get_or, Option, None, Some, refl, sym, ap, subst, ◌∙◌}
+use Rattle.std.proofs.Common.{append-nil, add-one, inl, inr, arith}
 use Rattle.std.proofs.lemmas.Bool.{cond-true, cond-false, cases_Bool, cases_lt, eqb-true, eqb-false}
-use Rattle.std.proofs.lemmas.List.{take-append-le, drop-append-le, drop-drop, drop-take, get_or_append_left, get_or-append_right, nil_from_length}
+use Rattle.std.proofs.lemmas.List.{take-append-le, drop-append-le, drop-drop, drop-take, get_or_append_left}
+use Rattle.std.proofs.lemmas.List.{get_or-append_right, nil_from_length}
 use Rattle.memchr.specs.Find.{NoneBefore, Passes, is_byte}
 use Rattle.std.specs.Io.KnownBytes.{Consumes, IsAtEnd, prepend_known}
 use Rattle.mold_devices.specs.Lines.{onto_first, lines_of, GivesLine, HasNoEnd}
@@ -67,15 +70,33 @@ pub consumes_prepended : (piece : List ℕ) (known : Option (List ℕ)) → Cons
 consumes_prepended piece None = tt
 consumes_prepended piece (Some xs) = refl
 
+-- a line that comes in pieces: of what was known, so much was joined, in which it doesn't end, and then
+-- a piece more was read
+pub record InPieces (known mid left : Option (List ℕ)) (joined piece : List ℕ) : Type 0 where
+  pub begun : Consumes known mid joined
+  pub no_end : HasNoEnd joined
+  pub read : Consumes mid left piece
+
+-- the last piece is empty, and nothing is left behind it
+pub record IsOver (left : Option (List ℕ)) (piece : List ℕ) : Type 0 where
+  pub empty : length piece ≡ 0
+  pub at_end : IsAtEnd left
+
+joined_gives : (known mid left : Option (List ℕ)) (joined piece : List ℕ) (at : ℕ) →
+    InPieces known mid left joined piece → FirstEnd piece at →
+    GivesLine known (prepend_known (drop (at + 1) piece) left) true (joined ++ take at piece)
+joined_gives None mid left joined piece at line end = tt
+joined_gives (Some xs) None left joined piece at line end = absurd line.begun
+joined_gives (Some xs) (Some ys) None joined piece at line end = absurd line.read
+joined_gives (Some xs) (Some ys) (Some zs) joined piece at line end =
+    ap lines_of (line.begun ∙ ap (λ (t : List ℕ). joined ++ t) line.read)
+    ∙ joined_line joined piece zs at line.no_end end
+
 -- an end in the piece gives the line that was joined so far and goes on to it
-pub gives_joined : (old mid new : Option (List ℕ)) (joined piece : List ℕ) (at : ℕ) → Consumes old mid joined →
-    HasNoEnd joined → Consumes mid new piece → FirstEnd piece at →
-    GivesLine old (prepend_known (drop (at + 1) piece) new) true (joined ++ take at piece)
-gives_joined None mid new joined piece at begun none read end = tt
-gives_joined (Some xs) None new joined piece at begun none read end = absurd begun
-gives_joined (Some xs) (Some ys) None joined piece at begun none read end = absurd read
-gives_joined (Some xs) (Some ys) (Some zs) joined piece at begun none read end =
-    ap lines_of (begun ∙ ap (λ (t : List ℕ). joined ++ t) read) ∙ joined_line joined piece zs at none end
+pub gives_joined : {known mid left : Option (List ℕ)} {joined piece : List ℕ} {at : ℕ} →
+    InPieces known mid left joined piece → FirstEnd piece at →
+    GivesLine known (prepend_known (drop (at + 1) piece) left) true (joined ++ take at piece)
+gives_joined {known} {mid} {left} {joined} {piece} {at} = joined_gives known mid left joined piece at
 
 -- an end in what was read before gives the line up to it
 pub gives_read : (known : Option (List ℕ)) (piece : List ℕ) (at : ℕ) → FirstEnd piece at →
@@ -83,30 +104,38 @@ pub gives_read : (known : Option (List ℕ)) (piece : List ℕ) (at : ℕ) → F
 gives_read None piece at end = tt
 gives_read (Some xs) piece at end = joined_line [] piece xs at (λ k lt is. absurd (omega arith)) end
 
--- at the end of the source what was joined is the last line
-pub gives_last : (old mid new : Option (List ℕ)) (joined piece : List ℕ) → Consumes old mid joined → HasNoEnd joined →
-    Consumes mid new piece → length piece ≡ 0 → IsAtEnd new → 0 < length joined →
-    GivesLine old (prepend_known piece new) true joined
-gives_last None mid new joined piece begun none read len end some = tt
-gives_last (Some xs) None new joined piece begun none read len end some = absurd begun
-gives_last (Some xs) (Some ys) None joined piece begun none read len end some = absurd read
-gives_last (Some xs) (Some ys) (Some zs) joined piece begun none read len end some =
-    let no_piece : piece ≡ [] = nil_from_length piece len in
-    let nothing : piece ++ zs ≡ [] = ap (λ (t : List ℕ). t ++ zs) no_piece ∙ end in
-    let all : xs ≡ joined = begun ∙ ap (λ (t : List ℕ). joined ++ t) (read ∙ nothing) ∙ append-nil joined in
-    ap lines_of all ∙ one_line joined some none ∙ ap (λ (t : List ℕ). joined ∷ lines_of t) (sym nothing)
+-- at the end of the source nothing stands behind what was joined
+nothing_behind : (piece rest : List ℕ) → IsOver (Some rest) piece → piece ++ rest ≡ []
+nothing_behind piece rest over = ap (λ (t : List ℕ). t ++ rest) (nil_from_length piece over.empty) ∙ over.at_end
 
--- at the end of the source, with nothing joined, nothing was left
-pub gives_none : (old mid new : Option (List ℕ)) (joined piece line : List ℕ) → Consumes old mid joined →
-    Consumes mid new piece → length piece ≡ 0 → IsAtEnd new → length joined ≡ 0 →
-    GivesLine old (prepend_known piece new) false line
-gives_none None mid new joined piece line begun read len end none = tt
-gives_none (Some xs) None new joined piece line begun read len end none = absurd begun
-gives_none (Some xs) (Some ys) None joined piece line begun read len end none = absurd read
-gives_none (Some xs) (Some ys) (Some zs) joined piece line begun read len end none =
-    let no_piece : piece ≡ [] = nil_from_length piece len in
-    let nothing : piece ++ zs ≡ [] = ap (λ (t : List ℕ). t ++ zs) no_piece ∙ end in
-    begun ∙ ap (λ (t : List ℕ). t ++ ys) (nil_from_length joined none) ∙ read ∙ nothing
+-- there what was joined is the last line
+gives_last : (known mid left : Option (List ℕ)) (joined piece : List ℕ) →
+    InPieces known mid left joined piece → IsOver left piece → 0 < length joined →
+    GivesLine known (prepend_known piece left) true joined
+gives_last None mid left joined piece line over some = tt
+gives_last (Some xs) None left joined piece line over some = absurd line.begun
+gives_last (Some xs) (Some ys) None joined piece line over some = absurd line.read
+gives_last (Some xs) (Some ys) (Some zs) joined piece line over some =
+    let nothing = nothing_behind piece zs over in
+    let all : xs ≡ joined =
+    line.begun ∙ ap (λ (t : List ℕ). joined ++ t) (line.read ∙ nothing) ∙ append-nil joined
+    in
+    ap lines_of all
+    ∙ one_line joined some line.no_end
+    ∙ ap (λ (t : List ℕ). joined ∷ lines_of t) (sym nothing)
+
+-- and with nothing joined, nothing was left
+gives_none : (known mid left : Option (List ℕ)) (joined piece found : List ℕ) →
+    InPieces known mid left joined piece → IsOver left piece → length joined ≡ 0 →
+    GivesLine known (prepend_known piece left) false found
+gives_none None mid left joined piece found line over none = tt
+gives_none (Some xs) None left joined piece found line over none = absurd line.begun
+gives_none (Some xs) (Some ys) None joined piece found line over none = absurd line.read
+gives_none (Some xs) (Some ys) (Some zs) joined piece found line over none =
+    line.begun
+    ∙ ap (λ (t : List ℕ). t ++ ys) (nil_from_length joined none)
+    ∙ line.read
+    ∙ nothing_behind piece zs over
 
 -- a part of a buffer, without its first bytes
 pub skipped : (bytes : List ℕ) (start end n : ℕ) → n + start ≤ end →
@@ -127,12 +156,17 @@ found_end bytes piece at same found =
     subst (λ (t : List ℕ). FirstEnd t at) same
     (record { within = found.0.high; here = found.1; before = λ k lt is. found.0.before k (omega arith) lt is })
 
--- at the end of the source there is a line exactly where something was joined
-pub gives_end : (old mid new : Option (List ℕ)) (joined piece : List ℕ) (empty : Bool) → Consumes old mid joined →
-    HasNoEnd joined → Consumes mid new piece → length piece ≡ 0 → IsAtEnd new → empty ≡ eqb (length joined) 0 →
-    GivesLine old (prepend_known piece new) (not empty) joined
-gives_end old mid new joined piece true begun none read len end is =
-    gives_none old mid new joined piece joined begun read len end (eqb-true (length joined) 0 (sym is))
-gives_end old mid new joined piece false begun none read len end is =
+end_gives : (known mid left : Option (List ℕ)) (joined piece : List ℕ) (empty : Bool) →
+    InPieces known mid left joined piece → IsOver left piece → empty ≡ eqb (length joined) 0 →
+    GivesLine known (prepend_known piece left) (not empty) joined
+end_gives known mid left joined piece true line over is =
+    gives_none known mid left joined piece joined line over (eqb-true (length joined) 0 (sym is))
+end_gives known mid left joined piece false line over is =
     let some = eqb-false (length joined) 0 (sym is) in
-    gives_last old mid new joined piece begun none read len end (omega arith)
+    gives_last known mid left joined piece line over (omega arith)
+
+-- at the end of the source there is a line exactly where something was joined
+pub gives_end : {known mid left : Option (List ℕ)} {joined piece : List ℕ} {empty : Bool} →
+    InPieces known mid left joined piece → IsOver left piece → empty ≡ eqb (length joined) 0 →
+    GivesLine known (prepend_known piece left) (not empty) joined
+gives_end {known} {mid} {left} {joined} {piece} {empty} = end_gives known mid left joined piece empty

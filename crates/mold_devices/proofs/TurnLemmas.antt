@@ -1,117 +1,151 @@
 -- What was printed so far, while a command goes on turn by turn.
-use Rattle.std.proofs.Common.{◌≡◌, ℕ, List, ◌++◌, [], Option, None, Some, refl, sym, ap, subst, ◌∙◌, append_assoc, append-nil}
+use Rattle.std.proofs.Common.{◌≡◌, ℕ, List, ◌++◌, [], Option, None, Some, length, take, sym, ap, subst, ◌∙◌}
+use Rattle.std.proofs.Common.{append_assoc, append-nil}
 use Rattle.std.specs.Prelude.{IfSome}
 use Rattle.std.specs.Io.KnownBytes.{Appends}
 use Rattle.std.proofs.KnownBytes.{Appends-trans}
 use Rattle.mold_devices.specs.Devices.{AppendsFront}
-use Rattle.mold_devices.specs.Turns.{Printing, IsTurn}
+use Rattle.mold_devices.specs.Turns.{Printing, Goes, GoesOver, IsTurn}
+use Rattle.mold_devices.specs.declared.turn.Turn.{Turn}
 use Rattle.mold_devices.specs.declared.turn.Turn.TheVariants.{More, Done}
 use Rattle.mold_devices.proofs.DeviceLemmas.{front_after, front_more}
 
--- the text of all input is what was written, the text that is still to be written, and what is printed
--- from here on
-pub record ToldSoFar (begun now : Printing) (input left : List ℕ) (old new : Option (List ℕ)) (text : List ℕ) : Type 0 where
+-- a moment of a run: what is printed from here on, for which input, what the sink holds, and the text
+-- that it is still to take
+pub record Moment : Type 0 where
+  pub prints : Printing
+  pub left : Option (List ℕ)
+  pub held : Option (List ℕ)
+  pub text : List ℕ
+
+-- the text of all input is what was written since the start, the text that is still to be written, and
+-- what is printed from now on
+pub record TellsOver (start now : Moment) (input left : List ℕ) : Type 0 where
   pub written : List ℕ
-  pub sent : Appends old new written
-  pub parts : begun.text input ≡ written ++ (text ++ now.text left)
-  pub ends : begun.status input ≡ now.status left
+  pub sent : Appends start.held now.held written
+  pub parts : start.prints.text input ≡ written ++ (now.text ++ now.prints.text left)
+  pub ends : start.prints.status input ≡ now.prints.status left
 
 -- the same where the source tells its bytes, and nothing where it doesn't
-abbrev pub Told : Printing → Printing → Option (List ℕ) → Option (List ℕ) →
-    Option (List ℕ) → Option (List ℕ) → List ℕ → Type 0
-Told begun now None left old new text = Unit {0}
-Told begun now (Some input) None old new text = ⊥
-Told begun now (Some input) (Some left) old new text = ToldSoFar begun now input left old new text
+abbrev pub Tells : Moment → Moment → Option (List ℕ) → Option (List ℕ) → Type 0
+Tells start now None left = Unit {0}
+Tells start now (Some input) None = ⊥
+Tells start now (Some input) (Some left) = TellsOver start now input left
 
--- before the first turn
-pub told_nothing : (begun : Printing) (known held : Option (List ℕ)) → Told begun begun known known held held []
-told_nothing begun None held = tt
-told_nothing begun (Some input) None = record { written = []; sent = tt; parts = refl; ends = refl }
-told_nothing begun (Some input) (Some bytes) =
-    record { written = []; sent = sym (append-nil bytes); parts = refl; ends = refl }
+pub record Told (start now : Moment) : Type 0 where
+  pub tells : Tells start now start.left now.left
+
+-- a command that has said all: it prints nothing more, and ends with the status
+abbrev pub ended : ℕ → Printing
+ended status = record { text = λ input. []; status = λ input. status }
+
+-- what is printed behind a turn
+abbrev pub behind : Printing → Turn → Printing
+behind after More = after
+behind after (Done status) = ended status
+
+-- what a turn adds is the text of the input that it takes
+turn_goes : (before after : Printing) (input left added : List ℕ) (turn : Turn) →
+    Goes before after input left added turn →
+    (before.text input ≡ added ++ (behind after turn).text left)
+    × (before.status input ≡ (behind after turn).status left)
+turn_goes before after input left added More goes = goes
+turn_goes before after input left added (Done status) goes = (goes.0 ∙ sym (append-nil added), goes.1)
+
+turn_tells : (start now : Moment) (after : Printing) (known left rest : Option (List ℕ)) (next added : List ℕ)
+    (turn : Turn) → Tells start now known left → next ≡ now.text ++ added →
+    GoesOver now.prints after left rest added turn →
+    Tells start (record { prints = behind after turn; left = rest; held = now.held; text = next }) known rest
+turn_tells start now after None left rest next added turn told written goes = tt
+turn_tells start now after (Some input) None rest next added turn told written goes = absurd told
+turn_tells start now after (Some input) (Some xs) None next added turn told written goes = absurd goes
+turn_tells start now after (Some input) (Some xs) (Some ys) next added turn told written goes =
+    let whole = turn_goes now.prints after xs ys added turn goes in
+    let last = (behind after turn).text ys in
+    record {
+      written = told.written;
+      sent = told.sent;
+      parts =
+          told.parts
+          ∙ ap (λ (t : List ℕ). told.written ++ (now.text ++ t)) whole.0
+          ∙ ap (λ (t : List ℕ). told.written ++ t) (sym (append_assoc now.text added last))
+          ∙ ap (λ (t : List ℕ). told.written ++ (t ++ last)) (sym written);
+      ends = told.ends ∙ whole.1;
+    }
 
 -- one turn more
-pub told_turn : (begun before after : Printing) (known left behind old new : Option (List ℕ)) (text next : List ℕ) →
-    Told begun before known left old new text → IsTurn before after left behind text next More →
-    Told begun after known behind old new next
-told_turn begun before after None left behind old new text next told turn = tt
-told_turn begun before after (Some input) None behind old new text next told turn = absurd told
-told_turn begun before after (Some input) (Some xs) None old new text next told turn = absurd turn.goes
-told_turn begun before after (Some input) (Some xs) (Some ys) old new text next told turn = record {
-  written = told.written;
-  sent = told.sent;
-  parts =
-      told.parts
-      ∙ ap (λ (t : List ℕ). told.written ++ (text ++ t)) turn.goes.0
-      ∙ ap (λ (t : List ℕ). told.written ++ t) (sym (append_assoc text turn.added (after.text ys)))
-      ∙ ap (λ (t : List ℕ). told.written ++ (t ++ after.text ys)) (sym turn.written);
-  ends = told.ends ∙ turn.goes.1;
+pub told_turn : {start now : Moment} {after : Printing} {left : Option (List ℕ)} {text : List ℕ} {turn : Turn} →
+    Told start now → IsTurn now.prints after now.left left now.text text turn →
+    Told start (record { prints = behind after turn; left = left; held = now.held; text = text })
+told_turn {start} {now} {after} {left} {text} {turn} told is = record {
+  tells = turn_tells start now after start.left now.left left text is.added turn told.tells is.written is.goes;
 }
 
--- the text is written, and begins anew
-pub told_sent : (begun now : Printing) (known left old mid new : Option (List ℕ)) (text next : List ℕ) →
-    Told begun now known left old mid text → Appends mid new text → next ≡ [] → Told begun now known left old new next
-told_sent begun now None left old mid new text next told sent empty = tt
-told_sent begun now (Some input) None old mid new text next told sent empty = absurd told
-told_sent begun now (Some input) (Some xs) old mid new text next told sent empty = record {
-  written = told.written ++ text;
-  sent = Appends-trans old mid new told.written text told.sent sent;
+sent_tells : (start now : Moment) (known left held : Option (List ℕ)) (text : List ℕ) →
+    Tells start now known left → Appends now.held held now.text → text ≡ [] →
+    Tells start (record { prints = now.prints; left = left; held = held; text = text }) known left
+sent_tells start now None left held text told sent empty = tt
+sent_tells start now (Some input) None held text told sent empty = absurd told
+sent_tells start now (Some input) (Some xs) held text told sent empty = record {
+  written = told.written ++ now.text;
+  sent = Appends-trans start.held now.held held told.written now.text told.sent sent;
   parts =
       told.parts
-      ∙ sym (append_assoc told.written text (now.text xs))
-      ∙ ap (λ (t : List ℕ). (told.written ++ text) ++ (t ++ now.text xs)) (sym empty);
+      ∙ sym (append_assoc told.written now.text (now.prints.text xs))
+      ∙ ap (λ (t : List ℕ). (told.written ++ now.text) ++ (t ++ now.prints.text xs)) (sym empty);
   ends = told.ends;
 }
 
--- before the last turn's text is written
-pub record ToldLast (begun : Printing) (input : List ℕ) (old new : Option (List ℕ)) (text : List ℕ) (status : ℕ) : Type 0 where
-  pub written : List ℕ
-  pub sent : Appends old new written
-  pub parts : begun.text input ≡ written ++ text
-  pub ends : status ≡ begun.status input
-
-pub told_last : (begun before after : Printing) (known left behind old new : Option (List ℕ)) (text next : List ℕ)
-    (status : ℕ) → Told begun before known left old new text →
-    IsTurn before after left behind text next (Done status) →
-    IfSome known (λ input. ToldLast begun input old new next status)
-told_last begun before after None left behind old new text next status told turn = tt
-told_last begun before after (Some input) None behind old new text next status told turn = absurd told
-told_last begun before after (Some input) (Some xs) None old new text next status told turn = absurd turn.goes
-told_last begun before after (Some input) (Some xs) (Some ys) old new text next status told turn = record {
-  written = told.written;
-  sent = told.sent;
-  parts =
-      told.parts
-      ∙ ap (λ (t : List ℕ). told.written ++ (text ++ t)) turn.goes.0
-      ∙ ap (λ (t : List ℕ). told.written ++ t) (sym turn.written);
-  ends = sym (told.ends ∙ turn.goes.1);
+-- the text is written, and begins anew
+pub told_sent : {start now : Moment} (held : Option (List ℕ)) (text : List ℕ) → Told start now →
+    Appends now.held held now.text → text ≡ [] →
+    Told start (record { prints = now.prints; left = now.left; held = held; text = text })
+told_sent {start} {now} held text told sent empty = record {
+  tells = sent_tells start now start.left now.left held text told.tells sent empty;
 }
 
--- the last turn's text is written, all of it or a front
-pub told_all : (begun : Printing) (known old mid new : Option (List ℕ)) (text : List ℕ) (status : ℕ) →
-    IfSome known (λ input. ToldLast begun input old mid text status) → Appends mid new text →
-    IfSome known (λ input. Appends old new (begun.text input) × (status ≡ begun.status input))
-told_all begun None old mid new text status told sent = tt
-told_all begun (Some input) old mid new text status told sent = (
-  subst (λ (t : List ℕ). Appends old new t) (sym told.parts)
-      (Appends-trans old mid new told.written text told.sent sent),
-  told.ends,
-)
-
-pub told_last_front : (begun : Printing) (known old mid new : Option (List ℕ)) (text : List ℕ) (status : ℕ) →
-    IfSome known (λ input. ToldLast begun input old mid text status) → AppendsFront mid new text →
-    IfSome known (λ input. AppendsFront old new (begun.text input))
-told_last_front begun None old mid new text status told sent = tt
-told_last_front begun (Some input) old mid new text status told sent =
-    subst (λ (t : List ℕ). AppendsFront old new t) (sym told.parts)
-    (front_after old mid new told.written text told.sent sent)
+front_tells : (start now : Moment) (known left held : Option (List ℕ)) →
+    Tells start now known left → AppendsFront now.held held now.text →
+    IfSome known (λ input. AppendsFront start.held held (start.prints.text input))
+front_tells start now None left held told sent = tt
+front_tells start now (Some input) None held told sent = absurd told
+front_tells start now (Some input) (Some xs) held told sent =
+    let more = now.prints.text xs in
+    subst (λ (t : List ℕ). AppendsFront start.held held t) (sym told.parts)
+    (front_after start.held now.held held told.written (now.text ++ more) told.sent
+    (front_more now.held held now.text more sent))
 
 -- a front of the text is written
-pub told_front : (begun now : Printing) (known left old mid new : Option (List ℕ)) (text : List ℕ) →
-    Told begun now known left old mid text → AppendsFront mid new text →
-    IfSome known (λ input. AppendsFront old new (begun.text input))
-told_front begun now None left old mid new text told sent = tt
-told_front begun now (Some input) None old mid new text told sent = absurd told
-told_front begun now (Some input) (Some xs) old mid new text told sent =
-    subst (λ (t : List ℕ). AppendsFront old new t) (sym told.parts)
-    (front_after old mid new told.written (text ++ now.text xs) told.sent (front_more mid new text (now.text xs) sent))
+pub told_front : {start now : Moment} {held : Option (List ℕ)} {text : List ℕ} → Told start now → text ≡ now.text →
+    AppendsFront now.held held text →
+    IfSome start.left (λ input. AppendsFront start.held held (start.prints.text input))
+told_front {start} {now} {held} {text} told same sent =
+    front_tells start now start.left now.left held told.tells
+    (subst (λ (t : List ℕ). AppendsFront now.held held t) same sent)
+
+-- the text that a turn found is there again once what it added is cut off
+pub restored : (found added cut : List ℕ) (len : ℕ) → cut ≡ take len added → len ≡ length found →
+    take (length found) added ≡ found → cut ≡ found
+restored found added cut len is long kept = is ∙ ap (λ (n : ℕ). take n added) long ∙ kept
+
+whole_tells : (start : Moment) (status : ℕ) (known left mid held : Option (List ℕ)) (text : List ℕ) →
+    Tells start (record { prints = ended status; left = left; held = mid; text = text }) known left →
+    Appends mid held text →
+    IfSome known (λ input.
+    Appends start.held held (start.prints.text input) × (status ≡ start.prints.status input))
+whole_tells start status None left mid held text told sent = tt
+whole_tells start status (Some input) None mid held text told sent = absurd told
+whole_tells start status (Some input) (Some xs) mid held text told sent = (
+  subst (λ (t : List ℕ). Appends start.held held t)
+      (sym (told.parts ∙ ap (λ (t : List ℕ). told.written ++ t) (append-nil text)))
+      (Appends-trans start.held mid held told.written text told.sent sent),
+  sym told.ends,
+)
+
+-- the last turn's text is written
+pub told_whole : {start : Moment} {left mid : Option (List ℕ)} {text : List ℕ} (status : ℕ) (held : Option (List ℕ)) →
+    Told start (record { prints = ended status; left = left; held = mid; text = text }) → Appends mid held text →
+    IfSome start.left (λ input.
+    Appends start.held held (start.prints.text input) × (status ≡ start.prints.status input))
+told_whole {start} {left} {mid} {text} status held told sent =
+    whole_tells start status start.left left mid held text told.tells sent

@@ -1,5 +1,6 @@
 -- Lines of input.
-use Rattle.std.specs.Prelude.{◌≡◌, ℕ, ◌+◌, ◌*◌, ◌<◌, Bool, true, false, List, [], ◌∷◌, ◌==◌, if◌then◌else◌, Option, None, Some, length, take, drop, get_or, ⊤}
+use Rattle.std.specs.Prelude.{◌≡◌, ℕ, ◌+◌, ◌*◌, ◌<◌, Bool, true, false, List, [], ◌∷◌, ◌==◌, if◌then◌else◌, Option}
+use Rattle.std.specs.Prelude.{None, Some, length, take, drop, get_or, ⊤}
 
 -- a byte in front of the first line, which it begins where there is none
 abbrev pub onto_first : ℕ → List (List ℕ) → List (List ℕ)

@@ -21,7 +21,8 @@ GoesOver before after (Some input) None added turn = ⊥
 GoesOver before after (Some input) (Some left) added turn = Goes before after input left added turn
 
 -- a turn of a command: it added text behind what was there
-pub record IsTurn (before after : Printing) (known left : Option (List ℕ)) (old new : List ℕ) (turn : Turn) : Type 0 where
+pub record IsTurn (before after : Printing) (known left : Option (List ℕ)) (old new : List ℕ) (turn : Turn) :
+    Type 0 where
   pub added : List ℕ
   pub written : new ≡ old ++ added
   pub goes : GoesOver before after known left added turn

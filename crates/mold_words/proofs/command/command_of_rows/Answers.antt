@@ -1,4 +1,4 @@
-use Rattle.std.proofs.Common.{◌∙◌, sym, ap, ap₂, arith, []}
+use Rattle.std.proofs.Common.{◌∙◌, sym, ap, ap₂, arith, [], true}
 use Rattle.clap.specs.Words.{App, with_subcommand}
 use Rattle.mold_words.specs.Words.{bare_app, with_command}
 use Rattle.mold_words.specs.Table.{command_of}
@@ -13,6 +13,18 @@ no_row = record {
   about = record { ref_ptr = (0, 0); now = [] };
   options = record { ref_ptr = (0, 0); now = [] };
 }
+
+pub loop-row-init : goal.loop-row-init
+loop-row-init c =
+    rw (
+      c.in_ok-command.ensures.0,
+      c.after_help.ensures,
+      c.about.ensures,
+      c.version.ensures,
+      c.no_binary_name.ensures,
+    )
+    (ap (λ (app : App). record app { top = record app.top { no_binary_name = true; has_version = true } })
+    c.new.ensures.app)
 
 pub loop-row-preserved : goal.loop-row-preserved
 unfolding no_row

@@ -1,4 +1,5 @@
 use Rattle.std.proofs.Common.{◌≡◌, Bool, cond, sym, ap, ◌∙◌}
+use Rattle.std.specs.Io.KnownBytes.{prepend_known}
 use Rattle.mold_cmd.specs.Show.{ShowState}
 use Rattle.mold_cmd.proofs.ShowLemmas.{shown_line, shown_all}
 use Rattle.mold_cmd.proofs.show.ShowLineCommand.turn.Goals as goal
@@ -13,16 +14,23 @@ returns-then-not-branch-clause-told g c =
       | else-self w ↦ w.status-is ∙ sym (ap (λ (b : Bool). cond b 2 0) w.if-self.false)
     ]
     in
-    shown_all c.args.self.now _ _ c.args.out.now.items c.advance.new.self.line c.if-self.status
-    (rw c.if-not-branch.true at c.in_ok-advance.ensures.line)
-    (status ∙ ap (λ (s : ShowState). cond s.refused 2 0) c.self.view_is)
+    shown_all c.args.self.now {left = prepend_known c.advance.new.self.rest (g.S.Source.left c.advance.new.source)}
+    (record {
+      line = c.advance.new.self.line;
+      gives = rw c.if-not-branch.true at c.in_ok-advance.ensures.line;
+      status_is = status ∙ ap (λ (s : ShowState). cond s.refused 2 0) c.self.view_is;
+    })
 
 pub returns-clause-told : goal.returns-clause-told
 returns-clause-told g c =
     let inside = c.self.inside in
     let s : ShowState = record { requests = inside.requests; refused = inside.refused } in
     rw (← c.self.view_is)
-    (shown_line s _ _ c.args.out.now.items c.show_line.new.out.items c.advance.new.self.line c.in_ok-self-inside.field-0
-    (rw c.if-not-branch.false at c.in_ok-advance.ensures.line)
-    (rw (← c.line.ensures) c.in_ok-self-inside.ensures.text)
-    (rw (← c.line.ensures) c.in_ok-self-inside.ensures.refused))
+    (shown_line s c.in_ok-self-inside.field-0
+    {left = prepend_known c.advance.new.self.rest (g.S.Source.left c.advance.new.source)}
+    (record {
+      line = c.advance.new.self.line;
+      gives = rw c.if-not-branch.false at c.in_ok-advance.ensures.line;
+      written = rw (← c.line.ensures) c.in_ok-self-inside.ensures.text;
+      refused = rw (← c.line.ensures) c.in_ok-self-inside.ensures.refused;
+    }))

@@ -1,0 +1,26 @@
+use Rattle.std.proofs.Common.{ap, Some, true}
+use Rattle.clap.specs.Words.{Rule}
+use Rattle.clap.specs.declared.builder.ArgAction.TheVariants.{Set, SetTrue}
+use Rattle.mold_words.proofs.command.argument_of.Goals as goal
+
+pub returns-in-Flag-clause-rule : goal.returns-in-Flag-clause-rule
+returns-in-Flag-clause-rule c =
+    rw (c.in-Flag.is, c.action.ensures, c.help-argument.ensures, c.long.ensures)
+    (ap (λ (rule : Rule). record rule { long = Some c.args.option.name.now; action = Some SetTrue }) c.new.ensures.rule)
+
+pub returns-in-Optional-clause-rule : goal.returns-in-Optional-clause-rule
+returns-in-Optional-clause-rule c =
+    rw (c.in-Optional.is, c.action-in-Optional.ensures, c.help-argument.ensures, c.long.ensures)
+    (ap (λ (rule : Rule). record rule { long = Some c.args.option.name.now; action = Some Set }) c.new.ensures.rule)
+
+pub returns-in-Required-clause-rule : goal.returns-in-Required-clause-rule
+returns-in-Required-clause-rule c =
+    rw (
+      c.in-Required.is,
+      c.required.ensures,
+      c.action-in-Required.ensures,
+      c.help-argument.ensures,
+      c.long.ensures,
+    )
+    (ap (λ (rule : Rule). record rule { long = Some c.args.option.name.now; action = Some Set; required = true })
+    c.new.ensures.rule)
