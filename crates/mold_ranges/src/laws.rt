@@ -1,0 +1,44 @@
+//! What holds of the definitions, for any numbers that are lacking. Each law is a function that does
+//! nothing: its contract is the law.
+
+ghost use Rattle.std.specs.Prelude.{◌≡◌, ◌⊎◌, ◌+◌, ◌<◌, ◌≤◌, ◌∷◌, [], true, false, Bool, ℕ, suc, Some, slice_get};
+ghost use Rattle.std.specs.List.{sum_by};
+ghost use Rattle.mold_ranges.specs.Ranges.{Range, IsLongest, lacking, range, ranges, size};
+
+/// The ranges are just the longest ones of lacking numbers, in ascending order, with a number between each
+/// two of them.
+#[tactic(auto, using(crate::proofs::LongestLemmas::ranges_longest, crate::proofs::LongestLemmas::longest_among, crate::proofs::LongestLemmas::ranges_ascend))]
+pub fn ranges_law()
+    ensures longest { (lacks : ℕ → Bool) (low count i : ℕ) (r : Range) →
+        slice_get (ranges lacks low count) i ≡ Some r → IsLongest lacks low (low + count) r }
+    ensures each { (lacks : ℕ → Bool) (low count : ℕ) (r : Range) →
+        IsLongest lacks low (low + count) r → (i : ℕ) × (slice_get (ranges lacks low count) i ≡ Some r) }
+    ensures ascending { (lacks : ℕ → Bool) (low count i j : ℕ) (r s : Range) →
+        slice_get (ranges lacks low count) i ≡ Some r → slice_get (ranges lacks low count) j ≡ Some s →
+        i < j → r.last + 1 < s.first }
+{}
+
+/// How the ranges are found by walking over the numbers: those that are there are passed over, and those
+/// that are lacking, up to one that is there or to the end, are the first range. What else is lacking
+/// doesn't matter.
+#[tactic(auto, using(crate::proofs::RangeLemmas::ranges_none, crate::proofs::RangeLemmas::ranges_skip, crate::proofs::RangeLemmas::ranges_run, crate::proofs::RangeLemmas::ranges_same))]
+pub fn ranges_walk_law()
+    ensures none { (lacks : ℕ → Bool) (low : ℕ) → ranges lacks low 0 ≡ [] }
+    ensures skip { (lacks : ℕ → Bool) (low count more : ℕ) →
+        ((number : ℕ) → low ≤ number → number < low + count → lacks number ≡ false) →
+        ranges lacks low (count + more) ≡ ranges lacks (low + count) more }
+    ensures run { (lacks : ℕ → Bool) (low count more : ℕ) →
+        ((number : ℕ) → low ≤ number → number < low + suc count → lacks number ≡ true) →
+        (more ≡ 0) ⊎ (lacks (low + suc count) ≡ false) →
+        ranges lacks low (suc count + more) ≡ range low (low + count) ∷ ranges lacks (low + suc count) more }
+    ensures same { (lacks other : ℕ → Bool) (low count : ℕ) →
+        ((number : ℕ) → low ≤ number → number < low + count → lacks number ≡ other number) →
+        ranges lacks low count ≡ ranges other low count }
+{}
+
+/// The sizes of the ranges are together how many numbers are lacking.
+#[tactic(auto, using(crate::proofs::RangeLemmas::ranges_size))]
+pub fn ranges_size_law()
+    ensures { (lacks : ℕ → Bool) (low count : ℕ) →
+        sum_by size (ranges lacks low count) ≡ lacking lacks low count }
+{}
