@@ -1,2 +1,3 @@
 pub mod RangeLemmas
 pub mod LongestLemmas
+pub mod LackingLemmas

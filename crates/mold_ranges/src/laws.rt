@@ -42,3 +42,19 @@ pub fn ranges_size_law()
     ensures { (lacks : ℕ → Bool) (low count : ℕ) →
         sum_by size (ranges lacks low count) ≡ lacking lacks low count }
 {}
+
+/// How many numbers are lacking is counted in parts: all where each is lacking, none where each is there.
+#[tactic(auto, using(crate::proofs::LackingLemmas::lacking_parts, crate::proofs::LackingLemmas::all_lacking, crate::proofs::LackingLemmas::none_lacking, crate::proofs::LackingLemmas::lacking_same))]
+pub fn lacking_law()
+    ensures parts { (lacks : ℕ → Bool) (low count more : ℕ) →
+        lacking lacks low (count + more) ≡ lacking lacks low count + lacking lacks (low + count) more }
+    ensures all { (lacks : ℕ → Bool) (low count : ℕ) →
+        ((number : ℕ) → low ≤ number → number < low + count → lacks number ≡ true) →
+        lacking lacks low count ≡ count }
+    ensures none { (lacks : ℕ → Bool) (low count : ℕ) →
+        ((number : ℕ) → low ≤ number → number < low + count → lacks number ≡ false) →
+        lacking lacks low count ≡ 0 }
+    ensures same { (lacks other : ℕ → Bool) (low count : ℕ) →
+        ((number : ℕ) → low ≤ number → number < low + count → lacks number ≡ other number) →
+        lacking lacks low count ≡ lacking other low count }
+{}

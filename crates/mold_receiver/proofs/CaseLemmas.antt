@@ -7,9 +7,10 @@ use Rattle.std.specs.Str.{bytes_eq}
 use Rattle.std.specs.Option.{option_or}
 use Rattle.std.proofs.lemmas.Bool.{cases_order, cases_lt, cases_Bool, cond-true, cond-false, le-leb, lt-ltb, le-ltb, and_left, not-false, eqb-true}
 use Rattle.std.proofs.lemmas.Slice.Eq.{bytes_eq-Decides}
+use Rattle.mold_wire.specs.Truth.{message_at}
 use Rattle.mold_receiver.specs.Store.{Message, Store, numbered, from_next, available, run_from, cut, differs, first_conflict}
 use Rattle.mold_receiver.specs.Receive.{count_kept}
-use Rattle.mold_receiver.proofs.StoreLemmas.{message_at, run_is, none_some, lookup-from_next}
+use Rattle.mold_receiver.proofs.StoreLemmas.{run_is, none_some, lookup-from_next}
 use Rattle.mold_receiver.proofs.RuleLemmas.{IsBetween, message_below, message_past, message_within, message_bounds, available_from, available_nothing, cut_is, stored_none, count_none}
 
 -- nothing of the packet is at or above `next`: nothing is handed on, and the store stays
@@ -44,7 +45,7 @@ get-drop zero ms i = ap (slice_get ms) (let e : i ≡ 0 + i = omega arith in e)
 get-drop (suc n) [] i = refl
 get-drop (suc n) (m ∷ ms) i = get-drop n ms i ∙ ap (slice_get (m ∷ ms)) (let e : suc (n + i) ≡ suc n + i = omega arith in e)
 
-get-append_left : (ms ns : List Message) (i : ℕ) → i < length ms → slice_get (ms ++ ns) i ≡ slice_get ms i
+pub get-append_left : (ms ns : List Message) (i : ℕ) → i < length ms → slice_get (ms ++ ns) i ≡ slice_get ms i
 get-append_left [] ns i within = absurd (omega arith)
 get-append_left (m ∷ ms) ns zero within = refl
 get-append_left (m ∷ ms) ns (suc i) within = get-append_left ms ns i (omega arith)

@@ -7,12 +7,13 @@ use Rattle.std.specs.Option.{option_or}
 use Rattle.std.proofs.lemmas.Bool.{cases_Bool, cond-true, cond-false, ltb-true, eqb-true, and_parts}
 use Rattle.std.proofs.lemmas.List.{length-set}
 use Rattle.std.proofs.lemmas.Map.Entries.{lookup-filter-keys}
+use Rattle.mold_wire.specs.Truth.{message_at}
 use Rattle.mold_receiver.specs.declared.keep.Copied.{Copied}
 use Rattle.mold_receiver.specs.Keeping.{is_fresh, fresh, pairs_of, put_pairs}
 use Rattle.mold_receiver.specs.Slots.{Slot, slot_at}
 use Rattle.mold_receiver.specs.Store.{Message, numbered}
 use Rattle.mold_receiver.proofs.SlotLemmas.{slot_put}
-use Rattle.mold_receiver.proofs.StoreLemmas.{message_at, lookup-numbered}
+use Rattle.mold_receiver.proofs.StoreLemmas.{lookup-numbered}
 
 -- the last copy is put first
 pub put_last : (slots : List Slot) (copies : List Copied) (copy : Copied) →

@@ -1,23 +1,30 @@
 -- The laws, over the definitions alone.
-use Rattle.std.proofs.Common.{◌≡◌, ℕ, zero, suc, ◌+◌, ◌-◌, ◌<◌, ◌^◌, ◌⊎◌, max, min, true, cond, eqb, ltb, ◌&&◌, List, refl, sym, ap, subst, ◌∙◌, inl, inr, arith}
+use Rattle.std.proofs.Common.{◌≡◌, ℕ, zero, suc, ◌+◌, ◌-◌, ◌<◌, ◌≤◌, ◌^◌, ◌⊎◌, max, min, Bool, true, not, cond, eqb, get_or, [], ltb, ◌&&◌, List, refl, sym, ap, subst, ◌∙◌, inl, inr, arith}
 use Rattle.std.specs.Prelude.{Option, None, Some, Result, Ok, Err, is_some, slice_get}
 use Rattle.std.specs.FinMap as finite
+use Rattle.std.specs.Option.{option_or}
+use Rattle.std.specs.Str.{bytes_eq}
 use Rattle.std.proofs.lemmas.Bool.{cases_eq, cases_lt, cases_Bool, cond-true, cond-false, lt-ltb, ltb-true, eq-eqb, ne_eqb, and_parts}
+use Rattle.std.proofs.lemmas.Option.{slice_get-get_or}
+use Rattle.std.proofs.lemmas.Slice.Eq.{bytes_eq-Decides}
 use Rattle.mold_wire.specs.Packet.{messages_of, top_of}
+use Rattle.mold_wire.specs.Truth.{Carries, message_at}
 use Rattle.mold_wire.specs.Reading.{reading}
 use Rattle.mold_wire.specs.declared.packet.Packet.{Packet}
 use Rattle.mold_wire.specs.declared.request.Request.{Request}
+use Rattle.mold_wire.specs.declared.session.Session.{Session}
 use Rattle.mold_receiver.specs.declared.refused.Refused.{Refused}
-use Rattle.mold_receiver.specs.Receive.{Reception, carried_at, decide, first_some, handed_on, past_last, receive, receive_read, reception, refusals, view_after}
+use Rattle.mold_receiver.specs.declared.refused.Refused.TheVariants.{WrongSession}
+use Rattle.mold_receiver.specs.Receive.{IsTakenPacket, Reception, decide, first_some, handed_on, past_last, receive, receive_read, reception, refusals, view_after, wrong_session}
 use Rattle.mold_receiver.specs.Store.{Message, Store, available, cut}
 use Rattle.mold_receiver.specs.View.{View, IsWellFormed}
 use Rattle.mold_receiver.specs.Wanted.{IsGap, gap_end, lacking_run, wanted}
-use Rattle.mold_receiver.proofs.RuleLemmas.{available_cases, none_unless, message_bounds}
+use Rattle.mold_receiver.proofs.RuleLemmas.{available_cases, available_from, none_unless, message_bounds, message_within}
 use Rattle.mold_receiver.proofs.StoreLemmas.{get-cut, none_some, run_reads, run_ends}
 use Rattle.mold_receiver.proofs.ViewLemmas.{stays_well, all_none}
 use Rattle.mold_receiver.proofs.WantedLemmas.{lacking_short, lacking_long, lacking_ends}
 
-some_same : {X : Type 0} {x y : X} → ◌≡◌ {A = Option X} (Some x) (Some y) → x ≡ y
+pub some_same : {X : Type 0} {x y : X} → ◌≡◌ {A = Option X} (Some x) (Some y) → x ≡ y
 some_same e = cc
 
 same_ok : {x y : Reception} → ◌≡◌ {A = Result Reception Refused} (Ok x) (Ok y) → x ≡ y
@@ -48,7 +55,7 @@ handed_reads v p i m is = run_reads (finite.get (available v.store v.next p.sequ
 
 had_or_carried : (v : View) (p : Packet) (q : ℕ) (m : Message) →
     finite.get (available v.store v.next p.sequence (messages_of p.body)) q ≡ Some m
-    → (finite.get v.store q ≡ Some m) ⊎ (carried_at p q ≡ Some m)
+    → (finite.get v.store q ≡ Some m) ⊎ (Carries p q m)
 had_or_carried v p q m is =
     elim (available_cases v.store v.next p.sequence (messages_of p.body) q m is) [
       | inl carried ↦ inr carried.1
@@ -57,7 +64,7 @@ had_or_carried v p q m is =
 
 pub handed_had : (v : View) (p : Packet) (i : ℕ) (m : Message) →
     slice_get (handed_on v p.sequence (messages_of p.body)) i ≡ Some m
-    → (finite.get v.store (v.next + i) ≡ Some m) ⊎ (carried_at p (v.next + i) ≡ Some m)
+    → (finite.get v.store (v.next + i) ≡ Some m) ⊎ (Carries p (v.next + i) m)
 handed_had v p i m is = had_or_carried v p (v.next + i) m (handed_reads v p i m is)
 
 pub cut_had : (s : Store) (next window q : ℕ) (m : Message) → finite.get (cut s next window) q ≡ Some m →
@@ -72,28 +79,36 @@ cut_had s next window q m is =
     ]
 
 pub stored_had : (v : View) (p : Packet) (q : ℕ) (m : Message) → finite.get (view_after v p).store q ≡ Some m
-    → (finite.get v.store q ≡ Some m) ⊎ (carried_at p q ≡ Some m)
+    → (finite.get v.store q ≡ Some m) ⊎ (Carries p q m)
 stored_had v p q m is =
     had_or_carried v p q m (cut_had (available v.store v.next p.sequence (messages_of p.body)) (view_after v p).next v.window q m is).0
 
--- what a packet gives that is taken
-pub record WasTaken (v : View) (p : Packet) (r : Reception) : Type 0 where
-  pub none : first_some (refusals v p) ≡ None
-  pub is : r ≡ reception v p
+own_session : (session : Session) (p : Packet) → wrong_session session p ≡ None → p.session ≡ session
+own_session session p none =
+    elim (cases_Bool (bytes_eq p.session.0 session.0)) [
+      | inl same ↦ (let e = (bytes_eq-Decides p.session.0 session.0).0 same in λ i. record { 0 = e i })
+      | inr other ↦
+          absurd (none_some (sym none ∙ ap (λ (b : Bool). cond (not b) (Some WrongSession) None) other))
+    ]
 
-taken_packet : (v : View) (p : Packet) (r : Reception) → decide (first_some (refusals v p)) (reception v p) ≡ Ok r →
-    WasTaken v p r
-taken_packet v p r is =
-    elim (first_some (refusals v p)) as (λ o. first_some (refusals v p) ≡ o → decide o (reception v p) ≡ Ok r → WasTaken v p r) [
-      | None ↦ λ e is. record { none = e; is = same_ok (sym is) }
+taken_packet : (v : View) (bytes : List ℕ) (p : Packet) (r : Reception) → reading bytes ≡ Ok p →
+    decide (first_some (refusals v p)) (reception v p) ≡ Ok r → IsTakenPacket v bytes r
+taken_packet v bytes p r read is =
+    elim (first_some (refusals v p)) as (λ o. first_some (refusals v p) ≡ o → decide o (reception v p) ≡ Ok r → IsTakenPacket v bytes r) [
+      | None ↦ λ e is. record {
+        packet = p;
+        read = read;
+        session = own_session v.session p (all_none (refusals v p) e).0;
+        accepted = e;
+        taken = same_ok (sym is);
+      }
       | Some x ↦ λ e is. absurd (err_ok is)
     ] refl is
 
-pub was_taken : (v : View) (bytes : List ℕ) (r : Reception) → receive v bytes ≡ Ok r →
-    (p : Packet) × (reading bytes ≡ Ok p) × WasTaken v p r
-was_taken v bytes r is =
-    elim (reading bytes) as (λ o. reading bytes ≡ o → receive_read v o ≡ Ok r → (p : Packet) × (reading bytes ≡ Ok p) × WasTaken v p r) [
-      | Ok p ↦ λ e is. (p, e, taken_packet v p r is)
+pub is_taken : (v : View) (bytes : List ℕ) (r : Reception) → receive v bytes ≡ Ok r → IsTakenPacket v bytes r
+is_taken v bytes r is =
+    elim (reading bytes) as (λ o. reading bytes ≡ o → receive_read v o ≡ Ok r → IsTakenPacket v bytes r) [
+      | Ok p ↦ λ e is. taken_packet v bytes p r e is
       | Err x ↦ λ e is. absurd (err_ok is)
     ] refl is
 
@@ -113,8 +128,23 @@ takes_well v p well none =
 pub receives_well : (v : View) (bytes : List ℕ) (r : Reception) → IsWellFormed v → receive v bytes ≡ Ok r →
     IsWellFormed r.view
 receives_well v bytes r well is =
-    let taken = was_taken v bytes r is in
-    subst (λ (r : Reception). IsWellFormed r.view) (sym taken.2.is) (takes_well v taken.0 well taken.2.none)
+    let taken = is_taken v bytes r is in
+    subst (λ (r : Reception). IsWellFormed r.view) (sym taken.taken) (takes_well v taken.packet well taken.accepted)
+
+-- a packet that begins at or below `next` is handed on to its end
+pub goes_through : (v : View) (p : Packet) → IsWellFormed v → p.sequence ≤ v.next → top_of p ≤ (view_after v p).next
+goes_through v p well begun =
+    let new = (view_after v p).next in
+    let ms = messages_of p.body in
+    elim (cases_lt new (top_of p)) [
+      | inr high ↦ high
+      | inl short ↦
+          let there : message_at p.sequence ms new ≡ Some (get_or ms (new - p.sequence) []) =
+          message_within p.sequence ms new (omega (arith, begun)) ∙ slice_get-get_or ms (new - p.sequence) [] (omega (arith, short, begun))
+          in
+          absurd (none_some (sym (next_lacks v p well) ∙ available_from v.store v.next p.sequence ms new (omega arith)
+          ∙ ap (λ (o : Option Message). option_or o (finite.get v.store new)) there))
+    ]
 
 -- what is wanted
 ask : View → Request

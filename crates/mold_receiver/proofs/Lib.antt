@@ -7,3 +7,5 @@ pub mod KeepLemmas
 pub mod ViewLemmas
 pub mod WantedLemmas
 pub mod LawLemmas
+pub mod RefusalLemmas
+pub mod HonestLemmas

@@ -7,9 +7,10 @@ use Rattle.std.specs.FinMap as finite
 use Rattle.std.specs.Option.{option_or}
 use Rattle.std.proofs.lemmas.Bool.{true≢false, cases_lt, cases_Bool, cond-true, cond-false, le-leb, lt-leb, lt-ltb, ltb-true, and_from, and_parts}
 use Rattle.std.proofs.lemmas.Option.{slice_get_past, slice_get_within}
+use Rattle.mold_wire.specs.Truth.{message_at}
 use Rattle.mold_receiver.specs.Store.{Message, Store, numbered, available, cut}
 use Rattle.mold_receiver.specs.Receive.{count_beyond}
-use Rattle.mold_receiver.proofs.StoreLemmas.{message_at, get-available, get-cut, same_store, none_some}
+use Rattle.mold_receiver.proofs.StoreLemmas.{get-available, get-cut, same_store, none_some}
 
 -- what is stored lies between `next` and the window's end
 abbrev pub IsBetween : Store → ℕ → ℕ → Type 0

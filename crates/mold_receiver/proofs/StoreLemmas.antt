@@ -9,11 +9,8 @@ use Rattle.std.specs.Option.{option_or}
 use Rattle.std.proofs.lemmas.Bool.{cases_order, cases_Bool, cond-true, cond-false, le-leb, lt-leb, eq-eqb, ne_eqb, eqb-true}
 use Rattle.std.proofs.lemmas.Option.{slice_get-get_or}
 use Rattle.std.proofs.lemmas.Map.Entries.{lookup-filter-keys}
+use Rattle.mold_wire.specs.Truth.{message_at}
 use Rattle.mold_receiver.specs.Store.{Message, Store, numbered, from_next, available, behind_some, run_from, cut}
-
--- a packet's message at a number, the packet's first number being given
-abbrev pub message_at : ℕ → List Message → ℕ → Option Message
-message_at number messages at = cond (leb number at) (slice_get messages (at - number)) None
 
 pub lookup-numbered : (number : ℕ) (messages : List Message) (at : ℕ) →
     lookup (eqb at) (numbered number messages) ≡ message_at number messages at

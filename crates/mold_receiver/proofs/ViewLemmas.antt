@@ -12,6 +12,7 @@ use Rattle.mold_wire.specs.declared.packet.Packet.{Packet}
 use Rattle.mold_wire.specs.declared.packet.Body.{Body}
 use Rattle.mold_wire.specs.declared.packet.Body.TheVariants.{Data, Heartbeat, End}
 use Rattle.mold_wire.specs.declared.session.Session.{Session}
+use Rattle.mold_wire.specs.Truth.{message_at}
 use Rattle.mold_receiver.specs.declared.refused.Refused.{Refused}
 use Rattle.mold_receiver.specs.Handing.{run_in, run_of}
 use Rattle.mold_receiver.specs.Keeping.{is_fresh, fresh, put_pairs}
@@ -23,7 +24,7 @@ use Rattle.mold_receiver.proofs.CaseLemmas.{nothing_handed, nothing_stored, noth
 use Rattle.mold_receiver.proofs.KeepLemmas.{slot_fresh, length-put_pairs}
 use Rattle.mold_receiver.proofs.RuleLemmas.{IsBetween, message_below, message_past, message_within, message_bounds, available_cases, count_same, count_from}
 use Rattle.mold_receiver.proofs.SlotLemmas.{get-slots, len-slots, slot_past, slot_moved}
-use Rattle.mold_receiver.proofs.StoreLemmas.{message_at, get-cut, none_some, run_reads, run_ends, run_short}
+use Rattle.mold_receiver.proofs.StoreLemmas.{get-cut, none_some, run_reads, run_ends, run_short}
 
 pub between_of : (v : View) → IsWellFormed v → IsBetween v.store v.next v.window
 between_of v well q m is = let lies = well.stored q m is in (lies.0, lies.1)

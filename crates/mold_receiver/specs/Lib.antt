@@ -6,3 +6,4 @@ pub mod Batch
 pub mod Slots
 pub mod Keeping
 pub mod Handing
+pub mod Honest

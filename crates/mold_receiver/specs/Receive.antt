@@ -1,5 +1,5 @@
 -- The receiving rule: what any datagram does to a view, as a function of whole maps.
-use Rattle.std.specs.Prelude.{◌≡◌, ◌<◌, ℕ, ◌+◌, ◌-◌, max, Bool, ◌&&◌, nat_le, nat_lt, not, List, [], ◌∷◌, length, Option, None, Some, slice_get, is_some, is_none, Result, Ok, Err, ◌==◌, if◌then◌else◌}
+use Rattle.std.specs.Prelude.{◌≡◌, ◌<◌, ℕ, ◌+◌, ◌-◌, max, Bool, ◌&&◌, nat_le, nat_lt, not, List, [], ◌∷◌, length, Option, None, Some, is_some, is_none, Result, Ok, Err, ◌==◌, if◌then◌else◌}
 use Rattle.std.specs.List.{filter}
 use Rattle.std.specs.FinMap as finite
 use Rattle.std.specs.Str.{bytes_eq}
@@ -16,10 +16,6 @@ use Rattle.mold_receiver.specs.declared.refused.Refused.TheVariants.{Malformed, 
 use Rattle.mold_receiver.specs.Batch.{Handed, followed_by}
 use Rattle.mold_receiver.specs.Store.{Message, Store, numbered, from_next, available, run_from, cut, first_conflict}
 use Rattle.mold_receiver.specs.View.{View}
-
--- what a packet carries at a number
-abbrev pub carried_at : Packet → ℕ → Option Message
-carried_at p number = if nat_le p.sequence number then slice_get (messages_of p.body) (number - p.sequence) else None
 
 -- the refusal, where the test says so
 abbrev pub refuse_if : Bool → Refused → Option Refused
@@ -170,6 +166,14 @@ receive_read v (Err error) = Err (Malformed error)
 -- a datagram is refused or taken
 abbrev pub receive : View → List ℕ → Result Reception Refused
 receive v bytes = receive_read v (reading bytes)
+
+-- a datagram is taken: it spells a packet of the session that meets no refusal
+pub record IsTakenPacket (v : View) (bytes : List ℕ) (r : Reception) : Type 0 where
+  pub packet : Packet
+  pub read : reading bytes ≡ Ok packet
+  pub session : packet.session ≡ v.session
+  pub accepted : first_some (refusals v packet) ≡ None
+  pub taken : r ≡ reception v packet
 
 -- a receiver took a datagram: its view and the batch are what the rule says, and so is what it tells
 pub record HasTaken (old : View) (bytes : List ℕ) (before : Handed) (new : View) (after : Handed) (taken : Taken) : Type 0 where

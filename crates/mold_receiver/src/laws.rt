@@ -1,16 +1,21 @@
 //! What holds of the definitions alone, for all views and all datagrams. Each law is a function that does
 //! nothing: its contract is the law.
 
-ghost use Rattle.std.specs.Prelude.{◌≡◌, ◌⊎◌, ◌+◌, ◌-◌, ◌<◌, ◌≤◌, ◌^◌, ◌++◌, max, min, length, List, ℕ, Option, None, Some, Ok, is_some, slice_get};
+ghost use Rattle.std.specs.Prelude.{◌≡◌, ◌⊎◌, ◌+◌, ◌-◌, ◌<◌, ◌≤◌, ◌^◌, ◌++◌, ◌∷◌, [], max, min, length, Bool, true, false, List, ℕ, Option, None, Some, Ok, is_some, slice_get};
 ghost use Rattle.std.specs.FinMap as finite;
-ghost use Rattle.mold_wire.specs.Packet.{messages_of, top_of};
+ghost use Rattle.mold_wire.specs.Packet.{Spells, messages_of, top_of};
 ghost use Rattle.mold_wire.specs.declared.packet.Packet.{Packet};
 ghost use Rattle.mold_wire.specs.declared.request.Request.{Request};
+ghost use Rattle.mold_wire.specs.declared.session.Session.{Session};
 ghost use Rattle.mold_receiver.specs.Batch.{Handed, Follows, followed_by};
-ghost use Rattle.mold_receiver.specs.Receive.{Reception, carried_at, first_some, handed_on, receive, refusals, view_after};
+ghost use Rattle.mold_wire.specs.Truth.{Carries, IsTrue};
+ghost use Rattle.mold_receiver.specs.Honest.{IsHonest, IsTakenHonestly};
+ghost use Rattle.mold_receiver.specs.Receive.{IsTakenPacket, Reception, first_some, handed_on, receive, refusals, view_after};
 ghost use Rattle.mold_receiver.specs.Store.{Message, available};
-ghost use Rattle.mold_receiver.specs.View.{View, IsWellFormed};
+ghost use Rattle.mold_receiver.specs.View.{View, IsWellFormed, fresh};
 ghost use Rattle.mold_receiver.specs.Wanted.{IsGap, gap_end, wanted};
+
+use mold_wire::laws::{reading_law, true_packet_law};
 
 /// The new `next` of a packet that is taken is the least number from the old one on that is lacking in what
 /// is available, and what is handed on is what is available there, in order.
@@ -28,16 +33,51 @@ pub fn least_missing_law()
 pub fn nothing_new_law()
     ensures handed { (v : View) (p : Packet) (i : ℕ) (m : Message) →
         slice_get (handed_on v p.sequence (messages_of p.body)) i ≡ Some m →
-        (finite.get v.store (v.next + i) ≡ Some m) ⊎ (carried_at p (v.next + i) ≡ Some m) }
+        (finite.get v.store (v.next + i) ≡ Some m) ⊎ Carries p (v.next + i) m }
     ensures stored { (v : View) (p : Packet) (number : ℕ) (m : Message) →
         finite.get (view_after v p).store number ≡ Some m →
-        (finite.get v.store number ≡ Some m) ⊎ (carried_at p number ≡ Some m) }
+        (finite.get v.store number ≡ Some m) ⊎ Carries p number m }
 {}
 
 /// A view that takes a datagram stays well formed; one that was made is.
 pub fn well_formed_law()
     ensures received { (v : View) (bytes : List ℕ) (r : Reception) →
         IsWellFormed v → receive v bytes ≡ Ok r → IsWellFormed r.view }
+{}
+
+/// Honest taking: an honest view refuses nothing that spells a true packet of its session, and is honest
+/// afterwards. What it hands on is what was published with these numbers.
+pub fn honest_take_law()
+    ensures { (v : View) (packet : Packet) (bytes : List ℕ) (published : List Message) (closed : Bool) →
+        IsHonest v published closed → Spells packet bytes → packet.session ≡ v.session →
+        IsTrue packet published closed → IsTakenHonestly v bytes published closed }
+{
+    reading_law();
+    true_packet_law();
+}
+
+/// A view stays honest while messages are published, and when the session is closed. The view of a receiver
+/// that begins at a published message, or at the next one, is honest.
+pub fn honest_stays_law()
+    ensures published { (v : View) (published : List Message) (message : Message) →
+        IsHonest v published false → IsHonest v (published ++ message ∷ []) false }
+    ensures closed { (v : View) (published : List Message) →
+        IsHonest v published false → IsHonest v published true }
+    ensures fresh { (session : Session) (next window : ℕ) (published : List Message) (closed : Bool) →
+        1 ≤ next → next ≤ length published + 1 → length published < 18446744073709551615 →
+        IsHonest (fresh session next window) published closed }
+{}
+
+/// What is taken is a packet of the view's session that meets no refusal, and it does what the rule says.
+pub fn taken_law()
+    ensures { (v : View) (bytes : List ℕ) (r : Reception) →
+        receive v bytes ≡ Ok r → IsTakenPacket v bytes r }
+{}
+
+/// A packet that is taken and doesn't begin above `next` is handed on to its end.
+pub fn through_law()
+    ensures { (v : View) (p : Packet) →
+        IsWellFormed v → p.sequence ≤ v.next → top_of p ≤ (view_after v p).next }
 {}
 
 /// What is wanted is asked from `next` on, for the gap there as far as a request may ask; nothing is wanted
