@@ -9,3 +9,5 @@ pub mod WantedLemmas
 pub mod LawLemmas
 pub mod RefusalLemmas
 pub mod HonestLemmas
+pub mod MissingLemmas
+pub mod GapLemmas

@@ -7,3 +7,4 @@ pub mod Slots
 pub mod Keeping
 pub mod Handing
 pub mod Honest
+pub mod Gap

@@ -1,8 +1,9 @@
 -- What a receiver asks for, and how much it lacks.
-use Rattle.std.specs.Prelude.{◌≡◌, true, ℕ, zero, suc, ◌+◌, ◌-◌, ◌<◌, ◌≤◌, ◌⊎◌, min, Option, None, Some, is_some, ◌==◌, if◌then◌else◌}
+use Rattle.std.specs.Prelude.{◌≡◌, true, ℕ, zero, suc, ◌+◌, ◌-◌, ◌<◌, ◌≤◌, ◌⊎◌, min, Bool, List, Option, None, Some, is_some, is_none, ◌==◌, if◌then◌else◌}
 use Rattle.std.specs.FinMap as finite
 use Rattle.mold_wire.specs.declared.request.Request.{Request}
-use Rattle.mold_receiver.specs.Store.{Message}
+use Rattle.mold_ranges.specs.Ranges.{Range, ranges}
+use Rattle.mold_receiver.specs.Store.{Message, Store}
 use Rattle.mold_receiver.specs.View.{View}
 
 -- how many of the numbers from the given one on, at most so many, have no message before the first that
@@ -25,6 +26,14 @@ wanted v =
 -- how many messages below `known` it lacks
 abbrev pub missing : View → ℕ
 missing v = v.known - v.next - finite.len v.store
+
+-- nothing is stored at the number
+abbrev pub lacks : Store → ℕ → Bool
+lacks store number = is_none (finite.get store number)
+
+-- the longest ranges of numbers from `next` to below `known` that the store lacks
+abbrev pub gaps : View → List Range
+gaps v = ranges (lacks v.store) v.next (v.known - v.next)
 
 -- the numbers from `next` to below the given one are lacking, and there is a stored message or `known`
 pub record IsGap (v : View) (end : ℕ) : Type 0 where

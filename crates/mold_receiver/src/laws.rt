@@ -10,11 +10,14 @@ ghost use Rattle.mold_wire.specs.declared.session.Session.{Session};
 ghost use Rattle.mold_receiver.specs.Batch.{Handed, Follows, followed_by};
 ghost use Rattle.mold_wire.specs.Truth.{Carries, IsTrue};
 ghost use Rattle.mold_receiver.specs.Honest.{IsHonest, IsTakenHonestly};
-ghost use Rattle.mold_receiver.specs.Receive.{IsTakenPacket, Reception, first_some, handed_on, receive, refusals, view_after};
+ghost use Rattle.mold_receiver.specs.Receive.{IsTakenPacket, Reception, data_packet, first_some, handed_on, receive, refusals, view_after};
 ghost use Rattle.mold_receiver.specs.Store.{Message, available};
 ghost use Rattle.mold_receiver.specs.View.{View, IsWellFormed, fresh};
-ghost use Rattle.mold_receiver.specs.Wanted.{IsGap, gap_end, wanted};
+ghost use Rattle.mold_receiver.specs.Wanted.{IsGap, gap_end, lacks, missing, wanted};
+ghost use Rattle.mold_receiver.specs.Gap.{IsTakenInGap};
+ghost use Rattle.mold_ranges.specs.Ranges.{lacking};
 
+use mold_ranges::laws::lacking_law;
 use mold_wire::laws::{reading_law, true_packet_law};
 
 /// The new `next` of a packet that is taken is the least number from the old one on that is lacking in what
@@ -89,6 +92,28 @@ pub fn wanted_law()
     ensures gap { (v : View) (r : Request) → IsWellFormed v → wanted v ≡ Some r → IsGap v (gap_end v) }
     ensures none { (v : View) → wanted v ≡ None → v.next ≡ v.known }
 {}
+
+/// How many messages are missing: as many as the store lacks of the numbers from `next` to below `known`.
+pub fn missing_law()
+    ensures { (v : View) → IsWellFormed v →
+        missing v ≡ lacking (lacks v.store) v.next (v.known - v.next) }
+{
+    lacking_law();
+}
+
+/// A data packet that begins at `next` and goes no further than the gap there is refused by nothing, and
+/// as many messages less are missing as it has. So is one that answers what is wanted.
+pub fn round_law()
+    ensures gap { (v : View) (end : ℕ) (messages : List Message) (bytes : List ℕ) →
+        IsWellFormed v → IsGap v end → v.next + length messages ≤ end →
+        Spells (data_packet v.session v.next messages) bytes → IsTakenInGap v messages bytes }
+    ensures wanted { (v : View) (r : Request) (messages : List Message) (bytes : List ℕ) →
+        IsWellFormed v → wanted v ≡ Some r → length messages ≤ r.count →
+        Spells (data_packet v.session v.next messages) bytes → IsTakenInGap v messages bytes }
+{
+    reading_law();
+    lacking_law();
+}
 
 /// A batch that follows goes on to follow, and messages may join it in parts.
 #[tactic(auto, using(crate::proofs::BatchLemmas::follows_after, crate::proofs::BatchLemmas::followed_twice))]
