@@ -11,3 +11,4 @@ pub mod RefusalLemmas
 pub mod HonestLemmas
 pub mod MissingLemmas
 pub mod GapLemmas
+pub mod ArbiterLemmas

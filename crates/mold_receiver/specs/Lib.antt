@@ -8,3 +8,4 @@ pub mod Keeping
 pub mod Handing
 pub mod Honest
 pub mod Gap
+pub mod Arbiter

@@ -167,6 +167,11 @@ receive_read v (Err error) = Err (Malformed error)
 abbrev pub receive : View → List ℕ → Result Reception Refused
 receive v bytes = receive_read v (reading bytes)
 
+-- the top of the packet that was read
+abbrev pub top_read : Result Packet DecodeError → ℕ
+top_read (Ok packet) = top_of packet
+top_read (Err error) = 0
+
 -- a datagram is taken: it spells a packet of the session that meets no refusal
 pub record IsTakenPacket (v : View) (bytes : List ℕ) (r : Reception) : Type 0 where
   pub packet : Packet

@@ -1,12 +1,13 @@
 //! What holds of the definitions alone, for all views and all datagrams. Each law is a function that does
 //! nothing: its contract is the law.
 
-ghost use Rattle.std.specs.Prelude.{◌≡◌, ◌⊎◌, ◌+◌, ◌-◌, ◌<◌, ◌≤◌, ◌^◌, ◌++◌, ◌∷◌, [], max, min, length, Bool, true, false, List, ℕ, Option, None, Some, Ok, is_some, slice_get};
+ghost use Rattle.std.specs.Prelude.{◌≡◌, ◌⊎◌, ◌+◌, ◌-◌, ◌<◌, ◌≤◌, ◌^◌, ◌++◌, ◌∷◌, [], max, min, length, Bool, true, false, List, ℕ, Option, None, Some, Ok, Err, is_some, slice_get};
 ghost use Rattle.std.specs.FinMap as finite;
 ghost use Rattle.mold_wire.specs.Packet.{Spells, messages_of, top_of};
 ghost use Rattle.mold_wire.specs.declared.packet.Packet.{Packet};
 ghost use Rattle.mold_wire.specs.declared.request.Request.{Request};
 ghost use Rattle.mold_wire.specs.declared.session.Session.{Session};
+ghost use Rattle.mold_receiver.specs.declared.refused.Refused.TheVariants.{Memory};
 ghost use Rattle.mold_receiver.specs.Batch.{Handed, Follows, followed_by};
 ghost use Rattle.mold_wire.specs.Truth.{Carries, IsTrue};
 ghost use Rattle.mold_receiver.specs.Honest.{IsHonest, IsTakenHonestly};
@@ -75,6 +76,11 @@ pub fn honest_stays_law()
 pub fn taken_law()
     ensures { (v : View) (bytes : List ℕ) (r : Reception) →
         receive v bytes ≡ Ok r → IsTakenPacket v bytes r }
+{}
+
+/// The receiving rule never answers that memory is wanting.
+pub fn no_memory_law()
+    ensures { (v : View) (bytes : List ℕ) → receive v bytes ≡ Err Memory → ⊥ }
 {}
 
 /// A packet that is taken and doesn't begin above `next` is handed on to its end.

@@ -1,12 +1,14 @@
 //! The receiver of MoldUDP64 downstream packets: it hands messages on in sequence, each once, and stores
-//! what comes above a gap.
+//! what comes above a gap. An arbiter takes the packets of two lines.
 #![tactic(auto)]
 
+mod arbiter;
 mod batch;
 mod conflict;
 mod hand;
 mod keep;
 pub mod laws;
+mod line;
 mod receiver;
 mod refusal;
 mod refused;
@@ -15,7 +17,9 @@ mod taken;
 #[cfg(test)]
 mod tests;
 
+pub use arbiter::Arbiter;
 pub use batch::Batch;
+pub use line::{Line, LineReport};
 pub use receiver::Receiver;
 pub use refused::{ReceiverError, Refused};
 pub use taken::Taken;

@@ -3,9 +3,10 @@
 ghost use Rattle.std.specs.Prelude.{◌≡◌, ◌↔◌, IsTrue, ◌⊎◌, [], ◌+◌, ◌-◌, ◌<◌, ◌≤◌, ◌^◌, min, length, Some, None, Ok, Err, IfOk, IfErr, OnOk, OnErr};
 ghost use Rattle.std.specs.FinMap as finite;
 ghost use Rattle.mold_wire.specs.Packet.{IsBody, messages_of, top_of};
+ghost use Rattle.mold_wire.specs.Reading.{reading};
 ghost use Rattle.mold_wire.specs.declared.packet.Body.TheVariants.{Data};
 ghost use Rattle.mold_receiver.specs.Batch.{Follows, followed_by};
-ghost use Rattle.mold_receiver.specs.Receive.{HasTaken, IsCopied, data_packet, end_below, ended_after, first_some, handed_on, past_end, receive, refusals, taken_of, view_after};
+ghost use Rattle.mold_receiver.specs.Receive.{HasTaken, IsCopied, data_packet, end_below, ended_after, first_some, handed_on, past_end, receive, refusals, taken_of, top_read, view_after};
 ghost use Rattle.mold_receiver.specs.Store.{first_conflict, from_next};
 ghost use Rattle.mold_receiver.specs.Wanted.{wanted};
 ghost use Rattle.mold_receiver.specs.View.{View, IsWellFormed, IsWindow, fresh};
@@ -19,7 +20,7 @@ use crate::keep::{copy_fresh, put_copies};
 use crate::refusal::check_header;
 use crate::refused::{ReceiverError, Refused};
 use crate::slots::Slots;
-use crate::taken::Taken;
+use crate::taken::{Accepted, Taken};
 use mold_wire::{Blocks, Body, Packet, Request, Session, decode};
 use std::alloc::{AllocError, Global};
 use std::marker::Model;
@@ -229,12 +230,11 @@ impl Receiver {
         self.hand(packet.sequence, top, blocks, batch)
     }
 
-    /// Takes a datagram: what it brings is handed on to the end of `batch`, or stored, or known already.
-    /// Every refusal but `Memory` is found before any memory is asked for, and after each of them receiver
-    /// and batch are as before. The batch must be empty or end just before `next`.
-    pub fn take(&mut self, bytes: &[u8], batch: &mut Batch) -> Result<Taken, Refused>
+    /// Takes a datagram as `take` does, and tells the packet's top too.
+    pub(crate) fn accept(&mut self, bytes: &[u8], batch: &mut Batch) -> Result<Accepted, Refused>
         requires { Follows batch.old self.old.next }
-        ensures taken { IfOk result (λ taken. HasTaken self.old bytes.now batch.old self.new batch.new taken) }
+        ensures taken { IfOk result (λ accepted. HasTaken self.old bytes.now batch.old self.new batch.new accepted.taken) }
+        ensures top { IfOk result (λ accepted. accepted.top ≡ top_read (reading bytes.now)) }
         ensures refused { IfErr result (λ refused. ((refused ≡ OutOfMemory) × IsCopied self.old bytes.now) ⊎ (receive self.old bytes.now ≡ Err refused)) }
         ensures view { OnErr result (self.new ≡ self.old) }
         ensures batch { OnErr result (batch.new ≡ batch.old) }
@@ -245,9 +245,23 @@ impl Receiver {
         };
         let top = self.check(&packet)?;
         match self.take_packet(&packet, top, batch) {
-            Ok(taken) => Ok(taken),
+            Ok(taken) => Ok(Accepted { taken, top }),
             Err(_) => Err(Refused::Memory),
         }
+    }
+
+    /// Takes a datagram: what it brings is handed on to the end of `batch`, or stored, or known already.
+    /// Every refusal but `Memory` is found before any memory is asked for, and after each of them receiver
+    /// and batch are as before. The batch must be empty or end just before `next`.
+    pub fn take(&mut self, bytes: &[u8], batch: &mut Batch) -> Result<Taken, Refused>
+        requires { Follows batch.old self.old.next }
+        ensures taken { IfOk result (λ taken. HasTaken self.old bytes.now batch.old self.new batch.new taken) }
+        ensures refused { IfErr result (λ refused. ((refused ≡ OutOfMemory) × IsCopied self.old bytes.now) ⊎ (receive self.old bytes.now ≡ Err refused)) }
+        ensures view { OnErr result (self.new ≡ self.old) }
+        ensures batch { OnErr result (batch.new ≡ batch.old) }
+    {
+        let accepted = self.accept(bytes, batch)?;
+        Ok(accepted.taken)
     }
 
     /// The session that it receives.

@@ -10,3 +10,10 @@ pub struct Taken {
     /// How many messages of this datagram lie behind the window. They are lost, and have to come again.
     pub beyond: u32,
 }
+
+/// What a receiver did with a packet that it took, and the packet's top.
+#[derive(Clone, Copy, Debug)]
+pub(crate) struct Accepted {
+    pub taken: Taken,
+    pub top: u64,
+}

@@ -1,7 +1,7 @@
 //! The worked examples by their names, each public call on its happy path, and what is left after a growth
 //! was refused.
 
-use crate::{Batch, Receiver, ReceiverError, Refused, Taken};
+use crate::{Arbiter, Batch, Line, LineReport, Receiver, ReceiverError, Refused, Taken};
 use mold_wire::{DecodeError, Packer, Session};
 use std::alloc::Global;
 use std::process::Abort;
@@ -11,12 +11,16 @@ const SESSION: Session = Session(*b"SESSION001");
 
 /// A packet of messages from a number on.
 fn data<'w, 'm>(alloc: Global, first: u64, messages: &'w [&'m [u8]]) -> Result<Packer, Fail> {
-    let mut packer = Packer::new(alloc, 65507)?;
+    Ok(filled(Packer::new(alloc, 65507)?, first, messages))
+}
+
+fn filled<'w, 'm>(packer: Packer, first: u64, messages: &'w [&'m [u8]]) -> Packer {
+    let mut packer = packer;
     packer.start(SESSION, first);
     for message in messages {
         packer.add(message);
     }
-    Ok(packer)
+    packer
 }
 
 fn end(alloc: Global, number: u64) -> Result<Packer, Fail> {
@@ -361,6 +365,56 @@ fn a_batch_begins_at_next_and_is_cut(rt: HostRuntime) -> Result<(), Fail> {
     Ok(())
 }
 
+fn expect_lines(rt: &impl Abort, arbiter: &Arbiter, a: (u64, u64, u64), b: (u64, u64, u64)) {
+    for (line, want) in [(Line::A, a), (Line::B, b)] {
+        let (datagrams, refused, front) = want;
+        assert_eq!(rt;
+            arbiter.report(line),
+            LineReport {
+                datagrams,
+                refused,
+                front
+            }
+        );
+    }
+}
+
+#[test]
+fn two_lines(rt: HostRuntime) -> Result<(), Fail> {
+    let mut arbiter = Arbiter::new(Receiver::new(rt.alloc(), SESSION, 1, 4)?);
+    let mut batch = Batch::new(rt.alloc());
+    let three = data(rt.alloc(), 1, &[b"A", b"B", b"C"])?;
+    let taken = arbiter.take(Line::A, three.bytes(), &mut batch)?;
+    assert_eq!(rt; (taken.handed, taken.kept, taken.beyond), (3, 0, 0));
+    expect_lines(&rt, &arbiter, (1, 0, 4), (0, 0, 1));
+    assert_eq!(rt; (arbiter.lag(Line::A), arbiter.lag(Line::B)), (0, 3));
+    assert!(rt; batch.follows(arbiter.receiver().next()));
+    let taken = arbiter.take(Line::B, three.bytes(), &mut batch)?;
+    assert_eq!(rt; (taken.handed, taken.kept, taken.beyond), (0, 0, 0));
+    expect_lines(&rt, &arbiter, (1, 0, 4), (1, 0, 4));
+    assert_eq!(rt; arbiter.lag(Line::B), 0);
+    expect_batch(&rt, &batch, 1, &[b"A", b"B", b"C"]);
+    Ok(())
+}
+
+#[test]
+fn answers_are_on_no_line(rt: HostRuntime) -> Result<(), Fail> {
+    let mut arbiter = Arbiter::new(Receiver::new(rt.alloc(), SESSION, 1, 4)?);
+    let mut batch = Batch::new(rt.alloc());
+    let three = data(rt.alloc(), 1, &[b"A", b"B", b"C"])?;
+    let taken = arbiter.take_answer(three.bytes(), &mut batch)?;
+    assert_eq!(rt; (taken.handed, taken.kept, taken.beyond), (3, 0, 0));
+    expect_lines(&rt, &arbiter, (0, 0, 1), (0, 0, 1));
+    assert_eq!(rt; (arbiter.lag(Line::A), arbiter.lag(Line::B)), (3, 3));
+    assert!(rt; batch.follows(arbiter.receiver().next()));
+    assert_eq!(rt;
+        arbiter.take(Line::A, b"\0", &mut batch),
+        Err(Refused::Malformed(DecodeError::Short { len: 1 }))
+    );
+    expect_lines(&rt, &arbiter, (0, 1, 1), (0, 0, 1));
+    Ok(())
+}
+
 /// The greatest window takes its last number first.
 #[test]
 fn a_full_window_is_handed_on_at_once(rt: HostRuntime) -> Result<(), Fail> {
@@ -433,12 +487,21 @@ fn take_again(rt: &impl Abort, receiver: &mut Receiver, packet: &Packer, batch: 
     }
 }
 
-/// To be run with each allocation refused in turn.
+/// A packer, made once more where memory was refused.
+fn packer_again(alloc: Global) -> Result<Packer, Fail> {
+    match Packer::new(alloc, 65507) {
+        Ok(packer) => Ok(packer),
+        Err(_) => Ok(Packer::new(alloc, 65507)?),
+    }
+}
+
+/// It passes whichever growth is refused: `rt try mold_receiver --test --fail-alloc N -- a_refused_growth`
+/// refuses the Nth one.
 #[test]
 fn a_refused_growth_changes_nothing(rt: HostRuntime) -> Result<(), Fail> {
     let (above, first) = (
-        data(rt.alloc(), 3, &[b"C", b"D"])?,
-        data(rt.alloc(), 1, &[b"A", b"B"])?,
+        filled(packer_again(rt.alloc())?, 3, &[b"C", b"D"]),
+        filled(packer_again(rt.alloc())?, 1, &[b"A", b"B"]),
     );
     let mut receiver = match Receiver::new(rt.alloc(), SESSION, 1, 8) {
         Ok(receiver) => receiver,

@@ -3,7 +3,7 @@ use Rattle.std.specs.Prelude.{Ok}
 use Rattle.mold_wire.specs.Reading.{reading}
 use Rattle.mold_receiver.specs.declared.refused.Refused.{Refused}
 use Rattle.mold_receiver.specs.Receive.{receive_read, decide, reception}
-use Rattle.mold_receiver.proofs.receiver.Receiver.take.Goals as goal
+use Rattle.mold_receiver.proofs.receiver.Receiver.accept.Goals as goal
 
 pub returns-in-Ok-take_packet-clause-taken : goal.returns-in-Ok-take_packet-clause-taken
 returns-in-Ok-take_packet-clause-taken c =

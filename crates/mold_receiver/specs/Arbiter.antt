@@ -1,0 +1,84 @@
+-- An arbiter of two lines as its users see it.
+use Rattle.std.specs.Prelude.{◌≡◌, ℕ, ◌+◌, ◌≤◌, min, max, List, Option, None, Some, Result, Ok, Err, refl}
+use Rattle.std.specs.Coded.{Coded, code_by, coded×, coded_ℕ}
+use Rattle.mold_wire.specs.Reading.{reading}
+use Rattle.mold_receiver.specs.declared.line.Line.{Line}
+use Rattle.mold_receiver.specs.declared.line.Line.TheVariants.{A, B}
+use Rattle.mold_receiver.specs.declared.line.LineReport.{LineReport}
+use Rattle.mold_receiver.specs.declared.line.LineReports.{LineReports}
+use Rattle.mold_receiver.specs.declared.refused.Refused.{Refused}
+use Rattle.mold_receiver.specs.declared.taken.Taken.{Taken}
+use Rattle.mold_receiver.specs.Batch.{Handed, followed_by}
+use Rattle.mold_receiver.specs.Receive.{Reception, receive, top_read}
+use Rattle.mold_receiver.specs.View.{View, view_code}
+
+-- the receiver's view, and what came on each line
+pub record Arbitration : Type 0 where
+  pub view : View
+  pub reports : LineReports
+
+-- an arbitration is stored as the tuple of its fields
+abbrev pub report_code : Coded LineReport
+report_code = code_by (ℕ × (ℕ × ℕ)) (coded× coded_ℕ (coded× coded_ℕ coded_ℕ))
+    (λ r. (r.datagrams, (r.refused, r.front)))
+    (λ p. record { datagrams = p.0; refused = p.1.0; front = p.1.1 })
+    (λ _. refl)
+
+abbrev pub arbitration_code : Coded Arbitration
+arbitration_code = code_by (View × (LineReport × LineReport)) (coded× view_code (coded× report_code report_code))
+    (λ a. (a.view, (a.reports.a, a.reports.b)))
+    (λ p. record { view = p.0; reports = record { a = p.1.0; b = p.1.1 } })
+    (λ _. refl)
+
+abbrev pub report_on : Line → LineReports → LineReport
+report_on A reports = reports.a
+report_on B reports = reports.b
+
+-- one more, as far as 64 bits go
+abbrev pub one_more : ℕ → ℕ
+one_more count = min 18446744073709551615 (count + 1)
+
+-- a line's report, once a packet with this top was taken on it, and once a datagram was refused on it
+abbrev pub report_taken : LineReport → ℕ → LineReport
+report_taken report top = record { datagrams = one_more report.datagrams; refused = report.refused; front = max report.front top }
+
+abbrev pub report_refused : LineReport → LineReport
+report_refused report = record { datagrams = report.datagrams; refused = one_more report.refused; front = report.front }
+
+-- the reports, once one of them changed so
+abbrev pub reports_taken : Line → LineReports → ℕ → LineReports
+reports_taken A reports top = record { a = report_taken reports.a top; b = reports.b }
+reports_taken B reports top = record { a = reports.a; b = report_taken reports.b top }
+
+abbrev pub reports_refused : Line → LineReports → LineReports
+reports_refused A reports = record { a = report_refused reports.a; b = reports.b }
+reports_refused B reports = record { a = reports.a; b = report_refused reports.b }
+
+-- an arbitration when a datagram came, on a line or as the answer to a request, by what the receiving rule
+-- makes of it
+abbrev pub arbitrated : Option Line → List ℕ → Arbitration → Result Reception Refused → Arbitration
+arbitrated None bytes old (Ok reception) = record { view = reception.view; reports = old.reports }
+arbitrated None bytes old (Err refused) = old
+arbitrated (Some line) bytes old (Ok reception) = record {
+  view = reception.view;
+  reports = reports_taken line old.reports (top_read (reading bytes));
+}
+arbitrated (Some line) bytes old (Err refused) = record { view = old.view; reports = reports_refused line old.reports }
+
+-- an arbiter after a datagram came
+abbrev pub arbitrates : Option Line → List ℕ → Arbitration → Arbitration
+arbitrates line bytes old = arbitrated line bytes old (receive old.view bytes)
+
+-- no line has gone further than what is known
+pub record IsArbitration (a : Arbitration) : Type 0 where
+  pub front_a : a.reports.a.front ≤ a.view.known
+  pub front_b : a.reports.b.front ≤ a.view.known
+
+-- an arbiter took a datagram: it and the batch are what the rules say, and so is what it tells
+pub record HasArbitrated (line : Option Line) (old : Arbitration) (bytes : List ℕ) (before : Handed)
+    (new : Arbitration) (after : Handed) (taken : Taken) : Type 0 where
+  pub reception : Reception
+  pub received : receive old.view bytes ≡ Ok reception
+  pub arbitration : new ≡ arbitrates line bytes old
+  pub batch : after ≡ followed_by before old.view.next reception.handed
+  pub told : taken ≡ reception.taken

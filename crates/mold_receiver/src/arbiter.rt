@@ -1,0 +1,101 @@
+//! The arbiter of two lines.
+
+ghost use Rattle.std.specs.Prelude.{◌≡◌, ◌⊎◌, ◌-◌, ◌≤◌, None, Some, Err, IfOk, IfErr, OnErr};
+ghost use Rattle.mold_receiver.specs.Arbiter.{HasArbitrated, arbitrates, report_on};
+ghost use Rattle.mold_receiver.specs.Batch.{Follows};
+ghost use Rattle.mold_receiver.specs.Receive.{IsCopied, receive};
+ghost use Rattle.mold_receiver.specs.declared.refused.Refused.TheVariants.{Memory as OutOfMemory};
+
+use crate::batch::Batch;
+use crate::line::{Line, LineReport, LineReports};
+use crate::receiver::Receiver;
+use crate::refused::Refused;
+use crate::taken::Taken;
+use std::marker::Model;
+
+/// A receiver of packets that come on two lines, and what came on each of these. It doesn't matter which
+/// line brings a packet first: the receiver does by each packet what it does without lines.
+#[derive(Debug, Drop)]
+pub struct Arbiter {
+    receiver: Receiver,
+    reports: LineReports,
+}
+
+impl Model for Arbiter {
+    ghost use Rattle.mold_receiver.specs.Arbiter.{Arbitration, IsArbitration, arbitration_code};
+
+    ghost Value = { Arbitration };
+
+    ghost coded = { arbitration_code };
+
+    ghost view = { λ a. record { view = a.receiver; reports = a.reports } };
+
+    ghost invariant = { λ a. IsArbitration (record { view = a.receiver; reports = a.reports }) };
+}
+
+impl Arbiter {
+    /// An arbiter over a receiver; nothing came on either line.
+    pub fn new(receiver: Receiver) -> Arbiter
+        ensures view { result.view ≡ receiver }
+        ensures line_a { result.reports.a ≡ record { datagrams = 0; refused = 0; front = receiver.known } }
+        ensures line_b { result.reports.b ≡ record { datagrams = 0; refused = 0; front = receiver.known } }
+    {
+        let reports = LineReports::new(receiver.known());
+        Arbiter { receiver, reports }
+    }
+
+    /// Takes a datagram that came on a line, as the receiver does, and notes in the line's report that it
+    /// was taken or refused; want of memory changes no report. The batch must be empty or end just before
+    /// the receiver's `next`.
+    pub fn take(&mut self, line: Line, bytes: &[u8], batch: &mut Batch) -> Result<Taken, Refused>
+        requires { Follows batch.old self.old.view.next }
+        ensures taken { IfOk result (λ taken. HasArbitrated (Some line) self.old bytes.now batch.old self.new batch.new taken) }
+        ensures refused { IfErr result (λ refused. ((refused ≡ OutOfMemory) × IsCopied self.old.view bytes.now × (self.new ≡ self.old)) ⊎ ((receive self.old.view bytes.now ≡ Err refused) × (self.new ≡ arbitrates (Some line) bytes.now self.old))) }
+        ensures batch { OnErr result (batch.new ≡ batch.old) }
+    {
+        match self.receiver.accept(bytes, batch) {
+            Ok(accepted) => {
+                self.reports.note_taken(line, accepted.top);
+                Ok(accepted.taken)
+            }
+            Err(refused) => {
+                self.reports.note_refused(line, refused);
+                Err(refused)
+            }
+        }
+    }
+
+    /// Takes a datagram that came as the answer to a request, as the receiver does. It is on no line, so no
+    /// report changes. The batch must be empty or end just before the receiver's `next`.
+    pub fn take_answer(&mut self, bytes: &[u8], batch: &mut Batch) -> Result<Taken, Refused>
+        requires { Follows batch.old self.old.view.next }
+        ensures taken { IfOk result (λ taken. HasArbitrated None self.old bytes.now batch.old self.new batch.new taken) }
+        ensures refused { IfErr result (λ refused. ((refused ≡ OutOfMemory) × IsCopied self.old.view bytes.now) ⊎ (receive self.old.view bytes.now ≡ Err refused)) }
+        ensures same { OnErr result (self.new ≡ self.old) }
+        ensures batch { OnErr result (batch.new ≡ batch.old) }
+    {
+        self.receiver.take(bytes, batch)
+    }
+
+    /// What came on a line.
+    pub fn report(&self, line: Line) -> LineReport
+        ensures { result ≡ report_on line self.now.reports }
+    {
+        self.reports.of(line)
+    }
+
+    /// How far a line is behind what is known.
+    pub fn lag(&self, line: Line) -> u64
+        ensures lag { result ≡ self.now.view.known - (report_on line self.now.reports).front }
+        ensures front { (report_on line self.now.reports).front ≤ self.now.view.known }
+    {
+        self.receiver.known() - self.reports.of(line).front
+    }
+
+    /// The receiver.
+    pub fn receiver(&self) -> &Receiver
+        ensures { result.now ≡ self.now.view }
+    {
+        &self.receiver
+    }
+}
