@@ -12,9 +12,11 @@ use Rattle.mold_receiver.specs.declared.line.Line.{Line}
 use Rattle.mold_receiver.specs.declared.line.Line.TheVariants.{A, B}
 use Rattle.mold_receiver.specs.declared.line.LineReports.{LineReports}
 use Rattle.mold_receiver.specs.declared.refused.Refused.{Refused}
-use Rattle.mold_receiver.specs.declared.refused.Refused.TheVariants.{Malformed, WrongSession, SequenceZero, PastLast, EndConflict, EndBelow, PastEnd, Conflict, Memory}
+use Rattle.mold_receiver.specs.declared.refused.Refused.TheVariants.{Malformed, WrongSession, SequenceZero, PastLast}
+use Rattle.mold_receiver.specs.declared.refused.Refused.TheVariants.{EndConflict, EndBelow, PastEnd, Conflict, Memory}
 use Rattle.mold_receiver.specs.Arbiter.{Arbitration, IsArbitration, arbitrated, reports_taken, reports_refused}
-use Rattle.mold_receiver.specs.Receive.{Reception, conflict_at, decide, end_below, end_conflict, first_some, past_end, receive, receive_read, reception, refusals, refuse_if, top_read}
+use Rattle.mold_receiver.specs.Receive.{Reception, conflict_at, decide, end_below, end_conflict, first_some, past_end}
+use Rattle.mold_receiver.specs.Receive.{receive, receive_read, reception, refusals, refuse_if, top_read}
 use Rattle.mold_receiver.specs.Store.{first_conflict, from_next}
 use Rattle.mold_receiver.specs.View.{View}
 use Rattle.mold_receiver.proofs.LawLemmas.{is_taken}
@@ -101,14 +103,16 @@ decided_other None r x other is = absurd (ok_err is)
 decided_other (Some y) r x other is = subst (λ (z : Refused). is_other z ≡ true) (same_refused is) other
 
 read_other : (v : View) (o : Result Packet DecodeError) (x : Refused) → receive_read v o ≡ Err x → is_other x ≡ true
-read_other v (Ok p) x is = decided_other (first_some (refusals v p)) (reception v p) x (first_other (refusals v p) (refusals_other v p)) is
+read_other v (Ok p) x is =
+    decided_other (first_some (refusals v p)) (reception v p) x (first_other (refusals v p) (refusals_other v p)) is
 read_other v (Err error) x is = subst (λ (z : Refused). is_other z ≡ true) (same_refused is) refl
 
 pub never_memory : (v : View) (bytes : List ℕ) (x : Refused) → receive v bytes ≡ Err x → x ≡ Memory → ⊥
 never_memory v bytes x is memory =
     true≢false (sym (read_other v (reading bytes) x is) ∙ ap is_other memory)
 
-reports_kept : (line : Line) (reports : LineReports) (top known new : ℕ) → reports.a.front ≤ known → reports.b.front ≤ known
+reports_kept : (line : Line) (reports : LineReports) (top known new : ℕ) → reports.a.front ≤ known →
+    reports.b.front ≤ known
     → new ≡ max known top
     → ((reports_taken line reports top).a.front ≤ new) × ((reports_taken line reports top).b.front ≤ new)
 reports_kept A reports top known new a b is = (omega (arith, a, is), omega (arith, b, is))
@@ -119,12 +123,16 @@ pub taken_kept : (line : Line) (old : Arbitration) (bytes : List ℕ) (r : Recep
     receive old.view bytes ≡ Ok r → IsArbitration (arbitrated (Some line) bytes old (Ok r))
 taken_kept line old bytes r is received =
     let taken = is_taken old.view bytes r received in
-    let known : r.view.known ≡ max old.view.known (top_of taken.packet) = ap (λ (t : Reception). t.view.known) taken.taken in
+    let known : r.view.known ≡ max old.view.known (top_of taken.packet) =
+    ap (λ (t : Reception). t.view.known) taken.taken in
     let top : top_read (reading bytes) ≡ top_of taken.packet = ap top_read taken.read in
-    let kept = reports_kept line old.reports (top_read (reading bytes)) old.view.known r.view.known is.front_a is.front_b (known ∙ ap (max old.view.known) (sym top)) in
+    let kept = reports_kept line old.reports
+    (top_read (reading bytes)) old.view.known r.view.known is.front_a is.front_b (known
+    ∙ ap (max old.view.known) (sym top)) in
     record { front_a = kept.0; front_b = kept.1 }
 
-pub refused_kept : (line : Line) (view : View) (reports : LineReports) → IsArbitration (record { view = view; reports = reports })
+pub refused_kept : (line : Line) (view : View) (reports : LineReports) →
+    IsArbitration (record { view = view; reports = reports })
     → IsArbitration (record { view = view; reports = reports_refused line reports })
 refused_kept A view reports is = record { front_a = is.front_a; front_b = is.front_b }
 refused_kept B view reports is = record { front_a = is.front_a; front_b = is.front_b }
@@ -134,5 +142,6 @@ pub answer_kept : (old : Arbitration) (bytes : List ℕ) (r : Reception) → IsA
     receive old.view bytes ≡ Ok r → IsArbitration (record { view = r.view; reports = old.reports })
 answer_kept old bytes r is received =
     let taken = is_taken old.view bytes r received in
-    let known : r.view.known ≡ max old.view.known (top_of taken.packet) = ap (λ (t : Reception). t.view.known) taken.taken in
+    let known : r.view.known ≡ max old.view.known (top_of taken.packet) =
+    ap (λ (t : Reception). t.view.known) taken.taken in
     record { front_a = omega (arith, is.front_a, known); front_b = omega (arith, is.front_b, known) }

@@ -1,5 +1,6 @@
 -- What follows what in a batch.
-use Rattle.std.proofs.Common.{◌≡◌, ℕ, zero, suc, ◌+◌, ◌-◌, ◌<◌, ◌≤◌, List, [], ◌∷◌, ◌++◌, length, length-append, take, refl, sym, ap, subst, ◌∙◌, append_assoc, arith, max, drop, cond, ltb, inl, inr}
+use Rattle.std.proofs.Common.{◌≡◌, ℕ, zero, suc, ◌+◌, ◌-◌, ◌<◌, ◌≤◌, List, [], ◌∷◌, ◌++◌, length, length-append, take}
+use Rattle.std.proofs.Common.{refl, sym, ap, subst, ◌∙◌, append_assoc, arith, max, drop, cond, ltb, inl, inr}
 use Rattle.std.proofs.lemmas.List.{append-nil, take_at}
 use Rattle.std.specs.Prelude.{Option, None, Some}
 use Rattle.std.proofs.lemmas.Bool.{cases_lt, cond-true, cond-false, lt-ltb, le-ltb}
@@ -22,7 +23,8 @@ follows_in first (x ∷ messages) next m more follows = omega (arith, follows, l
 -- a batch that was followed by messages is followed by the next one
 pub follows_after : (batch : Handed) (next : ℕ) (more : List Message) → Follows batch next →
     Follows (followed_by batch next more) (next + length more)
-follows_after batch next [] follows = subst (λ (n : ℕ). Follows batch n) (let e : next ≡ next + 0 = omega arith in e) follows
+follows_after batch next [] follows =
+    subst (λ (n : ℕ). Follows batch n) (let e : next ≡ next + 0 = omega arith in e) follows
 follows_after batch next (m ∷ more) follows = follows_in batch.first batch.messages next m more follows
 
 first_twice : (first : ℕ) (messages : List Message) (next : ℕ) (m : Message) (more : List Message) (at : ℕ)
@@ -34,7 +36,8 @@ first_twice first (x ∷ messages) next m more at = refl
 pub followed_twice : (batch : Handed) (next : ℕ) (more : List Message) (at : ℕ) (others : List Message) →
     next + length more ≡ at
     → followed_by (followed_by batch next more) at others ≡ followed_by batch next (more ++ others)
-followed_twice batch next [] at others is = ap (λ (n : ℕ). followed_by batch n others) (let e : at ≡ next = omega (arith, is) in e)
+followed_twice batch next [] at others is =
+    ap (λ (n : ℕ). followed_by batch n others) (let e : at ≡ next = omega (arith, is) in e)
 followed_twice batch next (m ∷ more) at [] is = ap (followed_by batch next) (sym (append-nil (m ∷ more)))
 followed_twice batch next (m ∷ more) at (o ∷ others) is =
     λ i. record {
@@ -43,13 +46,17 @@ followed_twice batch next (m ∷ more) at (o ∷ others) is =
     }
 
 cut_back : (first : ℕ) (messages : List Message) (next : ℕ) (m : Message) (more : List Message)
-    → handed_from (joined_first first messages next) (take (length messages) (messages ++ m ∷ more)) ≡ handed_from first messages
+    → handed_from (joined_first first messages next)
+    (take (length messages) (messages ++ m ∷ more)) ≡ handed_from first messages
 cut_back first [] next m more = refl
-cut_back first (x ∷ messages) next m more = ap (λ (t : List Message). record { first = first; messages = x ∷ t }) (take_at messages (m ∷ more) (length messages) refl)
+cut_back first (x ∷ messages) next m more =
+    ap (λ (t : List Message). record { first = first; messages = x ∷ t })
+    (take_at messages (m ∷ more) (length messages) refl)
 
 -- a batch that was followed by messages and is cut to its old length is the old one
 pub cut_followed : (batch : Handed) (next : ℕ) (more : List Message) → batch ≡ handed_from batch.first batch.messages
-    → handed_from (followed_by batch next more).first (take (length batch.messages) (followed_by batch next more).messages) ≡ batch
+    → handed_from (followed_by batch next more).first
+    (take (length batch.messages) (followed_by batch next more).messages) ≡ batch
 cut_followed batch next [] normal = ap (handed_from batch.first) (take_all batch.messages) ∙ sym normal
 cut_followed batch next (m ∷ more) normal = cut_back batch.first batch.messages next m more ∙ sym normal
 
@@ -68,7 +75,8 @@ pub handing_one : (old new newer : Handed) (next at : ℕ) (m : Message) (left w
     → newer ≡ followed_by new at (m ∷ []) → IsHanding old newer next (suc at) left whole
 handing_one old new newer next at m left whole is pushed = record {
   handed = is.handed ++ m ∷ [];
-  batch = pushed ∙ ap (λ (b : Handed). followed_by b at (m ∷ [])) is.batch ∙ followed_twice old next is.handed at (m ∷ []) is.counted;
+  batch = pushed ∙ ap (λ (b : Handed). followed_by b at (m ∷ [])) is.batch
+      ∙ followed_twice old next is.handed at (m ∷ []) is.counted;
   parts = append_assoc is.handed (m ∷ []) left ∙ is.parts;
   counted = omega (arith, is.counted, length-append is.handed (m ∷ []));
 }
@@ -76,7 +84,9 @@ handing_one old new newer next at m left whole is pushed = record {
 pub handing_follows : (old new : Handed) (next at : ℕ) (left whole : List Message) →
     IsHanding old new next at left whole → Follows old next → Follows new at
 handing_follows old new next at left whole is follows =
-    subst (λ (b : Handed). Follows b at) (sym is.batch) (subst (λ (n : ℕ). Follows (followed_by old next is.handed) n) is.counted (follows_after old next is.handed follows))
+    subst (λ (b : Handed). Follows b at) (sym is.batch)
+    (subst (λ (n : ℕ). Follows (followed_by old next is.handed) n) is.counted
+    (follows_after old next is.handed follows))
 
 pub handing_done : (old new : Handed) (next at : ℕ) (whole : List Message) → IsHanding old new next at [] whole →
     new ≡ followed_by old next whole
@@ -85,13 +95,15 @@ handing_done old new next at whole is = is.batch ∙ ap (followed_by old next) (
 -- a message of a packet is handed on where its number isn't below the first that is handed on
 pub handing_from : (old new newer : Handed) (next n : ℕ) (m : Message) (ms whole : List Message) →
     IsHanding old new next (max n next) (drop (next - n) (m ∷ ms)) whole
-    → newer ≡ cond (ltb n next) new (followed_by new n (m ∷ [])) → IsHanding old newer next (max (n + 1) next) (drop (next - (n + 1)) ms) whole
+    → newer ≡ cond (ltb n next) new (followed_by new n (m ∷ [])) →
+    IsHanding old newer next (max (n + 1) next) (drop (next - (n + 1)) ms) whole
 handing_from old new newer next n m ms whole is pushed =
     elim (cases_lt n next) [
       | inl below ↦
           let one : next - n ≡ suc (next - (n + 1)) = omega arith in
           let same : max n next ≡ max (n + 1) next = omega arith in
-          subst (λ (b : Handed). IsHanding old b next (max (n + 1) next) (drop (next - (n + 1)) ms) whole) (sym (pushed ∙ cond-true (ltb n next) new (followed_by new n (m ∷ [])) (lt-ltb n next below)))
+          subst (λ (b : Handed). IsHanding old b next (max (n + 1) next) (drop (next - (n + 1)) ms) whole)
+          (sym (pushed ∙ cond-true (ltb n next) new (followed_by new n (m ∷ [])) (lt-ltb n next below)))
           (subst (λ (k : ℕ). IsHanding old new next k (drop (next - (n + 1)) ms) whole) same
           (subst (λ (k : ℕ). IsHanding old new next (max n next) (drop k (m ∷ ms)) whole) one is))
       | inr above ↦
@@ -102,13 +114,16 @@ handing_from old new newer next n m ms whole is pushed =
           subst (λ (k : ℕ). IsHanding old newer next k (drop (next - (n + 1)) ms) whole) behind
           (subst (λ (k : ℕ). IsHanding old newer next (suc n) (drop k ms) whole) left
           (handing_one old new newer next n m ms whole
-          (subst (λ (k : ℕ). IsHanding old new next k (m ∷ ms) whole) at (subst (λ (k : ℕ). IsHanding old new next (max n next) (drop k (m ∷ ms)) whole) none is))
+          (subst (λ (k : ℕ). IsHanding old new next k (m ∷ ms) whole) at
+          (subst (λ (k : ℕ). IsHanding old new next (max n next) (drop k (m ∷ ms)) whole) none is))
           (pushed ∙ cond-false (ltb n next) new (followed_by new n (m ∷ [])) (le-ltb n next above))))
     ]
 
 pub handing_begins : (old : Handed) (next n : ℕ) (ms : List Message) → n ≤ next →
     IsHanding old old next (max n next) (drop (next - n) ms) (drop (next - n) ms)
-handing_begins old next n ms begun = subst (λ (k : ℕ). IsHanding old old next k (drop (next - n) ms) (drop (next - n) ms)) (let e : next ≡ max n next = omega arith in e) (handing_none old next (drop (next - n) ms))
+handing_begins old next n ms begun =
+    subst (λ (k : ℕ). IsHanding old old next k (drop (next - n) ms) (drop (next - n) ms))
+    (let e : next ≡ max n next = omega arith in e) (handing_none old next (drop (next - n) ms))
 
 drop_none : (n : ℕ) → drop {A = Message} n [] ≡ []
 drop_none zero = refl
@@ -116,7 +131,9 @@ drop_none (suc n) = refl
 
 pub handing_ends : (old new : Handed) (next n : ℕ) (whole : List Message) →
     IsHanding old new next (max n next) (drop (next - n) []) whole → new ≡ followed_by old next whole
-handing_ends old new next n whole is = handing_done old new next (max n next) whole (subst (λ (t : List Message). IsHanding old new next (max n next) t whole) (drop_none (next - n)) is)
+handing_ends old new next n whole is =
+    handing_done old new next (max n next) whole
+    (subst (λ (t : List Message). IsHanding old new next (max n next) t whole) (drop_none (next - n)) is)
 
 none_run : (look : ℕ → Option Message) (at most : ℕ) → look at ≡ None → run_from look at most ≡ []
 unfolding run_from
@@ -145,18 +162,21 @@ run_none slots at is = none_run (slot_at slots) at (length slots - at) is
 
 pub handing_length : (old new : Handed) (next at : ℕ) (whole : List Message) → IsHanding old new next at [] whole →
     next + length whole ≡ at
-handing_length old new next at whole is = ap (λ (t : List Message). next + length t) (sym is.parts ∙ append-nil is.handed) ∙ is.counted
+handing_length old new next at whole is =
+    ap (λ (t : List Message). next + length t) (sym is.parts ∙ append-nil is.handed) ∙ is.counted
 
 -- what grew twice grew
 pub grew_twice : (old new newer : Handed) (next at : ℕ) (more : List Message) → new ≡ followed_by old next more →
     next + length more ≡ at → Grew new newer at → Grew old newer next
 grew_twice old new newer next at more is counted grew = record {
   handed = more ++ grew.handed;
-  batch = grew.batch ∙ ap (λ (b : Handed). followed_by b at grew.handed) is ∙ followed_twice old next more at grew.handed counted;
+  batch = grew.batch ∙ ap (λ (b : Handed). followed_by b at grew.handed) is
+      ∙ followed_twice old next more at grew.handed counted;
 }
 
 -- a batch that grew and is cut to its old length is the old one
 pub cut_grown : (old new : Handed) (next : ℕ) → old ≡ handed_from old.first old.messages → Grew old new next →
     handed_from new.first (take (length old.messages) new.messages) ≡ old
 cut_grown old new next normal grew =
-    ap (λ (b : Handed). handed_from b.first (take (length old.messages) b.messages)) grew.batch ∙ cut_followed old next grew.handed normal
+    ap (λ (b : Handed). handed_from b.first (take (length old.messages) b.messages)) grew.batch
+    ∙ cut_followed old next grew.handed normal

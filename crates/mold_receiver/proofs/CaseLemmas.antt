@@ -1,17 +1,22 @@
 -- The three cases of a packet that is taken, each with what the new store looks up.
-use Rattle.std.proofs.Common.{◌≡◌, ℕ, zero, suc, ◌+◌, ◌-◌, ◌<◌, ◌≤◌, false, cond, eqb, leb, ltb, ◌&&◌, List, [], ◌∷◌, ◌++◌, length, length-append, length-drop, drop, refl, sym, ap, subst, ◌∙◌, inl, inr, arith}
+use Rattle.std.proofs.Common.{◌≡◌, ℕ, zero, suc, ◌+◌, ◌-◌, ◌<◌, ◌≤◌, false, cond, eqb, leb, ltb, ◌&&◌, List, [], ◌∷◌}
+use Rattle.std.proofs.Common.{◌++◌, length, length-append, length-drop, drop, refl, sym, ap, subst, ◌∙◌, inl, inr}
+use Rattle.std.proofs.Common.{arith}
 use Rattle.std.specs.Prelude.{Option, None, Some, is_some, is_none, slice_get}
 use Rattle.std.specs.Map.{lookup}
 use Rattle.std.specs.FinMap as finite
 use Rattle.std.specs.Str.{bytes_eq}
 use Rattle.std.specs.Option.{option_or}
-use Rattle.std.proofs.lemmas.Bool.{cases_order, cases_lt, cases_Bool, cond-true, cond-false, le-leb, lt-ltb, le-ltb, and_left, not-false, eqb-true}
+use Rattle.std.proofs.lemmas.Bool.{cases_order, cases_lt, cases_Bool, cond-true, cond-false, le-leb, lt-ltb, le-ltb}
+use Rattle.std.proofs.lemmas.Bool.{and_left, not-false, eqb-true}
 use Rattle.std.proofs.lemmas.Slice.Eq.{bytes_eq-Decides}
 use Rattle.mold_wire.specs.Truth.{message_at}
-use Rattle.mold_receiver.specs.Store.{Message, Store, numbered, from_next, available, run_from, cut, differs, first_conflict}
+use Rattle.mold_receiver.specs.Store.{Message, Store, numbered, from_next, available, run_from, cut, differs}
+use Rattle.mold_receiver.specs.Store.{first_conflict}
 use Rattle.mold_receiver.specs.Receive.{count_kept}
 use Rattle.mold_receiver.proofs.StoreLemmas.{run_is, none_some, lookup-from_next}
-use Rattle.mold_receiver.proofs.RuleLemmas.{IsBetween, message_below, message_past, message_within, message_bounds, available_from, available_nothing, cut_is, stored_none, count_none}
+use Rattle.mold_receiver.proofs.RuleLemmas.{IsBetween, message_below, message_past, message_within, message_bounds}
+use Rattle.mold_receiver.proofs.RuleLemmas.{available_from, available_nothing, cut_is, stored_none, count_none}
 
 -- nothing of the packet is at or above `next`: nothing is handed on, and the store stays
 pub nothing_handed : (s : Store) (next window most n : ℕ) (ms : List Message) → IsBetween s next window →
@@ -21,21 +26,25 @@ nothing_handed s next window most n ms between nothing =
     run_is (finite.get (available s next n ms)) next most [] (λ i m is. absurd (none_some is))
     (let here : next ≡ next + 0 = omega arith in
     subst (λ (q : ℕ). finite.get (available s next n ms) q ≡ None) here
-    (ap (λ (t : Store). finite.get t next) (available_nothing s next n ms nothing) ∙ stored_none s next window between next (omega arith)))
+    (ap (λ (t : Store). finite.get t next) (available_nothing s next n ms nothing)
+    ∙ stored_none s next window between next (omega arith)))
     (omega arith)
 
 pub nothing_stored : (s : Store) (next window n : ℕ) (ms : List Message) → IsBetween s next window →
     ((q : ℕ) → next ≤ q → message_at n ms q ≡ None)
     → cut (available s next n ms) next window ≡ s
 nothing_stored s next window n ms between nothing =
-    ap (λ (t : Store). cut t next window) (available_nothing s next n ms nothing) ∙ cut_is s s next window between (λ q low high. refl)
+    ap (λ (t : Store). cut t next window) (available_nothing s next n ms nothing)
+    ∙ cut_is s s next window between (λ q low high. refl)
 
 nothing_new : (o : Option Message) → (is_some o && is_none o) ≡ false
 nothing_new None = refl
 nothing_new (Some m) = refl
 
 pub nothing_kept : (s : Store) (n : ℕ) (ms : List Message) → count_kept s s (numbered n ms) ≡ 0
-nothing_kept s n ms = count_none (λ q. is_some (finite.get s q) && is_none (finite.get s q)) n ms (λ i within. nothing_new (finite.get s (n + i)))
+nothing_kept s n ms =
+    count_none (λ q. is_some (finite.get s q) && is_none (finite.get s q)) n ms
+    (λ i within. nothing_new (finite.get s (n + i)))
 
 some_same : {X : Type 0} {x y : X} → ◌≡◌ {A = Option X} (Some x) (Some y) → x ≡ y
 some_same e = cc
@@ -43,7 +52,8 @@ some_same e = cc
 get-drop : (n : ℕ) (ms : List Message) (i : ℕ) → slice_get (drop n ms) i ≡ slice_get ms (n + i)
 get-drop zero ms i = ap (slice_get ms) (let e : i ≡ 0 + i = omega arith in e)
 get-drop (suc n) [] i = refl
-get-drop (suc n) (m ∷ ms) i = get-drop n ms i ∙ ap (slice_get (m ∷ ms)) (let e : suc (n + i) ≡ suc n + i = omega arith in e)
+get-drop (suc n) (m ∷ ms) i = get-drop n ms i
+    ∙ ap (slice_get (m ∷ ms)) (let e : suc (n + i) ≡ suc n + i = omega arith in e)
 
 pub get-append_left : (ms ns : List Message) (i : ℕ) → i < length ms → slice_get (ms ++ ns) i ≡ slice_get ms i
 get-append_left [] ns i within = absurd (omega arith)
@@ -52,7 +62,9 @@ get-append_left (m ∷ ms) ns (suc i) within = get-append_left ms ns i (omega ar
 
 get-append_right : (ms ns : List Message) (i : ℕ) → slice_get (ms ++ ns) (length ms + i) ≡ slice_get ns i
 get-append_right [] ns i = ap (slice_get ns) (let e : 0 + i ≡ i = omega arith in e)
-get-append_right (m ∷ ms) ns i = ap (slice_get (m ∷ (ms ++ ns))) (let e : suc (length ms) + i ≡ suc (length ms + i) = omega arith in e) ∙ get-append_right ms ns i
+get-append_right (m ∷ ms) ns i =
+    ap (slice_get (m ∷ (ms ++ ns))) (let e : suc (length ms) + i ≡ suc (length ms + i) = omega arith in e)
+    ∙ get-append_right ms ns i
 
 agree : (o : Option Message) (m x : Message) → differs o m ≡ false → o ≡ Some x → x ≡ m
 agree None m x same stored = absurd (none_some stored)
@@ -72,7 +84,8 @@ no_conflict s (pair ∷ pairs) none q m x is stored =
           elim (cases_Bool (eqb q pair.0)) [
             | inl here ↦
                 let same : pair.1 ≡ m = some_same (sym (cond-true _ (Some pair.1) (lookup (eqb q) pairs) here) ∙ is) in
-                agree (finite.get s pair.0) pair.1 x f (subst (λ (k : ℕ). finite.get s k ≡ Some x) (eqb-true q pair.0 here) stored) ∙ same
+                agree (finite.get s pair.0) pair.1 x f
+                (subst (λ (k : ℕ). finite.get s k ≡ Some x) (eqb-true q pair.0 here) stored) ∙ same
             | inr other ↦
                 no_conflict s pairs (sym (cond-false _ (Some pair.0) (first_conflict s pairs) f) ∙ none) q m x
                 (sym (cond-false _ (Some pair.1) (lookup (eqb q) pairs) other) ∙ is) stored
@@ -117,19 +130,26 @@ ahead_stored s t next window n ms between above none looks =
       | Some x ↦ λ e. between q x e
       | None ↦ λ e.
           let new : cond (ltb q (next + window)) (message_at n ms q) None ≡ Some m =
-          sym (looks q ∙ ap (λ (o : Option Message). option_or o (cond (ltb q (next + window)) (message_at n ms q) None)) e) ∙ is
+          sym (looks q ∙ ap
+          (λ (o : Option Message). option_or o (cond (ltb q (next + window)) (message_at n ms q) None)) e) ∙ is
           in
           elim (cases_lt q (next + window)) [
             | inl below ↦
-                let bounds = message_bounds n ms q m (sym (cond-true (ltb q (next + window)) (message_at n ms q) None (lt-ltb q (next + window) below)) ∙ new) in
+                let bounds = message_bounds n ms q m
+                (sym (cond-true (ltb q (next + window)) (message_at n ms q) None (lt-ltb q (next + window) below))
+                ∙ new) in
                 (omega (arith, bounds.0), below)
-            | inr past ↦ absurd (none_some (sym (cond-false (ltb q (next + window)) (message_at n ms q) None (le-ltb q (next + window) past)) ∙ new))
+            | inr past ↦ absurd
+                (none_some (sym
+                (cond-false (ltb q (next + window)) (message_at n ms q) None (le-ltb q (next + window) past)) ∙ new))
           ]
     ] refl)
     (λ q low high.
     available_from s next n ms q (omega arith)
-    ∙ either_way (message_at n ms q) (finite.get s q) (λ m x is stored. same_unless_conflict s next n ms none q m x (omega arith) is stored)
-    ∙ sym (looks q ∙ ap (option_or (finite.get s q)) (cond-true (ltb q (next + window)) (message_at n ms q) None (lt-ltb q (next + window) high))))
+    ∙ either_way (message_at n ms q) (finite.get s q)
+    (λ m x is stored. same_unless_conflict s next n ms none q m x (omega arith) is stored)
+    ∙ sym (looks q ∙ ap (option_or (finite.get s q))
+    (cond-true (ltb q (next + window)) (message_at n ms q) None (lt-ltb q (next + window) high))))
 
 -- the packet has the message `next`: it is handed on from there to its end, and then what is stored there
 pub at_handed : (s : Store) (next window most n top : ℕ) (ms stored : List Message) → IsBetween s next window →
@@ -139,8 +159,10 @@ pub at_handed : (s : Store) (next window most n top : ℕ) (ms stored : List Mes
     → top + length stored ≤ next + most
     → run_from (finite.get (available s next n ms)) next most ≡ drop (next - n) ms ++ stored
 at_handed s next window most n top ms stored between low high tops each stops few =
-    let size : length (drop (next - n) ms) ≡ top - next = length-drop (next - n) ms ∙ (let e : length ms - (next - n) ≡ top - next = omega arith in e) in
-    let whole : next + length (drop (next - n) ms ++ stored) ≡ top + length stored = omega (arith, size, length-append (drop (next - n) ms) stored) in
+    let size : length (drop (next - n) ms) ≡ top - next = length-drop (next - n) ms
+    ∙ (let e : length ms - (next - n) ≡ top - next = omega arith in e) in
+    let whole : next + length (drop (next - n) ms ++ stored) ≡ top + length stored =
+    omega (arith, size, length-append (drop (next - n) ms) stored) in
     run_is (finite.get (available s next n ms)) next most (drop (next - n) ms ++ stored)
     (λ i m is.
     elim (cases_lt i (top - next)) [
@@ -150,21 +172,25 @@ at_handed s next window most n top ms stored between low high tops each stops fe
           message_within n ms (next + i) (omega arith) ∙ ap (slice_get ms) place ∙ sym (get-drop (next - n) ms i)
           ∙ sym (get-append_left (drop (next - n) ms) stored i (omega (arith, size))) ∙ is
           in
-          available_from s next n ms (next + i) (omega arith) ∙ ap (λ (o : Option Message). option_or o (finite.get s (next + i))) found
+          available_from s next n ms (next + i) (omega arith)
+          ∙ ap (λ (o : Option Message). option_or o (finite.get s (next + i))) found
       | inr outside ↦
           let place : i ≡ length (drop (next - n) ms) + (i - (top - next)) = omega (arith, size) in
           let at : top + (i - (top - next)) ≡ next + i = omega arith in
           let kept : finite.get s (next + i) ≡ Some m =
           subst (λ (q : ℕ). finite.get s q ≡ Some m) at
-          (each (i - (top - next)) m (sym (get-append_right (drop (next - n) ms) stored (i - (top - next))) ∙ ap (slice_get (drop (next - n) ms ++ stored)) (sym place) ∙ is))
+          (each (i - (top - next)) m (sym (get-append_right (drop (next - n) ms) stored (i - (top - next)))
+          ∙ ap (slice_get (drop (next - n) ms ++ stored)) (sym place) ∙ is))
           in
           available_from s next n ms (next + i) (omega arith)
-          ∙ ap (λ (o : Option Message). option_or o (finite.get s (next + i))) (message_past n ms (next + i) (omega arith))
+          ∙ ap (λ (o : Option Message). option_or o (finite.get s (next + i)))
+          (message_past n ms (next + i) (omega arith))
           ∙ kept
     ])
     (subst (λ (q : ℕ). finite.get (available s next n ms) q ≡ None) (sym whole)
     (available_from s next n ms (top + length stored) (omega arith)
-    ∙ ap (λ (o : Option Message). option_or o (finite.get s (top + length stored))) (message_past n ms (top + length stored) (omega arith))
+    ∙ ap (λ (o : Option Message). option_or o (finite.get s (top + length stored)))
+    (message_past n ms (top + length stored) (omega arith))
     ∙ stops))
     (omega (arith, whole, few))
 
@@ -177,10 +203,14 @@ at_stored s t next window n new ms between ahead top stops looks =
     cut_is (available s next n ms) t new window
     (λ q m is.
     elim (cases_order q new) [
-      | inl same ↦ absurd (none_some (sym (looks q ∙ cond-false (ltb q new) None (finite.get s q) (le-ltb q new (omega arith)) ∙ subst (λ (k : ℕ). finite.get s k ≡ None) (sym same) stops) ∙ is))
-      | inr (inl below) ↦ absurd (none_some (sym (looks q ∙ cond-true (ltb q new) None (finite.get s q) (lt-ltb q new below)) ∙ is))
+      | inl same ↦ absurd
+          (none_some (sym (looks q ∙ cond-false (ltb q new) None (finite.get s q) (le-ltb q new (omega arith))
+          ∙ subst (λ (k : ℕ). finite.get s k ≡ None) (sym same) stops) ∙ is))
+      | inr (inl below) ↦
+          absurd (none_some (sym (looks q ∙ cond-true (ltb q new) None (finite.get s q) (lt-ltb q new below)) ∙ is))
       | inr (inr above) ↦
-          let lies = between q m (sym (looks q ∙ cond-false (ltb q new) None (finite.get s q) (le-ltb q new (omega arith))) ∙ is) in
+          let lies = between q m
+          (sym (looks q ∙ cond-false (ltb q new) None (finite.get s q) (le-ltb q new (omega arith))) ∙ is) in
           (above, omega (arith, lies.1))
     ])
     (λ q low high.
@@ -194,4 +224,5 @@ pub at_kept : (s t : Store) (n new : ℕ) (ms : List Message) → n + length ms 
 at_kept s t n new ms top looks =
     count_none (λ q. is_some (finite.get t q) && is_none (finite.get s q)) n ms
     (λ i within. and_left (is_some (finite.get t (n + i))) (is_none (finite.get s (n + i)))
-    (ap is_some (looks (n + i) ∙ cond-true (ltb (n + i) new) None (finite.get s (n + i)) (lt-ltb (n + i) new (omega arith)))))
+    (ap is_some (looks (n + i)
+    ∙ cond-true (ltb (n + i) new) None (finite.get s (n + i)) (lt-ltb (n + i) new (omega arith)))))

@@ -1,10 +1,12 @@
 -- The laws, over the definitions alone.
-use Rattle.std.proofs.Common.{◌≡◌, ℕ, zero, suc, ◌+◌, ◌-◌, ◌<◌, ◌≤◌, ◌^◌, ◌⊎◌, max, min, Bool, true, not, cond, eqb, get_or, [], ltb, ◌&&◌, List, refl, sym, ap, subst, ◌∙◌, inl, inr, arith}
+use Rattle.std.proofs.Common.{◌≡◌, ℕ, zero, suc, ◌+◌, ◌-◌, ◌<◌, ◌≤◌, ◌^◌, ◌⊎◌, max, min, Bool, true, not, cond, eqb}
+use Rattle.std.proofs.Common.{get_or, [], ltb, ◌&&◌, List, refl, sym, ap, subst, ◌∙◌, inl, inr, arith}
 use Rattle.std.specs.Prelude.{Option, None, Some, Result, Ok, Err, is_some, slice_get}
 use Rattle.std.specs.FinMap as finite
 use Rattle.std.specs.Option.{option_or}
 use Rattle.std.specs.Str.{bytes_eq}
-use Rattle.std.proofs.lemmas.Bool.{cases_eq, cases_lt, cases_Bool, cond-true, cond-false, lt-ltb, ltb-true, eq-eqb, ne_eqb, and_parts}
+use Rattle.std.proofs.lemmas.Bool.{cases_eq, cases_lt, cases_Bool, cond-true, cond-false, lt-ltb, ltb-true, eq-eqb}
+use Rattle.std.proofs.lemmas.Bool.{ne_eqb, and_parts}
 use Rattle.std.proofs.lemmas.Option.{slice_get-get_or}
 use Rattle.std.proofs.lemmas.Slice.Eq.{bytes_eq-Decides}
 use Rattle.mold_wire.specs.Packet.{messages_of, top_of}
@@ -15,11 +17,13 @@ use Rattle.mold_wire.specs.declared.request.Request.{Request}
 use Rattle.mold_wire.specs.declared.session.Session.{Session}
 use Rattle.mold_receiver.specs.declared.refused.Refused.{Refused}
 use Rattle.mold_receiver.specs.declared.refused.Refused.TheVariants.{WrongSession}
-use Rattle.mold_receiver.specs.Receive.{IsTakenPacket, Reception, decide, first_some, handed_on, past_last, receive, receive_read, reception, refusals, view_after, wrong_session}
+use Rattle.mold_receiver.specs.Receive.{IsTakenPacket, Reception, decide, first_some, handed_on, past_last, receive}
+use Rattle.mold_receiver.specs.Receive.{receive_read, reception, refusals, view_after, wrong_session}
 use Rattle.mold_receiver.specs.Store.{Message, Store, available, cut}
 use Rattle.mold_receiver.specs.View.{View, IsWellFormed}
 use Rattle.mold_receiver.specs.Wanted.{IsGap, gap_end, lacking_run, wanted}
-use Rattle.mold_receiver.proofs.RuleLemmas.{available_cases, available_from, none_unless, message_bounds, message_within}
+use Rattle.mold_receiver.proofs.RuleLemmas.{available_cases, available_from, none_unless, message_bounds}
+use Rattle.mold_receiver.proofs.RuleLemmas.{message_within}
 use Rattle.mold_receiver.proofs.StoreLemmas.{get-cut, none_some, run_reads, run_ends}
 use Rattle.mold_receiver.proofs.ViewLemmas.{stays_well, all_none}
 use Rattle.mold_receiver.proofs.WantedLemmas.{lacking_short, lacking_long, lacking_ends}
@@ -35,23 +39,30 @@ err_ok e = cc
 
 -- past what was heard of nothing is available
 past_known : (v : View) (p : Packet) → IsWellFormed v →
-    finite.get (available v.store v.next p.sequence (messages_of p.body)) (v.next + (max v.known (top_of p) - v.next)) ≡ None
+    finite.get (available v.store v.next p.sequence (messages_of p.body))
+    (v.next + (max v.known (top_of p) - v.next)) ≡ None
 past_known v p well =
     let q = v.next + (max v.known (top_of p) - v.next) in
     none_unless (finite.get (available v.store v.next p.sequence (messages_of p.body)) q) (λ m is.
     elim (available_cases v.store v.next p.sequence (messages_of p.body) q m is) [
-      | inl carried ↦ (let bounds = message_bounds p.sequence (messages_of p.body) q m carried.1 in omega (arith, bounds.1, well.ahead))
+      | inl carried ↦
+          (let bounds = message_bounds p.sequence (messages_of p.body) q m carried.1 in omega
+          (arith, bounds.1, well.ahead))
       | inr had ↦ (let lies = well.stored q m had in omega (arith, lies.2, well.ahead))
     ])
 
 pub next_lacks : (v : View) (p : Packet) → IsWellFormed v →
     finite.get (available v.store v.next p.sequence (messages_of p.body)) (view_after v p).next ≡ None
-next_lacks v p well = run_ends (finite.get (available v.store v.next p.sequence (messages_of p.body))) v.next (max v.known (top_of p) - v.next) (past_known v p well)
+next_lacks v p well =
+    run_ends (finite.get (available v.store v.next p.sequence (messages_of p.body))) v.next
+    (max v.known (top_of p) - v.next) (past_known v p well)
 
 pub handed_reads : (v : View) (p : Packet) (i : ℕ) (m : Message) →
     slice_get (handed_on v p.sequence (messages_of p.body)) i ≡ Some m
     → finite.get (available v.store v.next p.sequence (messages_of p.body)) (v.next + i) ≡ Some m
-handed_reads v p i m is = run_reads (finite.get (available v.store v.next p.sequence (messages_of p.body))) v.next (max v.known (top_of p) - v.next) i m is
+handed_reads v p i m is =
+    run_reads (finite.get (available v.store v.next p.sequence (messages_of p.body))) v.next
+    (max v.known (top_of p) - v.next) i m is
 
 had_or_carried : (v : View) (p : Packet) (q : ℕ) (m : Message) →
     finite.get (available v.store v.next p.sequence (messages_of p.body)) q ≡ Some m
@@ -73,15 +84,20 @@ cut_had s next window q m is =
     let limit = ltb next q && ltb q (next + window) in
     elim (cases_Bool limit) [
       | inl inside ↦
-          let parts = and_parts (ltb next q) (ltb q (next + window)) inside in
-          (sym (cond-true limit (finite.get s q) None inside) ∙ sym (get-cut s next window q) ∙ is, ltb-true next q parts.0, ltb-true q (next + window) parts.1)
+          let parts = and_parts (ltb next q) (ltb q (next + window)) inside in (
+            sym (cond-true limit (finite.get s q) None inside) ∙ sym (get-cut s next window q)
+                ∙ is,
+            ltb-true next q parts.0,
+            ltb-true q (next + window) parts.1,
+          )
       | inr out ↦ absurd (none_some (sym (get-cut s next window q ∙ cond-false limit _ _ out) ∙ is))
     ]
 
 pub stored_had : (v : View) (p : Packet) (q : ℕ) (m : Message) → finite.get (view_after v p).store q ≡ Some m
     → (finite.get v.store q ≡ Some m) ⊎ (Carries p q m)
 stored_had v p q m is =
-    had_or_carried v p q m (cut_had (available v.store v.next p.sequence (messages_of p.body)) (view_after v p).next v.window q m is).0
+    had_or_carried v p q m
+    (cut_had (available v.store v.next p.sequence (messages_of p.body)) (view_after v p).next v.window q m is).0
 
 own_session : (session : Session) (p : Packet) → wrong_session session p ≡ None → p.session ≡ session
 own_session session p none =
@@ -94,7 +110,8 @@ own_session session p none =
 taken_packet : (v : View) (bytes : List ℕ) (p : Packet) (r : Reception) → reading bytes ≡ Ok p →
     decide (first_some (refusals v p)) (reception v p) ≡ Ok r → IsTakenPacket v bytes r
 taken_packet v bytes p r read is =
-    elim (first_some (refusals v p)) as (λ o. first_some (refusals v p) ≡ o → decide o (reception v p) ≡ Ok r → IsTakenPacket v bytes r) [
+    elim (first_some (refusals v p)) as (λ o. first_some (refusals v p) ≡ o → decide o (reception v p) ≡ Ok r →
+    IsTakenPacket v bytes r) [
       | None ↦ λ e is. record {
         packet = p;
         read = read;
@@ -115,7 +132,9 @@ is_taken v bytes r is =
 not_past : (p : Packet) → past_last p ≡ None → top_of p < 2 ^ 64
 not_past p none =
     elim (cases_lt 18446744073709551615 (top_of p)) [
-      | inl past ↦ absurd (none_some (sym none ∙ cond-true (ltb 18446744073709551615 (top_of p)) _ _ (lt-ltb 18446744073709551615 (top_of p) past)))
+      | inl past ↦ absurd
+          (none_some (sym none
+          ∙ cond-true (ltb 18446744073709551615 (top_of p)) _ _ (lt-ltb 18446744073709551615 (top_of p) past)))
       | inr within ↦ omega arith
     ]
 
@@ -140,7 +159,8 @@ goes_through v p well begun =
       | inr high ↦ high
       | inl short ↦
           let there : message_at p.sequence ms new ≡ Some (get_or ms (new - p.sequence) []) =
-          message_within p.sequence ms new (omega (arith, begun)) ∙ slice_get-get_or ms (new - p.sequence) [] (omega (arith, short, begun))
+          message_within p.sequence ms new (omega (arith, begun))
+          ∙ slice_get-get_or ms (new - p.sequence) [] (omega (arith, short, begun))
           in
           absurd (none_some (sym (next_lacks v p well) ∙ available_from v.store v.next p.sequence ms new (omega arith)
           ∙ ap (λ (o : Option Message). option_or o (finite.get v.store new)) there))
@@ -163,8 +183,12 @@ wanted_lacks v r is same = none_some (sym (cond-true (eqb v.next v.known) None _
 pub wanted_is : (v : View) (r : Request) → wanted v ≡ Some r →
     (r.session ≡ v.session) × (r.sequence ≡ v.next) × (r.count ≡ min 65534 (gap_end v - v.next))
 wanted_is v r is =
-    let asked = some_same (sym (cond-false (eqb v.next v.known) None _ (ne_eqb v.next v.known (wanted_lacks v r is))) ∙ is) in
-    (ap (λ (q : Request). q.session) (sym asked), ap (λ (q : Request). q.sequence) (sym asked), ap (λ (q : Request). q.count) (sym asked))
+    let asked = some_same (sym (cond-false (eqb v.next v.known) None _ (ne_eqb v.next v.known (wanted_lacks v r is)))
+    ∙ is) in (
+      ap (λ (q : Request). q.session) (sym asked),
+      ap (λ (q : Request). q.sequence) (sym asked),
+      ap (λ (q : Request). q.count) (sym asked),
+    )
 
 -- the gap ends at a stored message or at `known`
 gap_stops : (look : ℕ → Option Message) (number most : ℕ) →
@@ -173,8 +197,11 @@ unfolding lacking_run
 gap_stops look number zero = inl refl
 gap_stops look number (suc most) =
     let here : number ≡ number + 0 = omega arith in
-    let at : suc number + lacking_run look (suc number) most ≡ number + suc (lacking_run look (suc number) most) = omega arith in
-    elim (look number) as (λ o. look number ≡ o → (cond (is_some o) 0 (suc (lacking_run look (suc number) most)) ≡ suc most) ⊎ (is_some (look (number + cond (is_some o) 0 (suc (lacking_run look (suc number) most)))) ≡ true)) [
+    let at : suc number + lacking_run look (suc number) most ≡ number + suc (lacking_run look (suc number) most) =
+    omega arith in
+    elim (look number) as (λ o. look number ≡ o →
+    (cond (is_some o) 0 (suc (lacking_run look (suc number) most)) ≡ suc most) ⊎
+    (is_some (look (number + cond (is_some o) 0 (suc (lacking_run look (suc number) most)))) ≡ true)) [
       | None ↦ λ e. elim (gap_stops look (suc number) most) [
         | inl whole ↦ inl (ap suc whole)
         | inr some ↦ inr (subst (λ (n : ℕ). is_some (look n) ≡ true) at some)
@@ -185,14 +212,21 @@ gap_stops look number (suc most) =
 gap_lacks : (look : ℕ → Option Message) (number most i : ℕ) → i < lacking_run look number most →
     look (number + i) ≡ None
 gap_lacks look number most i below =
-    none_unless (look (number + i)) (λ m is. omega (arith, below, lacking_ends look number most i (omega (arith, below, lacking_short look number most)) (ap is_some is)))
+    none_unless (look (number + i))
+    (λ m is. omega (
+      arith,
+      below,
+      lacking_ends look number most i (omega (arith, below, lacking_short look number most)) (ap is_some is),
+    ))
 
 pub gap_is : (v : View) (r : Request) → IsWellFormed v → wanted v ≡ Some r → IsGap v (gap_end v)
 gap_is v r well is =
     let look = finite.get v.store in
     let short = lacking_short look v.next (v.known - v.next) in
-    let long = lacking_long look v.next (v.known - v.next) 1 (omega (arith, well.ahead, wanted_lacks v r is)) (λ i below.
-    none_unless (look (v.next + i)) (λ m had. let lies = well.stored (v.next + i) m had in omega (arith, below, lies.0)))
+    let long = lacking_long look v.next (v.known - v.next) 1 (omega (arith, well.ahead, wanted_lacks v r is))
+    (λ i below.
+    none_unless (look (v.next + i))
+    (λ m had. let lies = well.stored (v.next + i) m had in omega (arith, below, lies.0)))
     in
     record {
       after = omega (arith, long);
@@ -202,7 +236,8 @@ gap_is v r well is =
             | inl low ↦ none_unless (look q) (λ m had. let lies = well.stored q m had in omega (arith, low, lies.0))
             | inr high ↦
                 let at : v.next + (q - v.next) ≡ q = omega arith in
-                subst (λ (n : ℕ). look n ≡ None) at (gap_lacks look v.next (v.known - v.next) (q - v.next) (omega (arith, below, high)))
+                subst (λ (n : ℕ). look n ≡ None) at
+                (gap_lacks look v.next (v.known - v.next) (q - v.next) (omega (arith, below, high)))
           ];
       stops = elim (gap_stops look v.next (v.known - v.next)) [
         | inl whole ↦ inl (omega (arith, whole, well.ahead))

@@ -1,13 +1,17 @@
 -- Slots and the store that they hold.
-use Rattle.std.proofs.Common.{◌≡◌, ℕ, zero, suc, ◌+◌, ◌-◌, ◌<◌, ◌≤◌, ◌⊎◌, Bool, true, false, cond, eqb, leb, ◌&&◌, List, [], ◌∷◌, ◌++◌, length, length-append, drop, replicate, slice_set, append_assoc, refl, sym, ap, subst, ◌∙◌, inl, inr, arith, nat_cmp}
+use Rattle.std.proofs.Common.{◌≡◌, ℕ, zero, suc, ◌+◌, ◌-◌, ◌<◌, ◌≤◌, ◌⊎◌, Bool, true, false, cond, eqb, leb, ◌&&◌, List}
+use Rattle.std.proofs.Common.{[], ◌∷◌, ◌++◌, length, length-append, drop, replicate, slice_set, append_assoc, refl, sym}
+use Rattle.std.proofs.Common.{ap, subst, ◌∙◌, inl, inr, arith, nat_cmp}
 use Rattle.std.specs.Prelude.{Option, None, Some, is_some, slice_get, map}
 use Rattle.std.specs.Cmp.{nat_cmp_total}
 use Rattle.std.specs.Map.{lookup}
 use Rattle.std.specs.FinMap as finite
 use Rattle.std.specs.Option.{option_flatten, option_map}
-use Rattle.std.proofs.lemmas.Bool.{cases_eq, cases_order, cases_Bool, cond-true, cond-false, le-leb, lt-leb, eq-eqb, ne_eqb}
+use Rattle.std.proofs.lemmas.Bool.{cases_eq, cases_order, cases_Bool, cond-true, cond-false, le-leb, lt-leb, eq-eqb}
+use Rattle.std.proofs.lemmas.Bool.{ne_eqb}
 use Rattle.std.proofs.lemmas.Option.{slice_get_past}
-use Rattle.std.proofs.lemmas.List.{length-replicate, length-set, length-drop, drop-drop, drop-append-le, replicate_more, drop-replicate, replicate-append-replicate}
+use Rattle.std.proofs.lemmas.List.{length-replicate, length-set, length-drop, drop-drop, drop-append-le, replicate_more}
+use Rattle.std.proofs.lemmas.List.{drop-replicate, replicate-append-replicate}
 use Rattle.mold_receiver.specs.Store.{Message, differs}
 use Rattle.mold_receiver.specs.Slots.{Slot, slot_at, slot_entries, store_of, count_held, AreSlots}
 use Rattle.mold_receiver.proofs.StoreLemmas.{get_made}
@@ -33,12 +37,15 @@ count_behind true one n m is = ap (λ (k : ℕ). one + k) is
 count_behind false one n m is = omega (arith, is)
 
 pub count_put : (slots : List Slot) (i : ℕ) (message : Message) → i < length slots →
-    count_held (slice_set slots i (Some message)) ≡ cond (is_some (slot_at slots i)) (count_held slots) (count_held slots + 1)
+    count_held (slice_set slots i (Some message)) ≡ cond (is_some (slot_at slots i)) (count_held slots)
+    (count_held slots + 1)
 count_put [] i message within = absurd (omega arith)
 count_put (None ∷ slots) zero message within = omega arith
 count_put (Some m ∷ slots) zero message within = refl
-count_put (None ∷ slots) (suc i) message within = count_behind (is_some (slot_at slots i)) 0 (count_held slots) _ (count_put slots i message (omega arith))
-count_put (Some m ∷ slots) (suc i) message within = count_behind (is_some (slot_at slots i)) 1 (count_held slots) _ (count_put slots i message (omega arith))
+count_put (None ∷ slots) (suc i) message within =
+    count_behind (is_some (slot_at slots i)) 0 (count_held slots) _ (count_put slots i message (omega arith))
+count_put (Some m ∷ slots) (suc i) message within =
+    count_behind (is_some (slot_at slots i)) 1 (count_held slots) _ (count_put slots i message (omega arith))
 
 slot_put_same : (slots : List Slot) (i : ℕ) (slot : Slot) → i < length slots → slot_at (slice_set slots i slot) i ≡ slot
 slot_put_same [] i slot within = absurd (omega arith)
@@ -58,7 +65,8 @@ pub slot_put : (slots : List Slot) (i : ℕ) (slot : Slot) (at : ℕ) → i < le
     slot_at (slice_set slots i slot) at ≡ cond (eqb at i) slot (slot_at slots at)
 slot_put slots i slot at within =
     elim (cases_eq at i) [
-      | inl same ↦ subst (λ (n : ℕ). slot_at (slice_set slots i slot) n ≡ slot) (sym same) (slot_put_same slots i slot within) ∙ sym (cond-true _ _ _ (eq-eqb at i same))
+      | inl same ↦ subst (λ (n : ℕ). slot_at (slice_set slots i slot) n ≡ slot) (sym same)
+          (slot_put_same slots i slot within) ∙ sym (cond-true _ _ _ (eq-eqb at i same))
       | inr other ↦ slot_put_other slots i slot at other ∙ sym (cond-false _ _ _ (ne_eqb at i other))
     ]
 
@@ -78,7 +86,8 @@ slot_padded (slot ∷ slots) n (suc at) = slot_padded slots n at
 slot_dropped : (count : ℕ) (slots : List Slot) (at : ℕ) → slot_at (drop count slots) at ≡ slot_at slots (count + at)
 slot_dropped zero slots at = ap (slot_at slots) (let e : at ≡ 0 + at = omega arith in e)
 slot_dropped (suc count) [] at = refl
-slot_dropped (suc count) (slot ∷ slots) at = slot_dropped count slots at ∙ ap (slot_at (slot ∷ slots)) (let e : suc (count + at) ≡ suc count + at = omega arith in e)
+slot_dropped (suc count) (slot ∷ slots) at = slot_dropped count slots at
+    ∙ ap (slot_at (slot ∷ slots)) (let e : suc (count + at) ≡ suc count + at = omega arith in e)
 
 -- when the slots have moved on, each has what was so many slots behind it
 pub slot_moved : (count : ℕ) (slots : List Slot) (at : ℕ) →
@@ -87,10 +96,16 @@ slot_moved count slots at = slot_padded (drop count slots) count at ∙ slot_dro
 
 -- so many slots and one more
 pub moved_more : (count : ℕ) (slots : List Slot) → count < length slots →
-    drop 1 (drop count slots ++ replicate count None) ++ None ∷ [] ≡ drop (count + 1) slots ++ replicate (count + 1) None
+    drop 1 (drop count slots ++ replicate count None) ++ None ∷ [] ≡ drop (count + 1) slots ++ replicate
+    (count + 1) None
 moved_more count slots within =
     let behind : drop 1 (drop count slots) ≡ drop (count + 1) slots = drop-drop 1 count slots in
-    rw (drop-append-le 1 (drop count slots) (replicate count None) (omega (arith, length-drop count slots)), behind, append_assoc (drop (count + 1) slots) (replicate count None) (None ∷ []), replicate_more {X = Slot} count None)
+    rw (
+      drop-append-le 1 (drop count slots) (replicate count None) (omega (arith, length-drop count slots)),
+      behind,
+      append_assoc (drop (count + 1) slots) (replicate count None) (None ∷ []),
+      replicate_more {X = Slot} count None,
+    )
     refl
 
 pushed_view : {V : Type 0} (g : V → Message) (xs : List (Option V)) →
@@ -128,7 +143,8 @@ all_empty (Some m ∷ slots) none i = absurd (omega (arith, none))
 pub are_moved : (slots : List Slot) (capacity count clear : ℕ) → AreSlots slots capacity count clear →
     AreSlots (drop 1 slots ++ None ∷ []) capacity (count - cond (is_some (slot_at slots 0)) 1 0) (clear - 1)
 are_moved slots capacity count clear are =
-    let same : length (drop 1 slots ++ None ∷ []) ≡ length slots = omega (arith, are.some, length-append (drop 1 slots) (None ∷ []), length-drop 1 slots) in
+    let same : length (drop 1 slots ++ None ∷ []) ≡ length slots =
+    omega (arith, are.some, length-append (drop 1 slots) (None ∷ []), length-drop 1 slots) in
     record {
       some = omega (arith, are.some, same);
       few = omega (arith, are.few, same);
@@ -146,7 +162,8 @@ are_put slots capacity count clear i message n are within before known =
       some = omega (arith, are.some, same);
       few = omega (arith, are.few, same);
       full = same ∙ are.full;
-      counted = ap (λ (n : ℕ). cond (is_some (slot_at slots i)) n (n + 1)) are.counted ∙ sym (count_put slots i message within);
+      counted = ap (λ (n : ℕ). cond (is_some (slot_at slots i)) n (n + 1)) are.counted
+          ∙ sym (count_put slots i message within);
       empty = λ at below. slot_put_other slots i (Some message) at (λ e. omega (arith, below, before, e)) ∙ elim known [
         | inl none ↦ all_empty slots (sym are.counted ∙ none) at
         | inr less ↦ are.empty at (omega (arith, below, less))
@@ -178,8 +195,10 @@ are_empty n some few =
 
 -- a slot before others, whose look-ups are told
 lookup_behind : (number : ℕ) (slot : Slot) (slots : List Slot) (at : ℕ)
-    → lookup (eqb at) (slot_entries (suc number) slots) ≡ cond (leb (suc number) at) (slot_at slots (at - suc number)) None
-    → lookup (eqb at) (slot_entries number (slot ∷ slots)) ≡ cond (leb number at) (slot_at (slot ∷ slots) (at - number)) None
+    → lookup (eqb at) (slot_entries (suc number) slots) ≡ cond (leb (suc number) at)
+    (slot_at slots (at - suc number)) None
+    → lookup (eqb at) (slot_entries number (slot ∷ slots)) ≡ cond (leb number at)
+    (slot_at (slot ∷ slots) (at - number)) None
 lookup_behind number None slots at rest =
     elim (cases_order at number) [
       | inl same ↦
@@ -187,7 +206,8 @@ lookup_behind number None slots at rest =
           rest ∙ cond-false _ _ _ (lt-leb (suc number) at (omega arith))
           ∙ sym (cond-true _ _ _ (le-leb number at (omega arith)) ∙ ap (slot_at (None ∷ slots)) zero_at)
       | inr (inl below) ↦
-          rest ∙ cond-false _ _ _ (lt-leb (suc number) at (omega arith)) ∙ sym (cond-false _ _ _ (lt-leb number at below))
+          rest ∙ cond-false _ _ _ (lt-leb (suc number) at (omega arith))
+          ∙ sym (cond-false _ _ _ (lt-leb number at below))
       | inr (inr above) ↦
           let more : at - number ≡ suc (at - suc number) = omega arith in
           rest ∙ cond-true _ _ _ (le-leb (suc number) at above)
@@ -201,7 +221,8 @@ lookup_behind number (Some message) slots at rest =
           ∙ sym (cond-true _ _ _ (le-leb number at (omega arith)) ∙ ap (slot_at (Some message ∷ slots)) zero_at)
       | inr (inl below) ↦
           cond-false _ _ _ (ne_eqb at number (λ e. omega (arith, e)))
-          ∙ rest ∙ cond-false _ _ _ (lt-leb (suc number) at (omega arith)) ∙ sym (cond-false _ _ _ (lt-leb number at below))
+          ∙ rest ∙ cond-false _ _ _ (lt-leb (suc number) at (omega arith))
+          ∙ sym (cond-false _ _ _ (lt-leb number at below))
       | inr (inr above) ↦
           let more : at - number ≡ suc (at - suc number) = omega arith in
           cond-false _ _ _ (ne_eqb at number (λ e. omega (arith, e)))
@@ -225,19 +246,24 @@ get-slots number slots at = get_made (slot_entries number slots) at ∙ lookup-s
 
 pub len-slots : (number : ℕ) (slots : List Slot) → finite.len (store_of number slots) ≡ count_held slots
 len-slots number [] = finite.len-empty nat_cmp Message
-len-slots number (None ∷ slots) = len-slots (suc number) slots ∙ (let same : count_held slots ≡ 0 + count_held slots = omega arith in same)
+len-slots number (None ∷ slots) = len-slots (suc number) slots
+    ∙ (let same : count_held slots ≡ 0 + count_held slots = omega arith in same)
 len-slots number (Some message ∷ slots) =
-    let none : finite.get (store_of (suc number) slots) number ≡ None = get-slots (suc number) slots number ∙ cond-false _ _ _ (lt-leb (suc number) number (omega arith)) in
+    let none : finite.get (store_of (suc number) slots) number ≡ None = get-slots (suc number) slots number
+    ∙ cond-false _ _ _ (lt-leb (suc number) number (omega arith)) in
     finite.len-insert nat_cmp_total (store_of (suc number) slots) number message
     ∙ cond-false _ _ _ (ap is_some none)
-    ∙ (let more : finite.len (store_of (suc number) slots) + 1 ≡ 1 + count_held slots = omega (arith, len-slots (suc number) slots) in more)
+    ∙ (let more : finite.len (store_of (suc number) slots) + 1 ≡ 1 + count_held slots =
+    omega (arith, len-slots (suc number) slots) in more)
 
 -- a stored message differs at a number where its slot's does
 pub conflict_is : (slots : List Slot) (next number : ℕ) (message : Message) → next ≤ number
-    → (leb next number && differs (finite.get (store_of next slots) number) message) ≡ differs (slot_at slots (number - next)) message
+    → (leb next number && differs (finite.get (store_of next slots) number) message) ≡ differs
+    (slot_at slots (number - next)) message
 conflict_is slots next number message low =
     ap (λ (b : Bool). b && differs (finite.get (store_of next slots) number) message) (le-leb next number low)
-    ∙ ap (λ (o : Option Message). differs o message) (get-slots next slots number ∙ cond-true (leb next number) (slot_at slots (number - next)) None (le-leb next number low))
+    ∙ ap (λ (o : Option Message). differs o message) (get-slots next slots number
+    ∙ cond-true (leb next number) (slot_at slots (number - next)) None (le-leb next number low))
 
 empty_slots : (slots : List Slot) → count_held slots ≡ 0 → slots ≡ replicate (length slots) None
 empty_slots [] none = refl
@@ -257,4 +283,5 @@ pub moved_none : (count : ℕ) (slots : List Slot) → count ≤ length slots �
     slots ≡ drop count slots ++ replicate count None
 moved_none count slots within none =
     let empty : slots ≡ replicate (length slots) None = empty_slots slots none in
-    empty ∙ moved_empty count (length slots) within ∙ ap (λ (t : List Slot). drop count t ++ replicate count None) (sym empty)
+    empty ∙ moved_empty count (length slots) within
+    ∙ ap (λ (t : List Slot). drop count t ++ replicate count None) (sym empty)

@@ -40,7 +40,8 @@ one_more count = min 18446744073709551615 (count + 1)
 
 -- a line's report, once a packet with this top was taken on it, and once a datagram was refused on it
 abbrev pub report_taken : LineReport → ℕ → LineReport
-report_taken report top = record { datagrams = one_more report.datagrams; refused = report.refused; front = max report.front top }
+report_taken report top =
+    record { datagrams = one_more report.datagrams; refused = report.refused; front = max report.front top }
 
 abbrev pub report_refused : LineReport → LineReport
 report_refused report = record { datagrams = report.datagrams; refused = one_more report.refused; front = report.front }

@@ -1,5 +1,6 @@
 -- The receiving rule: what any datagram does to a view, as a function of whole maps.
-use Rattle.std.specs.Prelude.{◌≡◌, ◌<◌, ℕ, ◌+◌, ◌-◌, max, Bool, ◌&&◌, nat_le, nat_lt, not, List, [], ◌∷◌, length, Option, None, Some, is_some, is_none, Result, Ok, Err, ◌==◌, if◌then◌else◌}
+use Rattle.std.specs.Prelude.{◌≡◌, ◌<◌, ℕ, ◌+◌, ◌-◌, max, Bool, ◌&&◌, nat_le, nat_lt, not, List, [], ◌∷◌, length}
+use Rattle.std.specs.Prelude.{Option, None, Some, is_some, is_none, Result, Ok, Err, ◌==◌, if◌then◌else◌}
 use Rattle.std.specs.List.{filter}
 use Rattle.std.specs.FinMap as finite
 use Rattle.std.specs.Str.{bytes_eq}
@@ -12,7 +13,8 @@ use Rattle.mold_wire.specs.declared.session.Session.{Session}
 use Rattle.mold_wire.specs.declared.error.DecodeError.{DecodeError}
 use Rattle.mold_receiver.specs.declared.taken.Taken.{Taken}
 use Rattle.mold_receiver.specs.declared.refused.Refused.{Refused}
-use Rattle.mold_receiver.specs.declared.refused.Refused.TheVariants.{Malformed, WrongSession, SequenceZero, PastLast, EndConflict, EndBelow, PastEnd, Conflict}
+use Rattle.mold_receiver.specs.declared.refused.Refused.TheVariants.{Malformed, WrongSession, SequenceZero, PastLast}
+use Rattle.mold_receiver.specs.declared.refused.Refused.TheVariants.{EndConflict, EndBelow, PastEnd, Conflict}
 use Rattle.mold_receiver.specs.Batch.{Handed, followed_by}
 use Rattle.mold_receiver.specs.Store.{Message, Store, numbered, from_next, available, run_from, cut, first_conflict}
 use Rattle.mold_receiver.specs.View.{View}
@@ -93,11 +95,13 @@ first_some (Some refusal ∷ refusals) = Some refusal
 -- that is lacking. No number from the greater of `known` and the packet's top on is available.
 abbrev pub handed_on : View → ℕ → List Message → List Message
 handed_on v number messages =
-    run_from (finite.get (available v.store v.next number messages)) v.next (max v.known (number + length messages) - v.next)
+    run_from (finite.get (available v.store v.next number messages)) v.next
+    (max v.known (number + length messages) - v.next)
 
 -- the number of the packet's messages that are in the new store and weren't in the old one
 abbrev pub count_kept : Store → Store → List (ℕ × Message) → ℕ
-count_kept old new pairs = length (filter (λ pair. is_some (finite.get new pair.0) && is_none (finite.get old pair.0)) pairs)
+count_kept old new pairs =
+    length (filter (λ pair. is_some (finite.get new pair.0) && is_none (finite.get old pair.0)) pairs)
 
 -- the number of the packet's messages from a limit on
 abbrev pub count_beyond : ℕ → List (ℕ × Message) → ℕ
@@ -181,7 +185,8 @@ pub record IsTakenPacket (v : View) (bytes : List ℕ) (r : Reception) : Type 0 
   pub taken : r ≡ reception v packet
 
 -- a receiver took a datagram: its view and the batch are what the rule says, and so is what it tells
-pub record HasTaken (old : View) (bytes : List ℕ) (before : Handed) (new : View) (after : Handed) (taken : Taken) : Type 0 where
+pub record HasTaken (old : View) (bytes : List ℕ) (before : Handed) (new : View) (after : Handed)
+    (taken : Taken) : Type 0 where
   pub reception : Reception
   pub received : receive old bytes ≡ Ok reception
   pub view : new ≡ reception.view

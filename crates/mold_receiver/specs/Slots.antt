@@ -1,5 +1,6 @@
 -- The ring of the gap store: slot i stands for the number that lies i behind the first one's.
-use Rattle.std.specs.Prelude.{◌≡◌, ℕ, suc, ◌+◌, ◌<◌, ◌≤◌, ◌⊎◌, true, length, List, [], ◌∷◌, Option, None, Some, slice_get, map, is_some, if◌then◌else◌}
+use Rattle.std.specs.Prelude.{◌≡◌, ℕ, suc, ◌+◌, ◌<◌, ◌≤◌, ◌⊎◌, true, length, List, [], ◌∷◌, Option, None, Some}
+use Rattle.std.specs.Prelude.{slice_get, map, is_some, if◌then◌else◌}
 use Rattle.std.specs.FinMap as finite
 use Rattle.std.specs.Option.{option_flatten, option_map}
 use Rattle.mold_receiver.specs.Store.{Message, Store}

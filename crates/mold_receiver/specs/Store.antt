@@ -1,5 +1,6 @@
 -- Messages by their numbers: what a receiver stores, and what a packet and a store have together.
-use Rattle.std.specs.Prelude.{ℕ, zero, suc, ◌+◌, Bool, false, ◌&&◌, nat_le, nat_lt, not, List, [], ◌∷◌, ◌++◌, Option, None, Some, if◌then◌else◌}
+use Rattle.std.specs.Prelude.{ℕ, zero, suc, ◌+◌, Bool, false, ◌&&◌, nat_le, nat_lt, not, List, [], ◌∷◌, ◌++◌, Option}
+use Rattle.std.specs.Prelude.{None, Some, if◌then◌else◌}
 use Rattle.std.specs.Ordering.{nat_cmp}
 use Rattle.std.specs.List.{filter}
 use Rattle.std.specs.FinMap as finite

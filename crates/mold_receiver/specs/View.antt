@@ -24,9 +24,19 @@ pub record View : Type 0 where
 -- a view is stored as the tuple of its fields
 abbrev pub view_code : Coded View
 view_code = code_by (List ℕ × (ℕ × (ℕ × (Option ℕ × (Store × ℕ)))))
-    (coded× (coded_list coded_ℕ) (coded× coded_ℕ (coded× coded_ℕ (coded× (coded_option coded_ℕ) (coded× (finite.code {R = nat_cmp} coded_ℕ (coded_list coded_ℕ)) coded_ℕ)))))
+    (coded× (coded_list coded_ℕ)
+    (coded× coded_ℕ
+    (coded× coded_ℕ
+    (coded× (coded_option coded_ℕ) (coded× (finite.code {R = nat_cmp} coded_ℕ (coded_list coded_ℕ)) coded_ℕ)))))
     (λ v. (v.session.0, (v.next, (v.known, (v.ended, (v.store, v.window))))))
-    (λ p. record { session = record { 0 = p.0 }; next = p.1.0; known = p.1.1.0; ended = p.1.1.1.0; store = p.1.1.1.1.0; window = p.1.1.1.1.1 })
+    (λ p. record {
+      session = record { 0 = p.0 };
+      next = p.1.0;
+      known = p.1.1.0;
+      ended = p.1.1.1.0;
+      store = p.1.1.1.1.0;
+      window = p.1.1.1.1.1;
+    })
     (λ _. refl)
 
 -- `next` and `known` are numbers of 64 bits from 1 on; each stored number is above `next`, in the window
@@ -41,11 +51,21 @@ pub record IsWellFormed (v : View) : Type 0 where
 
 -- the view of a receiver that begins at `next`: nothing heard, nothing stored
 abbrev pub fresh : Session → ℕ → ℕ → View
-fresh session next window = record { session = session; next = next; known = next; ended = None; store = finite.empty; window = window }
+fresh session next window =
+    record { session = session; next = next; known = next; ended = None; store = finite.empty; window = window }
 
 -- a view whose store is in slots, the first of which is for `next`
 abbrev pub view_over : Session → ℕ → ℕ → Option ℕ → List Slot → View
-view_over session next known ended slots = record { session = session; next = next; known = known; ended = ended; store = store_of next slots; window = length slots }
+view_over session next known ended slots =
+    record {
+      session = session;
+      next = next;
+      known = known;
+      ended = ended;
+      store = store_of next slots;
+      window =
+          length slots;
+    }
 
 -- the windows that a receiver may have
 abbrev pub IsWindow : ℕ → Type 0

@@ -1,5 +1,6 @@
 -- What a receiver asks for, and how much it lacks.
-use Rattle.std.specs.Prelude.{◌≡◌, true, ℕ, zero, suc, ◌+◌, ◌-◌, ◌<◌, ◌≤◌, ◌⊎◌, min, Bool, List, Option, None, Some, is_some, is_none, ◌==◌, if◌then◌else◌}
+use Rattle.std.specs.Prelude.{◌≡◌, true, ℕ, zero, suc, ◌+◌, ◌-◌, ◌<◌, ◌≤◌, ◌⊎◌, min, Bool, List, Option, None, Some}
+use Rattle.std.specs.Prelude.{is_some, is_none, ◌==◌, if◌then◌else◌}
 use Rattle.std.specs.FinMap as finite
 use Rattle.mold_wire.specs.declared.request.Request.{Request}
 use Rattle.mold_ranges.specs.Ranges.{Range, ranges}

@@ -49,8 +49,12 @@ impl Arbiter {
     /// the receiver's `next`.
     pub fn take(&mut self, line: Line, bytes: &[u8], batch: &mut Batch) -> Result<Taken, Refused>
         requires { Follows batch.old self.old.view.next }
-        ensures taken { IfOk result (λ taken. HasArbitrated (Some line) self.old bytes.now batch.old self.new batch.new taken) }
-        ensures refused { IfErr result (λ refused. ((refused ≡ OutOfMemory) × IsCopied self.old.view bytes.now × (self.new ≡ self.old)) ⊎ ((receive self.old.view bytes.now ≡ Err refused) × (self.new ≡ arbitrates (Some line) bytes.now self.old))) }
+        ensures taken { IfOk result
+            (λ taken. HasArbitrated (Some line) self.old bytes.now batch.old self.new batch.new taken) }
+        ensures refused { IfErr result
+            (λ refused. ((refused ≡ OutOfMemory) × IsCopied self.old.view bytes.now × (self.new ≡ self.old)) ⊎
+            ((receive self.old.view bytes.now ≡ Err refused) ×
+            (self.new ≡ arbitrates (Some line) bytes.now self.old))) }
         ensures batch { OnErr result (batch.new ≡ batch.old) }
     {
         match self.receiver.accept(bytes, batch) {
@@ -69,8 +73,11 @@ impl Arbiter {
     /// report changes. The batch must be empty or end just before the receiver's `next`.
     pub fn take_answer(&mut self, bytes: &[u8], batch: &mut Batch) -> Result<Taken, Refused>
         requires { Follows batch.old self.old.view.next }
-        ensures taken { IfOk result (λ taken. HasArbitrated None self.old bytes.now batch.old self.new batch.new taken) }
-        ensures refused { IfErr result (λ refused. ((refused ≡ OutOfMemory) × IsCopied self.old.view bytes.now) ⊎ (receive self.old.view bytes.now ≡ Err refused)) }
+        ensures taken { IfOk result
+            (λ taken. HasArbitrated None self.old bytes.now batch.old self.new batch.new taken) }
+        ensures refused { IfErr result
+            (λ refused. ((refused ≡ OutOfMemory) × IsCopied self.old.view bytes.now) ⊎
+            (receive self.old.view bytes.now ≡ Err refused)) }
         ensures same { OnErr result (self.new ≡ self.old) }
         ensures batch { OnErr result (batch.new ≡ batch.old) }
     {

@@ -41,7 +41,8 @@ fn find_conflict(slots: &Slots, next: u64, first: u64, blocks: &Blocks<'_>) -> O
 /// is stored, or the packet lies wholly below `next`, its messages aren't looked at.
 pub(crate) fn conflict_of(slots: &Slots, next: u64, packet: &Packet<'_>, top: u64) -> Option<u64>
     requires { top_of packet.now ≡ top }
-    ensures { result ≡ first_conflict (store_of next slots.now) (from_next next packet.now.sequence (messages_of packet.now.body)) }
+    ensures { result ≡ first_conflict (store_of next slots.now)
+        (from_next next packet.now.sequence (messages_of packet.now.body)) }
 {
     let Body::Data(blocks) = &packet.body else {
         return None;

@@ -1,6 +1,7 @@
 //! A packet with the message that is to be handed on next.
 
-ghost use Rattle.std.specs.Prelude.{◌≡◌, ◌+◌, ◌-◌, ◌<◌, ◌≤◌, ◌^◌, ◌++◌, ◌∷◌, [], max, nat_lt, if◌then◌else◌, length, drop, ℕ, Some, OnOk, OnErr, IfOk, IfErr};
+ghost use Rattle.std.specs.Prelude.{◌≡◌, ◌+◌, ◌-◌, ◌<◌, ◌≤◌, ◌^◌, ◌++◌, ◌∷◌, [], max, nat_lt, if◌then◌else◌, length};
+ghost use Rattle.std.specs.Prelude.{drop, ℕ, Some, OnOk, OnErr, IfOk, IfErr};
 ghost use Rattle.mold_receiver.specs.Batch.{Follows, followed_by, handed_from};
 ghost use Rattle.mold_receiver.specs.Handing.{Grew, run_in, run_of};
 ghost use Rattle.mold_receiver.specs.Slots.{slot_at};
@@ -15,7 +16,8 @@ use std::alloc::AllocError;
 fn push_from(batch: &mut Batch, next: u64, number: u64, message: &[u8]) -> Result<(), AllocError>
     requires follows { Follows batch.old (max number next) }
     requires counted { number + 1 < 2 ^ 64 }
-    ensures handed { OnOk result (batch.new ≡ (if nat_lt number next then batch.old else followed_by batch.old number (message.now ∷ []))) }
+    ensures handed { OnOk result
+        (batch.new ≡ (if nat_lt number next then batch.old else followed_by batch.old number (message.now ∷ []))) }
     ensures same { OnErr result (batch.new ≡ batch.old) }
 {
     if number < next {

@@ -1,6 +1,7 @@
 //! A packet above a gap: its messages join the store.
 
-ghost use Rattle.std.specs.Prelude.{◌≡◌, ◌+◌, ◌<◌, ◌^◌, ◌&&◌, ◌++◌, ◌∷◌, [], length, nat_lt, is_none, IfOk, OnOk, OnErr};
+ghost use Rattle.std.specs.Prelude.{◌≡◌, ◌+◌, ◌<◌, ◌^◌, ◌&&◌, ◌++◌, ◌∷◌, [], length, nat_lt, is_none, IfOk, OnOk};
+ghost use Rattle.std.specs.Prelude.{OnErr};
 ghost use Rattle.std.specs.List.{filter};
 ghost use Rattle.mold_receiver.specs.Keeping.{is_fresh, fresh, pairs_of, put_pairs};
 ghost use Rattle.mold_receiver.specs.Slots.{slot_at};

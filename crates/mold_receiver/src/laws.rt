@@ -1,7 +1,8 @@
 //! What holds of the definitions alone, for all views and all datagrams. Each law is a function that does
 //! nothing: its contract is the law.
 
-ghost use Rattle.std.specs.Prelude.{◌≡◌, ◌⊎◌, ◌+◌, ◌-◌, ◌<◌, ◌≤◌, ◌^◌, ◌++◌, ◌∷◌, [], max, min, length, Bool, true, false, List, ℕ, Option, None, Some, Ok, Err, is_some, slice_get};
+ghost use Rattle.std.specs.Prelude.{◌≡◌, ◌⊎◌, ◌+◌, ◌-◌, ◌<◌, ◌≤◌, ◌^◌, ◌++◌, ◌∷◌, [], max, min, length, Bool, true};
+ghost use Rattle.std.specs.Prelude.{false, List, ℕ, Option, None, Some, Ok, Err, is_some, slice_get};
 ghost use Rattle.std.specs.FinMap as finite;
 ghost use Rattle.mold_wire.specs.Packet.{Spells, messages_of, top_of};
 ghost use Rattle.mold_wire.specs.declared.packet.Packet.{Packet};
@@ -11,7 +12,8 @@ ghost use Rattle.mold_receiver.specs.declared.refused.Refused.TheVariants.{Memor
 ghost use Rattle.mold_receiver.specs.Batch.{Handed, Follows, followed_by};
 ghost use Rattle.mold_wire.specs.Truth.{Carries, IsTrue};
 ghost use Rattle.mold_receiver.specs.Honest.{IsHonest, IsTakenHonestly};
-ghost use Rattle.mold_receiver.specs.Receive.{IsTakenPacket, Reception, data_packet, first_some, handed_on, receive, refusals, view_after};
+ghost use Rattle.mold_receiver.specs.Receive.{IsTakenPacket, Reception, data_packet, first_some, handed_on, receive};
+ghost use Rattle.mold_receiver.specs.Receive.{refusals, view_after};
 ghost use Rattle.mold_receiver.specs.Store.{Message, available};
 ghost use Rattle.mold_receiver.specs.View.{View, IsWellFormed, fresh};
 ghost use Rattle.mold_receiver.specs.Wanted.{IsGap, gap_end, lacks, missing, wanted};

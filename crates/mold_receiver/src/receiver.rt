@@ -1,12 +1,14 @@
 //! The receiver.
 
-ghost use Rattle.std.specs.Prelude.{◌≡◌, ◌↔◌, IsTrue, ◌⊎◌, [], ◌+◌, ◌-◌, ◌<◌, ◌≤◌, ◌^◌, min, length, Some, None, Ok, Err, IfOk, IfErr, OnOk, OnErr};
+ghost use Rattle.std.specs.Prelude.{◌≡◌, ◌↔◌, IsTrue, ◌⊎◌, [], ◌+◌, ◌-◌, ◌<◌, ◌≤◌, ◌^◌, min, length, Some, None, Ok};
+ghost use Rattle.std.specs.Prelude.{Err, IfOk, IfErr, OnOk, OnErr};
 ghost use Rattle.std.specs.FinMap as finite;
 ghost use Rattle.mold_wire.specs.Packet.{IsBody, messages_of, top_of};
 ghost use Rattle.mold_wire.specs.Reading.{reading};
 ghost use Rattle.mold_wire.specs.declared.packet.Body.TheVariants.{Data};
 ghost use Rattle.mold_receiver.specs.Batch.{Follows, followed_by};
-ghost use Rattle.mold_receiver.specs.Receive.{HasTaken, IsCopied, data_packet, end_below, ended_after, first_some, handed_on, past_end, receive, refusals, taken_of, top_read, view_after};
+ghost use Rattle.mold_receiver.specs.Receive.{HasTaken, IsCopied, data_packet, end_below, ended_after, first_some};
+ghost use Rattle.mold_receiver.specs.Receive.{handed_on, past_end, receive, refusals, taken_of, top_read, view_after};
 ghost use Rattle.mold_receiver.specs.Store.{first_conflict, from_next};
 ghost use Rattle.mold_receiver.specs.Wanted.{wanted};
 ghost use Rattle.mold_receiver.specs.View.{View, IsWellFormed, IsWindow, fresh};
@@ -116,9 +118,13 @@ impl Receiver {
         requires end { past_end self.old.ended (Data blocks.now) top ≡ None }
         requires same { first_conflict self.old.store (from_next self.old.next first blocks.now) ≡ None }
         ensures view { OnOk result (self.new ≡ view_after self.old (data_packet self.old.session first blocks.now)) }
-        ensures taken { IfOk result (λ taken. taken ≡ taken_of self.old (data_packet self.old.session first blocks.now) (view_after self.old (data_packet self.old.session first blocks.now))) }
+        ensures taken { IfOk result
+            (λ taken. taken ≡ taken_of self.old (data_packet self.old.session first blocks.now)
+            (view_after self.old (data_packet self.old.session first blocks.now))) }
         ensures handed { handed_on self.old first blocks.now ≡ [] }
-        ensures needed { OnErr result (0 < (taken_of self.old (data_packet self.old.session first blocks.now) (view_after self.old (data_packet self.old.session first blocks.now))).kept) }
+        ensures needed { OnErr result
+            (0 < (taken_of self.old (data_packet self.old.session first blocks.now)
+            (view_after self.old (data_packet self.old.session first blocks.now))).kept) }
         ensures unchanged { OnErr result (self.new ≡ self.old) }
     {
         let copies = copy_fresh(self.alloc, &self.slots, first - self.next, blocks)?;
@@ -148,9 +154,14 @@ impl Receiver {
         requires top { first + length blocks.now ≡ top }
         requires end { past_end self.old.ended (Data blocks.now) top ≡ None }
         ensures view { OnOk result (self.new ≡ view_after self.old (data_packet self.old.session first blocks.now)) }
-        ensures handed { OnOk result (batch.new ≡ followed_by batch.old self.old.next (handed_on self.old first blocks.now)) }
-        ensures taken { IfOk result (λ taken. taken ≡ taken_of self.old (data_packet self.old.session first blocks.now) (view_after self.old (data_packet self.old.session first blocks.now))) }
-        ensures needed { OnErr result (0 < (taken_of self.old (data_packet self.old.session first blocks.now) (view_after self.old (data_packet self.old.session first blocks.now))).handed) }
+        ensures handed { OnOk result
+            (batch.new ≡ followed_by batch.old self.old.next (handed_on self.old first blocks.now)) }
+        ensures taken { IfOk result
+            (λ taken. taken ≡ taken_of self.old (data_packet self.old.session first blocks.now)
+            (view_after self.old (data_packet self.old.session first blocks.now))) }
+        ensures needed { OnErr result
+            (0 < (taken_of self.old (data_packet self.old.session first blocks.now)
+            (view_after self.old (data_packet self.old.session first blocks.now))).handed) }
         ensures unchanged { OnErr result (self.new ≡ self.old) }
         ensures batch { OnErr result (batch.new ≡ batch.old) }
     {
@@ -212,9 +223,13 @@ impl Receiver {
         requires body { IsBody packet.now.body }
         requires taken { first_some (refusals self.old packet.now) ≡ None }
         ensures view { OnOk result (self.new ≡ view_after self.old packet.now) }
-        ensures handed { OnOk result (batch.new ≡ followed_by batch.old self.old.next (handed_on self.old packet.now.sequence (messages_of packet.now.body))) }
+        ensures handed { OnOk result
+            (batch.new ≡ followed_by batch.old self.old.next
+            (handed_on self.old packet.now.sequence (messages_of packet.now.body))) }
         ensures taken { IfOk result (λ taken. taken ≡ taken_of self.old packet.now (view_after self.old packet.now)) }
-        ensures needed { OnErr result (0 < (taken_of self.old packet.now (view_after self.old packet.now)).handed + (taken_of self.old packet.now (view_after self.old packet.now)).kept) }
+        ensures needed { OnErr result
+            (0 < (taken_of self.old packet.now (view_after self.old packet.now)).handed +
+            (taken_of self.old packet.now (view_after self.old packet.now)).kept) }
         ensures unchanged { OnErr result (self.new ≡ self.old) }
         ensures batch { OnErr result (batch.new ≡ batch.old) }
     {
@@ -233,9 +248,12 @@ impl Receiver {
     /// Takes a datagram as `take` does, and tells the packet's top too.
     pub(crate) fn accept(&mut self, bytes: &[u8], batch: &mut Batch) -> Result<Accepted, Refused>
         requires { Follows batch.old self.old.next }
-        ensures taken { IfOk result (λ accepted. HasTaken self.old bytes.now batch.old self.new batch.new accepted.taken) }
+        ensures taken { IfOk result
+            (λ accepted. HasTaken self.old bytes.now batch.old self.new batch.new accepted.taken) }
         ensures top { IfOk result (λ accepted. accepted.top ≡ top_read (reading bytes.now)) }
-        ensures refused { IfErr result (λ refused. ((refused ≡ OutOfMemory) × IsCopied self.old bytes.now) ⊎ (receive self.old bytes.now ≡ Err refused)) }
+        ensures refused { IfErr result
+            (λ refused. ((refused ≡ OutOfMemory) × IsCopied self.old bytes.now) ⊎
+            (receive self.old bytes.now ≡ Err refused)) }
         ensures view { OnErr result (self.new ≡ self.old) }
         ensures batch { OnErr result (batch.new ≡ batch.old) }
     {
@@ -256,7 +274,9 @@ impl Receiver {
     pub fn take(&mut self, bytes: &[u8], batch: &mut Batch) -> Result<Taken, Refused>
         requires { Follows batch.old self.old.next }
         ensures taken { IfOk result (λ taken. HasTaken self.old bytes.now batch.old self.new batch.new taken) }
-        ensures refused { IfErr result (λ refused. ((refused ≡ OutOfMemory) × IsCopied self.old bytes.now) ⊎ (receive self.old bytes.now ≡ Err refused)) }
+        ensures refused { IfErr result
+            (λ refused. ((refused ≡ OutOfMemory) × IsCopied self.old bytes.now) ⊎
+            (receive self.old bytes.now ≡ Err refused)) }
         ensures view { OnErr result (self.new ≡ self.old) }
         ensures batch { OnErr result (batch.new ≡ batch.old) }
     {

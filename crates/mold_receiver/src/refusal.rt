@@ -3,7 +3,8 @@
 ghost use Rattle.std.specs.Prelude.{◌≡◌, ◌<◌, ◌^◌, ◌∷◌, [], Option, Some, None, MatchResult, IfOk, IfErr};
 ghost use Rattle.mold_wire.specs.Packet.{top_of};
 ghost use Rattle.mold_wire.specs.declared.packet.Body.TheVariants.{Heartbeat, End};
-ghost use Rattle.mold_receiver.specs.Receive.{wrong_session, sequence_zero, past_last, end_conflict, end_below, past_end, first_some, header_refusals};
+ghost use Rattle.mold_receiver.specs.Receive.{wrong_session, sequence_zero, past_last, end_conflict, end_below};
+ghost use Rattle.mold_receiver.specs.Receive.{past_end, first_some, header_refusals};
 
 use crate::refused::Refused;
 use mold_wire::{Body, Packet, Session};
@@ -35,7 +36,8 @@ fn refuse_past(top: u64, ended: Option<u64>) -> Option<Refused>
 
 // The refusal of a packet by what is known of the session's end.
 fn refuse_by_end(packet: &Packet<'_>, top: u64, known: u64, ended: Option<u64>) -> Option<Refused>
-    ensures { result ≡ first_some (end_conflict packet.now.body packet.now.sequence ended ∷ end_below packet.now.body packet.now.sequence known ∷ past_end ended packet.now.body top ∷ []) }
+    ensures { result ≡ first_some (end_conflict packet.now.body packet.now.sequence ended
+        ∷ end_below packet.now.body packet.now.sequence known ∷ past_end ended packet.now.body top ∷ []) }
 {
     match packet.body {
         Body::End => refuse_end(packet.sequence, known, ended),
@@ -50,8 +52,11 @@ pub(crate) fn check_header(
     known: u64,
     ended: Option<u64>,
 ) -> Result<u64, Refused>
-    ensures top { IfOk result (λ top. (top ≡ top_of packet.now) × (top_of packet.now < 2 ^ 64) × (first_some (header_refusals session.now known ended packet.now) ≡ None)) }
-    ensures refused { IfErr result (λ refused. first_some (header_refusals session.now known ended packet.now) ≡ Some refused) }
+    ensures top { IfOk result
+        (λ top. (top ≡ top_of packet.now) × (top_of packet.now < 2 ^ 64) ×
+        (first_some (header_refusals session.now known ended packet.now) ≡ None)) }
+    ensures refused { IfErr result
+        (λ refused. first_some (header_refusals session.now known ended packet.now) ≡ Some refused) }
 {
     if packet.session != *session {
         return Err(Refused::WrongSession);

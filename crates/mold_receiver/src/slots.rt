@@ -1,6 +1,7 @@
 //! The ring of the gap store.
 
-ghost use Rattle.std.specs.Prelude.{◌≡◌, ◌+◌, ◌^◌, if◌then◌else◌, ◌<◌, ◌≤◌, ◌++◌, ◌∷◌, ◌⊎◌, [], length, drop, replicate, slice_set, slice_get, is_some, IfOk, None, Some};
+ghost use Rattle.std.specs.Prelude.{◌≡◌, ◌+◌, ◌^◌, if◌then◌else◌, ◌<◌, ◌≤◌, ◌++◌, ◌∷◌, ◌⊎◌, [], length, drop};
+ghost use Rattle.std.specs.Prelude.{replicate, slice_set, slice_get, is_some, IfOk, None, Some};
 ghost use Rattle.std.specs.Option.{option_copied, option_flatten};
 ghost use Rattle.mold_receiver.specs.Slots.{slot_at, count_held, IsFirstHeld};
 

@@ -8,10 +8,12 @@ use Rattle.mold_receiver.proofs.conflict.conflict_of.Goals as goal
 pub returns-then-top-next : goal.returns-then-top-next
 returns-then-top-next c =
     let p = c.args.packet.now in
-    sym (below_no_conflict (store_of c.args.next c.args.slots.now) c.args.next p.sequence (messages_of p.body) (omega (arith, c.requires, c.if-top-next.true)))
+    sym (below_no_conflict (store_of c.args.next c.args.slots.now) c.args.next p.sequence (messages_of p.body)
+    (omega (arith, c.requires, c.if-top-next.true)))
 
 pub returns-then-held-eq0 : goal.returns-then-held-eq0
 returns-then-held-eq0 c =
     let p = c.args.packet.now in
-    sym (empty_no_conflict (store_of c.args.next c.args.slots.now) (from_next c.args.next p.sequence (messages_of p.body))
+    sym (empty_no_conflict (store_of c.args.next c.args.slots.now)
+    (from_next c.args.next p.sequence (messages_of p.body))
     (none_held c.args.next c.args.slots.now (sym c.held.ensures ∙ c.if-held-eq0.true)))

@@ -6,6 +6,7 @@ use Rattle.mold_receiver.proofs.conflict.find_conflict.Given as goal
 abbrev pub invariant-loop-message : goal.invariant-loop-message
 invariant-loop-message l = record {
   same :
-      first_conflict (store_of l.next l.slots) (from_next l.next l.number l.message-iterator) ≡ first_conflict (store_of l.next l.slots) (from_next l.next l.first l.blocks);
+      first_conflict (store_of l.next l.slots) (from_next l.next l.number l.message-iterator) ≡ first_conflict
+      (store_of l.next l.slots) (from_next l.next l.first l.blocks);
   counted : l.number + length l.message-iterator ≡ l.first + length l.blocks;
 }

@@ -10,7 +10,8 @@ invariant_of-self c =
     let top = rw c.in-Ok.is at c.accept.ensures.top in
     let reports = c.note_taken.ensures ∙ ap (reports_taken c.args.line a.reports) top in
     subst IsArbitration (λ i. record { view = sym told.view i; reports = sym reports i })
-    (taken_kept c.args.line (record { view = a.receiver; reports = a.reports }) c.args.bytes.now told.reception c.self.invariant told.received)
+    (taken_kept c.args.line
+    (record { view = a.receiver; reports = a.reports }) c.args.bytes.now told.reception c.self.invariant told.received)
 
 pub returns-in-Ok-clause-taken : goal.returns-in-Ok-clause-taken
 returns-in-Ok-clause-taken c =
@@ -18,12 +19,15 @@ returns-in-Ok-clause-taken c =
     let told = rw c.in-Ok.is at c.accept.ensures.taken in
     let top = rw c.in-Ok.is at c.accept.ensures.top in
     let reports = c.note_taken.ensures ∙ ap (reports_taken c.args.line a.reports) top in
-    subst (λ (old : Arbitration). HasArbitrated (Some c.args.line) old c.args.bytes.now c.args.batch.now (record { view = c.accept.new.self; reports = c.note_taken.new.self }) c.accept.new.batch c.in-Ok.accepted.taken) c.self.view_is
+    subst (λ (old : Arbitration). HasArbitrated (Some c.args.line) old c.args.bytes.now c.args.batch.now
+    (record { view = c.accept.new.self; reports = c.note_taken.new.self }) c.accept.new.batch c.in-Ok.accepted.taken)
+    c.self.view_is
     (record {
       reception = told.reception;
       received = told.received;
       arbitration = (λ i. record { view = told.view i; reports = reports i })
-          ∙ ap (arbitrated (Some c.args.line) c.args.bytes.now (record { view = a.receiver; reports = a.reports })) (sym told.received);
+          ∙ ap (arbitrated (Some c.args.line) c.args.bytes.now (record { view = a.receiver; reports = a.reports }))
+          (sym told.received);
       batch = told.batch;
       told = told.told;
     })

@@ -12,7 +12,8 @@ returns-in-Ok-take_packet-clause-taken c =
     let read : reading c.args.bytes.now ≡ Ok p = sym c.decode.ensures.exact ∙ c.in-Ok.is in
     record {
       reception = reception v p;
-      received = ap (receive_read v) read ∙ ap (λ (o : Option Refused). decide o (reception v p)) (rw c.in_ok-top.was at c.check.ensures.taken);
+      received = ap (receive_read v) read
+          ∙ ap (λ (o : Option Refused). decide o (reception v p)) (rw c.in_ok-top.was at c.check.ensures.taken);
       view = c.in-Ok-take_packet.ensures.view;
       batch = c.in-Ok-take_packet.ensures.handed;
       told = c.in-Ok-take_packet.ensures.taken;
@@ -27,7 +28,8 @@ returns-in-Err-take_packet-clause-refused c =
       refl,
       record {
         reception = reception v p;
-        received = ap (receive_read v) read ∙ ap (λ (o : Option Refused). decide o (reception v p)) (rw c.in_ok-top.was at c.check.ensures.taken);
+        received = ap (receive_read v) read
+            ∙ ap (λ (o : Option Refused). decide o (reception v p)) (rw c.in_ok-top.was at c.check.ensures.taken);
         some = c.in-Err-take_packet.ensures.needed;
       },
     )

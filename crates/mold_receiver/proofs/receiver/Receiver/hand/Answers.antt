@@ -6,7 +6,8 @@ use Rattle.mold_receiver.specs.Batch.{followed_by}
 use Rattle.mold_receiver.specs.Handing.{run_of}
 use Rattle.mold_receiver.specs.Receive.{data_packet, handed_on, past_end, view_after, taken_of}
 use Rattle.mold_receiver.specs.View.{View, IsWellFormed, view_over}
-use Rattle.mold_receiver.proofs.ViewLemmas.{stays_well, handed_view, at_run, at_taken, run_few, slot_numbers, some_handed}
+use Rattle.mold_receiver.proofs.ViewLemmas.{stays_well, handed_view, at_run, at_taken, run_few, slot_numbers}
+use Rattle.mold_receiver.proofs.ViewLemmas.{some_handed}
 use Rattle.mold_receiver.proofs.receiver.Receiver.hand.Goals as goal
 
 pub hand_on-requires-clause-numbered : goal.hand_on-requires-clause-numbered
@@ -20,8 +21,15 @@ overflow_cast-result c =
     let blocks = c.args.blocks.now in
     let begun = subst (λ (v : View). c.args.first ≤ v.next) (sym c.self.view_is) c.requires.begun in
     let ahead = subst (λ (v : View). v.next < c.args.top) (sym c.self.view_is) c.requires.ahead in
-    let new : c.in_ok-next.next ≡ a.next + length (run_of a.slots a.next c.args.first c.args.top blocks) = rw c.in_ok-next.was at c.hand_on.ensures.next in
-    omega (arith, new, run_few a.slots a.next c.args.first c.args.top blocks begun ahead c.requires.top, c.requires.few, c.len.ensures.range.1)
+    let new : c.in_ok-next.next ≡ a.next + length (run_of a.slots a.next c.args.first c.args.top blocks) =
+    rw c.in_ok-next.was at c.hand_on.ensures.next in
+    omega (
+      arith,
+      new,
+      run_few a.slots a.next c.args.first c.args.top blocks begun ahead c.requires.top,
+      c.requires.few,
+      c.len.ensures.range.1,
+    )
 
 pub invariant_of-self : goal.invariant_of-self
 invariant_of-self c =
@@ -29,12 +37,19 @@ invariant_of-self c =
     let blocks = c.args.blocks.now in
     let begun = subst (λ (v : View). c.args.first ≤ v.next) (sym c.self.view_is) c.requires.begun in
     let ahead = subst (λ (v : View). v.next < c.args.top) (sym c.self.view_is) c.requires.ahead in
-    let new : c.in_ok-next.next ≡ a.next + length (run_of a.slots a.next c.args.first c.args.top blocks) = rw c.in_ok-next.was at c.hand_on.ensures.next in
-    let counted : c.min-count.result ≡ min (c.in_ok-next.next - a.next) (length a.slots) = c.min-count.ensures ∙ ap (min (c.in_ok-next.next - a.next)) c.len.ensures.length in
-    let end = subst (λ (v : View). past_end v.ended (Data blocks) (c.args.first + length blocks) ≡ None) (sym c.self.view_is) (ap (past_end c.args.self.now.ended (Data blocks)) c.requires.top ∙ c.requires.end) in
-    subst IsWellFormed (sym (handed_view a.session a.next a.known a.ended a.slots c.args.first c.args.top blocks c.in_ok-next.next c.min-count.result c.max-self-inside.result c.skip.new.self
+    let new : c.in_ok-next.next ≡ a.next + length (run_of a.slots a.next c.args.first c.args.top blocks) =
+    rw c.in_ok-next.was at c.hand_on.ensures.next in
+    let counted : c.min-count.result ≡ min (c.in_ok-next.next - a.next) (length a.slots) = c.min-count.ensures
+    ∙ ap (min (c.in_ok-next.next - a.next)) c.len.ensures.length in
+    let end = subst (λ (v : View). past_end v.ended (Data blocks) (c.args.first + length blocks) ≡ None)
+    (sym c.self.view_is) (ap (past_end c.args.self.now.ended (Data blocks)) c.requires.top ∙ c.requires.end) in
+    subst IsWellFormed
+    (sym (handed_view a.session a.next a.known a.ended a.slots c.args.first c.args.top blocks c.in_ok-next.next
+    c.min-count.result c.max-self-inside.result c.skip.new.self
     c.self.invariant begun ahead c.requires.top new counted c.max-self-inside.ensures c.skip.ensures))
-    (stays_well (view_over a.session a.next a.known a.ended a.slots) (data_packet a.session c.args.first blocks) c.self.invariant (omega (arith, c.requires.top, c.ranges.top.fits)) refl end)
+    (stays_well (view_over a.session a.next a.known a.ended a.slots)
+    (data_packet a.session c.args.first blocks) c.self.invariant
+    (omega (arith, c.requires.top, c.ranges.top.fits)) refl end)
 
 pub returns-clause-view : goal.returns-clause-view
 returns-clause-view c =
@@ -42,10 +57,15 @@ returns-clause-view c =
     let blocks = c.args.blocks.now in
     let begun = subst (λ (v : View). c.args.first ≤ v.next) (sym c.self.view_is) c.requires.begun in
     let ahead = subst (λ (v : View). v.next < c.args.top) (sym c.self.view_is) c.requires.ahead in
-    let new : c.in_ok-next.next ≡ a.next + length (run_of a.slots a.next c.args.first c.args.top blocks) = rw c.in_ok-next.was at c.hand_on.ensures.next in
-    let counted : c.min-count.result ≡ min (c.in_ok-next.next - a.next) (length a.slots) = c.min-count.ensures ∙ ap (min (c.in_ok-next.next - a.next)) c.len.ensures.length in
-    subst (λ (v : View). view_over a.session c.in_ok-next.next c.max-self-inside.result a.ended c.skip.new.self ≡ view_after v (data_packet v.session c.args.first blocks)) c.self.view_is
-    (handed_view a.session a.next a.known a.ended a.slots c.args.first c.args.top blocks c.in_ok-next.next c.min-count.result c.max-self-inside.result c.skip.new.self
+    let new : c.in_ok-next.next ≡ a.next + length (run_of a.slots a.next c.args.first c.args.top blocks) =
+    rw c.in_ok-next.was at c.hand_on.ensures.next in
+    let counted : c.min-count.result ≡ min (c.in_ok-next.next - a.next) (length a.slots) = c.min-count.ensures
+    ∙ ap (min (c.in_ok-next.next - a.next)) c.len.ensures.length in
+    subst (λ (v : View).
+    view_over a.session c.in_ok-next.next c.max-self-inside.result a.ended c.skip.new.self ≡ view_after v
+    (data_packet v.session c.args.first blocks)) c.self.view_is
+    (handed_view a.session a.next a.known a.ended a.slots c.args.first c.args.top blocks c.in_ok-next.next
+    c.min-count.result c.max-self-inside.result c.skip.new.self
     c.self.invariant begun ahead c.requires.top new counted c.max-self-inside.ensures c.skip.ensures)
 
 pub returns-clause-handed : goal.returns-clause-handed
@@ -54,10 +74,14 @@ returns-clause-handed c =
     let blocks = c.args.blocks.now in
     let begun = subst (λ (v : View). c.args.first ≤ v.next) (sym c.self.view_is) c.requires.begun in
     let ahead = subst (λ (v : View). v.next < c.args.top) (sym c.self.view_is) c.requires.ahead in
-    let new : c.in_ok-next.next ≡ a.next + length (run_of a.slots a.next c.args.first c.args.top blocks) = rw c.in_ok-next.was at c.hand_on.ensures.next in
-    let run = at_run a.session a.next a.known a.ended a.slots c.args.first c.args.top blocks c.self.invariant begun ahead c.requires.top in
-    let pushed : c.hand_on.new.batch ≡ followed_by c.args.batch.now a.next (run_of a.slots a.next c.args.first c.args.top blocks) = rw c.in_ok-next.was at c.hand_on.ensures.handed in
-    subst (λ (v : View). c.hand_on.new.batch ≡ followed_by c.args.batch.now v.next (handed_on v c.args.first blocks)) c.self.view_is
+    let new : c.in_ok-next.next ≡ a.next + length (run_of a.slots a.next c.args.first c.args.top blocks) =
+    rw c.in_ok-next.was at c.hand_on.ensures.next in
+    let run = at_run a.session a.next a.known a.ended a.slots c.args.first c.args.top blocks c.self.invariant begun
+    ahead c.requires.top in
+    let pushed : c.hand_on.new.batch ≡ followed_by c.args.batch.now a.next
+    (run_of a.slots a.next c.args.first c.args.top blocks) = rw c.in_ok-next.was at c.hand_on.ensures.handed in
+    subst (λ (v : View). c.hand_on.new.batch ≡ followed_by c.args.batch.now v.next
+    (handed_on v c.args.first blocks)) c.self.view_is
     (pushed ∙ ap (followed_by c.args.batch.now a.next) (sym run))
 
 pub returns-clause-taken : goal.returns-clause-taken
@@ -66,10 +90,15 @@ returns-clause-taken c =
     let blocks = c.args.blocks.now in
     let begun = subst (λ (v : View). c.args.first ≤ v.next) (sym c.self.view_is) c.requires.begun in
     let ahead = subst (λ (v : View). v.next < c.args.top) (sym c.self.view_is) c.requires.ahead in
-    let new : c.in_ok-next.next ≡ a.next + length (run_of a.slots a.next c.args.first c.args.top blocks) = rw c.in_ok-next.was at c.hand_on.ensures.next in
-    let counted : c.min-count.result ≡ min (c.in_ok-next.next - a.next) (length a.slots) = c.min-count.ensures ∙ ap (min (c.in_ok-next.next - a.next)) c.len.ensures.length in
-    subst (λ (v : View). ◌≡◌ {A = Taken} (record { handed = c.in_ok-next.next - a.next; kept = 0; beyond = 0 }) (taken_of v (data_packet v.session c.args.first blocks) (view_after v (data_packet v.session c.args.first blocks)))) c.self.view_is
-    (sym (at_taken a.session a.next a.known a.ended a.slots c.args.first c.args.top blocks c.in_ok-next.next c.min-count.result c.self.invariant begun ahead c.requires.top new counted))
+    let new : c.in_ok-next.next ≡ a.next + length (run_of a.slots a.next c.args.first c.args.top blocks) =
+    rw c.in_ok-next.was at c.hand_on.ensures.next in
+    let counted : c.min-count.result ≡ min (c.in_ok-next.next - a.next) (length a.slots) = c.min-count.ensures
+    ∙ ap (min (c.in_ok-next.next - a.next)) c.len.ensures.length in
+    subst (λ (v : View). ◌≡◌ {A = Taken} (record { handed = c.in_ok-next.next - a.next; kept = 0; beyond = 0 })
+    (taken_of v (data_packet v.session c.args.first blocks)
+    (view_after v (data_packet v.session c.args.first blocks)))) c.self.view_is
+    (sym (at_taken a.session a.next a.known a.ended a.slots c.args.first c.args.top blocks c.in_ok-next.next
+    c.min-count.result c.self.invariant begun ahead c.requires.top new counted))
 
 on_err : {T E : Type 0} {P : Type 0} (r : Result T E) → P → OnErr r P
 on_err (Ok x) p = tt
@@ -83,4 +112,5 @@ returns-in_err-next-clause-needed c =
     let ahead = subst (λ (v : View). v.next < c.args.top) (sym c.self.view_is) c.requires.ahead in
     on_err c.from_residual.result
     (subst (λ (v : View). 0 < v.next + length (handed_on v c.args.first blocks) - v.next) c.self.view_is
-    (some_handed a.session a.next a.known a.ended a.slots c.args.first c.args.top blocks c.self.invariant begun ahead c.requires.top))
+    (some_handed a.session a.next a.known a.ended a.slots c.args.first c.args.top blocks c.self.invariant begun ahead
+    c.requires.top))

@@ -15,7 +15,8 @@ pub overflow_cast-kept : goal.overflow_cast-kept
 overflow_cast-kept c =
     let copies = c.in_ok-copies.copies.items in
     let size : c.in_ok-copies.copies.len ≡ length copies = c.in_ok-copies.copies.ok.0 in
-    let found = ap (λ (pairs : List (ℕ × Message)). length pairs) (rw c.in_ok-copies.was at c.copy_fresh.ensures.copied) in
+    let found = ap (λ (pairs : List (ℕ × Message)). length pairs)
+    (rw c.in_ok-copies.was at c.copy_fresh.ensures.copied) in
     omega (
       arith,
       size,
@@ -31,40 +32,62 @@ invariant_of-self c =
     let a = c.self.inside in
     let blocks = c.args.blocks.now in
     let above = subst (λ (v : View). v.next < c.args.first) (sym c.self.view_is) c.requires.above in
-    let none = subst (λ (v : View). first_conflict v.store (from_next v.next c.args.first blocks) ≡ None) (sym c.self.view_is) c.requires.same in
-    let end = subst (λ (v : View). past_end v.ended (Data blocks) (c.args.first + length blocks) ≡ None) (sym c.self.view_is) (ap (past_end c.args.self.now.ended (Data blocks)) c.requires.top ∙ c.requires.end) in
+    let none = subst (λ (v : View). first_conflict v.store (from_next v.next c.args.first blocks) ≡ None)
+    (sym c.self.view_is) c.requires.same in
+    let end = subst (λ (v : View). past_end v.ended (Data blocks) (c.args.first + length blocks) ≡ None)
+    (sym c.self.view_is) (ap (past_end c.args.self.now.ended (Data blocks)) c.requires.top ∙ c.requires.end) in
     let puts = c.put_copies.ensures ∙ ap (put_pairs a.slots) (rw c.in_ok-copies.was at c.copy_fresh.ensures.copied) in
-    subst IsWellFormed (sym (kept_view a.session a.next a.known a.ended a.slots c.args.first c.args.top blocks c.max-self-inside.result c.put_copies.new.slots c.self.invariant above c.requires.top none c.max-self-inside.ensures puts))
-    (stays_well (view_over a.session a.next a.known a.ended a.slots) (data_packet a.session c.args.first blocks) c.self.invariant (omega (arith, c.requires.top, c.ranges.top.fits)) refl end)
+    subst IsWellFormed
+    (sym (kept_view a.session a.next a.known a.ended a.slots c.args.first c.args.top blocks c.max-self-inside.result
+    c.put_copies.new.slots c.self.invariant above c.requires.top none c.max-self-inside.ensures puts))
+    (stays_well (view_over a.session a.next a.known a.ended a.slots)
+    (data_packet a.session c.args.first blocks) c.self.invariant
+    (omega (arith, c.requires.top, c.ranges.top.fits)) refl end)
 
 pub returns-clause-view : goal.returns-clause-view
 returns-clause-view c =
     let a = c.self.inside in
     let blocks = c.args.blocks.now in
     let above = subst (λ (v : View). v.next < c.args.first) (sym c.self.view_is) c.requires.above in
-    let none = subst (λ (v : View). first_conflict v.store (from_next v.next c.args.first blocks) ≡ None) (sym c.self.view_is) c.requires.same in
+    let none = subst (λ (v : View). first_conflict v.store (from_next v.next c.args.first blocks) ≡ None)
+    (sym c.self.view_is) c.requires.same in
     let puts = c.put_copies.ensures ∙ ap (put_pairs a.slots) (rw c.in_ok-copies.was at c.copy_fresh.ensures.copied) in
-    subst (λ (v : View). view_over a.session a.next c.max-self-inside.result a.ended c.put_copies.new.slots ≡ view_after v (data_packet v.session c.args.first blocks)) c.self.view_is
-    (kept_view a.session a.next a.known a.ended a.slots c.args.first c.args.top blocks c.max-self-inside.result c.put_copies.new.slots c.self.invariant above c.requires.top none c.max-self-inside.ensures puts)
+    subst (λ (v : View).
+    view_over a.session a.next c.max-self-inside.result a.ended c.put_copies.new.slots ≡ view_after v
+    (data_packet v.session c.args.first blocks)) c.self.view_is
+    (kept_view a.session a.next a.known a.ended a.slots c.args.first c.args.top blocks c.max-self-inside.result
+    c.put_copies.new.slots c.self.invariant above c.requires.top none c.max-self-inside.ensures puts)
 
 pub returns-clause-taken : goal.returns-clause-taken
 returns-clause-taken c =
     let a = c.self.inside in
     let blocks = c.args.blocks.now in
     let above = subst (λ (v : View). v.next < c.args.first) (sym c.self.view_is) c.requires.above in
-    let none = subst (λ (v : View). first_conflict v.store (from_next v.next c.args.first blocks) ≡ None) (sym c.self.view_is) c.requires.same in
+    let none = subst (λ (v : View). first_conflict v.store (from_next v.next c.args.first blocks) ≡ None)
+    (sym c.self.view_is) c.requires.same in
     let copies = c.in_ok-copies.copies.items in
     let size : c.in_ok-copies.copies.len ≡ length copies = c.in_ok-copies.copies.ok.0 in
-    let found = ap (λ (pairs : List (ℕ × Message)). length pairs) (rw c.in_ok-copies.was at c.copy_fresh.ensures.copied) in
+    let found = ap (λ (pairs : List (ℕ × Message)). length pairs)
+    (rw c.in_ok-copies.was at c.copy_fresh.ensures.copied) in
     let kept : c.len-kept.result ≡ length (fresh a.slots (c.args.first - a.next) blocks) =
-    omega (arith, size, length-map {B = ℕ × Message} copies (λ (copied : Copied). (copied.slot, copied.message.items)), found, c.len-kept.ensures)
+    omega (
+      arith,
+      size,
+      length-map {B = ℕ × Message} copies (λ (copied : Copied). (copied.slot, copied.message.items)),
+      found,
+      c.len-kept.ensures,
+    )
     in
     let beyond : c.count_beyond-beyond.result ≡ c.args.top - max c.args.first (a.next + length a.slots) =
     omega (arith, c.count_beyond-beyond.ensures, c.len.ensures.length, c.len-2.ensures.length, c.requires.top, above)
     in
-    subst (λ (v : View). ◌≡◌ {A = Taken} (record { handed = 0; kept = c.len-kept.result; beyond = c.count_beyond-beyond.result }) (taken_of v (data_packet v.session c.args.first blocks) (view_after v (data_packet v.session c.args.first blocks)))) c.self.view_is
+    subst (λ (v : View). ◌≡◌ {A = Taken}
+    (record { handed = 0; kept = c.len-kept.result; beyond = c.count_beyond-beyond.result })
+    (taken_of v (data_packet v.session c.args.first blocks)
+    (view_after v (data_packet v.session c.args.first blocks)))) c.self.view_is
     ((λ i. record { handed = 0; kept = kept i; beyond = beyond i })
-    ∙ sym (ahead_taken a.session a.next a.known a.ended a.slots c.args.first c.args.top blocks c.self.invariant above c.requires.top none))
+    ∙ sym (ahead_taken a.session a.next a.known a.ended a.slots c.args.first c.args.top blocks c.self.invariant above
+    c.requires.top none))
 
 pub returns-in_err-copies-clause-handed : goal.returns-in_err-copies-clause-handed
 returns-in_err-copies-clause-handed c =
@@ -91,8 +114,14 @@ returns-in_err-copies-clause-needed c =
     let a = c.self.inside in
     let blocks = c.args.blocks.now in
     let above = subst (λ (v : View). v.next < c.args.first) (sym c.self.view_is) c.requires.above in
-    let none = subst (λ (v : View). first_conflict v.store (from_next v.next c.args.first blocks) ≡ None) (sym c.self.view_is) c.requires.same in
-    let needed : 0 < length (fresh a.slots (c.args.first - a.next) blocks) = rw c.in_err-copies.was at c.copy_fresh.ensures.needed in
+    let none = subst (λ (v : View). first_conflict v.store (from_next v.next c.args.first blocks) ≡ None)
+    (sym c.self.view_is) c.requires.same in
+    let needed : 0 < length (fresh a.slots (c.args.first - a.next) blocks) =
+    rw c.in_err-copies.was at c.copy_fresh.ensures.needed in
     on_err c.from_residual.result
-    (subst (λ (v : View). 0 < (taken_of v (data_packet v.session c.args.first blocks) (view_after v (data_packet v.session c.args.first blocks))).kept) c.self.view_is
-    (subst (λ (t : Taken). 0 < t.kept) (sym (ahead_taken a.session a.next a.known a.ended a.slots c.args.first c.args.top blocks c.self.invariant above c.requires.top none)) needed))
+    (subst (λ (v : View). 0 <
+    (taken_of v (data_packet v.session c.args.first blocks)
+    (view_after v (data_packet v.session c.args.first blocks))).kept) c.self.view_is
+    (subst (λ (t : Taken). 0 < t.kept)
+    (sym (ahead_taken a.session a.next a.known a.ended a.slots c.args.first c.args.top blocks c.self.invariant above
+    c.requires.top none)) needed))

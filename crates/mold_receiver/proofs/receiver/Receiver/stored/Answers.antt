@@ -6,5 +6,6 @@ use Rattle.mold_receiver.proofs.receiver.Receiver.stored.Goals as goal
 
 pub returns : goal.returns
 returns c = record {
-  count = c.held.ensures ∙ sym (len-slots c.self.inside.next c.self.inside.slots) ∙ ap (λ (v : View). finite.len v.store) c.self.view_is;
+  count = c.held.ensures ∙ sym (len-slots c.self.inside.next c.self.inside.slots)
+      ∙ ap (λ (v : View). finite.len v.store) c.self.view_is;
 }

@@ -17,4 +17,5 @@ returns-clause-wanted c =
     in
     subst (λ (w : View). ◌≡◌ {A = Option Request} (Some (ask c.first_held-count.result)) (wanted w)) c.self.view_is
     (ap (λ (n : ℕ). Some (ask n)) (sym (gap_found a.next a.known 65534 a.slots c.first_held-count.result first))
-    ∙ sym (cond-false (eqb a.next a.known) None (Some (ask (min 65534 (gap_end v - a.next)))) (ne_eqb a.next a.known c.if-self.false)))
+    ∙ sym (cond-false (eqb a.next a.known) None (Some (ask (min 65534 (gap_end v - a.next))))
+    (ne_eqb a.next a.known c.if-self.false)))

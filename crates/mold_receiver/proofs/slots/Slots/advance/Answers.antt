@@ -9,7 +9,8 @@ invariant_of-self c =
     let slots = slots_of (λ message. message.items) items in
     let had = sym (head_view (λ message. message.items) items) ∙ sym c.advance.ensures.held ∙ c.if-advance.true in
     rw (c.saturating_sub-self-inside.ensures, c.advance.ensures.moved, moved_view (λ message. message.items) items)
-    (subst (λ (b : Bool). AreSlots (drop 1 slots ++ None ∷ []) c.self.inside.ring.capacity (c.self.inside.held - cond b 1 0) (c.self.inside.clear - 1)) had
+    (subst (λ (b : Bool). AreSlots (drop 1 slots ++ None ∷ []) c.self.inside.ring.capacity
+    (c.self.inside.held - cond b 1 0) (c.self.inside.clear - 1)) had
     (are_moved slots c.self.inside.ring.capacity c.self.inside.held c.self.inside.clear c.self.invariant))
 
 pub invariant_of-self-else-advance : goal.invariant_of-self-else-advance
@@ -19,6 +20,8 @@ invariant_of-self-else-advance c =
     let same : c.self.inside.held - 0 ≡ c.self.inside.held = omega arith in
     let had = sym (head_view (λ message. message.items) items) ∙ sym c.advance.ensures.held ∙ c.if-advance.false in
     rw (c.saturating_sub-self-inside.ensures, c.advance.ensures.moved, moved_view (λ message. message.items) items)
-    (subst (λ (n : ℕ). AreSlots (drop 1 slots ++ None ∷ []) c.self.inside.ring.capacity n (c.self.inside.clear - 1)) same
-    (subst (λ (b : Bool). AreSlots (drop 1 slots ++ None ∷ []) c.self.inside.ring.capacity (c.self.inside.held - cond b 1 0) (c.self.inside.clear - 1)) had
+    (subst (λ (n : ℕ). AreSlots (drop 1 slots ++ None ∷ []) c.self.inside.ring.capacity n
+    (c.self.inside.clear - 1)) same
+    (subst (λ (b : Bool). AreSlots (drop 1 slots ++ None ∷ []) c.self.inside.ring.capacity
+    (c.self.inside.held - cond b 1 0) (c.self.inside.clear - 1)) had
     (are_moved slots c.self.inside.ring.capacity c.self.inside.held c.self.inside.clear c.self.invariant)))
