@@ -37,3 +37,39 @@ pub struct Unsent {
     /// How many messages, at least 1.
     pub count: u64,
 }
+
+/// Why a journal's file is not loaded, saved or upgraded. Where several apply to a file, the first of them
+/// by the order of the bytes is answered.
+#[derive(Clone, Copy, Debug, PartialEq, Eq, Error)]
+pub enum FileError {
+    /// Fewer bytes than stand before the blocks: 18 in version 1, 27 in version 2; how many there are.
+    #[error("{len} bytes are too short for a journal")]
+    Short { len: usize },
+    /// The first eight bytes are those of neither version.
+    #[error("no journal of version 1 or 2")]
+    BadMagic,
+    /// The byte at 18 of version 2, which says whether the session is closed, is neither 0 nor 1.
+    #[error("the byte {byte} says neither open nor closed")]
+    BadFlag { byte: u8 },
+    /// Bytes follow message 18446744073709551614, the last that may have a number.
+    #[error("the journal goes on behind the last number")]
+    Full,
+    /// The file has a message that is longer than the journal's may be; its length in bytes.
+    #[error("a message of {len} bytes is too long")]
+    TooLong { len: usize },
+    /// The file ends within the block of the message of this number.
+    #[error("the file ends within message {number}")]
+    BlockCut { number: u64 },
+    /// A file of version 2 ends between blocks, and has `found` messages in place of the stated `count`.
+    #[error("{count} messages are stated, and {found} are there")]
+    CountDiffers { count: u64, found: u64 },
+    /// The source failed.
+    #[error("the journal can't be read")]
+    Read,
+    /// The sink failed.
+    #[error("the journal can't be written")]
+    Write,
+    /// A growth was refused.
+    #[error("out of memory")]
+    Memory,
+}

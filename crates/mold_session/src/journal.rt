@@ -3,10 +3,15 @@
 ghost use Rattle.std.specs.Prelude.{◌≡◌, ◌+◌, ◌≤◌, [], true, false, None, length, drop, take, ◌-◌, unwrap_or, IfOk, IfErr, OnOk, OnErr};
 ghost use Rattle.std.specs.Option.{option_copied};
 ghost use Rattle.mold_messages.specs.Listed.{byte_count};
+ghost use Rattle.mold_devices.specs.Devices.{Counts};
+ghost use Rattle.mold_session.specs.File.{AppendsFile, AppendsFileFront};
 ghost use Rattle.mold_session.specs.Journal.{IsJournal, message_numbered, append_refusal, appended};
 ghost use Rattle.mold_session.specs.declared.error.AppendError.{AppendError};
+ghost use Rattle.mold_session.specs.declared.error.FileError.{FileError};
 
-use crate::error::AppendError;
+use crate::error::{AppendError, FileError};
+use crate::saving::save_file;
+use mold_devices::Sink;
 use mold_messages::{MessageIterator, MessageList};
 use mold_wire::Session;
 use std::alloc::Global;
@@ -26,6 +31,7 @@ pub struct Journal {
 }
 
 impl Model for Journal {
+    ghost use Rattle.std.specs.Prelude.{◌<◌};
     ghost use Rattle.mold_session.specs.Journal.{JournalState, AreMessages};
 
     ghost Value = { JournalState };
@@ -37,7 +43,7 @@ impl Model for Journal {
       closed = j.closed;
     } };
 
-    ghost invariant = { λ j. AreMessages j.max_message j.list.messages };
+    ghost invariant = { λ j. (j.max_message < 65536) × AreMessages j.max_message j.list.messages };
 }
 
 impl Journal {
@@ -136,6 +142,23 @@ impl Journal {
         match self.list.push(message) {
             Ok(()) => Ok(self.list.len() as u64),
             Err(_) => Err(AppendError::Memory),
+        }
+    }
+
+    /// Writes the journal's file of version 2: what is kept as one list goes out in writes of some 4,096
+    /// bytes and more. It takes no memory, and `Write` is its only refusal; the sink has then taken a
+    /// beginning of the file.
+    pub fn save<K: Sink>(&self, sink: &mut K) -> Result<(), FileError>
+        ensures whole { OnOk result (AppendsFile (K.held sink.old) (K.held sink.new)
+            self.now.session self.now.messages self.now.closed) }
+        ensures front { OnErr result (AppendsFileFront (K.held sink.old) (K.held sink.new)
+            self.now.session self.now.messages self.now.closed) }
+        ensures refused { IfErr result (λ error. error ≡ FileError.Write) }
+        ensures failures { Counts (K.failed sink.old) (K.failed sink.new) result }
+    {
+        match save_file(self.session, self.closed, &self.list, sink) {
+            Ok(()) => Ok(()),
+            Err(_) => Err(FileError::Write),
         }
     }
 

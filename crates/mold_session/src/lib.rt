@@ -2,13 +2,17 @@
 #![tactic(auto)]
 
 mod error;
+#[cfg(test)]
+mod file_tests;
 mod journal;
 pub mod laws;
+mod outlet;
 mod packing;
 mod publisher;
+mod saving;
 #[cfg(test)]
 mod tests;
 
-pub use error::{AppendError, PublisherError, Unsent};
+pub use error::{AppendError, FileError, PublisherError, Unsent};
 pub use journal::Journal;
 pub use publisher::Publisher;
