@@ -1,4 +1,7 @@
 pub mod DatagramLemmas
+pub mod FileLemmas
+pub mod HeadLemmas
+pub mod LoadingLemmas
 pub mod MovingLemmas
 pub mod PackingLemmas
 pub mod PublisherLemmas

@@ -3,6 +3,8 @@ use Rattle.std.specs.Prelude.{◌≡◌, ◌⊎◌, ℕ, ◌+◌, ◌<◌, ◌�
 use Rattle.std.specs.List.{AllByRecursion}
 use Rattle.byteorder.specs.Endian.{big_number}
 use Rattle.mold_wire.specs.Block.{blocks}
+use Rattle.mold_devices.specs.declared.fault.ReadFault.{ReadFault}
+use Rattle.mold_devices.specs.declared.fault.ReadFault.TheVariants as reading
 use Rattle.mold_session.specs.File.{magic_1, magic_2}
 use Rattle.mold_session.specs.Journal.{IsWithin}
 use Rattle.mold_session.specs.declared.error.FileError.{FileError}
@@ -84,3 +86,8 @@ JournalFault most bytes (CountDiffers count found) = IsMiscounted most bytes cou
 JournalFault most bytes Read = ⊥
 JournalFault most bytes Memory = ⊥
 JournalFault most bytes Write = ⊥
+
+-- the refusal of a call whose reading ended with this fault
+abbrev pub from_read_fault : ReadFault → FileError
+from_read_fault reading.Read = Read
+from_read_fault reading.Memory = Memory

@@ -2,6 +2,8 @@ pub mod Datagrams
 pub mod File
 pub mod FileFault
 pub mod Journal
+pub mod Loading
 pub mod Moving
 pub mod Packing
 pub mod Publisher
+pub mod Upgrading

@@ -1,5 +1,6 @@
 //! Why a call of this crate is refused.
 
+use mold_devices::ReadFault;
 use thiserror::Error;
 
 /// Why a message is not appended or published. Where several apply, the first of them is answered.
@@ -72,4 +73,18 @@ pub enum FileError {
     /// A growth was refused.
     #[error("out of memory")]
     Memory,
+}
+
+impl From<ReadFault> for FileError {
+    ghost use Rattle.std.specs.Prelude.{◌≡◌};
+    ghost use Rattle.mold_session.specs.FileFault.{from_read_fault};
+
+    ghost from_gives = { λ cause error. error ≡ from_read_fault cause };
+
+    fn from(cause: ReadFault) -> FileError {
+        match cause {
+            ReadFault::Read => FileError::Read,
+            ReadFault::Memory => FileError::Memory,
+        }
+    }
 }

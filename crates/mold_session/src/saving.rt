@@ -3,23 +3,16 @@
 ghost use Rattle.std.specs.Prelude.{◌≡◌, ◌<◌, ◌^◌, ◌++◌, [], length, OnOk, OnErr};
 ghost use Rattle.mold_wire.specs.Block.{block};
 ghost use Rattle.mold_devices.specs.Devices.{AppendsFront, Counts};
-ghost use Rattle.mold_session.specs.File.{magic_2, head_2, AppendsFile, AppendsFileFront};
+ghost use Rattle.mold_session.specs.File.{head_2, AppendsFile, AppendsFileFront};
 ghost use Rattle.mold_session.specs.Journal.{AreMessages};
 ghost use Rattle.mold_session.specs.Moving.{Moves};
 
+use crate::magic::second_magic;
 use crate::outlet::Outlet;
 use byteorder::{BigEndian, ByteOrder};
 use mold_devices::{DeviceFault, Sink};
 use mold_messages::MessageList;
 use mold_wire::Session;
-
-// What a file of version 2 begins with.
-#[tactic(auto, unfolding(crate::specs::File::magic_2))]
-fn magic() -> [u8; 8]
-    ensures { result ≡ magic_2 }
-{
-    *b"MOLDJNL2"
-}
 
 // Keeps what stands before the blocks.
 fn keep_head(outlet: &mut Outlet, session: Session, closed: bool, count: u64)
@@ -29,7 +22,7 @@ fn keep_head(outlet: &mut Outlet, session: Session, closed: bool, count: u64)
 {
     let mut number = [0; 8];
     BigEndian::write_u64(&mut number, count);
-    outlet.keep(&magic());
+    outlet.keep(&second_magic());
     outlet.keep(&session.0);
     outlet.keep(&[u8::from(closed)]);
     outlet.keep(&number);
