@@ -1,11 +1,11 @@
 -- Messages by the places where they end.
 use Rattle.std.proofs.Common.{◌≡◌, ℕ, zero, suc, ◌+◌, ◌-◌, ◌<◌, ◌≤◌, List, [], ◌∷◌, ◌++◌, length, length-append}
 use Rattle.std.proofs.Common.{get_or, take, drop, min, refl, sym, ap, subst, ◌∙◌, Some, arith, slice_get}
-use Rattle.std.proofs.Common.{add-one}
+use Rattle.std.proofs.Common.{add-one, set}
 use Rattle.std.proofs.lemmas.List.{take_rest, drop_min, drop_at, take_all, length-take-le}
 use Rattle.std.proofs.lemmas.List.{length-drop, take-append-le, drop-append-le, take-append-drop}
 use Rattle.std.proofs.lemmas.List.Sums.{sum_by-cons}
-use Rattle.mold_messages.specs.Listed.{byte_count}
+use Rattle.mold_messages.specs.Listed.{byte_count, extended}
 use Rattle.mold_messages.specs.Places.{pieces, IsRising, place}
 
 pub length-pieces : (start : ℕ) (ends bytes : List ℕ) → length (pieces start ends bytes) ≡ length ends
@@ -312,3 +312,60 @@ cut ends bytes keep end new_ends new_bytes rising stops fewer shorter = record {
   rising = rw (fewer, shorter, stops) (rising_cut 0 ends bytes keep rising);
   messages = rw (fewer, shorter, stops) (pieces_cut 0 ends bytes keep rising);
 }
+
+-- more bytes behind the last message
+pieces_extend :
+    (start : ℕ) (ends bytes more : List ℕ) (end i : ℕ) → length ends ≡ suc i → IsRising start ends (length bytes) →
+    length bytes + length more ≡ end →
+    pieces start (set ends i end) (bytes ++ more) ≡ extended (pieces start ends bytes) more
+unfolding pieces IsRising
+pieces_extend start [] bytes more end i last rising sum = absurd (omega arith)
+pieces_extend start (first ∷ []) bytes more end zero last rising sum =
+    let within : start ≤ length bytes = omega (arith, rising.0, rising.1) in
+    let all : take (first - start) (drop start bytes) ≡ drop start bytes =
+    take_all (first - start) (drop start bytes) (omega (arith, length-drop start bytes, rising.1))
+    in
+    ap (λ (t : List ℕ). t ∷ []) (
+    ap (λ (t : List ℕ). take (end - start) t) (drop-append-le start bytes more within)
+    ∙ take_all (end - start) (drop start bytes ++ more)
+    (omega (arith, length-append (drop start bytes) more, length-drop start bytes))
+    ∙ ap (λ (t : List ℕ). t ++ more) (sym all)
+    )
+pieces_extend start (first ∷ []) bytes more end (suc i) last rising sum = absurd (omega arith)
+pieces_extend start (first ∷ second ∷ ends) bytes more end zero last rising sum = absurd (omega arith)
+pieces_extend start (first ∷ second ∷ ends) bytes more end (suc i) last rising sum =
+    let same : take (first - start) (drop start (bytes ++ more)) ≡ take (first - start) (drop start bytes) =
+    part_of_front start first bytes more rising.0 (rising_within first (second ∷ ends) (length bytes) rising.1)
+    in
+    ap (λ (t : List ℕ). t ∷ pieces first (set (second ∷ ends) i end) (bytes ++ more)) same
+    ∙ ap (λ (t : List (List ℕ)). take (first - start) (drop start bytes) ∷ t)
+    (pieces_extend first (second ∷ ends) bytes more end i (omega arith) rising.1 sum)
+
+rising_extend :
+    (start : ℕ) (ends : List ℕ) (total end i : ℕ) → length ends ≡ suc i → IsRising start ends total → total ≤ end →
+    IsRising start (set ends i end) end
+unfolding IsRising
+rising_extend start [] total end i last rising more = absurd (omega arith)
+rising_extend start (first ∷ []) total end zero last rising more = (omega (arith, rising.0, rising.1), refl)
+rising_extend start (first ∷ []) total end (suc i) last rising more = absurd (omega arith)
+rising_extend start (first ∷ second ∷ ends) total end zero last rising more = absurd (omega arith)
+rising_extend start (first ∷ second ∷ ends) total end (suc i) last rising more =
+    (rising.0, rising_extend first (second ∷ ends) total end i (omega arith) rising.1 more)
+
+-- what a later last place and more bytes stand for
+pub record Extended (ends bytes more new_ends new_bytes : List ℕ) : Type 0 where
+  pub rising : IsRising 0 new_ends (length new_bytes)
+  pub messages : pieces 0 new_ends new_bytes ≡ extended (pieces 0 ends bytes) more
+
+pub extends :
+    (ends bytes more new_ends new_bytes : List ℕ) (end i : ℕ) → IsRising 0 ends (length bytes) → length ends ≡ i + 1 →
+    new_ends ≡ set ends i end → new_bytes ≡ bytes ++ more → end ≡ length new_bytes →
+    Extended ends bytes more new_ends new_bytes
+extends ends bytes more new_ends new_bytes end i rising last moved joined stops =
+    let sum : length bytes + length more ≡ end = omega
+    (arith, length-append bytes more, ap (λ (t : List ℕ). length t) joined) in
+    let at : length ends ≡ suc i = omega arith in
+    record {
+      rising = rw (moved, ← stops) (rising_extend 0 ends (length bytes) end i at rising (omega arith));
+      messages = rw (moved, joined) (pieces_extend 0 ends bytes more end i at rising sum);
+    }

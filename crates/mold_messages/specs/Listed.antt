@@ -1,5 +1,5 @@
 -- A list of messages as its users see it.
-use Rattle.std.specs.Prelude.{ℕ, ◌+◌, ◌≤◌, List, length, sum_by}
+use Rattle.std.specs.Prelude.{ℕ, ◌+◌, ◌≤◌, List, [], ◌∷◌, ◌++◌, length, sum_by}
 
 -- the messages, and how many messages, and how many bytes of them together, have room without taking
 -- memory; a list never loses room
@@ -21,3 +21,9 @@ pub record HasRoom (list : Listed) (count size : ℕ) : Type 0 where
 pub record KeepsRoom (old new : Listed) : Type 0 where
   pub messages : old.message_room ≤ new.message_room
   pub bytes : old.byte_room ≤ new.byte_room
+
+-- the messages with more bytes behind the last of them
+abbrev pub extended : List (List ℕ) → List ℕ → List (List ℕ)
+extended [] more = []
+extended (message ∷ []) more = (message ++ more) ∷ []
+extended (message ∷ next ∷ messages) more = message ∷ extended (next ∷ messages) more

@@ -1,8 +1,8 @@
 //! A list of messages.
 
-ghost use Rattle.std.specs.Prelude.{◌≡◌, ◌-◌, ◌≤◌, ◌++◌, ◌∷◌, [], length, take, drop, slice_get, IsOk, OnOk, OnErr, ◌==◌};
+ghost use Rattle.std.specs.Prelude.{◌≡◌, ◌-◌, ◌<◌, ◌≤◌, ◌++◌, ◌∷◌, [], length, take, drop, slice_get, IsOk, OnOk, OnErr, ◌==◌};
 ghost use Rattle.std.specs.Option.{option_copied};
-ghost use Rattle.mold_messages.specs.Listed.{byte_count, HasRoom, KeepsRoom};
+ghost use Rattle.mold_messages.specs.Listed.{byte_count, extended, HasRoom, KeepsRoom};
 ghost use Rattle.mold_messages.specs.Places.{place};
 
 use crate::iterator::MessageIterator;
@@ -132,6 +132,21 @@ impl MessageList {
         self.bytes.extend_from_slice(message)?;
         let end = self.bytes.len();
         self.ends.push(end).unwrap();
+        Ok(())
+    }
+
+    /// Adds bytes to the last message, so that a message may come in parts. An error comes where a growth
+    /// is refused, and never where the bytes have room; the messages are then as before.
+    pub fn extend_last(&mut self, bytes: &[u8]) -> Result<(), AllocError>
+        requires { 0 < length self.old.messages }
+        ensures added { OnOk result (self.new.messages ≡ extended self.old.messages bytes.now) }
+        ensures same { OnErr result (self.new.messages ≡ self.old.messages) }
+        ensures kept { KeepsRoom self.old self.new }
+        ensures succeeds { HasRoom self.old 0 (length bytes.now) → IsOk result }
+    {
+        self.bytes.extend_from_slice(bytes)?;
+        let last = self.ends.len() - 1;
+        self.ends[last] = self.bytes.len();
         Ok(())
     }
 

@@ -94,3 +94,16 @@ fn a_thousand_messages_take_few_growths(rt: HostRuntime) -> Result<(), Fail> {
     assert_eq!(rt; joined(&rt, &list, 0, 1000), 1000);
     Ok(())
 }
+
+#[test]
+fn a_message_comes_in_parts(rt: HostRuntime) -> Result<(), Fail> {
+    let mut list = three(rt.alloc())?;
+    assert!(rt; list.len() > 0);
+    list.extend_last(b"DE")?;
+    list.push(b"")?;
+    assert!(rt; list.len() > 0);
+    list.extend_last(b"F")?;
+    expect_at(&rt, &list, 2, b"CDE");
+    expect_at(&rt, &list, 3, b"F");
+    Ok(())
+}

@@ -1,9 +1,14 @@
 pub mod AnswerLemmas
 pub mod AskingLemmas
 pub mod DatagramLemmas
+pub mod FileLemmas
 pub mod FrontLemmas
+pub mod HeadLemmas
+pub mod LoadingLemmas
+pub mod MovingLemmas
 pub mod PackingLemmas
 pub mod PublisherLemmas
+pub mod SavingLemmas
 pub mod ServingLemmas
 pub mod TruthLemmas
 pub mod SendingLemmas

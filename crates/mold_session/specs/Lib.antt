@@ -1,8 +1,13 @@
 pub mod Answer
 pub mod Datagrams
+pub mod File
+pub mod FileFault
 pub mod Journal
+pub mod Loading
+pub mod Moving
 pub mod Packing
 pub mod Publisher
 pub mod Server
 pub mod Serving
 pub mod Truthful
+pub mod Upgrading

@@ -1,5 +1,6 @@
 //! Why a call of this crate is refused.
 
+use mold_devices::ReadFault;
 use thiserror::Error;
 
 /// Why a message is not appended or published. Where several apply, the first of them is answered.
@@ -71,4 +72,54 @@ pub enum AnswerError {
     /// The number asked is not yet given; the number that the journal's next message gets.
     #[error("a request for a message behind the last one, below {next}")]
     Ahead { next: u64 },
+}
+
+/// Why a journal's file is not loaded, saved or upgraded. Where several apply to a file, the first of them
+/// by the order of the bytes is answered.
+#[derive(Clone, Copy, Debug, PartialEq, Eq, Error)]
+pub enum FileError {
+    /// Fewer bytes than stand before the blocks: 18 in version 1, 27 in version 2; how many there are.
+    #[error("{len} bytes are too short for a journal")]
+    Short { len: usize },
+    /// The first eight bytes are those of neither version.
+    #[error("no journal of version 1 or 2")]
+    BadMagic,
+    /// The byte at 18 of version 2, which says whether the session is closed, is neither 0 nor 1.
+    #[error("the byte {byte} says neither open nor closed")]
+    BadFlag { byte: u8 },
+    /// Bytes follow message 18446744073709551614, the last that may have a number.
+    #[error("the journal goes on behind the last number")]
+    Full,
+    /// The file has a message that is longer than the journal's may be; its length in bytes.
+    #[error("a message of {len} bytes is too long")]
+    TooLong { len: usize },
+    /// The file ends within the block of the message of this number.
+    #[error("the file ends within message {number}")]
+    BlockCut { number: u64 },
+    /// A file of version 2 ends between blocks, and has `found` messages in place of the stated `count`.
+    #[error("{count} messages are stated, and {found} are there")]
+    CountDiffers { count: u64, found: u64 },
+    /// The source failed.
+    #[error("the journal can't be read")]
+    Read,
+    /// The sink failed.
+    #[error("the journal can't be written")]
+    Write,
+    /// A growth was refused.
+    #[error("out of memory")]
+    Memory,
+}
+
+impl From<ReadFault> for FileError {
+    ghost use Rattle.std.specs.Prelude.{◌≡◌};
+    ghost use Rattle.mold_session.specs.FileFault.{from_read_fault};
+
+    ghost from_gives = { λ cause error. error ≡ from_read_fault cause };
+
+    fn from(cause: ReadFault) -> FileError {
+        match cause {
+            ReadFault::Read => FileError::Read,
+            ReadFault::Memory => FileError::Memory,
+        }
+    }
 }

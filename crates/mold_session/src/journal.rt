@@ -1,12 +1,21 @@
 //! The messages of a session, in the order in which they were published.
 
-ghost use Rattle.std.specs.Prelude.{◌≡◌, ◌+◌, ◌≤◌, [], true, false, None, length, drop, take, ◌-◌, unwrap_or, IfOk, IfErr, OnOk, OnErr};
+ghost use Rattle.std.specs.Prelude.{◌≡◌, ◌+◌, ◌≤◌, [], true, false, None, length, drop, take, ◌-◌, unwrap_or, IfOk, IfErr, IfSome, OnOk, OnErr, ◌⊎◌};
+ghost use Rattle.std.specs.Io.KnownBytes.{IsAtEnd};
 ghost use Rattle.std.specs.Option.{option_copied};
 ghost use Rattle.mold_messages.specs.Listed.{byte_count};
+ghost use Rattle.mold_devices.specs.Devices.{Counts};
+ghost use Rattle.mold_session.specs.File.{SpellsJournal, SpellsJournal2, AppendsFile, AppendsFileFront};
+ghost use Rattle.mold_session.specs.FileFault.{JournalFault};
 ghost use Rattle.mold_session.specs.Journal.{IsJournal, message_numbered, append_refusal, appended};
+ghost use Rattle.mold_session.specs.Loading.{Refuses, CountsLoad};
 ghost use Rattle.mold_session.specs.declared.error.AppendError.{AppendError};
+ghost use Rattle.mold_session.specs.declared.error.FileError.{FileError};
 
-use crate::error::AppendError;
+use crate::error::{AppendError, FileError};
+use crate::loading::load_file;
+use crate::saving::save_file;
+use mold_devices::{Sink, Source};
 use mold_messages::{MessageIterator, MessageList};
 use mold_wire::Session;
 use std::alloc::Global;
@@ -26,6 +35,7 @@ pub struct Journal {
 }
 
 impl Model for Journal {
+    ghost use Rattle.std.specs.Prelude.{◌<◌};
     ghost use Rattle.mold_session.specs.Journal.{JournalState, AreMessages};
 
     ghost Value = { JournalState };
@@ -37,7 +47,7 @@ impl Model for Journal {
       closed = j.closed;
     } };
 
-    ghost invariant = { λ j. AreMessages j.max_message j.list.messages };
+    ghost invariant = { λ j. (j.max_message < 65536) × AreMessages j.max_message j.list.messages };
 }
 
 impl Journal {
@@ -137,6 +147,51 @@ impl Journal {
         match self.list.push(message) {
             Ok(()) => Ok(self.list.len() as u64),
             Err(_) => Err(AppendError::Memory),
+        }
+    }
+
+    /// Reads the file of a journal, of version 1, which is open, or of version 2, whose messages have at
+    /// most `max_message` bytes. It reads at most 4,096 bytes at once, goes through the file once, and holds
+    /// no more than the journal and what was read at once. Of several refusals the first in the order of the
+    /// file is answered; `Read` and `Memory` come as they occur. A journal that is answered has read the
+    /// source to its end.
+    pub fn load<S: Source>(
+        alloc: Global,
+        max_message: u16,
+        source: &mut S,
+    ) -> Result<Journal, FileError>
+        ensures bound { IfOk result (λ journal. journal.max_message ≡ max_message) }
+        ensures listed { IfOk result (λ journal. IsJournal journal) }
+        ensures whole { IfOk result (λ journal. IfSome (S.left source.old) (λ bytes.
+            ((journal.closed ≡ false) × SpellsJournal journal.session journal.messages bytes)
+            ⊎ SpellsJournal2 journal.session journal.messages journal.closed bytes)) }
+        ensures spent { IfOk result (λ _. IsAtEnd (S.left source.new)) }
+        ensures refused { IfErr result (λ error. Refuses (JournalFault max_message) (S.left source.old) error) }
+        ensures failures { CountsLoad (S.failed source.old) (S.failed source.new) result }
+    {
+        let (head, list) = load_file(alloc, max_message, source)?;
+        Ok(Journal {
+            session: head.session,
+            max_message,
+            list,
+            closed: head.closed,
+        })
+    }
+
+    /// Writes the journal's file of version 2: what is kept as one list goes out in writes of some 4,096
+    /// bytes and more. It takes no memory, and `Write` is its only refusal; the sink has then taken a
+    /// beginning of the file.
+    pub fn save<K: Sink>(&self, sink: &mut K) -> Result<(), FileError>
+        ensures whole { OnOk result (AppendsFile (K.held sink.old) (K.held sink.new)
+            self.now.session self.now.messages self.now.closed) }
+        ensures front { OnErr result (AppendsFileFront (K.held sink.old) (K.held sink.new)
+            self.now.session self.now.messages self.now.closed) }
+        ensures refused { IfErr result (λ error. error ≡ FileError.Write) }
+        ensures failures { Counts (K.failed sink.old) (K.failed sink.new) result }
+    {
+        match save_file(self.session, self.closed, &self.list, sink) {
+            Ok(()) => Ok(()),
+            Err(_) => Err(FileError::Write),
         }
     }
 

@@ -3,20 +3,29 @@
 #![tactic(auto)]
 
 mod error;
+#[cfg(test)]
+mod file_tests;
 mod journal;
 pub mod laws;
+mod loading;
+mod magic;
+mod outlet;
 mod packing;
+mod piece;
 mod plan;
 mod publisher;
+mod saving;
 mod server;
 #[cfg(test)]
 mod server_tests;
 mod serving;
 #[cfg(test)]
 mod tests;
+mod upgrading;
 
-pub use error::{AnswerError, AppendError, PublisherError, ServerError, Unsent};
+pub use error::{AnswerError, AppendError, FileError, PublisherError, ServerError, Unsent};
 pub use journal::Journal;
 pub use plan::Plan;
 pub use publisher::Publisher;
 pub use server::Server;
+pub use upgrading::{Upgraded, upgrade};

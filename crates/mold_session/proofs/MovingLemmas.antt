@@ -1,0 +1,70 @@
+-- What was written of a text that is kept before it is written.
+use Rattle.std.proofs.Common.{◌≡◌, ℕ, List, [], ◌++◌, Option, Result, Ok, Err, sym, ap, subst, ◌∙◌, append_assoc, append-nil}
+use Rattle.std.specs.Prelude.{OnErr}
+use Rattle.std.specs.Io.KnownBytes.{Appends}
+use Rattle.std.proofs.KnownBytes.{Appends-trans}
+use Rattle.mold_devices.specs.Devices.{AppendsFront}
+use Rattle.mold_session.specs.Moving.{Moves}
+
+-- what holds anyway holds at an error
+pub on_err : {T E P : Type 0} (result : Result T E) → P → OnErr result P
+on_err (Ok value) is = tt
+on_err (Err error) is = is
+
+-- a front of a text is a front of the text and more
+pub front_more : (old new : Option (List ℕ)) (text more : List ℕ) → AppendsFront old new text →
+    AppendsFront old new (text ++ more)
+front_more old new text more p = record {
+  front = p.front;
+  rest = p.rest ++ more;
+  parts = ap (λ (t : List ℕ). t ++ more) p.parts ∙ append_assoc p.front p.rest more;
+  appended = p.appended;
+}
+
+-- a whole text and then a front of the next are a front of both
+pub front_after : (old mid new : Option (List ℕ)) (text more : List ℕ) → Appends old mid text →
+    AppendsFront mid new more → AppendsFront old new (text ++ more)
+front_after old mid new text more p q = record {
+  front = text ++ q.front;
+  rest = q.rest;
+  parts = ap (λ (t : List ℕ). text ++ t) q.parts ∙ sym (append_assoc text q.front q.rest);
+  appended = Appends-trans old mid new text q.front p q.appended;
+}
+
+-- what was kept was written, and then the text
+pub moves_written : (old mid new : Option (List ℕ)) (kept text still : List ℕ) → Appends old mid kept → still ≡ [] →
+    Appends mid new text → Moves old new kept text still
+moves_written old mid new kept text still p none q = record {
+  written = kept ++ text;
+  parts = sym (append-nil (kept ++ text)) ∙ ap (λ (t : List ℕ). (kept ++ text) ++ t) (sym none);
+  appended = Appends-trans old mid new kept text p q;
+}
+
+-- one text after the other
+pub moves_both : (old mid new : Option (List ℕ)) (kept text held more still : List ℕ) → Moves old mid kept text held →
+    Moves mid new held more still → Moves old new kept (text ++ more) still
+moves_both old mid new kept text held more still p q = record {
+  written = p.written ++ q.written;
+  parts =
+      sym (append_assoc kept text more)
+      ∙ ap (λ (t : List ℕ). t ++ more) p.parts
+      ∙ append_assoc p.written held more
+      ∙ ap (λ (t : List ℕ). p.written ++ t) q.parts
+      ∙ sym (append_assoc p.written q.written still);
+  appended = Appends-trans old mid new p.written q.written p.appended q.appended;
+}
+
+-- and then a front of what is kept
+pub moves_front : (old mid new : Option (List ℕ)) (kept text held : List ℕ) → Moves old mid kept text held →
+    AppendsFront mid new held → AppendsFront old new (kept ++ text)
+moves_front old mid new kept text held p q = subst (AppendsFront old new) (sym p.parts)
+    (front_after old mid new p.written held p.appended q)
+
+-- or a front of that and more
+pub moves_front_more : (old mid new : Option (List ℕ)) (kept text held more : List ℕ) → Moves old mid kept text held →
+    AppendsFront mid new (held ++ more) → AppendsFront old new (kept ++ (text ++ more))
+moves_front_more old mid new kept text held more p q = subst (AppendsFront old new) (
+    sym (append_assoc p.written held more)
+    ∙ ap (λ (t : List ℕ). t ++ more) (sym p.parts)
+    ∙ append_assoc kept text more
+    ) (front_after old mid new p.written (held ++ more) p.appended q)

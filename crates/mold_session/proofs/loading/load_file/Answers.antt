@@ -1,0 +1,49 @@
+use Rattle.std.proofs.lemmas.Result.{err_from_is_err_and}
+use Rattle.std.specs.Io.KnownBytes.{prepend_known}
+use Rattle.mold_session.specs.FileFault.{JournalFault}
+use Rattle.mold_session.specs.Loading.{Refuses}
+use Rattle.mold_session.proofs.FileLemmas.{passed_on, blocks_refused, from_start, head_from_start, count_refused, file_spelled}
+use Rattle.mold_session.proofs.SavingLemmas.{are_file_messages}
+use Rattle.mold_session.proofs.loading.load_file.Goals as goal
+
+pub returns-in_err-head-clause-refused : goal.returns-in_err-head-clause-refused
+returns-in_err-head-clause-refused g c =
+    passed_on c.from_residual.result c.in_err-head.field-0.0
+    (Refuses (JournalFault c.args.most) (g.S.Source.left c.args.source.now))
+    (err_from_is_err_and c.from_residual.result c.from_residual.ensures.1)
+    (from_start (g.S.Source.left c.args.source.now) c.new-piece.result c.args.most c.in_err-head.field-0.0
+    c.new-piece.ensures (c.in_err-head.ensures.refused c.args.most))
+
+pub returns-in_err-list-clause-refused : goal.returns-in_err-list-clause-refused
+returns-in_err-list-clause-refused g c =
+    let known = g.S.Source.left c.args.source.now in
+    let left = prepend_known c.read_head.new.piece (g.S.Source.left c.read_head.new.source) in
+    passed_on c.from_residual-in_err-list.result c.in_err-list.field-0.0 (Refuses (JournalFault c.args.most) known)
+    (err_from_is_err_and c.from_residual-in_err-list.result c.from_residual-in_err-list.ensures.1)
+    (blocks_refused known left c.in_ok-head.head c.args.most
+    (head_from_start known left c.new-piece.result c.in_ok-head.head c.new-piece.ensures c.in_ok-head.ensures.read)
+    c.in_err-list.field-0.0 c.in_err-list.ensures.refused)
+
+pub returns-then-count-found-clause-refused : goal.returns-then-count-found-clause-refused
+returns-then-count-found-clause-refused g c =
+    let messages = c.in_ok-list.list.messages in
+    count_refused (g.S.Source.left c.args.source.now)
+    (prepend_known c.read_head.new.piece (g.S.Source.left c.read_head.new.source)) c.in_ok-head.head c.args.most messages
+    c.unwrap_or-count.result c.len-found.result
+    (head_from_start (g.S.Source.left c.args.source.now)
+    (prepend_known c.read_head.new.piece (g.S.Source.left c.read_head.new.source)) c.new-piece.result c.in_ok-head.head
+    c.new-piece.ensures c.in_ok-head.ensures.read)
+    c.in_ok-list.ensures.whole c.in_ok-list.ensures.listed c.unwrap_or-count.ensures c.if-count-found.true
+    c.len-found.ensures
+
+pub returns-clause-whole : goal.returns-clause-whole
+returns-clause-whole g c =
+    let messages = c.in_ok-list.list.messages in
+    file_spelled (g.S.Source.left c.args.source.now)
+    (prepend_known c.read_head.new.piece (g.S.Source.left c.read_head.new.source)) c.in_ok-head.head messages
+    c.unwrap_or-count.result c.len-found.result
+    (head_from_start (g.S.Source.left c.args.source.now)
+    (prepend_known c.read_head.new.piece (g.S.Source.left c.read_head.new.source)) c.new-piece.result c.in_ok-head.head
+    c.new-piece.ensures c.in_ok-head.ensures.read)
+    c.in_ok-list.ensures.whole (are_file_messages c.args.most messages c.ranges.most.fits c.in_ok-list.ensures.listed)
+    c.unwrap_or-count.ensures c.if-count-found.false c.len-found.ensures

@@ -1,0 +1,12 @@
+use Rattle.std.proofs.Common.{◌≡◌, length}
+use Rattle.mold_session.specs.File.{head_2}
+use Rattle.mold_session.proofs.SavingLemmas.{Saves}
+use Rattle.mold_session.proofs.saving.save_file.Given as goal
+
+-- the blocks of the messages so far stand behind the head, and the iterator has the rest
+abbrev pub invariant-loop-message : goal.invariant-loop-message
+invariant-loop-message g l = record {
+  saves : Saves (g.K.Sink.held l.fn.sink) (g.K.Sink.held l.sink) (head_2 l.fn.session.0 l.closed (length l.list.messages))
+      l.list.messages l.message-iterator l.outlet;
+  counted : g.K.Sink.failed l.sink ≡ g.K.Sink.failed l.fn.sink;
+}

@@ -1,0 +1,51 @@
+-- The file of a journal: which bytes spell which journal.
+use Rattle.std.specs.Prelude.{◌≡◌, ℕ, Bool, true, false, List, ◌∷◌, ◌++◌, length, codes, Option}
+use Rattle.std.specs.Io.KnownBytes.{Appends}
+use Rattle.mold_wire.specs.Block.{be64, blocks}
+use Rattle.mold_wire.specs.declared.session.Session.{Session}
+use Rattle.mold_devices.specs.Devices.{AppendsFront}
+use Rattle.mold_session.specs.Journal.{AreMessages}
+
+-- what a file begins with: version 1, which is read, and version 2, which is read and written
+unfoldable pub magic_1 : List ℕ
+magic_1 = codes "MOLDJNL1"
+
+unfoldable pub magic_2 : List ℕ
+magic_2 = codes "MOLDJNL2"
+
+-- the byte that says whether the session is closed
+abbrev pub closed_byte : Bool → ℕ
+closed_byte true = 1
+closed_byte false = 0
+
+-- what stands before the blocks: in version 1 the magic and the session, in version 2 also whether the
+-- session is closed and the number of messages
+abbrev pub head_1 : List ℕ → List ℕ
+head_1 session = magic_1 ++ session
+
+abbrev pub head_2 : List ℕ → Bool → ℕ → List ℕ
+head_2 session closed count = magic_2 ++ (session ++ (closed_byte closed ∷ be64 count))
+
+-- the bytes are the file of version 1 of these messages, of which there are at most 18446744073709551614
+pub record SpellsJournal (session : Session) (messages : List (List ℕ)) (bytes : List ℕ) : Type 0 where
+  pub named : length session.0 ≡ 10
+  pub listed : AreMessages 65535 messages
+  pub spelled : bytes ≡ head_1 session.0 ++ blocks messages
+
+-- the same of version 2
+pub record SpellsJournal2 (session : Session) (messages : List (List ℕ)) (closed : Bool) (bytes : List ℕ) : Type 0 where
+  pub named : length session.0 ≡ 10
+  pub listed : AreMessages 65535 messages
+  pub spelled : bytes ≡ head_2 session.0 closed (length messages) ++ blocks messages
+
+-- known bytes grew by the file of version 2 of a journal
+pub record AppendsFile (old new : Option (List ℕ)) (session : Session) (messages : List (List ℕ)) (closed : Bool) : Type 0 where
+  pub file : List ℕ
+  pub spelled : SpellsJournal2 session messages closed file
+  pub appended : Appends old new file
+
+-- known bytes grew by a beginning of it
+pub record AppendsFileFront (old new : Option (List ℕ)) (session : Session) (messages : List (List ℕ)) (closed : Bool) : Type 0 where
+  pub file : List ℕ
+  pub spelled : SpellsJournal2 session messages closed file
+  pub appended : AppendsFront old new file

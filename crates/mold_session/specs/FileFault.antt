@@ -1,0 +1,93 @@
+-- Why bytes are no file of a journal.
+use Rattle.std.specs.Prelude.{◌≡◌, ◌⊎◌, ℕ, ◌+◌, ◌<◌, ◌≤◌, List, ◌++◌, length, take, drop, slice_index}
+use Rattle.std.specs.List.{AllByRecursion}
+use Rattle.byteorder.specs.Endian.{big_number}
+use Rattle.mold_wire.specs.Block.{blocks}
+use Rattle.mold_devices.specs.declared.fault.ReadFault.{ReadFault}
+use Rattle.mold_devices.specs.declared.fault.ReadFault.TheVariants as reading
+use Rattle.mold_session.specs.File.{magic_1, magic_2}
+use Rattle.mold_session.specs.Journal.{IsWithin}
+use Rattle.mold_session.specs.declared.error.FileError.{FileError}
+use Rattle.mold_session.specs.declared.error.FileError.TheVariants.{TooLong, Memory, BadMagic, Short, BlockCut, Read, Write, Full, CountDiffers, BadFlag}
+
+-- the bytes are, or begin, a file of version 2
+abbrev pub IsVersion2 : List ℕ → Type 0
+IsVersion2 bytes = take 8 bytes ≡ magic_2
+
+-- the byte at 18 of version 2 is neither 00 nor 01
+abbrev pub IsBadFlag : ℕ → Type 0
+IsBadFlag byte = 1 < byte
+
+-- what stands behind a whole head that is not refused: from byte 18 on in version 1, and from byte 27 on in
+-- version 2
+pub record IsBehind1 (bytes behind : List ℕ) : Type 0 where
+  pub magic : take 8 bytes ≡ magic_1
+  pub whole : 18 ≤ length bytes
+  pub from : behind ≡ drop 18 bytes
+
+pub record IsBehind2 (bytes behind : List ℕ) : Type 0 where
+  pub magic : take 8 bytes ≡ magic_2
+  pub whole : 27 ≤ length bytes
+  pub flag : slice_index bytes 18 ≤ 1
+  pub from : behind ≡ drop 27 bytes
+
+-- the bytes begin with a block that is cut: one byte, or a length within the bound and fewer bytes than it says
+pub record IsCut (most : ℕ) (rest : List ℕ) : Type 0 where
+  pub some : 0 < length rest
+  pub short : (length rest < 2) ⊎ ((big_number 2 rest ≤ most) × (length rest < 2 + big_number 2 rest))
+
+-- why what follows so many blocks is refused: a message would be one too many, or is too long, or is cut
+abbrev pub BlockFault : ℕ → ℕ → List ℕ → FileError → Type 0
+BlockFault most count rest Full = (0 < length rest) × (18446744073709551614 ≤ count)
+BlockFault most count rest (TooLong len) =
+    (count < 18446744073709551614) × (2 ≤ length rest) × (big_number 2 rest ≡ len) × (most < len)
+BlockFault most count rest (BlockCut number) =
+    (count < 18446744073709551614) × (number ≡ count + 1) × IsCut most rest
+BlockFault most count rest _ = ⊥
+
+-- behind some whole blocks, of at most so many bytes each, the rest is refused
+pub record BlocksFault (most : ℕ) (behind : List ℕ) (error : FileError) : Type 0 where
+  pub messages : List (List ℕ)
+  pub rest : List ℕ
+  pub each : AllByRecursion (IsWithin most) messages
+  pub parts : behind ≡ blocks messages ++ rest
+  pub fault : BlockFault most (length messages) rest error
+
+-- the same in a file of either version
+abbrev pub FaultInBlocks : ℕ → List ℕ → FileError → Type 0
+FaultInBlocks most bytes error =
+    (behind : List ℕ) × (IsBehind1 bytes behind ⊎ IsBehind2 bytes behind) × BlocksFault most behind error
+
+-- a file of version 2 that ends between blocks has another number of messages than it states
+pub record IsMiscounted (most : ℕ) (bytes : List ℕ) (count found : ℕ) : Type 0 where
+  pub behind : List ℕ
+  pub head : IsBehind2 bytes behind
+  pub messages : List (List ℕ)
+  pub each : AllByRecursion (IsWithin most) messages
+  pub few : length messages < 18446744073709551615
+  pub parts : behind ≡ blocks messages
+  pub stated : count ≡ big_number 8 (drop 19 bytes)
+  pub counted : found ≡ length messages
+  pub differs : count ≡ found → ⊥
+
+-- what is wrong with the bytes, by the name and the numbers of the refusal, where messages have at most so many
+-- bytes
+abbrev pub JournalFault : ℕ → List ℕ → FileError → Type 0
+JournalFault most bytes (Short len) =
+    (len ≡ length bytes) × ((length bytes < 18) ⊎ (IsVersion2 bytes × (length bytes < 27)))
+JournalFault most bytes BadMagic =
+    (18 ≤ length bytes) × (take 8 bytes ≡ magic_1 → ⊥) × (take 8 bytes ≡ magic_2 → ⊥)
+JournalFault most bytes (BadFlag byte) =
+    IsVersion2 bytes × (27 ≤ length bytes) × (slice_index bytes 18 ≡ byte) × IsBadFlag byte
+JournalFault most bytes Full = FaultInBlocks most bytes Full
+JournalFault most bytes (TooLong len) = FaultInBlocks most bytes (TooLong len)
+JournalFault most bytes (BlockCut number) = FaultInBlocks most bytes (BlockCut number)
+JournalFault most bytes (CountDiffers count found) = IsMiscounted most bytes count found
+JournalFault most bytes Read = ⊥
+JournalFault most bytes Memory = ⊥
+JournalFault most bytes Write = ⊥
+
+-- the refusal of a call whose reading ended with this fault
+abbrev pub from_read_fault : ReadFault → FileError
+from_read_fault reading.Read = Read
+from_read_fault reading.Memory = Memory

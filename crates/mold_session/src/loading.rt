@@ -1,0 +1,239 @@
+//! The file of a journal, read.
+
+ghost use Rattle.std.specs.Prelude.{◌≡◌, ◌<◌, ◌≤◌, ◌^◌, ◌∷◌, ℕ, length, take, IfOk, IfErr, IfSome};
+ghost use Rattle.std.specs.Bool.{OnTrue, OnFalse};
+ghost use Rattle.std.specs.Io.KnownBytes.{Consumes, IsAtEnd, prepend_known};
+ghost use Rattle.mold_wire.specs.Block.{be64, blocks};
+ghost use Rattle.mold_devices.specs.Faults.{CountsRead};
+ghost use Rattle.mold_session.specs.FileFault.{BlockFault, BlocksFault, JournalFault};
+ghost use Rattle.mold_session.specs.Journal.{AreMessages};
+ghost use Rattle.mold_session.specs.Loading.{work_left, ReadsNumbers, NumbersFault, ReadsHead, SpellsFile, TakesMessage, TakesBlock, Refuses, CountsLoad};
+
+use crate::error::FileError;
+use crate::magic::{MAGIC_LENGTH, first_magic, second_magic};
+use crate::piece::Piece;
+use byteorder::{BigEndian, ByteOrder};
+use mold_devices::{ReadFault, Source};
+use mold_messages::MessageList;
+use mold_wire::Session;
+use std::alloc::Global;
+
+/// The most messages that a session may have.
+const MOST: u64 = 18446744073709551614;
+
+/// What stands before the blocks of a file.
+#[derive(Clone, Copy)]
+pub struct FileHead {
+    pub session: Session,
+    pub closed: bool,
+    /// The number of messages that a file of version 2 states.
+    pub stated: Option<u64>,
+}
+
+// Fills the place as far as there are bytes, and answers how many it filled.
+fn fill<S: Source>(piece: &mut Piece, source: &mut S, place: &mut [u8]) -> Result<usize, ReadFault>
+    ensures filled { IfOk result (λ count. count ≤ length place.new) }
+    ensures bytes { IfOk result (λ count. Consumes (prepend_known piece.old (S.left source.old))
+        (prepend_known piece.new (S.left source.new)) (take count place.new)) }
+    ensures end { IfOk result (λ count. count < length place.new →
+        IsAtEnd (prepend_known piece.new (S.left source.new))) }
+    ensures failures { CountsRead (S.failed source.old) (S.failed source.new) result }
+{
+    let mut count = 0;
+    while count < place.len() {
+        let Some(byte) = piece.next_byte(source)? else {
+            return Ok(count);
+        };
+        place[count] = byte;
+        count += 1;
+    }
+    Ok(count)
+}
+
+// A byte and the number behind it.
+fn split_numbers(bytes: &[u8]) -> (u8, u64)
+    requires { length bytes.now ≡ 9 }
+    ensures parts { bytes.now ≡ result.0 ∷ be64 result.1 }
+    ensures fits { result.1 < 2 ^ 64 }
+{
+    let (first, number) = bytes.split_at(1);
+    (first[0], BigEndian::read_u64(number))
+}
+
+// What follows magic and session in a file of version 2.
+fn read_numbers<S: Source>(
+    piece: &mut Piece,
+    source: &mut S,
+    session: Session,
+) -> Result<FileHead, FileError>
+    ensures read { IfOk result (λ head. ReadsNumbers (prepend_known piece.old (S.left source.old))
+        (prepend_known piece.new (S.left source.new)) session head) }
+    ensures refused { IfErr result (λ error. Refuses NumbersFault
+        (prepend_known piece.old (S.left source.old)) error) }
+    ensures failures { CountsLoad (S.failed source.old) (S.failed source.new) result }
+{
+    let mut numbers = [0; 9];
+    let count = fill(piece, source, &mut numbers)?;
+    if count < 9 {
+        return Err(FileError::Short { len: 18 + count });
+    }
+    let (byte, stated) = split_numbers(&numbers);
+    if byte > 1 {
+        return Err(FileError::BadFlag { byte });
+    }
+    Ok(FileHead {
+        session,
+        closed: byte == 1,
+        stated: Some(stated),
+    })
+}
+
+// What stands before the blocks.
+fn read_head<S: Source>(piece: &mut Piece, source: &mut S) -> Result<FileHead, FileError>
+    ensures read { IfOk result (λ head. ReadsHead (prepend_known piece.old (S.left source.old))
+        (prepend_known piece.new (S.left source.new)) head) }
+    ensures refused { IfErr result (λ error. (most : ℕ) → Refuses (JournalFault most)
+        (prepend_known piece.old (S.left source.old)) error) }
+    ensures failures { CountsLoad (S.failed source.old) (S.failed source.new) result }
+{
+    let mut front = [0; 18];
+    let count = fill(piece, source, &mut front)?;
+    if count < 18 {
+        return Err(FileError::Short { len: count });
+    }
+    let (magic, name) = front.split_at(MAGIC_LENGTH);
+    let mut session = Session([0; 10]);
+    session.0.copy_from_slice(name);
+    if magic == first_magic().as_slice() {
+        return Ok(FileHead {
+            session,
+            closed: false,
+            stated: None,
+        });
+    }
+    if magic != second_magic().as_slice() {
+        return Err(FileError::BadMagic);
+    }
+    read_numbers(piece, source, session)
+}
+
+// Takes the next so many bytes as one message; false where the source ends before.
+fn take_message<S: Source>(
+    list: &mut MessageList,
+    piece: &mut Piece,
+    source: &mut S,
+    len: usize,
+) -> Result<bool, ReadFault>
+    ensures taken { IfOk result (λ whole. OnTrue whole (TakesMessage len
+        (prepend_known piece.old (S.left source.old)) (prepend_known piece.new (S.left source.new))
+        list.old.messages list.new.messages)) }
+    ensures cut { IfOk result (λ whole. OnFalse whole
+        (IfSome (prepend_known piece.old (S.left source.old)) (λ bytes. length bytes < len))) }
+    ensures work { IfOk result (λ _.
+        work_left (S.bound source.new) piece.new ≤ work_left (S.bound source.old) piece.old) }
+    ensures failures { CountsRead (S.failed source.old) (S.failed source.new) result }
+{
+    list.push(&[])?;
+    let mut missing = len;
+    while missing > 0 {
+        if !piece.has_more(source)? {
+            return Ok(false);
+        }
+        let count = piece.rest().len().min(missing);
+        list.extend_last(&piece.rest()[..count])?;
+        piece.skip(count);
+        missing -= count;
+    }
+    Ok(true)
+}
+
+// Takes the next block, where one is left.
+fn next_block<S: Source>(
+    list: &mut MessageList,
+    piece: &mut Piece,
+    source: &mut S,
+    most: u16,
+) -> Result<bool, FileError>
+    requires { length list.old.messages < 18446744073709551615 }
+    ensures taken { IfOk result (λ more. OnTrue more (TakesBlock most
+        (prepend_known piece.old (S.left source.old)) (prepend_known piece.new (S.left source.new))
+        list.old.messages list.new.messages)) }
+    ensures few { IfOk result (λ more. OnTrue more (length list.old.messages < 18446744073709551614)) }
+    ensures end { IfOk result (λ more. OnFalse more (IsAtEnd (prepend_known piece.old (S.left source.old)))) }
+    ensures spent { IfOk result (λ more. OnFalse more (IsAtEnd (prepend_known piece.new (S.left source.new)))) }
+    ensures same { IfOk result (λ more. OnFalse more (list.new ≡ list.old)) }
+    ensures refused { IfErr result (λ error. Refuses (BlockFault most (length list.old.messages))
+        (prepend_known piece.old (S.left source.old)) error) }
+    ensures work { IfOk result (λ more. OnTrue more
+        (work_left (S.bound source.new) piece.new < work_left (S.bound source.old) piece.old)) }
+    ensures failures { CountsLoad (S.failed source.old) (S.failed source.new) result }
+{
+    let Some(high) = piece.next_byte(source)? else {
+        return Ok(false);
+    };
+    let count = list.len() as u64;
+    if count == MOST {
+        return Err(FileError::Full);
+    }
+    let number = count + 1;
+    let Some(low) = piece.next_byte(source)? else {
+        return Err(FileError::BlockCut { number });
+    };
+    let len = BigEndian::read_u16(&[high, low]);
+    if len > most {
+        return Err(FileError::TooLong {
+            len: usize::from(len),
+        });
+    }
+    if !take_message(list, piece, source, usize::from(len))? {
+        return Err(FileError::BlockCut { number });
+    }
+    Ok(true)
+}
+
+// Takes all blocks to the end of the file.
+fn read_blocks<S: Source>(
+    alloc: Global,
+    most: u16,
+    piece: &mut Piece,
+    source: &mut S,
+) -> Result<MessageList, FileError>
+    ensures listed { IfOk result (λ list. AreMessages most list.messages) }
+    ensures whole { IfOk result (λ list. IfSome (prepend_known piece.old (S.left source.old))
+        (λ behind. behind ≡ blocks list.messages)) }
+    ensures spent { IfOk result (λ _. IsAtEnd (S.left source.new)) }
+    ensures refused { IfErr result (λ error. Refuses (BlocksFault most)
+        (prepend_known piece.old (S.left source.old)) error) }
+    ensures failures { CountsLoad (S.failed source.old) (S.failed source.new) result }
+{
+    let mut list = MessageList::new(alloc);
+    'messages: loop {
+        if !next_block(&mut list, piece, source, most)? {
+            return Ok(list);
+        }
+    }
+}
+
+/// Reads the file of a journal, of either version, whose messages have at most so many bytes.
+pub fn load_file<S: Source>(
+    alloc: Global,
+    most: u16,
+    source: &mut S,
+) -> Result<(FileHead, MessageList), FileError>
+    ensures listed { IfOk result (λ loaded. AreMessages most loaded.1.messages) }
+    ensures whole { IfOk result (λ loaded. IfSome (S.left source.old)
+        (λ bytes. SpellsFile loaded.0 loaded.1.messages loaded.0.stated bytes)) }
+    ensures spent { IfOk result (λ _. IsAtEnd (S.left source.new)) }
+    ensures refused { IfErr result (λ error. Refuses (JournalFault most) (S.left source.old) error) }
+    ensures failures { CountsLoad (S.failed source.old) (S.failed source.new) result }
+{
+    let mut piece = Piece::new();
+    let head = read_head(&mut piece, source)?;
+    let list = read_blocks(alloc, most, &mut piece, source)?;
+    let found = list.len() as u64;
+    let count = head.stated.unwrap_or(found);
+    if count != found {
+        return Err(FileError::CountDiffers { count, found });
+    }
+    Ok((head, list))
+}

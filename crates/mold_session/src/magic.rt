@@ -1,0 +1,23 @@
+//! What files begin with.
+
+ghost use Rattle.std.specs.Prelude.{◌≡◌};
+ghost use Rattle.mold_session.specs.File.{magic_1, magic_2};
+
+/// How many bytes that are.
+pub const MAGIC_LENGTH: usize = 8;
+
+/// Of version 1.
+#[tactic(auto, unfolding(crate::specs::File::magic_1))]
+pub fn first_magic() -> [u8; MAGIC_LENGTH]
+    ensures { result ≡ magic_1 }
+{
+    *b"MOLDJNL1"
+}
+
+/// Of version 2.
+#[tactic(auto, unfolding(crate::specs::File::magic_2))]
+pub fn second_magic() -> [u8; MAGIC_LENGTH]
+    ensures { result ≡ magic_2 }
+{
+    *b"MOLDJNL2"
+}

@@ -1,0 +1,90 @@
+//! Bytes on their way into a sink.
+
+ghost use Rattle.std.specs.Prelude.{◌≡◌, ◌+◌, ◌≤◌, ◌++◌, [], length, take, drop, OnOk, OnErr};
+ghost use Rattle.std.specs.Io.KnownBytes.{Appends};
+ghost use Rattle.mold_devices.specs.Devices.{AppendsFront, Counts};
+ghost use Rattle.mold_session.specs.Moving.{Moves};
+
+use mold_devices::{DeviceFault, Sink, write_all};
+use std::marker::Model;
+
+/// How many bytes are gathered before they are written.
+const ROOM: usize = 4096;
+
+/// Gathers bytes, so that they go out in large writes. It takes no memory.
+#[derive(Drop)]
+pub struct Outlet {
+    bytes: [u8; ROOM],
+    used: usize,
+}
+
+impl Model for Outlet {
+    ghost use Rattle.std.specs.Prelude.{◌≡◌, ◌≤◌, ℕ, List, take, length};
+
+    ghost Value = { List ℕ };
+
+    ghost view = { λ o. take o.used o.bytes };
+
+    ghost invariant = { λ o. (o.used ≤ 4096) × (length o.bytes ≡ 4096) };
+}
+
+// Writes the text behind the bytes that are used, and leaves what is behind it.
+fn put_behind(bytes: &mut [u8], used: usize, text: &[u8])
+    requires { used + length text.now ≤ length bytes.old }
+    ensures { bytes.new ≡ take used bytes.old ++ (text.now ++ drop (length text.now) (drop used bytes.old)) }
+{
+    let (_, behind) = bytes.split_at_mut(used);
+    let (place, _) = behind.split_at_mut(text.len());
+    place.copy_from_slice(text);
+}
+
+impl Outlet {
+    pub fn new() -> Outlet
+        ensures { result ≡ [] }
+    {
+        Outlet {
+            bytes: [0; ROOM],
+            used: 0,
+        }
+    }
+
+    /// Keeps the text behind what is kept.
+    pub fn keep(&mut self, text: &[u8])
+        requires { length self.old + length text.now ≤ 4096 }
+        ensures { self.new ≡ self.old ++ text.now }
+    {
+        put_behind(&mut self.bytes, self.used, text);
+        self.used += text.len();
+    }
+
+    /// Writes what is kept. After a fault a front of it is written.
+    pub fn flush<K: Sink>(&mut self, sink: &mut K) -> Result<(), DeviceFault>
+        ensures whole { OnOk result (Appends (K.held sink.old) (K.held sink.new) self.old) }
+        ensures empty { OnOk result (self.new ≡ []) }
+        ensures front { OnErr result (AppendsFront (K.held sink.old) (K.held sink.new) self.old) }
+        ensures failures { Counts (K.failed sink.old) (K.failed sink.new) result }
+    {
+        write_all(sink, &self.bytes[..self.used])?;
+        self.used = 0;
+        Ok(())
+    }
+
+    /// Takes the text behind what is kept: it writes what is kept where there is no room, and then the
+    /// text at once where it is longer than all room. After a fault a front of both is written.
+    pub fn put<K: Sink>(&mut self, sink: &mut K, text: &[u8]) -> Result<(), DeviceFault>
+        ensures moved { OnOk result (Moves (K.held sink.old) (K.held sink.new) self.old text.now self.new) }
+        ensures front { OnErr result (AppendsFront (K.held sink.old) (K.held sink.new) (self.old ++ text.now)) }
+        ensures failures { Counts (K.failed sink.old) (K.failed sink.new) result }
+    {
+        if text.len() <= ROOM - self.used {
+            self.keep(text);
+            return Ok(());
+        }
+        self.flush(sink)?;
+        if text.len() > ROOM {
+            return write_all(sink, text);
+        }
+        self.keep(text);
+        Ok(())
+    }
+}
