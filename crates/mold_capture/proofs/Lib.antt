@@ -1,0 +1,5 @@
+pub mod PairLemmas
+pub mod JoinLemmas
+pub mod RefusalLemmas
+pub mod ListLemmas
+pub mod SumLemmas

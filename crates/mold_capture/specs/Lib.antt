@@ -1,0 +1,5 @@
+pub mod Consistent
+pub mod Seen
+pub mod Refusal
+pub mod Verdict
+pub mod Runs

@@ -1,0 +1,9 @@
+//! The checker of captured datagrams: whether they come from one whole session, and if not, what is missing
+//! or what contradicts what.
+#![tactic(auto)]
+
+pub mod laws;
+mod reason;
+mod run;
+
+pub use reason::Reason;
