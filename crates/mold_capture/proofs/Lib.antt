@@ -3,3 +3,5 @@ pub mod JoinLemmas
 pub mod RefusalLemmas
 pub mod ListLemmas
 pub mod SumLemmas
+pub mod RunLemmas
+pub mod GrowLemmas
