@@ -14,7 +14,8 @@ use Rattle.std.proofs.lemmas.Option.{none-some, same_Some, slice_get_within}
 use Rattle.mold_wire.specs.Truth.{message_at}
 use Rattle.mold_capture.specs.declared.run.Run.{Run}
 use Rattle.mold_capture.specs.Runs.{Runs, pairs_of, HasRun, AreRuns, Covers, AreFree, IsGrown, IsPut, IsSince}
-use Rattle.mold_capture.proofs.PairLemmas.{option_cases, option_or_cases, option_or_first, option_or_second, message_within, message_bounds}
+use Rattle.mold_capture.specs.Seen.{pairs_with}
+use Rattle.mold_capture.proofs.PairLemmas.{option_cases, option_or_cases, option_or_first, option_or_second, message_within, message_bounds, get-with, same_pairs}
 use Rattle.mold_capture.proofs.RunLemmas.{RunAt, at_pairs, pairs_at}
 
 pub same_option : {X : Type 0} (a b : Option X) → ((x : X) → a ≡ Some x → b ≡ Some x) →
@@ -340,3 +341,10 @@ back_is before now after place are since ordered out stays =
     (λ run has. let found = out q run has in since.others q run found.0 found.1)
     (λ run has. stays q run (since.kept q run has) (omega (arith, are.inside q run has, are.some q run has))))
     exact_unsigned
+
+-- what was carried, and the new messages, as one value
+pub carried_grown : (runs now : Runs) (kept ms : List (List ℕ)) (number f : ℕ) (run : Run) → Growth runs now kept ms number f run →
+    pairs_of now.entries (kept ++ ms) ≡ pairs_with (pairs_of runs.entries kept) number ms
+carried_grown runs now kept ms number f run growth =
+    same_pairs _ _ (λ q.
+    pairs_grown runs now kept ms number f run growth q ∙ sym (get-with (pairs_of runs.entries kept) number ms q))

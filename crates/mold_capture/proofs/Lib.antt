@@ -5,3 +5,4 @@ pub mod ListLemmas
 pub mod SumLemmas
 pub mod RunLemmas
 pub mod GrowLemmas
+pub mod KeepLemmas

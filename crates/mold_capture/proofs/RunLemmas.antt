@@ -1,7 +1,7 @@
 -- Runs and the messages that they stand for.
 use Rattle.std.proofs.Common.{◌≡◌, ℕ, zero, suc, ◌+◌, ◌-◌, ◌<◌, ◌≤◌, ◌⊎◌, Bool, true, false, cond, eqb, ltb, List, [], ◌∷◌, ◌++◌, length}
-use Rattle.std.proofs.Common.{take, drop, refl, sym, ap, subst, ◌∙◌, inl, inr, arith}
-use Rattle.std.specs.Prelude.{Option, None, Some, slice_get}
+use Rattle.std.proofs.Common.{take, drop, get_or, refl, sym, ap, subst, ◌∙◌, inl, inr, arith}
+use Rattle.std.specs.Prelude.{Option, None, Some, IfSome, is_some, slice_get}
 use Rattle.std.specs.BTreeMap as tree
 use Rattle.std.specs.BTreeMap.{BTreeMap, is_at}
 use Rattle.std.specs.Cmp.{nat_cmp_is, nat_cmp_total, unsigned_tied}
@@ -15,7 +15,7 @@ use Rattle.std.proofs.lemmas.Bool.{true≢false, cases_order, cases_Bool, cases_
 use Rattle.std.proofs.lemmas.List.{length-take, length-drop}
 use Rattle.std.proofs.lemmas.List.Elements.{All-nil, All-cons, All-head, All-tail}
 use Rattle.std.proofs.lemmas.Map.Views.{All-found}
-use Rattle.std.proofs.lemmas.Option.{none-some, same_Some, slice_get_within}
+use Rattle.std.proofs.lemmas.Option.{none-some, same_Some, slice_get-get_or}
 use Rattle.mold_wire.specs.Truth.{message_at}
 use Rattle.mold_capture.specs.declared.run.Run.{Run}
 use Rattle.mold_capture.specs.Runs.{Runs, messages_in, run_pairs, pairs_of, HasRun, AreRuns, Covers, AreFree, IsGrown, IsSince}
@@ -206,3 +206,47 @@ retained_stays old new place ordered is f run has low =
     let all = unfiltered (is_before place) Q old.entries (subst (All Q) is (All-found nat_cmp_total new ordered)) in
     lookup_all (λ e. is_before place e ≡ true → Q e) f run old.entries all (sym (lookup_at f old.entries) ∙ has)
     (lt-ltb run.start place low)
+
+-- at a number that a run covers a message was carried
+pub covered_pairs : (runs : Runs) (kept : List (List ℕ)) → AreRuns runs (length kept) → (q f : ℕ) (run : Run) →
+    HasRun runs f run → Covers f run q
+    → finite.get (pairs_of runs.entries kept) q ≡ Some (get_or kept (run.start + (q - f)) [])
+covered_pairs runs kept are q f run has covers =
+    pairs_at runs kept are q (get_or kept (run.start + (q - f)) [])
+    (record {
+      first = f;
+      run = run;
+      there = has;
+      covers = covers;
+      is =
+          slice_get-get_or kept (run.start + (q - f)) []
+          (omega (arith, are.inside f run has, covers.0, covers.1));
+    })
+
+-- as a search for the run tells it
+pub found_pairs : (runs : Runs) (kept : List (List ℕ)) → AreRuns runs (length kept) → (q : ℕ) (o : Option (ℕ × Run)) →
+    IfSome o (λ e. HasRun runs e.0 e.1) → IfSome o (λ e. Covers e.0 e.1 q) → is_some o ≡ true
+    → (x : List ℕ) × (finite.get (pairs_of runs.entries kept) q ≡ Some x)
+found_pairs runs kept are q None has covers some = absurd (true≢false (sym some))
+found_pairs runs kept are q (Some e) has covers some =
+    (get_or kept (e.1.start + (q - e.0)) [], covered_pairs runs kept are q e.0 e.1 has covers)
+
+-- what was carried at a number that a run covers is the run's
+pub covered_at : (runs : Runs) (kept : List (List ℕ)) → AreRuns runs (length kept) → (q f : ℕ) (run : Run) →
+    HasRun runs f run → Covers f run q
+    → finite.get (pairs_of runs.entries kept) q ≡ slice_get kept (run.start + (q - f))
+covered_at runs kept are q f run has covers =
+    covered_pairs runs kept are q f run has covers
+    ∙ sym (slice_get-get_or kept (run.start + (q - f)) []
+    (omega (arith, are.inside f run has, covers.0, covers.1)))
+
+-- at a number that no run covers nothing was carried
+pub uncovered_at : (runs : Runs) (kept : List (List ℕ)) → AreRuns runs (length kept) → (q : ℕ) →
+    ((f : ℕ) (run : Run) → HasRun runs f run → Covers f run q → ⊥) → finite.get (pairs_of runs.entries kept) q ≡ None
+uncovered_at runs kept are q none =
+    elim (option_cases (finite.get (pairs_of runs.entries kept) q)) [
+      | inl nothing ↦ nothing
+      | inr some ↦
+          let at = at_pairs runs kept are q some.0 some.1 in
+          absurd (none at.first at.run at.there at.covers)
+    ]

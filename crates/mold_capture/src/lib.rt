@@ -3,6 +3,9 @@
 #![tactic(auto)]
 
 pub mod laws;
+mod carried;
+mod compare;
+mod keep;
 mod reason;
 mod run;
 
