@@ -1,6 +1,6 @@
 -- What was carried, when messages are kept or taken back.
 use Rattle.std.proofs.Common.{◌≡◌, ℕ, suc, ◌+◌, ◌<◌, ◌≤◌, List, [], ◌∷◌, ◌++◌, length, take, refl, sym, ap, subst, ◌∙◌, inl, inr, arith, true, false, Bor}
-use Rattle.std.specs.Prelude.{Option, None, Some, is_some}
+use Rattle.std.specs.Prelude.{Option, None, Some, is_some, Result, Ok, Err, IfErr, OnOk}
 use Rattle.std.specs.BTreeMap as tree
 use Rattle.std.specs.BTreeMap.{is_at}
 use Rattle.std.specs.FinMap as finite
@@ -12,10 +12,13 @@ use Rattle.std.proofs.lemmas.Bool.{cases_order, true≢false, cond-true, cond-fa
 use Rattle.std.proofs.lemmas.Option.{none-some}
 use Rattle.mold_wire.specs.Truth.{message_at}
 use Rattle.mold_capture.specs.declared.run.Run.{Run}
-use Rattle.mold_capture.specs.declared.reason.Reason.TheVariants.{Conflict}
-use Rattle.mold_capture.specs.Refusal.{conflict, differs}
-use Rattle.mold_capture.specs.Runs.{Runs, pairs_of, HasRun, AreRuns, Covers}
+use Rattle.mold_capture.specs.declared.reason.Reason.{Reason}
+use Rattle.mold_capture.specs.declared.reason.Reason.TheVariants.{Conflict, Memory}
+use Rattle.mold_capture.specs.Refusal.{conflict, differs, told}
+use Rattle.mold_capture.specs.Runs.{Runs, pairs_of, HasRun, AreRuns, AreFree}
 use Rattle.mold_capture.specs.Seen.{Pairs, pairs_with}
+use Rattle.mold_capture.proofs.RefusalLemmas.{agrees_from}
+use Rattle.mold_capture.proofs.GrowLemmas.{free_pairs}
 use Rattle.mold_capture.proofs.PairLemmas.{option_or_first, option_or_second, message_bounds, message_below, message_past, message_first, message_next, message_none, get-with, same_pairs}
 
 -- runs with the same entries
@@ -120,3 +123,21 @@ conflict_here pairs n m ms other =
 pub copied_some : (o : Option (Bor (List ℕ))) → is_some o ≡ true → (x : List ℕ) × (option_copied o ≡ Some x)
 copied_some None some = absurd (true≢false (sym some))
 copied_some (Some b) some = (b.now, refl)
+
+-- where no run has a number of the messages, nothing conflicts
+pub free_conflict : (runs : Runs) (kept : List (List ℕ)) → AreRuns runs (length kept) → (n : ℕ) (ms : List (List ℕ)) →
+    AreFree runs n (n + length ms) → conflict (pairs_of runs.entries kept) n ms ≡ None
+free_conflict runs kept are n ms free =
+    agrees_from (pairs_of runs.entries kept) n ms (λ q m other new old.
+    let lies = message_bounds n ms q m new in
+    absurd (none-some other (sym (free_pairs runs kept are n (n + length ms) free q lies.0 lies.1) ∙ old)))
+
+-- memory alone is refused where nothing else is
+pub memory_told : (r : Result (Unit {0}) Reason) (o : Option Reason) → IfErr r (λ x. x ≡ Memory) → o ≡ None →
+    IfErr r (λ x. o ≡ told x)
+memory_told (Ok u) o memory none = tt
+memory_told (Err x) o memory none = none ∙ sym (ap told memory)
+
+pub always_ok : {E : Type 0} (r : Result (Unit {0}) E) (P : Type 0) → P → OnOk r P
+always_ok (Ok u) P holds = holds
+always_ok (Err x) P holds = tt

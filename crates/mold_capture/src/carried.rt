@@ -63,18 +63,12 @@ impl Carried {
     {
         let top = first + u64::from(blocks.len());
         if is_free(&self.runs, first, top) {
-            return match add_all(&mut self.runs, &mut self.kept, first, blocks) {
-                Ok(()) => Ok(()),
-                Err(_) => Err(Reason::Memory),
-            };
+            return add_all(&mut self.runs, &mut self.kept, first, blocks);
         }
         match compare(&self.runs, &self.kept, first, blocks) {
             Err(number) => Err(Reason::Conflict { number }),
             Ok(true) => Ok(()),
-            Ok(false) => match add_each(&mut self.runs, &mut self.kept, first, blocks) {
-                Ok(()) => Ok(()),
-                Err(_) => Err(Reason::Memory),
-            },
+            Ok(false) => add_each(&mut self.runs, &mut self.kept, first, blocks),
         }
     }
 }

@@ -1,9 +1,11 @@
 //! New messages join those that were carried.
 
-ghost use Rattle.std.specs.Prelude.{◌≡◌, ◌+◌, ◌<◌, ◌≤◌, ◌^◌, ◌++◌, ◌∷◌, [], length, take, OnOk, OnErr};
+ghost use Rattle.std.specs.Prelude.{◌≡◌, ◌+◌, ◌<◌, ◌≤◌, ◌^◌, ◌++◌, ◌∷◌, [], length, take, IfErr, OnOk, OnErr};
 ghost use Rattle.mold_capture.specs.Runs.{AreFree, AreRuns, IsSince, Runs, carried};
 ghost use Rattle.mold_capture.specs.Seen.{pairs_with};
+ghost use Rattle.mold_capture.specs.declared.reason.Reason.TheVariants.{Memory};
 
+use crate::reason::Reason;
 use crate::run::{Run, grown_run, put_run, run_at, take_back};
 use mold_messages::MessageList;
 use mold_wire::Blocks;
@@ -33,23 +35,26 @@ pub(crate) fn add_all(
     kept: &mut MessageList,
     first: u64,
     blocks: &Blocks<'_>,
-) -> Result<(), AllocError>
+) -> Result<(), Reason>
     requires are { AreRuns runs.old (length kept.old.messages) }
     requires few { first + length blocks.now < 2 ^ 64 }
     requires free { AreFree runs.old first (first + length blocks.now) }
     ensures are { AreRuns runs.new (length kept.new.messages) }
     ensures ok { OnOk result (carried runs.new kept.new ≡ pairs_with (carried runs.old kept.old) first blocks.now) }
     ensures err { OnErr result (carried runs.new kept.new ≡ carried runs.old kept.old) }
+    ensures memory { IfErr result (λ reason. reason ≡ Memory) }
 {
     let start = kept.len();
     let count = u64::from(blocks.len());
-    keep_all(kept, blocks)?;
+    if let Err(_) = keep_all(kept, blocks) {
+        return Err(Reason::Memory);
+    }
     let _len = kept.len();
     match put_run(runs, first, Run { start, count }) {
         Ok(()) => Ok(()),
-        Err(error) => {
+        Err(_) => {
             kept.truncate(start);
-            Err(error)
+            Err(Reason::Memory)
         }
     }
 }
@@ -118,20 +123,21 @@ pub(crate) fn add_each(
     kept: &mut MessageList,
     first: u64,
     blocks: &Blocks<'_>,
-) -> Result<(), AllocError>
+) -> Result<(), Reason>
     requires are { AreRuns runs.old (length kept.old.messages) }
     requires few { first + length blocks.now < 2 ^ 64 }
     ensures are { AreRuns runs.new (length kept.new.messages) }
     ensures ok { OnOk result (carried runs.new kept.new ≡ pairs_with (carried runs.old kept.old) first blocks.now) }
     ensures err { OnErr result (carried runs.new kept.new ≡ carried runs.old kept.old) }
+    ensures memory { IfErr result (λ reason. reason ≡ Memory) }
 {
     let since = kept.len();
     let mut number = first;
     for message in blocks.iter() {
-        if let Err(error) = add_new(runs, kept, since, number, message) {
+        if let Err(_) = add_new(runs, kept, since, number, message) {
             take_back(runs, since);
             kept.truncate(since);
-            return Err(error);
+            return Err(Reason::Memory);
         }
         number += 1;
     }

@@ -7,6 +7,7 @@ mod carried;
 mod compare;
 mod keep;
 mod reason;
+mod refusal;
 mod run;
 
 pub use reason::Reason;

@@ -22,7 +22,7 @@ growth c = record {
   some = c.len.ensures.range.0;
   few = c.requires.few;
   fits =
-      subst (λ (t : List (List ℕ)). length t < 2 ^ 64) c.in_ok-keep_all.ensures.ok
+      subst (λ (t : List (List ℕ)). length t < 2 ^ 64) c.in_default.ensures.ok
       (omega (arith, c.len-len.ensures, c.len-len.type_inv));
   free = c.requires.free;
   grown =
@@ -34,9 +34,9 @@ growth c = record {
 
 pub returns-in-Ok-clause-are : goal.returns-in-Ok-clause-are
 returns-in-Ok-clause-are c =
-    subst (λ (t : List (List ℕ)). AreRuns c.put_run.new.runs (length t)) (sym c.in_ok-keep_all.ensures.ok)
+    subst (λ (t : List (List ℕ)). AreRuns c.put_run.new.runs (length t)) (sym c.in_default.ensures.ok)
     (are_grown _ _ _ _ _ _ _ (growth c))
 
 pub returns-in-Ok-clause-ok : goal.returns-in-Ok-clause-ok
 returns-in-Ok-clause-ok c =
-    ap (pairs_of c.put_run.new.runs.entries) c.in_ok-keep_all.ensures.ok ∙ carried_grown _ _ _ _ _ _ _ (growth c)
+    ap (pairs_of c.put_run.new.runs.entries) c.in_default.ensures.ok ∙ carried_grown _ _ _ _ _ _ _ (growth c)
