@@ -1,9 +1,8 @@
 -- Which sessions may have said what was said, and what a packet behind it changes.
-use Rattle.std.proofs.Common.{◌≡◌, ℕ, zero, suc, ◌+◌, ◌-◌, ◌<◌, ◌≤◌, max, true, List, [], ◌∷◌, length, refl, sym, ap, subst}
+use Rattle.std.proofs.Common.{◌≡◌, ℕ, zero, suc, ◌+◌, ◌-◌, ◌<◌, ◌≤◌, true, List, [], ◌∷◌, length, refl, sym, ap, subst}
 use Rattle.std.proofs.Common.{◌∙◌, inl, inr, get_or, arith}
-use Rattle.std.specs.Prelude.{Option, None, Some, slice_get, unwrap_or}
+use Rattle.std.specs.Prelude.{Option, Some, slice_get, unwrap_or}
 use Rattle.std.specs.FinMap as finite
-use Rattle.std.specs.Option.{option_or}
 use Rattle.std.proofs.lemmas.Option.{none-some, same_Some}
 use Rattle.mold_wire.specs.Packet.{IsBody, messages_of, top_of}
 use Rattle.mold_wire.specs.Truth.{message_at, published_at, Carries, IsTrueBody, IsTrue}
@@ -12,7 +11,7 @@ use Rattle.mold_wire.specs.declared.packet.Body.{Body}
 use Rattle.mold_wire.specs.declared.packet.Body.TheVariants.{Data, Heartbeat, End}
 use Rattle.mold_wire.specs.declared.session.Session.{Session}
 use Rattle.mold_capture.specs.Seen.{Pairs, Seen, end_in, joined, IsSound}
-use Rattle.mold_capture.proofs.PairLemmas.{option_cases, option_or_cases, option_or_first, option_or_second, message_bounds, message_there, message_none, message_within, published_in, get-with}
+use Rattle.mold_capture.proofs.PairLemmas.{option_cases, option_or_cases, option_or_first, option_or_second, message_bounds, message_there, message_none, message_within, get-with}
 
 -- a session of this name and these messages may have said this
 pub record Allows (seen : Seen) (session : List ℕ) (P : List (List ℕ)) : Type 0 where
@@ -137,32 +136,30 @@ was_named seen packet session P may allows =
 
 was_said : (seen : Seen) (s : Session) (n : ℕ) (body : Body) (session : List ℕ) (P : List (List ℕ)) →
     MayJoin seen (made s n body) → Allows (joined seen (made s n body)) session P → IsTrueBody body n P true
-was_said seen s n (Data ms) session P may allows =
-    (
-      may.first,
-      λ q m is.
-          elim (option_cases (finite.get seen.pairs q)) [
-            | inl none ↦
-                allows.carried q m
-                (get-with seen.pairs n ms q ∙ option_or_second (finite.get seen.pairs q) (message_at n ms q) none ∙ is)
-            | inr found ↦
-                allows.carried q m
-                (get-with seen.pairs n ms q
-                ∙ option_or_first (finite.get seen.pairs q) (message_at n ms q) m
-                (found.1 ∙ ap (λ (x : List ℕ). Some x) (may.agrees q m found.0 is found.1)))
-          ],
-    )
-was_said seen s n Heartbeat session P may allows = (may.first, omega (arith, allows.known))
-was_said seen s n End session P may allows =
-    (
-      refl,
-      elim (option_cases seen.ended) [
-        | inl none ↦ allows.ended n (option_or_second seen.ended (Some n) none)
+was_said seen s n (Data ms) session P may allows = (
+  may.first,
+  λ q m is.
+      elim (option_cases (finite.get seen.pairs q)) [
+        | inl none ↦
+            allows.carried q m
+            (get-with seen.pairs n ms q ∙ option_or_second (finite.get seen.pairs q) (message_at n ms q) none ∙ is)
         | inr found ↦
-            may.same_end refl found.0 found.1
-            ∙ allows.ended found.0 (option_or_first seen.ended (Some n) found.0 found.1)
+            allows.carried q m
+            (get-with seen.pairs n ms q
+            ∙ option_or_first (finite.get seen.pairs q) (message_at n ms q) m
+            (found.1 ∙ ap (λ (x : List ℕ). Some x) (may.agrees q m found.0 is found.1)))
       ],
-    )
+)
+was_said seen s n Heartbeat session P may allows = (may.first, omega (arith, allows.known))
+was_said seen s n End session P may allows = (
+  refl,
+  elim (option_cases seen.ended) [
+    | inl none ↦ allows.ended n (option_or_second seen.ended (Some n) none)
+    | inr found ↦
+        may.same_end refl found.0 found.1
+        ∙ allows.ended found.0 (option_or_first seen.ended (Some n) found.0 found.1)
+  ],
+)
 
 -- a session that allows what was said with the packet has said the packet
 pub was_true : (seen : Seen) (packet : Packet) (session : List ℕ) (P : List (List ℕ)) → MayJoin seen packet →

@@ -1,7 +1,6 @@
 -- What was carried, when messages are kept or taken back.
-use Rattle.std.proofs.Common.{◌≡◌, ℕ, suc, ◌+◌, ◌<◌, ◌≤◌, List, [], ◌∷◌, ◌++◌, length, take, refl, sym, ap, subst, ◌∙◌, inl, inr, arith, true, false, Bor}
+use Rattle.std.proofs.Common.{◌≡◌, ℕ, suc, ◌+◌, List, [], ◌∷◌, length, refl, sym, ap, subst, ◌∙◌, inl, inr, arith, true, false, Bor}
 use Rattle.std.specs.Prelude.{Option, None, Some, is_some, Result, Ok, Err, IfErr, OnOk}
-use Rattle.std.specs.BTreeMap as tree
 use Rattle.std.specs.BTreeMap.{is_at}
 use Rattle.std.specs.FinMap as finite
 use Rattle.std.specs.List.Sorted.{IsStrictlySortedBy}
@@ -141,3 +140,8 @@ memory_told (Err x) o memory none = none ∙ sym (ap told memory)
 pub always_ok : {E : Type 0} (r : Result (Unit {0}) E) (P : Type 0) → P → OnOk r P
 always_ok (Ok u) P holds = holds
 always_ok (Err x) P holds = tt
+
+-- without runs nothing was carried
+pub none_carried : (kept : List (List ℕ)) → pairs_of [] kept ≡ finite.empty
+unfolding pairs_of
+none_carried kept = refl

@@ -6,3 +6,6 @@ pub mod SumLemmas
 pub mod RunLemmas
 pub mod GrowLemmas
 pub mod KeepLemmas
+pub mod GapLemmas
+pub mod CheckerLemmas
+pub mod CheckLemmas

@@ -1,7 +1,7 @@
 -- What has been said by datagrams, one after the other.
-use Rattle.std.proofs.Common.{◌≡◌, ℕ, zero, suc, ◌+◌, ◌<◌, ◌≤◌, max, eqb, List, [], ◌∷◌, ◌++◌, length, refl, sym, ap, subst}
-use Rattle.std.proofs.Common.{◌∙◌, inl, inr, ◌⊎◌, get_or, arith, append_assoc}
-use Rattle.std.specs.Prelude.{Option, None, Some, Result, Ok, Err, slice_get}
+use Rattle.std.proofs.Common.{◌≡◌, ℕ, zero, suc, max, eqb, List, [], ◌∷◌, ◌++◌, refl, sym, ap, subst}
+use Rattle.std.proofs.Common.{◌∙◌, inl, inr, ◌⊎◌, arith}
+use Rattle.std.specs.Prelude.{Option, None, Some, Result, Ok, Err}
 use Rattle.std.specs.List.{All, Contains, flat_map}
 use Rattle.std.specs.Map.{lookup}
 use Rattle.std.specs.FinMap as finite
@@ -9,16 +9,16 @@ use Rattle.std.specs.Option.{option_or}
 use Rattle.std.proofs.lemmas.Grind.{flat_map-append}
 use Rattle.std.proofs.lemmas.List.{append-nil}
 use Rattle.std.proofs.lemmas.List.Elements.{All-head, All-tail}
-use Rattle.std.proofs.lemmas.Option.{none-some, same_Some}
+use Rattle.std.proofs.lemmas.Option.{none-some}
 use Rattle.mold_wire.specs.Packet.{Spells, messages_of, top_of}
 use Rattle.mold_wire.specs.Reading.{reading}
 use Rattle.mold_wire.specs.Truth.{message_at, Carries}
 use Rattle.mold_wire.specs.declared.packet.Packet.{Packet}
 use Rattle.mold_wire.specs.declared.packet.Body.{Body}
-use Rattle.mold_wire.specs.declared.packet.Body.TheVariants.{Data, Heartbeat, End}
+use Rattle.mold_wire.specs.declared.packet.Body.TheVariants.{End}
 use Rattle.mold_wire.specs.declared.error.DecodeError.{DecodeError}
 use Rattle.mold_capture.specs.Consistent.{IsSaidBy, IsCarried, HasEnd}
-use Rattle.mold_capture.specs.Seen.{Pairs, Seen, read_before, packets_of, session_of, known_of, end_in, end_of, pairs_in, seen_in, seen_of, joined, pairs_with}
+use Rattle.mold_capture.specs.Seen.{read_before, packets_of, session_of, known_of, end_in, end_of, pairs_in, seen_in, seen_of, joined, pairs_with}
 use Rattle.mold_capture.proofs.PairLemmas.{option_cases, option_or_cases, option_or_first, option_or_second, lookup-numbered, lookup-append, get_made, get-with, same_pairs}
 use Rattle.mold_capture.proofs.JoinLemmas.{end_is}
 
@@ -88,7 +88,6 @@ seen-push list bytes v is =
       ended = end-push vs v i;
       pairs = pairs-push vs v i;
     })
-
 
 -- what every lemma here takes of the codec: what is spelled is read
 abbrev pub ReadsBack : Type 0
@@ -165,12 +164,11 @@ carried_get reads session P (first ∷ list) each q m bytes packet member spelle
     let at = get-first first list v (reads v first said.spelled) q in
     elim (member_cases first bytes list member) [
       | inl same ↦
-          let one : v ≡ packet = one_packet reads v packet bytes (subst (λ (b : List ℕ). Spells v b) same said.spelled) spelled in
-          (
+          let one : v ≡ packet = one_packet reads v packet bytes (subst (λ (b : List ℕ). Spells v b) same said.spelled) spelled in (
             m,
             at
-            ∙ option_or_first (message_at v.sequence (messages_of v.body) q) (finite.get (seen_of list).pairs q) m
-            (ap (λ (u : Packet). message_at u.sequence (messages_of u.body) q) one ∙ carried),
+                ∙ option_or_first (message_at v.sequence (messages_of v.body) q) (finite.get (seen_of list).pairs q) m
+                (ap (λ (u : Packet). message_at u.sequence (messages_of u.body) q) one ∙ carried),
           )
       | inr later ↦
           let found = carried_get reads session P list (All-tail (IsSaidBy session P) first list each) q m bytes packet later spelled carried in

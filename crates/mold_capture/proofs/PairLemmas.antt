@@ -1,6 +1,6 @@
 -- Messages by their numbers.
-use Rattle.std.proofs.Common.{◌≡◌, ℕ, zero, suc, ◌+◌, ◌-◌, ◌<◌, ◌≤◌, Bool, cond, eqb, leb, List, [], ◌∷◌, ◌++◌, length}
-use Rattle.std.proofs.Common.{refl, sym, ap, subst, ◌∙◌, inl, inr, ◌⊎◌, get_or, arith}
+use Rattle.std.proofs.Common.{◌≡◌, ℕ, zero, suc, ◌+◌, ◌-◌, ◌<◌, ◌≤◌, Bool, cond, eqb, List, [], ◌∷◌, ◌++◌, length}
+use Rattle.std.proofs.Common.{refl, sym, ap, ◌∙◌, inl, inr, ◌⊎◌, get_or, arith}
 use Rattle.std.specs.Prelude.{Option, None, Some, slice_get}
 use Rattle.std.specs.Cmp.{unsigned_tied, nat_cmp_total}
 use Rattle.std.specs.Map.{lookup}
@@ -56,7 +56,7 @@ message_there n ms q low high =
 
 pub message_none : (n q : ℕ) → message_at n [] q ≡ None
 message_none n q =
-    elim (cases_lt q n) [ | inl below ↦ message_below n [] q below | inr low ↦ message_past n [] q (omega arith) ]
+    elim (cases_lt q n) [ inl below ↦ message_below n [] q below | inr low ↦ message_past n [] q (omega arith) ]
 
 pub message_first : (n : ℕ) (m : List ℕ) (ms : List (List ℕ)) (q : ℕ) → q ≡ n → message_at n (m ∷ ms) q ≡ Some m
 message_first n m ms q same =

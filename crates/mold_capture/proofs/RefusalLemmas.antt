@@ -1,7 +1,7 @@
 -- Nothing is refused exactly where nothing speaks against the packet.
-use Rattle.std.proofs.Common.{◌≡◌, ℕ, suc, ◌+◌, ◌<◌, ◌≤◌, Bool, true, false, eqb, ltb, List, [], ◌∷◌, length, refl, sym, ap, subst}
+use Rattle.std.proofs.Common.{◌≡◌, ℕ, suc, ◌≤◌, Bool, true, false, eqb, List, [], ◌∷◌, refl, sym, ap}
 use Rattle.std.proofs.Common.{◌∙◌, inl, inr, arith}
-use Rattle.std.specs.Prelude.{Option, None, Some, not}
+use Rattle.std.specs.Prelude.{Option, None, Some}
 use Rattle.std.specs.FinMap as finite
 use Rattle.std.specs.Str.{bytes_eq}
 use Rattle.std.proofs.lemmas.Bool.{cases_Bool, cases_lt, cases_order, cond-true, cond-false, not-false, not_from_true}
@@ -15,7 +15,7 @@ use Rattle.mold_wire.specs.declared.packet.Body.{Body}
 use Rattle.mold_wire.specs.declared.packet.Body.TheVariants.{Data, Heartbeat, End}
 use Rattle.mold_capture.specs.declared.reason.Reason.{Reason}
 use Rattle.mold_capture.specs.Seen.{Pairs, Seen}
-use Rattle.mold_capture.specs.Refusal.{refuse_if, wrong_session, sequence_zero, past_last, end_conflict, end_below, past_end, differs, conflict, refusals, first_some}
+use Rattle.mold_capture.specs.Refusal.{refuse_if, wrong_session, end_conflict, end_below, past_end, differs, conflict, refusals, first_some}
 use Rattle.mold_capture.proofs.PairLemmas.{message_first, message_next, message_bounds}
 use Rattle.mold_capture.proofs.JoinLemmas.{MayJoin}
 
@@ -127,7 +127,7 @@ agrees_from pairs n (x ∷ ms) agrees =
     agrees q m other (message_next n x ms q (omega (arith, bounds.0)) ∙ carried) is)
 
 from_one : (n : ℕ) → (n ≡ 0 → ⊥) → 1 ≤ n
-from_one n some = elim (cases_lt 0 n) [ | inl above ↦ above | inr none ↦ absurd (some (omega arith)) ]
+from_one n some = elim (cases_lt 0 n) [ inl above ↦ above | inr none ↦ absurd (some (omega arith)) ]
 
 -- nothing is refused: nothing speaks against the packet
 pub joins_from : (seen : Seen) (packet : Packet) → first_some (refusals seen packet) ≡ None → MayJoin seen packet

@@ -1,25 +1,25 @@
 -- Runs and the messages that they stand for.
-use Rattle.std.proofs.Common.{◌≡◌, ℕ, zero, suc, ◌+◌, ◌-◌, ◌<◌, ◌≤◌, ◌⊎◌, Bool, true, false, cond, eqb, ltb, List, [], ◌∷◌, ◌++◌, length}
+use Rattle.std.proofs.Common.{◌≡◌, ℕ, zero, suc, ◌+◌, ◌-◌, ◌<◌, ◌≤◌, Bool, true, false, cond, eqb, ltb, List, [], ◌∷◌, length}
 use Rattle.std.proofs.Common.{take, drop, get_or, refl, sym, ap, subst, ◌∙◌, inl, inr, arith}
 use Rattle.std.specs.Prelude.{Option, None, Some, IfSome, is_some, slice_get}
 use Rattle.std.specs.BTreeMap as tree
-use Rattle.std.specs.BTreeMap.{BTreeMap, is_at}
+use Rattle.std.specs.BTreeMap.{is_at}
 use Rattle.std.specs.Cmp.{nat_cmp_is, nat_cmp_total, unsigned_tied}
 use Rattle.std.specs.FinMap as finite
-use Rattle.std.specs.List.{All, filter, flat_map}
+use Rattle.std.specs.List.{All, filter}
 use Rattle.std.specs.Map.{lookup}
 use Rattle.std.specs.Option.{option_or}
 use Rattle.std.specs.Ordering.{nat_cmp, is_gt}
 use Rattle.std.specs.declared.cmp.Ordering.TheVariants.{Less, Equal}
 use Rattle.std.proofs.lemmas.Bool.{true≢false, cases_order, cases_Bool, cases_eq, cond-true, cond-false, eq-eqb, ne_eqb, ltb-true, lt-ltb}
-use Rattle.std.proofs.lemmas.List.{length-take, length-drop}
+use Rattle.std.proofs.lemmas.List.{length-take}
 use Rattle.std.proofs.lemmas.List.Elements.{All-nil, All-cons, All-head, All-tail}
 use Rattle.std.proofs.lemmas.Map.Views.{All-found}
 use Rattle.std.proofs.lemmas.Option.{none-some, same_Some, slice_get-get_or}
 use Rattle.mold_wire.specs.Truth.{message_at}
 use Rattle.mold_capture.specs.declared.run.Run.{Run}
-use Rattle.mold_capture.specs.Runs.{Runs, messages_in, run_pairs, pairs_of, HasRun, AreRuns, Covers, AreFree, IsGrown, IsSince}
-use Rattle.mold_capture.specs.Seen.{Pairs, numbered}
+use Rattle.mold_capture.specs.Runs.{Runs, messages_in, run_pairs, pairs_of, HasRun, AreRuns, Covers}
+use Rattle.mold_capture.specs.Seen.{numbered}
 use Rattle.mold_capture.proofs.PairLemmas.{option_cases, option_or_cases, option_or_first, option_or_second, lookup-numbered, lookup-append, get_made, message_below, message_within, message_past, message_bounds}
 
 pub le-gt : (a b : ℕ) → a ≤ b → is_gt (nat_cmp a b) ≡ false
@@ -30,7 +30,7 @@ le-gt a b low =
       | inr (inr above) ↦ absurd (omega arith)
     ]
 
-lookup_at : {X : Type 0} (q : ℕ) (es : List (ℕ × X)) → lookup (is_at (nat_cmp q)) es ≡ lookup (eqb q) es
+pub lookup_at : {X : Type 0} (q : ℕ) (es : List (ℕ × X)) → lookup (is_at (nat_cmp q)) es ≡ lookup (eqb q) es
 lookup_at q [] = refl
 lookup_at q (e ∷ es) =
     ap (λ (b : Bool). cond b (Some e.1) (lookup (is_at (nat_cmp q)) es)) (unsigned_tied q e.0)
@@ -147,7 +147,7 @@ pairs_at runs kept are q m at =
     ∙ entries_at runs kept are q m at.first at.run at.there at.covers at.is runs.entries
     (All-found nat_cmp_total runs are.ordered) (sym (lookup_at at.first runs.entries) ∙ at.there)
 
-lookup_all : (P : ℕ × Run → Type 0) (q : ℕ) (run : Run) (es : List (ℕ × Run)) → All P es →
+pub lookup_all : (P : ℕ × Run → Type 0) (q : ℕ) (run : Run) (es : List (ℕ × Run)) → All P es →
     lookup (eqb q) es ≡ Some run → P (q, run)
 lookup_all P q run [] all is = absurd (none-some run is)
 lookup_all P q run (e ∷ es) all is =

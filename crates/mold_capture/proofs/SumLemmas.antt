@@ -1,28 +1,25 @@
 -- What was said by a list of datagrams sums it up: it is what the sessions that explain the list have in common.
-use Rattle.std.proofs.Common.{◌≡◌, ℕ, zero, suc, ◌+◌, ◌-◌, ◌<◌, ◌≤◌, true, List, [], ◌∷◌, ◌++◌, length, refl, sym, ap, subst}
-use Rattle.std.proofs.Common.{◌∙◌, inl, inr, take, arith, append_assoc}
-use Rattle.std.specs.Prelude.{Option, None, Some, Ok, Err, Result}
+use Rattle.std.proofs.Common.{◌≡◌, ℕ, suc, ◌+◌, ◌-◌, true, List, [], ◌∷◌, ◌++◌, length, refl, sym, ap, subst}
+use Rattle.std.proofs.Common.{◌∙◌, inl, inr, arith, append_assoc}
+use Rattle.std.specs.Prelude.{None, Some, Ok, Err}
 use Rattle.std.specs.List.{All}
 use Rattle.std.specs.FinMap as finite
 use Rattle.std.specs.Ordering.{nat_cmp}
 use Rattle.std.proofs.Math.Seq.{take-append_seam}
 use Rattle.std.proofs.lemmas.List.{append-nil, same_lists}
 use Rattle.std.proofs.lemmas.List.Elements.{All-nil, All-push, All-pop, All-take, All-contains}
-use Rattle.std.proofs.lemmas.Option.{none-some, same_Some, slice_get-get_or, get_or_from_slice_get}
-use Rattle.mold_wire.specs.Block.{IsBytes}
+use Rattle.std.proofs.lemmas.Option.{none-some, same_Some, get_or_from_slice_get}
 use Rattle.mold_wire.specs.Packet.{Spells}
 use Rattle.mold_wire.specs.Reading.{reading}
 use Rattle.mold_wire.specs.Truth.{published_at, Carries, IsTrueBody}
 use Rattle.mold_wire.specs.declared.packet.Packet.{Packet}
 use Rattle.mold_wire.specs.declared.packet.Body.{Body}
-use Rattle.mold_wire.specs.declared.packet.Body.TheVariants.{End}
-use Rattle.mold_capture.specs.declared.reason.Reason.{Reason}
 use Rattle.mold_capture.specs.Consistent.{IsSaidBy, Explains, Consistent, IsCarried, HasEnd, Whole}
 use Rattle.mold_capture.specs.Seen.{Seen, seen_of, joined, joined_read, after, IsSound}
-use Rattle.mold_capture.specs.Refusal.{first_some, refusals, refusal, refusal_read, reason}
+use Rattle.mold_capture.specs.Refusal.{refusal_read, reason}
 use Rattle.mold_capture.specs.Verdict.{IsWholeSeen}
 use Rattle.mold_capture.proofs.PairLemmas.{option_or_cases, published_in}
-use Rattle.mold_capture.proofs.JoinLemmas.{Allows, MayJoin, may_join, still_allowed, was_allowed, was_named, was_true, still_sound, true_carried, filled, length-filled, filled_published, some_allowed}
+use Rattle.mold_capture.proofs.JoinLemmas.{Allows, MayJoin, may_join, still_allowed, was_allowed, was_named, was_true, still_sound, true_carried, filled, some_allowed}
 use Rattle.mold_capture.proofs.RefusalLemmas.{joins_from, joins_to}
 use Rattle.mold_capture.proofs.ListLemmas.{ReadsBack, one_packet, seen-push, get_carried, carried_get, end_told, end_found}
 

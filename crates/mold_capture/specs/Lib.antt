@@ -2,4 +2,5 @@ pub mod Consistent
 pub mod Seen
 pub mod Refusal
 pub mod Verdict
+pub mod Check
 pub mod Runs

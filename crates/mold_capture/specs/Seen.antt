@@ -3,13 +3,14 @@ use Rattle.std.specs.Prelude.{◌≡◌, ℕ, suc, ◌<◌, ◌≤◌, max, List
 use Rattle.std.specs.List.{flat_map}
 use Rattle.std.specs.Coded.{Coded, code_by, coded×, coded_list, coded_ℕ, coded_option}
 use Rattle.std.specs.FinMap as finite
-use Rattle.std.specs.Option.{option_or}
+use Rattle.std.specs.Option.{option_map, option_or}
 use Rattle.std.specs.Ordering.{nat_cmp}
 use Rattle.mold_wire.specs.Packet.{messages_of, top_of}
 use Rattle.mold_wire.specs.Reading.{reading}
 use Rattle.mold_wire.specs.declared.packet.Packet.{Packet}
 use Rattle.mold_wire.specs.declared.packet.Body.{Body}
 use Rattle.mold_wire.specs.declared.packet.Body.TheVariants.{Data, Heartbeat, End}
+use Rattle.mold_wire.specs.declared.session.Session.{Session}
 use Rattle.mold_wire.specs.declared.error.DecodeError.{DecodeError}
 
 -- messages by number
@@ -116,3 +117,8 @@ pub record IsSound (seen : Seen) : Type 0 where
   pub ended : (number : ℕ) → seen.ended ≡ Some number → number ≡ seen.known
   pub carried : (number : ℕ) (message : List ℕ) → finite.get seen.pairs number ≡ Some message →
       (1 ≤ number) × (number < seen.known)
+
+-- what was said, by the parts that a checker holds
+abbrev pub seen_by : Option Session → ℕ → Option ℕ → Pairs → Seen
+seen_by session known ended pairs =
+    record { session = option_map (λ s. s.0) session; known = known; ended = ended; pairs = pairs }

@@ -1,18 +1,23 @@
 //! The messages that were carried.
 
-ghost use Rattle.std.specs.Prelude.{◌≡◌, ◌+◌, ◌<◌, ◌^◌, length, None, IfOk, IfErr, OnOk, OnErr};
+ghost use Rattle.std.specs.Prelude.{◌≡◌, ◌+◌, ◌-◌, ◌<◌, ◌≤◌, ◌^◌, length, List, ℕ, None, Some, IfOk, IfErr, OnOk, OnErr};
 ghost use Rattle.std.specs.FinMap as finite;
 ghost use Rattle.std.specs.Ordering.{nat_cmp};
+ghost use Rattle.mold_ranges.specs.Ranges as lacking;
 ghost use Rattle.mold_capture.specs.Refusal.{conflict, told};
 ghost use Rattle.mold_capture.specs.Seen.{pairs_with};
+ghost use Rattle.mold_capture.specs.Verdict.{lacks, ranges_of};
 
 use crate::compare::compare;
 use crate::keep::{add_all, add_each};
+use crate::missing::find_gaps;
 use crate::reason::Reason;
 use crate::run::{Run, is_free};
+use crate::verdict::Range;
 use mold_messages::MessageList;
+use mold_ranges::laws::ranges_walk_law;
 use mold_wire::Blocks;
-use std::alloc::Global;
+use std::alloc::{AllocError, Global};
 use std::collections::BTreeMap;
 use std::marker::Model;
 
@@ -70,5 +75,16 @@ impl Carried {
             Ok(true) => Ok(()),
             Ok(false) => add_each(&mut self.runs, &mut self.kept, first, blocks),
         }
+    }
+
+    /// The longest ranges of the numbers from 1 to below `known` that have no message, ascending. It walks what
+    /// is there and not the numbers between. An error comes where a growth is refused.
+    pub(crate) fn missing(&self, alloc: Global, known: u64) -> Result<Vec<Range>, AllocError>
+        requires some { 1 ≤ known }
+        requires within { (number : ℕ) (message : List ℕ) → finite.get self.now number ≡ Some message → (1 ≤ number) × (number < known) }
+        ensures { IfOk result (λ missing. ranges_of missing.items ≡ lacking.ranges (lacks self.now) 1 (known - 1)) }
+    {
+        ranges_walk_law();
+        find_gaps(alloc, &self.runs, known)
     }
 }

@@ -2,12 +2,19 @@
 //! or what contradicts what.
 #![tactic(auto)]
 
-pub mod laws;
 mod carried;
+mod checker;
+mod checking;
 mod compare;
 mod keep;
+pub mod laws;
+mod missing;
 mod reason;
 mod refusal;
 mod run;
+mod verdict;
 
-pub use reason::Reason;
+pub use checker::Checker;
+pub use checking::check;
+pub use reason::{Memory, Reason};
+pub use verdict::{Range, Verdict};

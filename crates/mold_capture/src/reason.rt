@@ -35,3 +35,8 @@ pub enum Reason {
     #[error("out of memory")]
     Memory,
 }
+
+/// The memory for a verdict was refused.
+#[derive(Clone, Copy, Debug, PartialEq, Eq, Error)]
+#[error("out of memory")]
+pub struct Memory;

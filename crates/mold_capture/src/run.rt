@@ -118,11 +118,7 @@ fn joins(first: u64, run: Run, place: usize, number: u64) -> bool
 
 /// Puts a run in, or in place of the one that begins with the same message. An error comes where a growth is
 /// refused.
-pub(crate) fn put_run(
-    runs: &mut BTreeMap<u64, Run>,
-    first: u64,
-    run: Run,
-) -> Result<(), AllocError>
+pub(crate) fn put_run(runs: &mut BTreeMap<u64, Run>, first: u64, run: Run) -> Result<(), AllocError>
     ensures put { OnOk result (IsPut runs.old first run runs.new) }
     ensures ordered { tree.IsOrdered nat_cmp runs.new }
     ensures same { OnErr result (runs.new.entries ≡ runs.old.entries) }

@@ -1,5 +1,4 @@
-use Rattle.std.proofs.Common.{◌≡◌, ℕ, ◌+◌, List, length, not, refl, sym, ap, ◌∙◌, arith}
-use Rattle.std.specs.FinMap as finite
+use Rattle.std.proofs.Common.{ℕ, ◌+◌, List, length, not, refl, sym, ap, ◌∙◌, arith}
 use Rattle.std.proofs.lemmas.Bool.{or_parts, not-true}
 use Rattle.mold_capture.specs.Refusal.{conflict, differs}
 use Rattle.mold_capture.specs.Runs.{carried}

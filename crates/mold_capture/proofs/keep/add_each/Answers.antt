@@ -1,9 +1,9 @@
-use Rattle.std.proofs.Common.{◌≡◌, ℕ, ◌+◌, List, [], ◌∷◌, length, take, refl, sym, ap, subst, ◌∙◌, arith}
+use Rattle.std.proofs.Common.{ℕ, ◌+◌, List, length, refl, sym, ap, subst, ◌∙◌, arith}
 use Rattle.mold_messages.specs.Listed.{Listed}
 use Rattle.mold_capture.specs.Runs.{AreRuns, carried}
 use Rattle.mold_capture.specs.Seen.{Pairs, pairs_with}
 use Rattle.mold_capture.proofs.GrowLemmas.{back_is}
-use Rattle.mold_capture.proofs.KeepLemmas.{are_same, same_carried, with_none, with_next}
+use Rattle.mold_capture.proofs.KeepLemmas.{same_carried, with_none, with_next}
 use Rattle.mold_capture.proofs.keep.add_each.Goals as goal
 
 pub returns-in-Err-clause-err : goal.returns-in-Err-clause-err

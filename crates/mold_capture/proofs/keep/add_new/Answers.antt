@@ -1,4 +1,4 @@
-use Rattle.std.proofs.Common.{◌≡◌, ℕ, [], ◌∷◌, sym, ap, ◌∙◌, arith}
+use Rattle.std.proofs.Common.{◌≡◌, [], ◌∷◌, sym, ap, ◌∙◌, arith}
 use Rattle.mold_capture.specs.Runs.{carried}
 use Rattle.mold_capture.proofs.KeepLemmas.{with_carried}
 use Rattle.mold_capture.proofs.PairLemmas.{message_bounds}

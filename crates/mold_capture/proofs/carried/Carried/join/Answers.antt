@@ -1,4 +1,4 @@
-use Rattle.std.proofs.Common.{◌≡◌, ◌+◌, length, None, ap, subst, sym, ◌∙◌, arith}
+use Rattle.std.proofs.Common.{◌≡◌, ◌+◌, length, None, subst, arith}
 use Rattle.mold_capture.specs.Refusal.{conflict}
 use Rattle.mold_capture.specs.Runs.{AreFree}
 use Rattle.mold_capture.specs.Seen.{Pairs}
