@@ -1,0 +1,108 @@
+-- What a check of a list answers.
+use Rattle.std.proofs.Common.{◌≡◌, ℕ, ◌+◌, ◌<◌, ◌≤◌, List, [], ◌∷◌, ◌++◌, length, take, get_or, refl, sym, ap, subst, ◌∙◌, arith}
+use Rattle.std.proofs.Common.{Bor, map, zero, suc}
+use Rattle.std.proofs.lemmas.List.{take_more, take_all}
+use Rattle.std.specs.Prelude.{None, Some}
+use Rattle.std.proofs.lemmas.Option.{none-some}
+use Rattle.mold_wire.specs.Packet.{Spells}
+use Rattle.mold_wire.specs.declared.packet.Packet.{Packet}
+use Rattle.mold_capture.specs.declared.reason.Reason.{Reason}
+use Rattle.mold_capture.specs.declared.reason.Reason.TheVariants.{Malformed, WrongSession, SequenceZero, PastLast, EndConflict, EndBelow, PastEnd, Conflict, Memory}
+use Rattle.mold_capture.specs.declared.verdict.Verdict.{Verdict}
+use Rattle.mold_capture.specs.declared.verdict.Verdict.TheVariants.{Whole as IsWhole, Incomplete}
+use Rattle.mold_capture.specs.Check.{IsRefusedAt}
+use Rattle.mold_capture.specs.Consistent.{Consistent}
+use Rattle.mold_capture.specs.Refusal.{reason, refusal, told}
+use Rattle.mold_capture.specs.Seen.{Seen, after, seen_of}
+use Rattle.mold_capture.specs.Verdict.{IsVerdict, IsVerdictOn}
+use Rattle.mold_capture.proofs.ListLemmas.{ReadsBack}
+use Rattle.mold_capture.proofs.SumLemmas.{none_consistent, accepted, not_refused, after_more, heard_whole, whole_heard}
+
+-- one datagram more
+front_more : (list : List (List ℕ)) (i : ℕ) (bytes : List ℕ) → i < length list → get_or list i [] ≡ bytes →
+    take (i + 1) list ≡ take i list ++ bytes ∷ []
+front_more list i bytes within at =
+    take_more list i [] within ∙ ap (λ (b : List ℕ). take i list ++ b ∷ []) at
+
+-- what holds where a datagram is refused for a reason
+refused_for : ReadsBack → (list : List (List ℕ)) (i : ℕ) (bytes : List ℕ) (why : Reason) → i < length list →
+    get_or list i [] ≡ bytes → Consistent (take i list) → reason (take i list) bytes ≡ Some why
+    → (i < length list) × Consistent (take i list) × (Consistent (take (i + 1) list) → ⊥)
+    × (reason (take i list) (get_or list i []) ≡ Some why)
+refused_for reads list i bytes why within at consistent is = (
+  within,
+  consistent,
+  λ more.
+      none-some why
+      (sym (not_refused reads (take i list) bytes (subst Consistent (front_more list i bytes within at) more)) ∙ is),
+  ap (reason (take i list)) at ∙ is,
+)
+
+refused_at : ReadsBack → (list : List (List ℕ)) (i : ℕ) (bytes : List ℕ) → i < length list → get_or list i [] ≡ bytes →
+    Consistent (take i list) → (why : Reason) → reason (take i list) bytes ≡ told why → IsRefusedAt i why list
+refused_at reads list i bytes within at consistent Memory is = (omega arith, consistent)
+refused_at reads list i bytes within at consistent (Malformed e) is = refused_for reads list i bytes _ within at consistent is
+refused_at reads list i bytes within at consistent WrongSession is = refused_for reads list i bytes _ within at consistent is
+refused_at reads list i bytes within at consistent SequenceZero is = refused_for reads list i bytes _ within at consistent is
+refused_at reads list i bytes within at consistent PastLast is = refused_for reads list i bytes _ within at consistent is
+refused_at reads list i bytes within at consistent (EndConflict e) is = refused_for reads list i bytes _ within at consistent is
+refused_at reads list i bytes within at consistent (EndBelow k) is = refused_for reads list i bytes _ within at consistent is
+refused_at reads list i bytes within at consistent (PastEnd e) is = refused_for reads list i bytes _ within at consistent is
+refused_at reads list i bytes within at consistent (Conflict n) is = refused_for reads list i bytes _ within at consistent is
+
+-- the datagrams so far are consistent, and what they have said is known
+pub record HasChecked (list : List (List ℕ)) (i : ℕ) (seen : Seen) : Type 0 where
+  pub consistent : Consistent (take i list)
+  pub said : seen ≡ seen_of (take i list)
+
+pub checked_refused : ReadsBack → (list : List (List ℕ)) (i : ℕ) (bytes : List ℕ) (seen : Seen) (why : Reason) →
+    HasChecked list i seen → i < length list → refusal seen bytes ≡ told why → get_or list i [] ≡ bytes
+    → IsRefusedAt i why list
+checked_refused reads list i bytes seen why checked within is at =
+    refused_at reads list i bytes within at checked.consistent why
+    (ap (λ (s : Seen). refusal s bytes) (sym checked.said) ∙ is)
+
+pub checked_more : ReadsBack → (list : List (List ℕ)) (i : ℕ) (bytes : List ℕ) (seen now : Seen) (v : Packet) →
+    HasChecked list i seen → i < length list → now ≡ after seen bytes → get_or list i [] ≡ bytes → Spells v bytes
+    → refusal seen bytes ≡ None → HasChecked list (i + 1) now
+checked_more reads list i bytes seen now v checked within is at spelled none =
+    let nothing = ap (λ (s : Seen). refusal s bytes) (sym checked.said) ∙ none in
+    let more = accepted reads (take i list) bytes v checked.consistent spelled nothing in
+    let front = front_more list i bytes within at in
+    record {
+      consistent = subst Consistent (sym front) more;
+      said =
+          is ∙ ap (λ (s : Seen). after s bytes) checked.said
+          ∙ sym (after_more reads (take i list) bytes more)
+          ∙ ap seen_of (sym front);
+    }
+
+pub verdict_on : ReadsBack → (list : List (List ℕ)) → Consistent list → (v : Verdict) → IsVerdict v (seen_of list) →
+    IsVerdictOn v list
+verdict_on reads list consistent (IsWhole messages) is = heard_whole reads list consistent messages is
+verdict_on reads list consistent (Incomplete missing end) is =
+    (consistent, is.0, is.1, λ P whole. is.2 (length P + 1) (whole_heard reads list P whole))
+
+-- the datagrams that are borrowed
+abbrev pub bytes_of : List (Bor (List ℕ)) → List (List ℕ)
+bytes_of list = map (λ b. b.now) list
+
+pub length-bytes_of : (list : List (Bor (List ℕ))) → length (bytes_of list) ≡ length list
+length-bytes_of [] = refl
+length-bytes_of (b ∷ list) = ap suc (length-bytes_of list)
+
+pub bytes_at : (list : List (Bor (List ℕ))) (i : ℕ) (d : Bor (List ℕ)) → i < length list →
+    get_or (bytes_of list) i [] ≡ (get_or list i d).now
+bytes_at [] i d within = absurd (omega arith)
+bytes_at (b ∷ list) zero d within = refl
+bytes_at (b ∷ list) (suc i) d within = bytes_at list i d (omega arith)
+
+pub none_checked : (list : List (List ℕ)) (seen : Seen) → seen ≡ seen_of [] → HasChecked list 0 seen
+none_checked list seen is = record { consistent = none_consistent; said = is }
+
+-- all datagrams
+pub all_checked : (list : List (List ℕ)) (i : ℕ) (seen : Seen) → length list ≤ i → HasChecked list i seen →
+    Consistent list × (seen ≡ seen_of list)
+all_checked list i seen all checked =
+    let whole = take_all i list all in
+    (subst Consistent whole checked.consistent, checked.said ∙ ap seen_of whole)

@@ -1,0 +1,11 @@
+pub mod PairLemmas
+pub mod JoinLemmas
+pub mod RefusalLemmas
+pub mod ListLemmas
+pub mod SumLemmas
+pub mod RunLemmas
+pub mod GrowLemmas
+pub mod KeepLemmas
+pub mod GapLemmas
+pub mod CheckerLemmas
+pub mod CheckLemmas

@@ -1,0 +1,252 @@
+-- Runs and the messages that they stand for.
+use Rattle.std.proofs.Common.{◌≡◌, ℕ, zero, suc, ◌+◌, ◌-◌, ◌<◌, ◌≤◌, Bool, true, false, cond, eqb, ltb, List, [], ◌∷◌, length}
+use Rattle.std.proofs.Common.{take, drop, get_or, refl, sym, ap, subst, ◌∙◌, inl, inr, arith}
+use Rattle.std.specs.Prelude.{Option, None, Some, IfSome, is_some, slice_get}
+use Rattle.std.specs.BTreeMap as tree
+use Rattle.std.specs.BTreeMap.{is_at}
+use Rattle.std.specs.Cmp.{nat_cmp_is, nat_cmp_total, unsigned_tied}
+use Rattle.std.specs.FinMap as finite
+use Rattle.std.specs.List.{All, filter}
+use Rattle.std.specs.Map.{lookup}
+use Rattle.std.specs.Option.{option_or}
+use Rattle.std.specs.Ordering.{nat_cmp, is_gt}
+use Rattle.std.specs.declared.cmp.Ordering.TheVariants.{Less, Equal}
+use Rattle.std.proofs.lemmas.Bool.{true≢false, cases_order, cases_Bool, cases_eq, cond-true, cond-false, eq-eqb, ne_eqb, ltb-true, lt-ltb}
+use Rattle.std.proofs.lemmas.List.{length-take}
+use Rattle.std.proofs.lemmas.List.Elements.{All-nil, All-cons, All-head, All-tail}
+use Rattle.std.proofs.lemmas.Map.Views.{All-found}
+use Rattle.std.proofs.lemmas.Option.{none-some, same_Some, slice_get-get_or}
+use Rattle.mold_wire.specs.Truth.{message_at}
+use Rattle.mold_capture.specs.declared.run.Run.{Run}
+use Rattle.mold_capture.specs.Runs.{Runs, messages_in, run_pairs, pairs_of, HasRun, AreRuns, Covers}
+use Rattle.mold_capture.specs.Seen.{numbered}
+use Rattle.mold_capture.proofs.PairLemmas.{option_cases, option_or_cases, option_or_first, option_or_second, lookup-numbered, lookup-append, get_made, message_below, message_within, message_past, message_bounds}
+
+pub le-gt : (a b : ℕ) → a ≤ b → is_gt (nat_cmp a b) ≡ false
+le-gt a b low =
+    elim (cases_order a b) [
+      | inl same ↦ sym (ap is_gt (nat_cmp_is a b Equal same))
+      | inr (inl below) ↦ sym (ap is_gt (nat_cmp_is a b Less below))
+      | inr (inr above) ↦ absurd (omega arith)
+    ]
+
+pub lookup_at : {X : Type 0} (q : ℕ) (es : List (ℕ × X)) → lookup (is_at (nat_cmp q)) es ≡ lookup (eqb q) es
+lookup_at q [] = refl
+lookup_at q (e ∷ es) =
+    ap (λ (b : Bool). cond b (Some e.1) (lookup (is_at (nat_cmp q)) es)) (unsigned_tied q e.0)
+    ∙ ap (cond (eqb q e.0) (Some e.1)) (lookup_at q es)
+
+slice_get_part : (kept : List (List ℕ)) (start count i : ℕ) → i < count →
+    slice_get (take count (drop start kept)) i ≡ slice_get kept (start + i)
+slice_get_part kept start zero i within = absurd (omega arith)
+slice_get_part [] zero (suc count) i within = refl
+slice_get_part (m ∷ kept) zero (suc count) zero within = refl
+slice_get_part (m ∷ kept) zero (suc count) (suc i) within =
+    let there : 0 + i ≡ i = omega arith in
+    let here : i + 1 ≡ 0 + suc i = omega arith in
+    slice_get_part kept zero count i (omega arith) ∙ ap (slice_get kept) there
+    ∙ ap (slice_get (m ∷ kept)) (let e : suc i ≡ 0 + suc i = omega arith in e)
+slice_get_part [] (suc start) (suc count) i within = refl
+slice_get_part (m ∷ kept) (suc start) (suc count) i within =
+    slice_get_part kept start (suc count) i within
+    ∙ ap (slice_get (m ∷ kept)) (let e : suc (start + i) ≡ suc start + i = omega arith in e)
+
+-- a run has this message at a number
+pub record RunAt (runs : Runs) (kept : List (List ℕ)) (q : ℕ) (m : List ℕ) : Type 0 where
+  pub first : ℕ
+  pub run : Run
+  pub there : HasRun runs first run
+  pub covers : Covers first run q
+  pub is : slice_get kept (run.start + (q - first)) ≡ Some m
+
+-- the message of a run at one of its numbers
+run_message : (kept : List (List ℕ)) (f : ℕ) (run : Run) (q : ℕ) → Covers f run q →
+    message_at f (messages_in kept run) q ≡ slice_get kept (run.start + (q - f))
+run_message kept f run q covers =
+    message_within f (messages_in kept run) q covers.0 ∙ slice_get_part kept run.start run.count (q - f) (omega (arith, covers.1))
+
+run_short : (kept : List (List ℕ)) (run : Run) → length (messages_in kept run) ≤ run.count
+run_short kept run = omega (arith, length-take run.count (drop run.start kept))
+
+run_bounds : (kept : List (List ℕ)) (f : ℕ) (run : Run) (q : ℕ) (m : List ℕ) →
+    message_at f (messages_in kept run) q ≡ Some m → Covers f run q
+run_bounds kept f run q m is =
+    let lies = message_bounds f (messages_in kept run) q m is in
+    (lies.0, omega (arith, lies.1, run_short kept run))
+
+at_entries : (runs : Runs) (kept : List (List ℕ)) (q : ℕ) (m : List ℕ) (es : List (ℕ × Run)) →
+    All (λ (e : ℕ × Run). HasRun runs e.0 e.1) es → lookup (eqb q) (run_pairs es kept) ≡ Some m → RunAt runs kept q m
+at_entries runs kept q m [] all is = absurd (none-some m is)
+at_entries runs kept q m (e ∷ es) all is =
+    elim (option_or_cases (message_at e.0 (messages_in kept e.1) q) (lookup (eqb q) (run_pairs es kept)) m
+    (sym (ap (λ (o : Option (List ℕ)). option_or o (lookup (eqb q) (run_pairs es kept))) (lookup-numbered e.0 (messages_in kept e.1) q))
+    ∙ sym (lookup-append (eqb q) (numbered e.0 (messages_in kept e.1)) (run_pairs es kept)) ∙ is)) [
+      | inl first ↦
+          let covers = run_bounds kept e.0 e.1 q m first in
+          record {
+            first = e.0;
+            run = e.1;
+            there = All-head (λ (e : ℕ × Run). HasRun runs e.0 e.1) e es all;
+            covers = covers;
+            is = sym (run_message kept e.0 e.1 q covers) ∙ first;
+          }
+      | inr later ↦ at_entries runs kept q m es (All-tail (λ (e : ℕ × Run). HasRun runs e.0 e.1) e es all) later.1
+    ]
+
+entries_at : (runs : Runs) (kept : List (List ℕ)) → AreRuns runs (length kept) → (q : ℕ) (m : List ℕ) (f : ℕ) (run : Run) →
+    HasRun runs f run → Covers f run q → slice_get kept (run.start + (q - f)) ≡ Some m
+    → (es : List (ℕ × Run)) → All (λ (e : ℕ × Run). HasRun runs e.0 e.1) es → lookup (eqb f) es ≡ Some run
+    → lookup (eqb q) (run_pairs es kept) ≡ Some m
+entries_at runs kept are q m f run there covers is [] all found = absurd (none-some run found)
+entries_at runs kept are q m f run there covers is (e ∷ es) all found =
+    let rest = lookup (eqb q) (run_pairs es kept) in
+    let has = All-head (λ (e : ℕ × Run). HasRun runs e.0 e.1) e es all in
+    let behind = All-tail (λ (e : ℕ × Run). HasRun runs e.0 e.1) e es all in
+    let split : lookup (eqb q) (run_pairs (e ∷ es) kept) ≡ option_or (message_at e.0 (messages_in kept e.1) q) rest =
+    lookup-append (eqb q) (numbered e.0 (messages_in kept e.1)) (run_pairs es kept)
+    ∙ ap (λ (o : Option (List ℕ)). option_or o rest) (lookup-numbered e.0 (messages_in kept e.1) q)
+    in
+    elim (cases_order f e.0) [
+      | inl same ↦
+          let one : e.1 ≡ run = same_Some e.1 run (sym (cond-true (eqb f e.0) (Some e.1) (lookup (eqb f) es) (eq-eqb f e.0 same)) ∙ found) in
+          let at : message_at e.0 (messages_in kept e.1) q ≡ Some m =
+          ap (λ (r : Run). message_at e.0 (messages_in kept r) q) one
+          ∙ ap (λ (g : ℕ). message_at g (messages_in kept run) q) (sym same)
+          ∙ run_message kept f run q covers ∙ is
+          in
+          split ∙ option_or_first (message_at e.0 (messages_in kept e.1) q) rest m at
+      | inr (inl below) ↦
+          let apart = are.apart f e.0 run e.1 there has below in
+          split
+          ∙ option_or_second (message_at e.0 (messages_in kept e.1) q) rest
+          (message_below e.0 (messages_in kept e.1) q (omega (arith, apart, covers.1)))
+          ∙ entries_at runs kept are q m f run there covers is es behind
+          (sym (cond-false (eqb f e.0) (Some e.1) (lookup (eqb f) es) (ne_eqb f e.0 (λ e. omega (arith, e)))) ∙ found)
+      | inr (inr above) ↦
+          let apart = are.apart e.0 f e.1 run has there above in
+          split
+          ∙ option_or_second (message_at e.0 (messages_in kept e.1) q) rest
+          (message_past e.0 (messages_in kept e.1) q (omega (arith, apart, covers.0, run_short kept e.1)))
+          ∙ entries_at runs kept are q m f run there covers is es behind
+          (sym (cond-false (eqb f e.0) (Some e.1) (lookup (eqb f) es) (ne_eqb f e.0 (λ e. omega (arith, e)))) ∙ found)
+    ]
+
+-- a message that was carried is that of a run
+pub at_pairs : (runs : Runs) (kept : List (List ℕ)) → AreRuns runs (length kept) → (q : ℕ) (m : List ℕ) →
+    finite.get (pairs_of runs.entries kept) q ≡ Some m → RunAt runs kept q m
+unfolding pairs_of
+at_pairs runs kept are q m is =
+    at_entries runs kept q m runs.entries (All-found nat_cmp_total runs are.ordered) (sym (get_made (run_pairs runs.entries kept) q) ∙ is)
+
+-- the message of a run was carried
+pub pairs_at : (runs : Runs) (kept : List (List ℕ)) → AreRuns runs (length kept) → (q : ℕ) (m : List ℕ) →
+    RunAt runs kept q m → finite.get (pairs_of runs.entries kept) q ≡ Some m
+unfolding pairs_of
+pairs_at runs kept are q m at =
+    get_made (run_pairs runs.entries kept) q
+    ∙ entries_at runs kept are q m at.first at.run at.there at.covers at.is runs.entries
+    (All-found nat_cmp_total runs are.ordered) (sym (lookup_at at.first runs.entries) ∙ at.there)
+
+pub lookup_all : (P : ℕ × Run → Type 0) (q : ℕ) (run : Run) (es : List (ℕ × Run)) → All P es →
+    lookup (eqb q) es ≡ Some run → P (q, run)
+lookup_all P q run [] all is = absurd (none-some run is)
+lookup_all P q run (e ∷ es) all is =
+    elim (cases_eq q e.0) [
+      | inl same ↦
+          let one : e.1 ≡ run = same_Some e.1 run (sym (cond-true (eqb q e.0) (Some e.1) (lookup (eqb q) es) (eq-eqb q e.0 same)) ∙ is) in
+          subst P (λ i. (sym same i, one i)) (All-head P e es all)
+      | inr other ↦
+          lookup_all P q run es (All-tail P e es all)
+          (sym (cond-false (eqb q e.0) (Some e.1) (lookup (eqb q) es) (ne_eqb q e.0 other)) ∙ is)
+    ]
+
+filtered : (p : ℕ × Run → Bool) (Q : ℕ × Run → Type 0) (es : List (ℕ × Run)) → All Q es →
+    All (λ (e : ℕ × Run). Q e × (p e ≡ true)) (filter p es)
+filtered p Q [] all = All-nil (λ (e : ℕ × Run). Q e × (p e ≡ true))
+filtered p Q (e ∷ es) all =
+    let P = λ (e : ℕ × Run). Q e × (p e ≡ true) in
+    let rest = filtered p Q es (All-tail Q e es all) in
+    elim (cases_Bool (p e)) [
+      | inl t ↦
+          subst (All P) (sym (cond-true (p e) (e ∷ filter p es) (filter p es) t))
+          (All-cons P e (filter p es) (All-head Q e es all, t) rest)
+      | inr f ↦ subst (All P) (sym (cond-false (p e) (e ∷ filter p es) (filter p es) f)) rest
+    ]
+
+unfiltered : (p : ℕ × Run → Bool) (Q : ℕ × Run → Type 0) (es : List (ℕ × Run)) → All Q (filter p es) →
+    All (λ (e : ℕ × Run). p e ≡ true → Q e) es
+unfiltered p Q [] all = All-nil (λ (e : ℕ × Run). p e ≡ true → Q e)
+unfiltered p Q (e ∷ es) all =
+    let P = λ (e : ℕ × Run). p e ≡ true → Q e in
+    elim (cases_Bool (p e)) [
+      | inl t ↦
+          let kept = subst (All Q) (cond-true (p e) (e ∷ filter p es) (filter p es) t) all in
+          All-cons P e es (λ _. All-head Q e (filter p es) kept) (unfiltered p Q es (All-tail Q e (filter p es) kept))
+      | inr f ↦
+          All-cons P e es (λ t. absurd (true≢false (sym t ∙ f)))
+          (unfiltered p Q es (subst (All Q) (cond-false (p e) (e ∷ filter p es) (filter p es) f) all))
+    ]
+
+-- whether the places of a run begin below the given one
+abbrev pub is_before : ℕ → ℕ × Run → Bool
+is_before place e = ltb e.1.start place
+
+pub retained_out : (old new : Runs) (place : ℕ) → tree.IsOrdered nat_cmp old → new.entries ≡ filter (is_before place) old.entries
+    → (f : ℕ) (run : Run) → HasRun new f run → HasRun old f run × (run.start < place)
+retained_out old new place ordered is f run has =
+    let P = λ (e : ℕ × Run). HasRun old e.0 e.1 × (is_before place e ≡ true) in
+    let all = filtered (is_before place) (λ e. HasRun old e.0 e.1) old.entries (All-found nat_cmp_total old ordered) in
+    let found = lookup_all P f run new.entries (subst (All P) (sym is) all) (sym (lookup_at f new.entries) ∙ has) in
+    (found.0, ltb-true run.start place found.1)
+
+pub retained_stays : (old new : Runs) (place : ℕ) → tree.IsOrdered nat_cmp new → new.entries ≡ filter (is_before place) old.entries
+    → (f : ℕ) (run : Run) → HasRun old f run → run.start < place → HasRun new f run
+retained_stays old new place ordered is f run has low =
+    let Q = λ (e : ℕ × Run). HasRun new e.0 e.1 in
+    let all = unfiltered (is_before place) Q old.entries (subst (All Q) is (All-found nat_cmp_total new ordered)) in
+    lookup_all (λ e. is_before place e ≡ true → Q e) f run old.entries all (sym (lookup_at f old.entries) ∙ has)
+    (lt-ltb run.start place low)
+
+-- at a number that a run covers a message was carried
+pub covered_pairs : (runs : Runs) (kept : List (List ℕ)) → AreRuns runs (length kept) → (q f : ℕ) (run : Run) →
+    HasRun runs f run → Covers f run q
+    → finite.get (pairs_of runs.entries kept) q ≡ Some (get_or kept (run.start + (q - f)) [])
+covered_pairs runs kept are q f run has covers =
+    pairs_at runs kept are q (get_or kept (run.start + (q - f)) [])
+    (record {
+      first = f;
+      run = run;
+      there = has;
+      covers = covers;
+      is =
+          slice_get-get_or kept (run.start + (q - f)) []
+          (omega (arith, are.inside f run has, covers.0, covers.1));
+    })
+
+-- as a search for the run tells it
+pub found_pairs : (runs : Runs) (kept : List (List ℕ)) → AreRuns runs (length kept) → (q : ℕ) (o : Option (ℕ × Run)) →
+    IfSome o (λ e. HasRun runs e.0 e.1) → IfSome o (λ e. Covers e.0 e.1 q) → is_some o ≡ true
+    → (x : List ℕ) × (finite.get (pairs_of runs.entries kept) q ≡ Some x)
+found_pairs runs kept are q None has covers some = absurd (true≢false (sym some))
+found_pairs runs kept are q (Some e) has covers some =
+    (get_or kept (e.1.start + (q - e.0)) [], covered_pairs runs kept are q e.0 e.1 has covers)
+
+-- what was carried at a number that a run covers is the run's
+pub covered_at : (runs : Runs) (kept : List (List ℕ)) → AreRuns runs (length kept) → (q f : ℕ) (run : Run) →
+    HasRun runs f run → Covers f run q
+    → finite.get (pairs_of runs.entries kept) q ≡ slice_get kept (run.start + (q - f))
+covered_at runs kept are q f run has covers =
+    covered_pairs runs kept are q f run has covers
+    ∙ sym (slice_get-get_or kept (run.start + (q - f)) []
+    (omega (arith, are.inside f run has, covers.0, covers.1)))
+
+-- at a number that no run covers nothing was carried
+pub uncovered_at : (runs : Runs) (kept : List (List ℕ)) → AreRuns runs (length kept) → (q : ℕ) →
+    ((f : ℕ) (run : Run) → HasRun runs f run → Covers f run q → ⊥) → finite.get (pairs_of runs.entries kept) q ≡ None
+uncovered_at runs kept are q none =
+    elim (option_cases (finite.get (pairs_of runs.entries kept) q)) [
+      | inl nothing ↦ nothing
+      | inr some ↦
+          let at = at_pairs runs kept are q some.0 some.1 in
+          absurd (none at.first at.run at.there at.covers)
+    ]

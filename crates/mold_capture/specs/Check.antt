@@ -1,0 +1,14 @@
+-- What refuses a list of datagrams.
+use Rattle.std.specs.Prelude.{◌≡◌, ℕ, ◌+◌, ◌≤◌, ◌<◌, List, [], take, length, slice_index_or, Some}
+use Rattle.mold_capture.specs.declared.reason.Reason.{Reason}
+use Rattle.mold_capture.specs.declared.reason.Reason.TheVariants.{Memory}
+use Rattle.mold_capture.specs.Consistent.{Consistent}
+use Rattle.mold_capture.specs.Refusal.{reason}
+
+-- the datagrams in front of the index are consistent, with the one there they aren't, and this is the reason
+-- why; where only memory was refused, the datagrams in front of the index are consistent
+abbrev pub IsRefusedAt : ℕ → Reason → List (List ℕ) → Type 0
+IsRefusedAt index Memory list = (index ≤ length list) × Consistent (take index list)
+IsRefusedAt index why list =
+    (index < length list) × Consistent (take index list) × (Consistent (take (index + 1) list) → ⊥)
+    × (reason (take index list) (slice_index_or list index []) ≡ Some why)

@@ -1,0 +1,50 @@
+-- What datagrams say together: whether one session explains them, and whether they carry it whole.
+use Rattle.std.specs.Prelude.{◌≡◌, ℕ, ◌<◌, ◌≤◌, List, length, true}
+use Rattle.std.specs.List.{All, Contains}
+use Rattle.mold_wire.specs.Packet.{Spells}
+use Rattle.mold_wire.specs.Truth.{Carries, IsTrue}
+use Rattle.mold_wire.specs.declared.packet.Packet.{Packet}
+use Rattle.mold_wire.specs.declared.packet.Body.TheVariants.{End}
+
+-- the datagram spells a packet of the session with this name, and the packet is true once the session is
+-- closed with these messages
+pub record IsSaidBy (session : List ℕ) (messages : List (List ℕ)) (bytes : List ℕ) : Type 0 where
+  pub packet : Packet
+  pub spelled : Spells packet bytes
+  pub named : packet.session.0 ≡ session
+  pub is_true : IsTrue packet messages true
+
+-- the session with this name and these messages explains each datagram
+pub record Explains (session : List ℕ) (messages list : List (List ℕ)) : Type 0 where
+  pub few : length messages < 18446744073709551615
+  pub each : All (IsSaidBy session messages) list
+
+-- some session explains the datagrams
+abbrev pub Consistent : List (List ℕ) → Type 0
+Consistent list = (session : List ℕ) × (messages : List (List ℕ)) × Explains session messages list
+
+-- one of the datagrams carries this message at the number
+pub record IsCarried (list : List (List ℕ)) (number : ℕ) (message : List ℕ) : Type 0 where
+  pub bytes : List ℕ
+  pub packet : Packet
+  pub member : Contains list bytes
+  pub spelled : Spells packet bytes
+  pub carried : Carries packet number message
+
+-- one of the datagrams is an end packet with this number
+pub record HasEnd (list : List (List ℕ)) (number : ℕ) : Type 0 where
+  pub bytes : List ℕ
+  pub packet : Packet
+  pub member : Contains list bytes
+  pub spelled : Spells packet bytes
+  pub ended : packet.body ≡ End
+  pub at : packet.sequence ≡ number
+
+-- a session with these messages explains the datagrams, an end packet is among them, and each message is
+-- carried
+pub record Whole (list messages : List (List ℕ)) : Type 0 where
+  pub session : List ℕ
+  pub explained : Explains session messages list
+  pub ended : (number : ℕ) × HasEnd list number
+  pub carried : (number : ℕ) → 1 ≤ number → number ≤ length messages →
+      (message : List ℕ) × IsCarried list number message

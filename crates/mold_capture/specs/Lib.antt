@@ -1,0 +1,6 @@
+pub mod Consistent
+pub mod Seen
+pub mod Refusal
+pub mod Verdict
+pub mod Check
+pub mod Runs

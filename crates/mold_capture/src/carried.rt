@@ -1,0 +1,90 @@
+//! The messages that were carried.
+
+ghost use Rattle.std.specs.Prelude.{◌≡◌, ◌+◌, ◌-◌, ◌<◌, ◌≤◌, ◌^◌, length, List, ℕ, None, Some, IfOk, IfErr, OnOk, OnErr};
+ghost use Rattle.std.specs.FinMap as finite;
+ghost use Rattle.std.specs.Ordering.{nat_cmp};
+ghost use Rattle.mold_ranges.specs.Ranges as lacking;
+ghost use Rattle.mold_capture.specs.Refusal.{conflict, told};
+ghost use Rattle.mold_capture.specs.Seen.{pairs_with};
+ghost use Rattle.mold_capture.specs.Verdict.{lacks, ranges_of};
+
+use crate::compare::compare;
+use crate::keep::{add_all, add_each};
+use crate::missing::find_gaps;
+use crate::reason::Reason;
+use crate::run::{Run, is_free};
+use crate::verdict::Range;
+use mold_messages::MessageList;
+use mold_ranges::laws::ranges_walk_law;
+use mold_wire::Blocks;
+use std::alloc::{AllocError, Global};
+use std::collections::BTreeMap;
+use std::marker::Model;
+
+/// Messages by number. Their bytes stand once in one buffer, and messages that came together with numbers
+/// that follow one another cost one entry of the map.
+#[derive(Debug, Drop)]
+pub(crate) struct Carried {
+    runs: BTreeMap<u64, Run>,
+    kept: MessageList,
+}
+
+impl Model for Carried {
+    ghost use Rattle.std.specs.Prelude.{ℕ, List, length};
+    ghost use Rattle.std.specs.Coded.{coded_list, coded_ℕ};
+    ghost use Rattle.std.specs.FinMap as finite;
+    ghost use Rattle.std.specs.Ordering.{nat_cmp};
+    ghost use Rattle.mold_capture.specs.Seen.{Pairs};
+    ghost use Rattle.mold_capture.specs.Runs.{AreRuns, carried};
+
+    ghost Value = { Pairs };
+
+    ghost coded = { finite.code {R = nat_cmp} coded_ℕ (coded_list coded_ℕ) };
+
+    ghost view = { λ c. carried c.runs c.kept };
+
+    ghost invariant = { λ c. AreRuns c.runs (length c.kept.messages) };
+}
+
+impl Carried {
+    /// No messages; it takes no memory.
+    pub(crate) fn new(alloc: Global) -> Carried
+        ensures { result ≡ finite.empty }
+    {
+        Carried {
+            runs: BTreeMap::new(alloc),
+            kept: MessageList::new(alloc),
+        }
+    }
+
+    /// Adds a packet's messages, the first of which has the number `first`. A message that is there already
+    /// isn't stored again. After an error everything is as before.
+    pub(crate) fn join(&mut self, first: u64, blocks: &Blocks<'_>) -> Result<(), Reason>
+        requires few { first + length blocks.now < 2 ^ 64 }
+        ensures refused { IfErr result (λ reason. conflict self.old first blocks.now ≡ told reason) }
+        ensures taken { OnOk result (conflict self.old first blocks.now ≡ None) }
+        ensures ok { OnOk result (self.new ≡ pairs_with self.old first blocks.now) }
+        ensures err { OnErr result (self.new ≡ self.old) }
+    {
+        let top = first + u64::from(blocks.len());
+        if is_free(&self.runs, first, top) {
+            return add_all(&mut self.runs, &mut self.kept, first, blocks);
+        }
+        match compare(&self.runs, &self.kept, first, blocks) {
+            Err(number) => Err(Reason::Conflict { number }),
+            Ok(true) => Ok(()),
+            Ok(false) => add_each(&mut self.runs, &mut self.kept, first, blocks),
+        }
+    }
+
+    /// The longest ranges of the numbers from 1 to below `known` that have no message, ascending. It walks what
+    /// is there and not the numbers between. An error comes where a growth is refused.
+    pub(crate) fn missing(&self, alloc: Global, known: u64) -> Result<Vec<Range>, AllocError>
+        requires some { 1 ≤ known }
+        requires within { (number : ℕ) (message : List ℕ) → finite.get self.now number ≡ Some message → (1 ≤ number) × (number < known) }
+        ensures { IfOk result (λ missing. ranges_of missing.items ≡ lacking.ranges (lacks self.now) 1 (known - 1)) }
+    {
+        ranges_walk_law();
+        find_gaps(alloc, &self.runs, known)
+    }
+}

@@ -1,0 +1,124 @@
+//! The checker.
+
+ghost use Rattle.std.specs.Prelude.{◌≡◌, ◌≤◌, ◌<◌, ◌^◌, [], None, IfOk, IfErr, OnOk, OnErr};
+ghost use Rattle.std.specs.Option.{option_or};
+ghost use Rattle.mold_wire.specs.Packet.{Spells, messages_of, top_of};
+ghost use Rattle.mold_wire.specs.declared.packet.Packet.{Packet};
+ghost use Rattle.mold_capture.specs.Refusal.{conflict, refusal, told};
+ghost use Rattle.mold_capture.specs.Seen.{after, end_in, pairs_with, seen_of};
+ghost use Rattle.mold_capture.specs.Verdict.{IsVerdict};
+
+use crate::carried::Carried;
+use crate::reason::{Memory, Reason};
+use crate::refusal::check_header;
+use crate::verdict::Verdict;
+use mold_wire::{Body, Packet, Session, decode};
+use std::alloc::Global;
+use std::marker::Model;
+
+// The end that was told with the packet: that of the first end packet.
+fn told_end(packet: &Packet<'_>, ended: Option<u64>) -> Option<u64>
+    ensures { result ≡ option_or ended (end_in packet.now.body packet.now.sequence) }
+{
+    match packet.body {
+        Body::End => ended.or(Some(packet.sequence)),
+        Body::Data(_) | Body::Heartbeat => ended,
+    }
+}
+
+// Adds a packet's messages to those that were carried.
+fn join_messages(carried: &mut Carried, packet: &Packet<'_>) -> Result<(), Reason>
+    requires { top_of packet.now < 2 ^ 64 }
+    ensures refused { IfErr result (λ reason. conflict carried.old packet.now.sequence (messages_of packet.now.body) ≡ told reason) }
+    ensures taken { OnOk result (conflict carried.old packet.now.sequence (messages_of packet.now.body) ≡ None) }
+    ensures ok { OnOk result (carried.new ≡ pairs_with carried.old packet.now.sequence (messages_of packet.now.body)) }
+    ensures err { OnErr result (carried.new ≡ carried.old) }
+{
+    match &packet.body {
+        Body::Data(blocks) => carried.join(packet.sequence, blocks),
+        Body::Heartbeat | Body::End => Ok(()),
+    }
+}
+
+/// What the datagrams that were accepted have said: the session, the greatest number heard of, the end and the
+/// messages. They may come in any order. Messages are stored once; a datagram that brings nothing new takes no
+/// memory.
+#[derive(Debug, Drop)]
+pub struct Checker {
+    session: Option<Session>,
+    known: u64,
+    ended: Option<u64>,
+    carried: Carried,
+    alloc: Global,
+}
+
+impl Model for Checker {
+    ghost use Rattle.std.specs.Option.{option_map};
+    ghost use Rattle.mold_capture.specs.Seen.{Seen, IsSound, seen_code, seen_by};
+
+    ghost Value = { Seen };
+
+    ghost coded = { seen_code };
+
+    ghost view = { λ c. seen_by c.session c.known c.ended c.carried };
+
+    ghost invariant = { λ c. IsSound (seen_by c.session c.known c.ended c.carried) };
+}
+
+impl Checker {
+    /// A checker that has accepted no datagram. It takes no memory.
+    pub fn new(alloc: Global) -> Checker
+        ensures { result ≡ seen_of [] }
+    {
+        Checker {
+            session: None,
+            known: 1,
+            ended: None,
+            carried: Carried::new(alloc),
+            alloc,
+        }
+    }
+
+    /// Accepts a datagram, or refuses it with the first reason why it may not stand behind those that were
+    /// accepted; after an error the checker is as before. The session is that of the first datagram accepted,
+    /// and `known` is the greatest top accepted, at least 1. A message is compared with any message accepted
+    /// before at the same number. Memory is refused only where all other reasons don't apply.
+    pub fn add(&mut self, bytes: &[u8]) -> Result<(), Reason>
+        ensures refused { IfErr result (λ reason. refusal self.old bytes.now ≡ told reason) }
+        ensures taken { OnOk result (refusal self.old bytes.now ≡ None) }
+        ensures spelled { OnOk result ((packet : Packet) × Spells packet bytes.now) }
+        ensures ok { OnOk result (self.new ≡ after self.old bytes.now) }
+        ensures err { OnErr result (self.new ≡ self.old) }
+    {
+        let packet = match decode(bytes) {
+            Ok(packet) => packet,
+            Err(error) => return Err(Reason::Malformed(error)),
+        };
+        let top = check_header(&packet, self.session, self.known, self.ended)?;
+        let ended = told_end(&packet, self.ended);
+        join_messages(&mut self.carried, &packet)?;
+        self.session = self.session.or(Some(packet.session));
+        self.known = self.known.max(top);
+        self.ended = ended;
+        Ok(())
+    }
+
+    /// Whether the datagrams accepted are whole, and what is missing where they aren't. It walks what was
+    /// carried and never the numbers between. An error comes where memory for the ranges is refused.
+    pub fn verdict(&self) -> Result<Verdict, Memory>
+        ensures { IfOk result (λ verdict. IsVerdict verdict self.now) }
+    {
+        let missing = match self.carried.missing(self.alloc, self.known) {
+            Ok(missing) => missing,
+            Err(_) => return Err(Memory),
+        };
+        match self.ended {
+            None => Ok(Verdict::Incomplete { missing, end: None }),
+            Some(end) if missing.is_empty() => Ok(Verdict::Whole { messages: end - 1 }),
+            Some(end) => Ok(Verdict::Incomplete {
+                missing,
+                end: Some(end),
+            }),
+        }
+    }
+}

@@ -1,0 +1,31 @@
+//! Checking a list of datagrams.
+
+ghost use Rattle.std.specs.Prelude.{◌≡◌, IfOk, IfErr, map};
+ghost use Rattle.mold_capture.specs.Check.{IsRefusedAt};
+ghost use Rattle.mold_capture.specs.Verdict.{IsVerdictOn};
+
+use crate::checker::Checker;
+use crate::reason::Reason;
+use crate::verdict::Verdict;
+use mold_wire::laws::reading_law;
+use std::alloc::Global;
+
+/// Checks datagrams: whether they come from one whole session, and what is missing where they don't. Where
+/// one may not stand behind those before it, the answer is its index, counted from 0, and the first reason;
+/// the list's length and `Memory` where memory for the verdict is refused.
+pub fn check(alloc: Global, list: &[&[u8]]) -> Result<Verdict, (usize, Reason)>
+    ensures verdict { IfOk result (λ verdict. IsVerdictOn verdict (map (λ bytes. bytes.now) list.now)) }
+    ensures refused { IfErr result (λ refused. IsRefusedAt refused.0 refused.1 (map (λ bytes. bytes.now) list.now)) }
+{
+    reading_law();
+    let mut checker = Checker::new(alloc);
+    for (index, bytes) in list.iter().enumerate() {
+        if let Err(reason) = checker.add(bytes) {
+            return Err((index, reason));
+        }
+    }
+    match checker.verdict() {
+        Ok(verdict) => Ok(verdict),
+        Err(_) => Err((list.len(), Reason::Memory)),
+    }
+}

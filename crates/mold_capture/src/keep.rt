@@ -1,0 +1,145 @@
+//! New messages join those that were carried.
+
+ghost use Rattle.std.specs.Prelude.{◌≡◌, ◌+◌, ◌<◌, ◌≤◌, ◌^◌, ◌++◌, ◌∷◌, [], length, take, IfErr, OnOk, OnErr};
+ghost use Rattle.mold_capture.specs.Runs.{AreFree, AreRuns, IsSince, Runs, carried};
+ghost use Rattle.mold_capture.specs.Seen.{pairs_with};
+ghost use Rattle.mold_capture.specs.declared.reason.Reason.TheVariants.{Memory};
+
+use crate::reason::Reason;
+use crate::run::{Run, grown_run, put_run, run_at, take_back};
+use mold_messages::MessageList;
+use mold_wire::Blocks;
+use std::alloc::AllocError;
+use std::collections::BTreeMap;
+
+// Adds a packet's messages behind those that are kept. An error comes where a growth is refused; nothing is
+// added then.
+fn keep_all(kept: &mut MessageList, blocks: &Blocks<'_>) -> Result<(), AllocError>
+    ensures ok { OnOk result (kept.new.messages ≡ kept.old.messages ++ blocks.now) }
+    ensures err { OnErr result (kept.new.messages ≡ kept.old.messages) }
+{
+    let start = kept.len();
+    for message in blocks.iter() {
+        if let Err(error) = kept.push(message) {
+            kept.truncate(start);
+            return Err(error);
+        }
+    }
+    Ok(())
+}
+
+/// Adds a packet's messages, of whose numbers none has a run, as one run. An error comes where a growth is
+/// refused; nothing is added then.
+pub(crate) fn add_all(
+    runs: &mut BTreeMap<u64, Run>,
+    kept: &mut MessageList,
+    first: u64,
+    blocks: &Blocks<'_>,
+) -> Result<(), Reason>
+    requires are { AreRuns runs.old (length kept.old.messages) }
+    requires few { first + length blocks.now < 2 ^ 64 }
+    requires free { AreFree runs.old first (first + length blocks.now) }
+    ensures are { AreRuns runs.new (length kept.new.messages) }
+    ensures ok { OnOk result (carried runs.new kept.new ≡ pairs_with (carried runs.old kept.old) first blocks.now) }
+    ensures err { OnErr result (carried runs.new kept.new ≡ carried runs.old kept.old) }
+    ensures memory { IfErr result (λ reason. reason ≡ Memory) }
+{
+    let start = kept.len();
+    let count = u64::from(blocks.len());
+    if let Err(_) = keep_all(kept, blocks) {
+        return Err(Reason::Memory);
+    }
+    let _len = kept.len();
+    match put_run(runs, first, Run { start, count }) {
+        Ok(()) => Ok(()),
+        Err(_) => {
+            kept.truncate(start);
+            Err(Reason::Memory)
+        }
+    }
+}
+
+// Adds a message at a number that no run has. It joins a run that ends there, if the places of that one
+// aren't before `since`. An error comes where a growth is refused; nothing is added then.
+fn add_message(
+    runs: &mut BTreeMap<u64, Run>,
+    kept: &mut MessageList,
+    since: usize,
+    number: u64,
+    message: &[u8],
+) -> Result<(), AllocError>
+    requires are { AreRuns runs.old (length kept.old.messages) }
+    requires since { since ≤ length kept.old.messages }
+    requires few { number + 1 < 2 ^ 64 }
+    requires free { AreFree runs.old number (number + 1) }
+    ensures are { AreRuns runs.new (length kept.new.messages) }
+    ensures ok { OnOk result (carried runs.new kept.new ≡ pairs_with (carried runs.old kept.old) number (message.now ∷ [])) }
+    ensures err { OnErr result (carried runs.new kept.new ≡ carried runs.old kept.old) }
+    ensures since { (before : Runs) → AreRuns before since → IsSince before runs.old since → IsSince before runs.new since }
+    ensures front { take since kept.new.messages ≡ take since kept.old.messages }
+    ensures more { since ≤ length kept.new.messages }
+{
+    let len = kept.len();
+    let (first, run) = grown_run(runs, since, len, number);
+    kept.push(message)?;
+    let _len = kept.len();
+    match put_run(runs, first, run) {
+        Ok(()) => Ok(()),
+        Err(error) => {
+            kept.truncate(len);
+            Err(error)
+        }
+    }
+}
+
+// Adds a message, unless a run has its number.
+fn add_new(
+    runs: &mut BTreeMap<u64, Run>,
+    kept: &mut MessageList,
+    since: usize,
+    number: u64,
+    message: &[u8],
+) -> Result<(), AllocError>
+    requires are { AreRuns runs.old (length kept.old.messages) }
+    requires since { since ≤ length kept.old.messages }
+    requires few { number + 1 < 2 ^ 64 }
+    ensures are { AreRuns runs.new (length kept.new.messages) }
+    ensures ok { OnOk result (carried runs.new kept.new ≡ pairs_with (carried runs.old kept.old) number (message.now ∷ [])) }
+    ensures err { OnErr result (carried runs.new kept.new ≡ carried runs.old kept.old) }
+    ensures since { (before : Runs) → AreRuns before since → IsSince before runs.old since → IsSince before runs.new since }
+    ensures front { take since kept.new.messages ≡ take since kept.old.messages }
+    ensures more { since ≤ length kept.new.messages }
+{
+    if run_at(runs, None, number).is_some() {
+        return Ok(());
+    }
+    add_message(runs, kept, since, number, message)
+}
+
+/// Adds those of a packet's messages whose numbers no run has, in runs. An error comes where a growth is
+/// refused; what was added is taken out again then.
+pub(crate) fn add_each(
+    runs: &mut BTreeMap<u64, Run>,
+    kept: &mut MessageList,
+    first: u64,
+    blocks: &Blocks<'_>,
+) -> Result<(), Reason>
+    requires are { AreRuns runs.old (length kept.old.messages) }
+    requires few { first + length blocks.now < 2 ^ 64 }
+    ensures are { AreRuns runs.new (length kept.new.messages) }
+    ensures ok { OnOk result (carried runs.new kept.new ≡ pairs_with (carried runs.old kept.old) first blocks.now) }
+    ensures err { OnErr result (carried runs.new kept.new ≡ carried runs.old kept.old) }
+    ensures memory { IfErr result (λ reason. reason ≡ Memory) }
+{
+    let since = kept.len();
+    let mut number = first;
+    for message in blocks.iter() {
+        if let Err(_) = add_new(runs, kept, since, number, message) {
+            take_back(runs, since);
+            kept.truncate(since);
+            return Err(Reason::Memory);
+        }
+        number += 1;
+    }
+    Ok(())
+}

@@ -1,0 +1,47 @@
+//! What holds of the definitions alone, for all lists of datagrams. Each law is a function that does
+//! nothing: its contract is the law.
+
+ghost use Rattle.std.specs.Prelude.{◌≡◌, ◌↔◌, ◌+◌, ◌++◌, ◌∷◌, [], None, List, ℕ, length};
+ghost use Rattle.mold_wire.specs.Block.{IsBytes};
+ghost use Rattle.mold_wire.specs.Packet.{Spells};
+ghost use Rattle.mold_wire.specs.declared.packet.Packet.{Packet};
+ghost use Rattle.mold_capture.specs.Consistent.{Consistent, Whole};
+ghost use Rattle.mold_capture.specs.Refusal.{reason};
+ghost use Rattle.mold_capture.specs.Seen.{after, seen_of};
+ghost use Rattle.mold_capture.specs.Verdict.{IsWholeSeen};
+
+use mold_wire::laws::reading_law;
+
+/// `reason` refuses exactly the datagrams that would make a consistent list inconsistent. No datagrams are
+/// consistent, and each front of consistent ones is.
+pub fn reason_law()
+    ensures none { Consistent [] }
+    ensures front { (list more : List (List ℕ)) → Consistent (list ++ more) → Consistent list }
+    ensures accepted { (list : List (List ℕ)) (bytes : List ℕ) → Consistent list → IsBytes bytes →
+        reason list bytes ≡ None → Consistent (list ++ bytes ∷ []) }
+    ensures refused { (list : List (List ℕ)) (bytes : List ℕ) →
+        Consistent (list ++ bytes ∷ []) → reason list bytes ≡ None }
+{
+    reading_law();
+}
+
+/// What was said is told datagram by datagram.
+pub fn after_law()
+    ensures { (list : List (List ℕ)) (bytes : List ℕ) →
+        Consistent (list ++ bytes ∷ []) → seen_of (list ++ bytes ∷ []) ≡ after (seen_of list) bytes }
+{
+    reading_law();
+}
+
+/// Datagrams are whole by one list of messages and no other, and exactly where they are consistent and have
+/// told an end and carried each number from 1 to below it.
+pub fn whole_is_one_law()
+    ensures one { (list one other : List (List ℕ)) → Whole list one → Whole list other → one ≡ other }
+    ensures heard { (list messages : List (List ℕ)) →
+        Whole list messages → IsWholeSeen (seen_of list) (length messages + 1) }
+    ensures whole { (list : List (List ℕ)) (count : ℕ) → Consistent list →
+        IsWholeSeen (seen_of list) (count + 1) →
+        (messages : List (List ℕ)) × (Whole list messages × (length messages ≡ count)) }
+{
+    reading_law();
+}

@@ -1,0 +1,139 @@
+//! Runs of messages.
+
+ghost use Rattle.std.specs.Prelude.{◌≡◌, ◌+◌, ◌^◌, ◌<◌, ◌≤◌, ◌↔◌, IsTrue, ℕ, IfSome, IfNone, OnOk, OnErr};
+ghost use Rattle.std.specs.BTreeMap as tree;
+ghost use Rattle.std.specs.Ordering.{nat_cmp};
+ghost use Rattle.mold_capture.specs.Runs.{AreApart, AreFree, AreRuns, Covers, HasRun, IsGrown, IsPut};
+ghost use Rattle.mold_capture.specs.declared.run.Run.{Run};
+
+use std::alloc::AllocError;
+use std::collections::BTreeMap;
+
+/// Messages whose numbers follow one another: as many as the count says, from a place in the list of
+/// messages on.
+#[derive(Clone, Copy, Debug)]
+pub(crate) struct Run {
+    pub(crate) start: usize,
+    pub(crate) count: u64,
+}
+
+// Whether the run, whose first message has the number `first`, has a message with the number.
+fn covers(first: u64, run: Run, number: u64) -> bool
+    ensures { IsTrue result ↔ Covers first run number }
+{
+    first <= number && number - first < run.count
+}
+
+// The last of the runs that don't begin above the number, behind the number of its first message.
+fn last_run(runs: &BTreeMap<u64, Run>, number: u64) -> Option<(u64, Run)>
+    ensures none { IfNone result ((f : ℕ) (run : Run) → HasRun runs.now f run → number < f) }
+    ensures there { IfSome result (λ e. HasRun runs.now e.0 e.1) }
+    ensures low { IfSome result (λ e. e.0 ≤ number) }
+    ensures last { IfSome result (λ e. (f : ℕ) (run : Run) → HasRun runs.now f run → f ≤ number → f ≤ e.0) }
+{
+    match runs.range(..=number).next_back() {
+        Some((first, run)) => Some((*first, *run)),
+        None => None,
+    }
+}
+
+/// The run that has a message with the number, behind the number of its first message. A run that is near is
+/// looked at first.
+pub(crate) fn run_at(
+    runs: &BTreeMap<u64, Run>,
+    near: Option<(u64, Run)>,
+    number: u64,
+) -> Option<(u64, Run)>
+    requires apart { AreApart runs.now }
+    requires near { IfSome near (λ e. HasRun runs.now e.0 e.1) }
+    ensures there { IfSome result (λ e. HasRun runs.now e.0 e.1) }
+    ensures covers { IfSome result (λ e. Covers e.0 e.1 number) }
+    ensures none { IfNone result ((f : ℕ) (run : Run) → HasRun runs.now f run → ¬ Covers f run number) }
+{
+    match near {
+        Some((first, run)) if covers(first, run, number) => near,
+        _ => match last_run(runs, number) {
+            Some((first, run)) if covers(first, run, number) => Some((first, run)),
+            _ => None,
+        },
+    }
+}
+
+/// Whether no run has a message with a number from the first to below the top. It looks at one run.
+pub(crate) fn is_free(runs: &BTreeMap<u64, Run>, first: u64, top: u64) -> bool
+    requires apart { AreApart runs.now }
+    requires some { first < top }
+    ensures { IsTrue result → AreFree runs.now first top }
+{
+    match last_run(runs, top - 1) {
+        Some((start, run)) => start <= first && run.count <= first - start,
+        None => true,
+    }
+}
+
+/// The run that a message makes, and the number of its first message, when it is put with this number behind
+/// so many messages: it joins a run that ends there, if the places of that one aren't before `since`.
+pub(crate) fn grown_run(
+    runs: &BTreeMap<u64, Run>,
+    since: usize,
+    len: usize,
+    number: u64,
+) -> (u64, Run)
+    requires are { AreRuns runs.now len }
+    requires since { since ≤ len }
+    requires few { number + 1 < 2 ^ 64 }
+    ensures grown { IsGrown runs.now len number 1 result.0 result.1 }
+    ensures since { since ≤ result.1.start }
+{
+    match last_run(runs, number) {
+        Some((first, run)) if joins(first, run, len, number) && since <= run.start => {
+            let count = run.count + 1;
+            (
+                first,
+                Run {
+                    start: run.start,
+                    count,
+                },
+            )
+        }
+        _ => (
+            number,
+            Run {
+                start: len,
+                count: 1,
+            },
+        ),
+    }
+}
+
+// Whether the run ends right before the number and the place.
+fn joins(first: u64, run: Run, place: usize, number: u64) -> bool
+    ensures { IsTrue result ↔ ((first + run.count ≡ number) × (run.start + run.count ≡ place)) }
+{
+    first <= number
+        && number - first == run.count
+        && run.start <= place
+        && (place - run.start) as u64 == run.count
+}
+
+/// Puts a run in, or in place of the one that begins with the same message. An error comes where a growth is
+/// refused.
+pub(crate) fn put_run(runs: &mut BTreeMap<u64, Run>, first: u64, run: Run) -> Result<(), AllocError>
+    ensures put { OnOk result (IsPut runs.old first run runs.new) }
+    ensures ordered { tree.IsOrdered nat_cmp runs.new }
+    ensures same { OnErr result (runs.new.entries ≡ runs.old.entries) }
+{
+    match runs.insert(first, run) {
+        Ok(_) => Ok(()),
+        Err(_) => Err(AllocError),
+    }
+}
+
+/// Takes the runs out whose places aren't below the given one.
+pub(crate) fn take_back(runs: &mut BTreeMap<u64, Run>, place: usize)
+    ensures ordered { tree.IsOrdered nat_cmp runs.new }
+    ensures out { (f : ℕ) (run : Run) → HasRun runs.new f run → HasRun runs.old f run × (run.start < place) }
+    ensures stays { (f : ℕ) (run : Run) → HasRun runs.old f run → run.start < place → HasRun runs.new f run }
+{
+    runs.retain(|_, run| run.start < place);
+}
