@@ -1,16 +1,22 @@
 -- What a fault tells of the words.
-use Rattle.std.proofs.Common.{◌≡◌, ◌∙◌, ◌⊎◌, List, [], Result, Ok, Err, None, Some}
+use Rattle.std.proofs.Common.{◌≡◌, ◌∙◌, ◌⊎◌, List, [], Option, Result, Ok, Err, None, is_err, true}
+use Rattle.std.proofs.lemmas.Bool.{false≢true}
+use Rattle.std.proofs.lemmas.Option.{none-some}
 use Rattle.std.proofs.Common.{ap, inl, inr, refl, subst, sym}
 use Rattle.std.specs.declared.string.String.{String}
 use Rattle.std.specs.declared.alloc.AllocError.{AllocError}
 use Rattle.std.specs.declared.alloc.Global.{Global}
-use Rattle.clap.specs.Words.{App, HasKind, IsAmong, Kinds, Text, fault_of, kind_of}
+use Rattle.clap.specs.Words.{App, HasKind, HasMatchesOf, IsAmong, Kinds, Text, fault_of, kind_of, subcommand_rows_of}
+use Rattle.clap.specs.declared.parser.matches.ArgMatches.{ArgMatches}
+use Rattle.mold_words.proofs.OrderLemmas.{order_of-matches}
 use Rattle.clap.specs.declared.error.Error.{Error}
 use Rattle.clap.specs.declared.error.kind.ErrorKind.{ErrorKind}
 use Rattle.clap.specs.declared.error.kind.ErrorKind.TheVariants.{OutOfMemory, ValueValidation}
 use Rattle.mold_words.specs.Words.{mold_app}
-use Rattle.mold_words.specs.Orders.{order_of, Say, Wanted}
+use Rattle.mold_words.specs.Orders.{order_in, order_of, Say, Wanted}
 use Rattle.mold_words.specs.Faults.{Tells, TellsOf, told, told_if_made}
+use Rattle.mold_words.specs.declared.no_order.NoOrder.{NoOrder}
+use Rattle.mold_words.specs.declared.no_order.NoOrder.TheVariants as no_order
 use Rattle.mold_words.specs.declared.fault.UsageFault.{UsageFault}
 use Rattle.mold_words.specs.declared.fault.UsageFault.TheVariants.{Memory}
 
@@ -37,12 +43,48 @@ pub tells-nothing : (kinds : Kinds) (fault : UsageFault) → kinds ≡ [] → Te
 tells-nothing kinds fault none (inl memory) = memory
 tells-nothing kinds fault none (inr told) = absurd (subst (IsAmong told.0) none told.2)
 
--- a text that is no value of its option is told as that
-pub tells-bad : (words : List Text) (text : Result (String Global) AllocError) (fault : UsageFault)
-    → order_of words ≡ None → fault ≡ told_if_made ValueValidation text → TellsOf words fault
-tells-bad words (Ok text) fault bad made = inr (bad, (text, made))
-tells-bad words (Err refused) fault bad made = inl (inl made)
+-- words that give no order, where memory was not refused, say nothing; where it was, the text of why is
+-- not made
+pub record GivesNone (words : List Text) (none : NoOrder) (found : Option Wanted)
+    (text : Result (String Global) AllocError) : Type 0 where
+  pub says : order_of words ≡ found
+  pub nothing : (none ≡ no_order.Memory) ⊎ (found ≡ None)
+  pub unmade : none ≡ no_order.Memory → is_err text ≡ true
 
--- words that say something have no such text
-pub says-nothing : (words : List Text) (wanted : Wanted) {P : Type 0} → order_of words ≡ None → Say words wanted → P
-says-nothing words wanted bad say = absurd (let e : None ≡ Some wanted = sym bad ∙ say.1 in cc)
+pub gives-none : (words : List Text) (app : App) (m : ArgMatches) (none : NoOrder)
+    (text : Result (String Global) AllocError) → app ≡ mold_app → HasMatchesOf app words m
+    → (none ≡ no_order.Memory) ⊎ (order_in (subcommand_rows_of m) ≡ None)
+    → (none ≡ no_order.Memory → is_err text ≡ true) → GivesNone words none (order_in (subcommand_rows_of m)) text
+gives-none words app m none text same matches nothing unmade =
+    record { says = order_of-matches words app m same matches; nothing = nothing; unmade = unmade }
+
+unmade-memory : (text : Result (String Global) AllocError) → is_err text ≡ true
+    → told_if_made ValueValidation text ≡ Memory
+unmade-memory (Ok text) unmade = absurd (false≢true unmade)
+unmade-memory (Err refused) unmade = refl
+
+told-value : (words : List Text) (text : Result (String Global) AllocError) (fault : UsageFault)
+    → order_of words ≡ None → fault ≡ told_if_made ValueValidation text → TellsOf words fault
+told-value words (Ok text) fault nothing made = inr (nothing, (text, made))
+told-value words (Err refused) fault nothing made = inl (inl made)
+
+-- their fault tells that
+pub tells-none : (words : List Text) (none : NoOrder) (found : Option Wanted)
+    (text : Result (String Global) AllocError) (fault : UsageFault) → GivesNone words none found text
+    → fault ≡ told_if_made ValueValidation text → TellsOf words fault
+tells-none words none found text fault gives made =
+    elim gives.nothing [
+      | inl memory ↦ inl (inl (made ∙ unmade-memory text (gives.unmade memory)))
+      | inr nothing ↦ told-value words text fault (gives.says ∙ nothing) made
+    ]
+
+-- and words that say something gave none for want of memory alone
+pub says-none : (words : List Text) (none : NoOrder) (found : Option Wanted)
+    (text : Result (String Global) AllocError) (fault : UsageFault) (wanted : Wanted)
+    → GivesNone words none found text → fault ≡ told_if_made ValueValidation text → Say words wanted
+    → fault ≡ Memory
+says-none words none found text fault wanted gives made say =
+    elim gives.nothing [
+      | inl memory ↦ made ∙ unmade-memory text (gives.unmade memory)
+      | inr nothing ↦ absurd (none-some wanted (sym (gives.says ∙ nothing) ∙ say.1))
+    ]

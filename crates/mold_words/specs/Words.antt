@@ -13,6 +13,7 @@ abbrev pub commands : List (Text × List (Text × Kind))
 commands =
     (codes "show", (codes "request", Flag) ∷ [])
     ∷ (codes "pack", (codes "session", Required) ∷ (codes "limit", Optional) ∷ [])
+    ∷ (codes "upgrade", (codes "journal", Required) ∷ (codes "to", Required) ∷ (codes "close", Flag) ∷ [])
     ∷ []
 
 -- a command has this name

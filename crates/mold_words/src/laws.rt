@@ -3,7 +3,7 @@ ghost use Rattle.std.specs.Prelude.{◌≡◌, [], ◌∷◌, IfSome, IsTrue, Li
 ghost use Rattle.clap.specs.Words.{Text, fault_of, subcommand_of};
 ghost use Rattle.clap.specs.declared.error.kind.ErrorKind.TheVariants.{DisplayHelp, DisplayVersion};
 ghost use Rattle.clap.specs.declared.error.kind.ErrorKind.TheVariants.{UnknownArgument};
-ghost use Rattle.mold_words.specs.Orders.{AreTaken, Say, order_of, pack_wanted, show_wanted};
+ghost use Rattle.mold_words.specs.Orders.{AreTaken, Say, order_of, pack_wanted, show_wanted, upgrade_wanted};
 ghost use Rattle.mold_words.specs.Words.{is_command, mold_app};
 
 /// The words `show` and `show --request` are taken and say to show, and so is `--` alone, which
@@ -25,6 +25,18 @@ pub fn pack_taken_law()
         (pack_wanted (codes "SESSION001") 64) }
     ensures small { order_of
         (codes "pack" ∷ codes "--session" ∷ codes "MKT" ∷ codes "--limit" ∷ codes "63" ∷ []) ≡ None }
+{}
+
+/// The words `upgrade --journal A --to B` are taken, and say to write the journal of `A` in `B`; `--close`
+/// says to close it. Two equal names say nothing, and are refused.
+pub fn upgrade_taken_law()
+    ensures kept { Say (codes "upgrade" ∷ codes "--journal" ∷ codes "A" ∷ codes "--to" ∷ codes "B" ∷ [])
+        (upgrade_wanted (codes "A") (codes "B") false) }
+    ensures closed { Say
+        (codes "upgrade" ∷ codes "--close" ∷ codes "--journal" ∷ codes "A" ∷ codes "--to" ∷ codes "B" ∷ [])
+        (upgrade_wanted (codes "A") (codes "B") true) }
+    ensures same { order_of
+        (codes "upgrade" ∷ codes "--journal" ∷ codes "A" ∷ codes "--to" ∷ codes "A" ∷ []) ≡ None }
 {}
 
 /// Help and version are asked for by these words, and nothing else is told of them; other words

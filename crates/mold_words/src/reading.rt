@@ -30,9 +30,9 @@ pub fn read_words(alloc: Global, words: &[String]) -> Result<Order, UsageFault>
     }
     let command = mold_command(alloc)?;
     match command.try_get_matches_from(words) {
-        Ok(matches) => match order_from(&matches) {
+        Ok(matches) => match order_from(alloc, &matches) {
             Ok(order) => Ok(order),
-            Err(bad) => Err(fault_for(ErrorKind::ValueValidation, bad.text(alloc))),
+            Err(none) => Err(fault_for(ErrorKind::ValueValidation, none.text(alloc))),
         },
         Err(error) => Err(fault_for(error.kind(), error.to_string(alloc))),
     }

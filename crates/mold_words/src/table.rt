@@ -28,7 +28,7 @@ pub struct CommandRow {
 }
 
 /// The commands, in the order in which help lists them.
-pub static COMMANDS: [CommandRow; 2] = [
+pub static COMMANDS: [CommandRow; 3] = [
     CommandRow {
         name: "show",
         about: "Print packets given as lines of hexadecimal digits on standard input",
@@ -51,6 +51,27 @@ pub static COMMANDS: [CommandRow; 2] = [
                 name: "limit",
                 kind: Kind::Optional,
                 help: "The most bytes of a packet, 64 to 65507 [default: 1400]",
+            },
+        ],
+    },
+    CommandRow {
+        name: "upgrade",
+        about: "Write the journal of a file in another one, in the newest version",
+        options: &[
+            OptionRow {
+                name: "journal",
+                kind: Kind::Required,
+                help: "The file that is read",
+            },
+            OptionRow {
+                name: "to",
+                kind: Kind::Required,
+                help: "The file that is made or replaced, another one",
+            },
+            OptionRow {
+                name: "close",
+                kind: Kind::Flag,
+                help: "Close the journal",
             },
         ],
     },

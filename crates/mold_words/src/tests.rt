@@ -48,6 +48,22 @@ fn words_of_pack(rt: HostRuntime) -> Result<(), Fail> {
 }
 
 #[test]
+fn words_of_upgrade(rt: HostRuntime) -> Result<(), Fail> {
+    for (line, close) in [
+        ("upgrade --journal old --to new", false),
+        ("upgrade --to new --close --journal old", true),
+    ] {
+        let Ok(Order::Upgrade(order)) = read(rt.alloc(), line)? else {
+            return Err(Fail::from("no order to upgrade"));
+        };
+        assert!(rt; order.journal.as_str() == "old");
+        assert!(rt; order.to.as_str() == "new");
+        assert_eq!(rt; order.close, close);
+    }
+    Ok(())
+}
+
+#[test]
 fn texts_that_are_no_values(rt: HostRuntime) -> Result<(), Fail> {
     for line in [
         "pack --session=",
@@ -94,6 +110,8 @@ fn words_that_are_no_command(rt: HostRuntime) -> Result<(), Fail> {
         "pack --limit 64",
         "pack --session A --session B",
         "pack --session A extra",
+        "upgrade --journal A",
+        "upgrade --journal A --to A",
     ] {
         let Err(UsageFault::Usage { text }) = read(rt.alloc(), line)? else {
             return Err(Fail::from("no usage fault"));
@@ -122,9 +140,10 @@ fn words_that_ask_for_help(rt: HostRuntime) -> Result<(), Fail> {
 Usage: mold [COMMAND]
 
 Commands:
-  show  Print packets given as lines of hexadecimal digits on standard input
-  pack  Print the packets of a session whose messages standard input gives
-  help  Print this message or the help of the given subcommand(s)
+  show     Print packets given as lines of hexadecimal digits on standard input
+  pack     Print the packets of a session whose messages standard input gives
+  upgrade  Write the journal of a file in another one, in the newest version
+  help     Print this message or the help of the given subcommand(s)
 
 Options:
   -h, --help     Print help
@@ -149,12 +168,23 @@ Options:
       --limit <limit>      The most bytes of a packet, 64 to 65507 [default: 1400]
   -h, --help               Print help
 ";
+    let upgrade = "Write the journal of a file in another one, in the newest version
+
+Usage: mold upgrade [OPTIONS] --journal <journal> --to <to>
+
+Options:
+      --journal <journal>  The file that is read
+      --to <to>            The file that is made or replaced, another one
+      --close              Close the journal
+  -h, --help               Print help
+";
     for (line, wanted) in [
         ("--help", top),
         ("help", top),
         ("show --help", show),
         ("help show", show),
         ("pack --help", pack),
+        ("upgrade --help", upgrade),
     ] {
         let Err(UsageFault::Help { text }) = read(rt.alloc(), line)? else {
             return Err(Fail::from("no help"));

@@ -1,6 +1,6 @@
 use Rattle.std.proofs.Common.{◌∙◌, ap, inl, refl, string_bytes, sym}
 use Rattle.clap.specs.Words.{app_of, is_simple_and_free}
-use Rattle.mold_words.proofs.FaultLemmas.{tells-nothing, tells-parse, tells-bad, says-nothing}
+use Rattle.mold_words.proofs.FaultLemmas.{gives-none, says-none, tells-none, tells-nothing, tells-parse}
 use Rattle.mold_words.proofs.OrderLemmas.{mold_is_free, none-order, none-taken, order_of-matches, taken-by}
 use Rattle.mold_words.proofs.reading.read_words.Goals as goal
 
@@ -28,16 +28,16 @@ returns-in-Ok-order_from-clause-order c =
 
 pub returns-in-Ok-clause-refused : goal.returns-in-Ok-clause-refused
 returns-in-Ok-clause-refused c =
-    let bad = order_of-matches _ (app_of c.in_ok-command.command) c.in-Ok.matches c.in_ok-command.ensures
-    c.in-Ok.ensures.matches ∙ c.in-Err-order_from.ensures in
-    λ wanted say. says-nothing _ wanted bad say
+    let gives = gives-none _ (app_of c.in_ok-command.command) c.in-Ok.matches c.in-Err-order_from.none c.text.result
+    c.in_ok-command.ensures c.in-Ok.ensures.matches c.in-Err-order_from.ensures c.text.ensures in
+    λ wanted say. says-none _ c.in-Err-order_from.none _ c.text.result c.fault_for.result wanted gives
+    c.fault_for.ensures say
 
 pub returns-in-Ok-clause-fault : goal.returns-in-Ok-clause-fault
 returns-in-Ok-clause-fault c =
-    tells-bad _ c.text.result c.fault_for.result
-    (order_of-matches _ (app_of c.in_ok-command.command) c.in-Ok.matches c.in_ok-command.ensures c.in-Ok.ensures.matches
-    ∙ c.in-Err-order_from.ensures)
-    c.fault_for.ensures
+    let gives = gives-none _ (app_of c.in_ok-command.command) c.in-Ok.matches c.in-Err-order_from.none c.text.result
+    c.in_ok-command.ensures c.in-Ok.ensures.matches c.in-Err-order_from.ensures c.text.ensures in
+    tells-none _ c.in-Err-order_from.none _ c.text.result c.fault_for.result gives c.fault_for.ensures
 
 pub returns-clause-fault : goal.returns-clause-fault
 returns-clause-fault c =

@@ -1,0 +1,65 @@
+//! Why words that `clap` takes give no order.
+
+ghost use Rattle.std.specs.Prelude.{◌≡◌, is_err, true};
+
+use std::alloc::{AllocError, Global};
+
+/// Why words that `clap` takes give no order.
+#[derive(Clone, Copy)]
+pub(crate) enum NoOrder {
+    /// The command has no order.
+    Command,
+    /// This option has no text.
+    Missing {
+        name: &'static str,
+    },
+    /// The text of this option is no session.
+    Session {
+        name: &'static str,
+    },
+    /// The text of this option is no number in its range.
+    Number {
+        name: &'static str,
+        least: u64,
+        most: u64,
+    },
+    /// The two files are one.
+    SameFiles,
+    /// Memory was refused.
+    Memory,
+}
+
+impl From<AllocError> for NoOrder {
+    ghost use Rattle.std.specs.Prelude.{◌≡◌};
+    ghost use Rattle.mold_words.specs.declared.no_order.NoOrder.TheVariants.{Memory};
+
+    ghost from_gives = { λ _ none. none ≡ Memory };
+
+    fn from(_error: AllocError) -> NoOrder {
+        NoOrder::Memory
+    }
+}
+
+impl NoOrder {
+    /// What the user is told, in whole lines.
+    pub(crate) fn text(self, alloc: Global) -> Result<String, AllocError>
+        ensures { self ≡ NoOrder.Memory → is_err result ≡ true }
+    {
+        match self {
+            NoOrder::Command => String::from_str(alloc, "error: no command of the program\n"),
+            NoOrder::Missing { name } => {
+                format!(in alloc; "error: '--{name} <{name}>' has no value\n")
+            }
+            NoOrder::Session { name } => format!(in alloc;
+                "error: invalid value for '--{name} <{name}>': not 1 to 10 characters from space to ~\n"
+            ),
+            NoOrder::Number { name, least, most } => format!(in alloc;
+                "error: invalid value for '--{name} <{name}>': not a number from {least} to {most}\n"
+            ),
+            NoOrder::SameFiles => {
+                String::from_str(alloc, "error: '--journal' and '--to' name one file\n")
+            }
+            NoOrder::Memory => Err(AllocError),
+        }
+    }
+}
