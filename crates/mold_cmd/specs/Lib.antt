@@ -3,3 +3,4 @@ pub mod Pack
 pub mod Packets
 pub mod Publishing
 pub mod Show
+pub mod Upgrade

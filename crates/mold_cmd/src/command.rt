@@ -2,7 +2,7 @@
 
 ghost use Rattle.std.specs.Prelude.{◌≡◌, IfOk, IfSome};
 ghost use Rattle.std.specs.Io.KnownBytes.{Appends};
-ghost use Rattle.mold_cmd.specs.Command.{text, status};
+ghost use Rattle.mold_cmd.specs.Command.{IsStreamed, text, status};
 ghost use Rattle.mold_devices.specs.Devices.{AppendsFront};
 ghost use Rattle.mold_devices.specs.Faults.{CountsCommand};
 
@@ -12,7 +12,7 @@ use mold_devices::{CommandFault, Sink, Source, run_lines};
 use mold_words::Order;
 use std::alloc::Global;
 
-/// Does what the order says with the whole input of the source, and answers the status: 0 done, 2
+/// Does what an order that reads lines says with the whole input of the source, and answers the status: 0 done, 2
 /// something was refused. After a fault a beginning of the output is written. `Read` and `Write` come
 /// only where the source or the sink failed, `Memory` only where a growth was refused.
 pub fn run_command<S: Source, K: Sink>(
@@ -21,6 +21,7 @@ pub fn run_command<S: Source, K: Sink>(
     source: &mut S,
     sink: &mut K,
 ) -> Result<u8, CommandFault>
+    requires { IsStreamed order.now }
     ensures whole { IfOk result (λ answer. IfSome (S.left source.old) (λ input.
         Appends (K.held sink.old) (K.held sink.new) (text order.now input)
         × (answer ≡ status order.now input))) }
@@ -34,5 +35,6 @@ pub fn run_command<S: Source, K: Sink>(
             run_lines(alloc, &mut Show::new(alloc, *request), source, sink)
         }
         Order::Pack(order) => run_lines(alloc, &mut Pack::new(alloc, order)?, source, sink),
+        Order::Upgrade(_) => unreachable!(),
     }
 }

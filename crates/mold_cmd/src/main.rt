@@ -8,10 +8,15 @@ mod pack;
 mod show;
 #[cfg(test)]
 mod tests;
+mod upgrading;
+
+ghost use Rattle.mold_cmd.specs.Command.{IsStreamed};
 
 use crate::command::run_command;
-use mold_devices::{CommandFault, FromRead, IntoWrite};
-use mold_words::{Order, UsageFault, read_words};
+use crate::upgrading::run_upgrade;
+use mold_devices::{CommandFault, FromRead, IntoWrite, NewFile};
+use mold_words::{Order, UpgradeOrder, UsageFault, read_words};
+use std::fs::File;
 use std::io::{ErrorKind, Write};
 use std::process::ExitCode;
 use std::rt::Env;
@@ -59,16 +64,48 @@ fn read_order(rt: &(impl Env + AllocGlobal)) -> Result<Order, UsageFault> {
     }
 }
 
-// Runs the order over standard input and output, and flushes the output once.
-fn run(rt: &HostRuntime, order: &Order) -> Result<u8, CommandFault> {
+// Runs an order that reads lines over standard input and output, and flushes the output once.
+fn run_streamed(rt: &HostRuntime, order: &Order) -> Result<u8, CommandFault>
+    requires { IsStreamed order.now }
+{
     let mut source = FromRead::new(rt.stdin());
     let mut sink = IntoWrite::new(rt.stdout());
     let outcome = run_command(rt.alloc(), order, &mut source, &mut sink);
-    let flushed = sink.into_inner().flush();
+    flushed(outcome, sink.into_inner().flush())
+}
+
+// The outcome of a command whose output was flushed so.
+fn flushed(outcome: Result<u8, CommandFault>, flush: io::Result<()>) -> Result<u8, CommandFault> {
     let status = outcome?;
-    match flushed {
+    match flush {
         Ok(()) => Ok(status),
         Err(_) => Err(CommandFault::Write),
+    }
+}
+
+// Upgrades a journal's file. The new one is made when something is written to it.
+fn run_files(rt: &HostRuntime, order: &UpgradeOrder) -> Result<u8, CommandFault> {
+    let Ok(file) = File::open(rt, order.journal.as_str()) else {
+        return Err(CommandFault::Read);
+    };
+    let mut source = FromRead::new(file);
+    let mut journal = IntoWrite::new(NewFile::new(rt, order.to.as_str()));
+    let mut sink = IntoWrite::new(rt.stdout());
+    let outcome = run_upgrade(
+        rt.alloc(),
+        &mut source,
+        &mut journal,
+        order.close,
+        &mut sink,
+    );
+    flushed(outcome, sink.into_inner().flush())
+}
+
+fn run(rt: &HostRuntime, order: &Order) -> Result<u8, CommandFault> {
+    match order {
+        Order::Show { request: _ } => run_streamed(rt, order),
+        Order::Pack(_) => run_streamed(rt, order),
+        Order::Upgrade(files) => run_files(rt, files),
     }
 }
 
