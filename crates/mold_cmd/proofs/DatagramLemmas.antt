@@ -13,7 +13,8 @@ use Rattle.mold_session.specs.Datagrams.{data_packet, packing}
 use Rattle.mold_session.specs.Journal.{JournalState, appended}
 use Rattle.mold_session.specs.Publisher.{PublisherState, unsent_of, next_front, next_datagram, after_datagram}
 use Rattle.mold_cmd.specs.Pack.{packets_behind}
-use Rattle.mold_cmd.specs.Publishing.{PublishedLines, published_from, lines_published, line_outcome, HasRoom, IsJustFull}
+use Rattle.mold_cmd.specs.Publishing.{PublishedLines, published_from, lines_published, line_outcome}
+use Rattle.mold_cmd.specs.Publishing.{HasRoom, IsJustFull}
 use Rattle.mold_cmd.specs.declared.line_refusal.LineRefusal.{LineRefusal}
 
 -- what `mold_wire` and `mold_session` say of fronts and of how messages are packed
@@ -64,8 +65,8 @@ some_found limit [] last unfit alone = absurd (unfit alone)
 some_found limit (message ∷ found) last unfit alone = omega arith
 
 -- what is packed with a message in front that fits alone is some packet
-some_packed : PackingLaws → (limit : ℕ) (session : Session) (sequence : ℕ) (message : List ℕ) (messages : List (List ℕ)) →
-    Fits limit (message ∷ []) → 0 < length (packing limit session sequence (message ∷ messages))
+some_packed : PackingLaws → (limit : ℕ) (session : Session) (sequence : ℕ) (message : List ℕ)
+    (messages : List (List ℕ)) → Fits limit (message ∷ []) → 0 < length (packing limit session sequence (message ∷ messages))
 some_packed laws limit session sequence message messages alone =
     let most : ℕ = length (message ∷ messages) in
     let is = laws.is_front limit (message ∷ messages) most (least_limit limit (message ∷ []) alone) in
@@ -93,7 +94,8 @@ grown_by journal new message grown = record {
 }
 
 grown_from : (journal : JournalState) (outcome : Result (List ℕ) LineRefusal) (behind : JournalState → PublishedLines) →
-    ((next : JournalState) → Grown next (behind next).journal) → Grown journal (published_from journal outcome behind).journal
+    ((next : JournalState) → Grown next (behind next).journal) →
+    Grown journal (published_from journal outcome behind).journal
 grown_from journal (Ok message) behind each =
     grown_by journal (behind (appended journal message)).journal message (each (appended journal message))
 grown_from journal (Err why) behind each =
@@ -123,7 +125,8 @@ module _ (laws : PackingLaws) (publisher : PublisherState) (full : IsJustFull pu
   pub full_datagram :
       next_datagram publisher ≡ Some (data_packet publisher.journal.session (publisher.sent + 1) full.found)
   full_datagram =
-      rw (ne_eqb publisher.sent (length publisher.journal.messages) (λ same. absurd (omega (arith, unsent_length, same))))
+      rw (ne_eqb publisher.sent (length publisher.journal.messages)
+      (λ same. absurd (omega (arith, unsent_length, same))))
       (ap (λ (ms : List (List ℕ)). Some (data_packet publisher.journal.session (publisher.sent + 1) ms)) full_front)
 
   -- the last message is left behind it
@@ -170,8 +173,9 @@ module _ (laws : PackingLaws) (publisher : PublisherState) (full : IsJustFull pu
     pub full_packets : packets_behind publisher.limit publisher.sent journal
         ≡ data_packet publisher.journal.session (publisher.sent + 1) full.found ∷ packets_left
     full_packets =
-        laws.first publisher.limit journal.session (publisher.sent + 1) (drop publisher.sent journal.messages) full.found
-        (full.last ∷ more.more) all_front (some_found publisher.limit full.found full.last full.more full.alone) all_behind
+        laws.first publisher.limit journal.session (publisher.sent + 1) (drop publisher.sent journal.messages)
+        full.found (full.last ∷ more.more) all_front
+        (some_found publisher.limit full.found full.last full.more full.alone) all_behind
         ∙ ap (λ (ms : List (List ℕ)). data_packet journal.session (publisher.sent + 1) full.found
         ∷ packing publisher.limit journal.session (publisher.sent + 1 + length full.found) ms) (sym all_left)
         ∙ ap (λ (n : ℕ). data_packet journal.session (publisher.sent + 1) full.found
@@ -230,7 +234,9 @@ module _ (laws : PackingLaws) (publisher : PublisherState) (room : HasRoom publi
         (sym (laws.only publisher.limit (unsent_of publisher) (length (unsent_of publisher)) (unsent_of publisher)
         (laws.whole publisher.limit (unsent_of publisher) (length (unsent_of publisher)) (omega arith) room.fits)))
         (omega (arith, left_length, room.sent, other)) (sym (append-nil (unsent_of publisher)))
-        ∙ ap (λ (packets : List Packet). data_packet publisher.journal.session (publisher.sent + 1) (unsent_of publisher)
-        ∷ packets) (laws.none publisher.limit publisher.journal.session (publisher.sent + 1 + length (unsent_of publisher)))
-        ∙ ap (λ (ms : List (List ℕ)). data_packet publisher.journal.session (publisher.sent + 1) ms ∷ []) (sym room_front))
+        ∙ ap (λ (packets : List Packet).
+        data_packet publisher.journal.session (publisher.sent + 1) (unsent_of publisher) ∷ packets)
+        (laws.none publisher.limit publisher.journal.session (publisher.sent + 1 + length (unsent_of publisher)))
+        ∙ ap (λ (ms : List (List ℕ)). data_packet publisher.journal.session (publisher.sent + 1) ms ∷ [])
+        (sym room_front))
   ]

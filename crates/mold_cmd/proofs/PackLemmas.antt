@@ -1,5 +1,6 @@
 -- What a turn of `mold pack` prints.
-use Rattle.std.proofs.Common.{arith, ◌≡◌, ◌∙◌, ℕ, ◌+◌, ◌<◌, List, [], ◌∷◌, ◌++◌, length, Option, None, Some, ap, refl, sym}
+use Rattle.std.proofs.Common.{arith, ◌≡◌, ◌∙◌, ℕ, ◌+◌, ◌<◌, List, [], ◌∷◌, ◌++◌, length, Option, None, Some}
+use Rattle.std.proofs.Common.{ap, refl, sym}
 use Rattle.std.proofs.Common.{append_assoc, subst}
 use Rattle.std.proofs.lemmas.List.{append-nil}
 use Rattle.mold_wire.specs.declared.packet.Packet.{Packet}
@@ -19,7 +20,8 @@ use Rattle.mold_cmd.proofs.DatagramLemmas.{more_packets, list_of, room_packets}
 
 -- ---- texts
 
-first_line : (packet : Packet) (packets : List Packet) → packet_lines (packet ∷ packets) ≡ packet_line packet ++ packet_lines packets
+first_line : (packet : Packet) (packets : List Packet) →
+    packet_lines (packet ∷ packets) ≡ packet_line packet ++ packet_lines packets
 unfolding packet_lines
 first_line packet packets = refl
 
@@ -52,7 +54,8 @@ first_printed limit sent then journal packet None packets some =
 first_printed limit sent then journal packet (Some why) packets some =
     let behind = refused_text (length journal.messages + 1) why in
     ap (λ (ps : List Packet). packet_lines (all_but_last ps) ++ behind) packets
-    ∙ ap (λ (ps : List Packet). packet_lines ps ++ behind) (first_but_last packet (packets_behind limit then journal) some)
+    ∙ ap (λ (ps : List Packet). packet_lines ps ++ behind)
+    (first_but_last packet (packets_behind limit then journal) some)
     ∙ ap (λ (t : List ℕ). t ++ behind) (first_line packet (all_but_last (packets_behind limit then journal)))
     ∙ append_assoc (packet_line packet) (packet_lines (all_but_last (packets_behind limit then journal))) behind
 
@@ -62,8 +65,8 @@ first_printed limit sent then journal packet (Some why) packets some =
 abbrev shown : ℕ → ℕ → PublishedLines → List ℕ
 shown limit sent published = packed_text limit sent published.journal published.refused
 
-shown_same : (start now : PublisherState) (one other : PublishedLines) → now.limit ≡ start.limit → now.sent ≡ start.sent →
-    one ≡ other → shown start.limit start.sent one ≡ shown now.limit now.sent other
+shown_same : (start now : PublisherState) (one other : PublishedLines) → now.limit ≡ start.limit →
+    now.sent ≡ start.sent → one ≡ other → shown start.limit start.sent one ≡ shown now.limit now.sent other
 shown_same start now one other limit sent same =
     ap (λ (n : ℕ). shown n start.sent one) (sym limit)
     ∙ ap (λ (n : ℕ). shown now.limit n one) (sym sent)
@@ -83,8 +86,10 @@ full_shown laws now full lines =
     ∙ ap (λ (ms : List (List ℕ)). line_of_some (next_datagram now) ++ shown now.limit (now.sent + length ms) published)
     (sym (full_front laws now full))
 
-full_goes : PackingLaws → (start now : PublisherState) (known left : Option (List ℕ)) → Fills start now known left Full →
-    GoesOver (pack_printing start) (pack_printing (after_datagram now)) known left (line_of_some (next_datagram now)) More
+full_goes : PackingLaws → (start now : PublisherState) (known left : Option (List ℕ)) →
+    Fills start now known left Full →
+    GoesOver (pack_printing start) (pack_printing (after_datagram now)) known left
+    (line_of_some (next_datagram now)) More
 full_goes laws start now None left filled = tt
 full_goes laws start now (Some xs) None filled = absurd filled.lines
 full_goes laws start now (Some xs) (Some ys) filled = (

@@ -1,6 +1,7 @@
 -- What lines are published as, line by line, and what room they leave.
 use Rattle.std.proofs.Common.{arith, ◌≡◌, ◌∙◌, ◌↔◌, ℕ, ◌+◌, ◌≤◌, Bool, cond, true, false, nat_lt, List, [], ◌∷◌}
-use Rattle.std.proofs.Common.{◌++◌, length, length-append, Option, None, Some, Result, Ok, Err, ap, refl, sym, true≢false}
+use Rattle.std.proofs.Common.{◌++◌, length, length-append, Option, None, Some, Result, Ok, Err, ap, refl, sym}
+use Rattle.std.proofs.Common.{true≢false}
 use Rattle.std.proofs.Common.{subst, IsTrue, ⊎_elim, ◌==◌}
 use Rattle.std.proofs.lemmas.Bool.{cases_lt}
 use Rattle.std.proofs.lemmas.List.{drop-append-le}
@@ -115,7 +116,8 @@ Alone = (limit : ℕ) (message : List ℕ) → length message + 22 ≤ limit →
 unsent_more : (before after : PublisherState) (message : List ℕ) → HasRoom before → after ≡ published before message →
     unsent_of after ≡ unsent_of before ++ message ∷ []
 unsent_more before after message room taken =
-    ap (λ (p : PublisherState). unsent_of p) taken ∙ drop-append-le before.sent before.journal.messages (message ∷ []) room.sent
+    ap (λ (p : PublisherState). unsent_of p) taken
+    ∙ drop-append-le before.sent before.journal.messages (message ∷ []) room.sent
 
 just_full : (before after : PublisherState) (digits : Result (List ℕ) FromHexError) → Alone → HasRoom before →
     TakesLine before after (line_outcome before.journal digits) → IsPublisher after →
@@ -161,7 +163,8 @@ pub record FilledSoFar (start now : PublisherState) (known left : Option (List �
   pub room : HasRoom now
   pub lines : LinesPublished start.journal now.journal known left Full
 
-pub filled_nothing : (start : PublisherState) (known : Option (List ℕ)) → HasRoom start → FilledSoFar start start known known
+pub filled_nothing : (start : PublisherState) (known : Option (List ℕ)) → HasRoom start →
+    FilledSoFar start start known known
 filled_nothing start known room =
     record { limit = refl; sent = refl; room = room; lines = lines_nothing start.journal known }
 
@@ -201,7 +204,8 @@ module _ (start before after : PublisherState) (known left behind : Option (List
       lines_more start.journal before.journal after.journal known left behind line taken.message so_far.lines gives
       (rw same at taken.is) (ap (λ (p : PublisherState). p.journal) taken.taken)
 
-  pub filled_full : Alone → IsPublisher after → (¬ Fits after.limit (unsent_of after)) → Fills start after known behind Full
+  pub filled_full : Alone → IsPublisher after → (¬ Fits after.limit (unsent_of after)) →
+      Fills start after known behind Full
   filled_full alone is full = record {
     limit = taken_limit;
     sent = taken_sent;

@@ -47,7 +47,8 @@ pub record PublishedLines : Type 0 where
   pub refused : Option LineRefusal
 
 -- what comes of a line and those behind it, which go on with a journal
-abbrev pub published_from : JournalState → Result (List ℕ) LineRefusal → (JournalState → PublishedLines) → PublishedLines
+abbrev pub published_from : JournalState → Result (List ℕ) LineRefusal → (JournalState → PublishedLines) →
+    PublishedLines
 published_from journal (Ok message) behind = behind (appended journal message)
 published_from journal (Err why) behind = record { journal = journal; refused = Some why }
 

@@ -25,7 +25,8 @@ unfolding session_of
 no_session text none = rw none refl
 
 -- spaces behind the characters are what is left of ten spaces
-pub spaced : (text : Text) → is_session text ≡ true → Some (text ++ drop (length text) (replicate 10 32)) ≡ session_of text
+pub spaced : (text : Text) → is_session text ≡ true →
+    Some (text ++ drop (length text) (replicate 10 32)) ≡ session_of text
 unfolding session_of
 spaced text is = rw (is, drop-replicate) refl
 

@@ -8,8 +8,10 @@ returns-then-not-is_session-clause-value c =
 
 pub returns-clause-value : goal.returns-clause-value
 returns-clause-value c =
-    rw (c.copy_from_slice.ensures.after, c.as_bytes.ensures.value) (spaced c.args.text.now (sym c.is_session.ensures ∙ c.if-not-is_session.false))
+    rw (c.copy_from_slice.ensures.after, c.as_bytes.ensures.value)
+    (spaced c.args.text.now (sym c.is_session.ensures ∙ c.if-not-is_session.false))
 
 pub returns-clause-named : goal.returns-clause-named
 returns-clause-named c =
-    rw (c.copy_from_slice.ensures.after, c.as_bytes.ensures.value) (named c.args.text.now (sym c.is_session.ensures ∙ c.if-not-is_session.false))
+    rw (c.copy_from_slice.ensures.after, c.as_bytes.ensures.value)
+    (named c.args.text.now (sym c.is_session.ensures ∙ c.if-not-is_session.false))

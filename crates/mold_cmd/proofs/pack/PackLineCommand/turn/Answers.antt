@@ -42,7 +42,8 @@ push_end-requires g c =
 pub invariant_of-self-in_err-push_end-in-End : goal.invariant_of-self-in_err-push_end-in-End
 invariant_of-self-in_err-push_end-in-End g c =
     let filled = rw c.in-End.is at c.in_ok-fill.ensures.filled in
-    let room = room_behind (laws g (goal.at.invariant_of-self-in_err-push_end-in-End g c).After-packing_law) _ filled.room in
+    let room =
+    room_behind (laws g (goal.at.invariant_of-self-in_err-push_end-in-End g c).After-packing_law) _ filled.room in
     rw (c.push_end.ensures.closed, c.push_datagram-in-End.ensures.sent) (record { sent = room.sent; fits = room.fits })
 
 pub invariant_of-self-in-End : goal.invariant_of-self-in-End
