@@ -28,7 +28,7 @@ slice_get-longer (first ∷ front) behind zero element is = is
 slice_get-longer (first ∷ front) behind (suc place) element is = slice_get-longer front behind place element is
 
 -- what was published stays published with more behind it
-published_at-longer :
+pub published_at-longer :
     (published behind : List (List ℕ)) (number : ℕ) (message : List ℕ) → published_at published number ≡ Some message →
     published_at (published ++ behind) number ≡ Some message
 published_at-longer published behind zero message is = absurd (none-some message is)

@@ -117,13 +117,17 @@ pub fn front_law()
 {}
 
 /// What a packet says of an open session stays true when one more message is published, as long as there is
-/// a number for it, and when the session is closed.
+/// a number for it, and when the session is closed. A message keeps its number, whatever is published
+/// behind it.
 pub fn true_stays_law()
     ensures published { (packet : Packet) (published : List (List ℕ)) (message : List ℕ) →
         length published < 18446744073709551614 → IsTrue packet published false →
         IsTrue packet (published ++ message ∷ []) false }
     ensures closed { (packet : Packet) (published : List (List ℕ)) →
         IsTrue packet published false → IsTrue packet published true }
+    ensures message { (published behind : List (List ℕ)) (number : ℕ) (message : List ℕ) →
+        published_at published number ≡ Some message →
+        published_at (published ++ behind) number ≡ Some message }
 {}
 
 /// What a true packet is: its top is at most one more than the number of messages published, and its
