@@ -109,7 +109,10 @@ fn the_longest_front_is_lent(rt: HostRuntime) -> Result<(), Fail> {
         Err(_) => assert!(rt; false, "refused"),
     }
     match server.answer(&journal, &request(SESSION, 5, 9)) {
-        Ok(bytes) => expect_data(&rt, bytes, 5, 1),
+        Ok(bytes) => {
+            assert_eq!(rt; bytes.len(), 42);
+            expect_data(&rt, bytes, 5, 1);
+        }
         Err(_) => assert!(rt; false, "refused"),
     }
     assert_eq!(rt; server.answered(), 2);
