@@ -4,6 +4,7 @@
 ghost use Rattle.std.specs.Prelude.{◌≡◌, ◌⊎◌, ◌+◌, ◌-◌, ◌<◌, ◌≤◌, ◌^◌, ◌++◌, ◌∷◌, [], max, min, length, Bool, true};
 ghost use Rattle.std.specs.Prelude.{false, List, ℕ, Option, None, Some, Ok, Err, is_some, slice_get};
 ghost use Rattle.std.specs.FinMap as finite;
+ghost use Rattle.std.specs.List.{sum_by};
 ghost use Rattle.mold_wire.specs.Packet.{Spells, messages_of, top_of};
 ghost use Rattle.mold_wire.specs.declared.packet.Packet.{Packet};
 ghost use Rattle.mold_wire.specs.declared.request.Request.{Request};
@@ -16,11 +17,11 @@ ghost use Rattle.mold_receiver.specs.Receive.{IsTakenPacket, Reception, data_pac
 ghost use Rattle.mold_receiver.specs.Receive.{refusals, view_after};
 ghost use Rattle.mold_receiver.specs.Store.{Message, available};
 ghost use Rattle.mold_receiver.specs.View.{View, IsWellFormed, fresh};
-ghost use Rattle.mold_receiver.specs.Wanted.{IsGap, gap_end, lacks, missing, wanted};
+ghost use Rattle.mold_receiver.specs.Wanted.{IsGap, gap_end, gaps, lacks, missing, wanted};
 ghost use Rattle.mold_receiver.specs.Gap.{IsTakenInGap};
-ghost use Rattle.mold_ranges.specs.Ranges.{lacking};
+ghost use Rattle.mold_ranges.specs.Ranges.{lacking, size};
 
-use mold_ranges::laws::lacking_law;
+use mold_ranges::laws::{lacking_law, ranges_size_law};
 use mold_wire::laws::{reading_law, true_packet_law};
 
 /// The new `next` of a packet that is taken is the least number from the old one on that is lacking in what
@@ -101,12 +102,15 @@ pub fn wanted_law()
     ensures none { (v : View) → wanted v ≡ None → v.next ≡ v.known }
 {}
 
-/// How many messages are missing: as many as the store lacks of the numbers from `next` to below `known`.
+/// How many messages are missing: as many as the store lacks of the numbers from `next` to below `known`,
+/// which are those in the gaps.
 pub fn missing_law()
-    ensures { (v : View) → IsWellFormed v →
+    ensures lacking { (v : View) → IsWellFormed v →
         missing v ≡ lacking (lacks v.store) v.next (v.known - v.next) }
+    ensures gaps { (v : View) → IsWellFormed v → missing v ≡ sum_by size (gaps v) }
 {
     lacking_law();
+    ranges_size_law();
 }
 
 /// A data packet that begins at `next` and goes no further than the gap there is refused by nothing, and

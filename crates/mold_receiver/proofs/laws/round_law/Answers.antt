@@ -19,10 +19,4 @@ pub returns-clause-wanted : goal.returns-clause-wanted
 returns-clause-wanted c v r messages bytes well wants few spelled =
     let asked = wanted_is v r wants in
     let gap = gap_is v r well wants in
-    taken_in_gap (record {
-      parts = c.lacking_law.ensures.parts;
-      all = c.lacking_law.ensures.all;
-      none = c.lacking_law.ensures.none;
-      same = c.lacking_law.ensures.same;
-    }) v messages (gap_end v) bytes (record { well = well; gap = gap; fits = omega (arith, few, asked, gap.after) })
-    (c.reading_law.ensures.read (data_packet v.session v.next messages) bytes spelled)
+    returns-clause-gap c v (gap_end v) messages bytes well gap (omega (arith, few, asked, gap.after)) spelled
