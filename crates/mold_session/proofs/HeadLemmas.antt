@@ -70,7 +70,7 @@ closed_byte_small : (closed : Bool) → closed_byte closed ≤ 1
 closed_byte_small true = omega arith
 closed_byte_small false = omega arith
 
-flag_at : (session bytes behind : List ℕ) (closed : Bool) (count : ℕ) → length session ≡ 10 →
+pub flag_at : (session bytes behind : List ℕ) (closed : Bool) (count : ℕ) → length session ≡ 10 →
     bytes ≡ head_2 session closed count ++ behind → get_or bytes 18 0 ≡ closed_byte closed
 flag_at session bytes behind closed count ten parts =
     sym (get_or-drop 18 bytes 0 0)

@@ -1,4 +1,5 @@
 pub mod DatagramLemmas
+pub mod FileLawLemmas
 pub mod FileLemmas
 pub mod HeadLemmas
 pub mod LoadingLemmas
