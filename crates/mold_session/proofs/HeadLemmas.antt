@@ -180,7 +180,8 @@ refused_behind Behind Whole known left front read same (BlockCut number) fault =
     known_behind known left front (λ rest. Behind rest (BlockCut number)) (λ bytes. Whole bytes (BlockCut number))
     read (λ xs ys e. same xs ys e (BlockCut number)) fault
 refused_behind Behind Whole known left front read same (CountDiffers count found) fault =
-    known_behind known left front (λ rest. Behind rest (CountDiffers count found)) (λ bytes. Whole bytes (CountDiffers count found))
+    known_behind known left front (λ rest. Behind rest (CountDiffers count found))
+    (λ bytes. Whole bytes (CountDiffers count found))
     read (λ xs ys e. same xs ys e (CountDiffers count found)) fault
 
 -- a fault behind 18 bytes that begin version 2
