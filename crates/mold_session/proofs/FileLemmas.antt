@@ -98,7 +98,8 @@ spells : (known left : Option (List ℕ)) (head : FileHead) (stated : Option ℕ
 spells None left head stated messages count found ten said read whole are is same counted = tt
 spells (Some xs) None head stated messages count found ten said read whole are is same counted = absurd read
 spells (Some xs) (Some ys) head None messages count found ten said read whole are is same counted =
-    (said, record { named = ten; listed = are; spelled = read ∙ ap (λ (t : List ℕ). head_spelling head.session.0 head.closed None ++ t) whole })
+    let parts = read ∙ ap (λ (t : List ℕ). head_spelling head.session.0 head.closed None ++ t) whole in
+    (said, record { named = ten; listed = are; spelled = parts })
 spells (Some xs) (Some ys) head (Some number) messages count found ten said read whole are is same counted =
     let all : number ≡ length messages = sym is ∙ same ∙ counted in
     record {

@@ -70,7 +70,7 @@ closed_byte_small : (closed : Bool) → closed_byte closed ≤ 1
 closed_byte_small true = omega arith
 closed_byte_small false = omega arith
 
-flag_at : (session bytes behind : List ℕ) (closed : Bool) (count : ℕ) → length session ≡ 10 →
+pub flag_at : (session bytes behind : List ℕ) (closed : Bool) (count : ℕ) → length session ≡ 10 →
     bytes ≡ head_2 session closed count ++ behind → get_or bytes 18 0 ≡ closed_byte closed
 flag_at session bytes behind closed count ten parts =
     sym (get_or-drop 18 bytes 0 0)
@@ -180,7 +180,8 @@ refused_behind Behind Whole known left front read same (BlockCut number) fault =
     known_behind known left front (λ rest. Behind rest (BlockCut number)) (λ bytes. Whole bytes (BlockCut number))
     read (λ xs ys e. same xs ys e (BlockCut number)) fault
 refused_behind Behind Whole known left front read same (CountDiffers count found) fault =
-    known_behind known left front (λ rest. Behind rest (CountDiffers count found)) (λ bytes. Whole bytes (CountDiffers count found))
+    known_behind known left front (λ rest. Behind rest (CountDiffers count found))
+    (λ bytes. Whole bytes (CountDiffers count found))
     read (λ xs ys e. same xs ys e (CountDiffers count found)) fault
 
 -- a fault behind 18 bytes that begin version 2

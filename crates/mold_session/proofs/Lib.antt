@@ -1,6 +1,7 @@
 pub mod AnswerLemmas
 pub mod AskingLemmas
 pub mod DatagramLemmas
+pub mod FileLawLemmas
 pub mod FileLemmas
 pub mod FrontLemmas
 pub mod HeadLemmas

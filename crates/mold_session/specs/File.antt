@@ -39,13 +39,15 @@ pub record SpellsJournal2 (session : Session) (messages : List (List ℕ)) (clos
   pub spelled : bytes ≡ head_2 session.0 closed (length messages) ++ blocks messages
 
 -- known bytes grew by the file of version 2 of a journal
-pub record AppendsFile (old new : Option (List ℕ)) (session : Session) (messages : List (List ℕ)) (closed : Bool) : Type 0 where
+pub record AppendsFile (old new : Option (List ℕ)) (session : Session) (messages : List (List ℕ))
+    (closed : Bool) : Type 0 where
   pub file : List ℕ
   pub spelled : SpellsJournal2 session messages closed file
   pub appended : Appends old new file
 
 -- known bytes grew by a beginning of it
-pub record AppendsFileFront (old new : Option (List ℕ)) (session : Session) (messages : List (List ℕ)) (closed : Bool) : Type 0 where
+pub record AppendsFileFront (old new : Option (List ℕ)) (session : Session) (messages : List (List ℕ))
+    (closed : Bool) : Type 0 where
   pub file : List ℕ
   pub spelled : SpellsJournal2 session messages closed file
   pub appended : AppendsFront old new file

@@ -178,9 +178,9 @@ impl Journal {
         })
     }
 
-    /// Writes the journal's file of version 2: what is kept as one list goes out in writes of some 4,096
-    /// bytes and more. It takes no memory, and `Write` is its only refusal; the sink has then taken a
-    /// beginning of the file.
+    /// Writes the journal's file, in version 2. Blocks are gathered and go out in writes of up to 4,096
+    /// bytes, and a longer message in a write of its own. It takes no memory, and `Write` is its only
+    /// refusal; the sink has then taken a beginning of the file.
     pub fn save<K: Sink>(&self, sink: &mut K) -> Result<(), FileError>
         ensures whole { OnOk result (AppendsFile (K.held sink.old) (K.held sink.new)
             self.now.session self.now.messages self.now.closed) }

@@ -1,7 +1,8 @@
 //! What holds of the definitions alone. Each law is a function that does nothing: its contract is the
 //! law.
 
-ghost use Rattle.std.specs.Prelude.{◌≡◌, ◌+◌, ◌<◌, ◌≤◌, ◌++◌, ◌∷◌, [], List, ℕ, length, take, Ok, Some, slice_get};
+ghost use Rattle.std.specs.Prelude.{◌≡◌, ◌+◌, ◌<◌, ◌≤◌, ◌++◌, ◌∷◌, [], List, ℕ, Bool, length, take, Ok, Some, slice_get};
+ghost use Rattle.std.specs.List.{AllByRecursion};
 ghost use Rattle.mold_wire.specs.Packet.{spelling_of};
 ghost use Rattle.mold_wire.specs.Packing.{front};
 ghost use Rattle.mold_wire.specs.declared.packet.Packet.{Packet};
@@ -10,7 +11,10 @@ ghost use Rattle.mold_wire.specs.declared.request.Request.{Request};
 ghost use Rattle.mold_wire.specs.Request.{SpellsRequest};
 ghost use Rattle.mold_session.specs.Answer.{answer, PlanState, IsPlan, plan_for, IsSpent, planned, FitAlone, HasFirst, SendsNext};
 ghost use Rattle.mold_session.specs.Datagrams.{data_packet, first_part, packing};
-ghost use Rattle.mold_session.specs.Journal.{JournalState, IsJournal};
+ghost use Rattle.mold_session.specs.Journal.{IsJournal, IsWithin, JournalState};
+ghost use Rattle.mold_session.specs.File.{SpellsJournal, SpellsJournal2};
+ghost use Rattle.mold_session.specs.FileFault.{JournalFault};
+ghost use Rattle.mold_session.specs.declared.error.FileError.{FileError};
 ghost use Rattle.mold_session.specs.Publisher.{IsPublisher, PublisherState, next_datagram, next_end, next_heartbeat};
 ghost use Rattle.mold_session.specs.Truthful.{MayAnswer, TellsTruth};
 ghost use Rattle.mold_session.specs.Server.{ServerState, IsServer, IsAnswerable, asking, planning};
@@ -116,3 +120,24 @@ pub fn sending_law()
     spelling_length_law();
     true_packet_law();
 }
+
+/// A file has one reading: no bytes are the files of two journals or of both versions, and the file of a
+/// journal whose messages are within a bound has no fault for that bound. So what `Journal::load` answers
+/// of a file is all that it may answer.
+#[tactic(auto, using(crate::proofs::FileLawLemmas::one_reading))]
+pub fn one_file_law()
+    ensures one_journal { (one other : Session) (messages others : List (List ℕ)) (bytes : List ℕ) →
+        SpellsJournal one messages bytes → SpellsJournal other others bytes →
+        (one ≡ other) × (messages ≡ others) }
+    ensures one_journal_2 { (one other : Session) (messages others : List (List ℕ)) (closed shut : Bool)
+        (bytes : List ℕ) → SpellsJournal2 one messages closed bytes → SpellsJournal2 other others shut bytes →
+        (one ≡ other) × (messages ≡ others) × (closed ≡ shut) }
+    ensures one_version { (one other : Session) (messages others : List (List ℕ)) (closed : Bool)
+        (bytes : List ℕ) → SpellsJournal one messages bytes → ¬ SpellsJournal2 other others closed bytes }
+    ensures no_fault { (most : ℕ) (session : Session) (messages : List (List ℕ)) (bytes : List ℕ)
+        (error : FileError) → most ≤ 65535 → SpellsJournal session messages bytes →
+        AllByRecursion (IsWithin most) messages → ¬ JournalFault most bytes error }
+    ensures no_fault_2 { (most : ℕ) (session : Session) (messages : List (List ℕ)) (closed : Bool)
+        (bytes : List ℕ) (error : FileError) → most ≤ 65535 → SpellsJournal2 session messages closed bytes →
+        AllByRecursion (IsWithin most) messages → ¬ JournalFault most bytes error }
+{}

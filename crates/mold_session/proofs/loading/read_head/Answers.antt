@@ -18,9 +18,11 @@ returns-then-ne-clause-refused g c = λ most.
     take_all c.in_ok-count.count front (omega (arith, c.if-count-lt18.false, long))
     in
     bad_magic known left front most (subst (Consumes known left) all c.in_ok-count.ensures.bytes) long
-    (unequal c.split_at.result.0.now c.as_slice.result.now magic_1 front (sym c.eq.ensures ∙ c.if-eq.false) c.split_at.ensures.front
+    (unequal c.split_at.result.0.now c.as_slice.result.now magic_1 front
+    (sym c.eq.ensures ∙ c.if-eq.false) c.split_at.ensures.front
     (c.as_slice.ensures ∙ c.first_magic.ensures))
-    (unequal c.split_at.result.0.now c.as_slice-2.result.now magic_2 front (differs _ (sym c.ne.ensures ∙ c.if-ne.true)) c.split_at.ensures.front
+    (unequal c.split_at.result.0.now c.as_slice-2.result.now magic_2 front
+    (differs _ (sym c.ne.ensures ∙ c.if-ne.true)) c.split_at.ensures.front
     (c.as_slice-2.ensures ∙ c.second_magic.ensures))
 
 pub returns-clause-refused : goal.returns-clause-refused
