@@ -12,6 +12,8 @@ mod missing;
 mod reason;
 mod refusal;
 mod run;
+#[cfg(test)]
+mod tests;
 mod verdict;
 
 pub use checker::Checker;
