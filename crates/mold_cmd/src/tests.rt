@@ -2,8 +2,10 @@
 //! failing in turn.
 
 ghost use Rattle.std.specs.Prelude.{◌<◌};
+ghost use Rattle.mold_cmd.specs.Command.{IsStreamed};
 
 use crate::command::run_command;
+use crate::upgrading::run_upgrade;
 use mold_devices::{CommandFault, IntoWrite, MemorySink, MemorySource, Sink, Source};
 use mold_words::{Order, PackOrder, read_words};
 use std::alloc::Global;
@@ -26,7 +28,8 @@ const TWO_TEXT: &[u8] = b"data 53455353494f4e303031 1 2\n  1 2 4142\n  2 0 -\n";
 
 // Does what the order says, and answers the status and what was written.
 fn done(alloc: Global, order: &Order, input: &[u8], most: usize) -> Result<(u8, Vec<u8>), Fail>
-    requires { 0 < most }
+    requires most { 0 < most }
+    requires order { IsStreamed order.now }
 {
     let mut source = MemorySource::new(input);
     source.at_most(most);
@@ -42,7 +45,9 @@ fn expect_done(
     input: &[u8],
     text: &[u8],
     status: u8,
-) -> Result<(), Fail> {
+) -> Result<(), Fail>
+    requires { IsStreamed order.now }
+{
     let alloc = rt.alloc();
     let (answer, written) = done(alloc, order, input, 65536)?;
     assert_eq!(rt; written.as_slice(), text);
@@ -237,7 +242,9 @@ fn each_write_that_fails_leaves_a_beginning(rt: HostRuntime) -> Result<(), Fail>
 }
 
 // The order to pack `SESSION001` into packets of up to 64 bytes.
-fn pack_64() -> Order {
+fn pack_64() -> Order
+    ensures { IsStreamed result }
+{
     Order::Pack(PackOrder {
         session: *b"SESSION001",
         limit: 64,
@@ -263,9 +270,11 @@ fn session_padded(rt: HostRuntime) -> Result<(), Fail> {
     for word in "pack --session MKT --limit 64".split_whitespace() {
         words.push(String::from_str(rt.alloc(), word)?)?;
     }
-    let order = read_words(rt.alloc(), words.as_slice()).map_err(|_| "no order")?;
+    let Ok(Order::Pack(order)) = read_words(rt.alloc(), words.as_slice()) else {
+        return Err(Fail::from("no order to pack"));
+    };
     let text = b"4d4b54202020202020200000000000000001ffff\n";
-    expect_done(&rt, &order, b"", text, 0)
+    expect_done(&rt, &Order::Pack(order), b"", text, 0)
 }
 
 #[test]
@@ -345,5 +354,86 @@ fn each_write_that_fails_leaves_a_beginning_of_the_packets(rt: HostRuntime) -> R
         assert!(rt; text.as_slice().starts_with(sink.bytes()), "write {call}");
         assert_eq!(rt; sink.bytes().len() as u64, call - 1);
     }
+    Ok(())
+}
+
+/// The journal of `AB` and a message without bytes: the file of version 1, which is open, and that of
+/// version 2 where it is closed.
+const JOURNAL_1: &[u8] = b"MOLDJNL1SESSION001\0\x02AB\0\0";
+
+const CLOSED_2: &[u8] = b"MOLDJNL2SESSION001\x01\0\0\0\0\0\0\0\x02\0\x02AB\0\0";
+
+// Upgrades the file, and compares the new one, what is told, and the status.
+fn expect_upgrade(
+    rt: &(impl Abort + AllocGlobal),
+    file: &[u8],
+    close: bool,
+    wanted: &[u8],
+    text: &[u8],
+    status: u8,
+) -> Result<(), Fail> {
+    let alloc = rt.alloc();
+    let mut source = MemorySource::new(file);
+    let mut journal = MemorySink::new(alloc);
+    let mut sink = MemorySink::new(alloc);
+    let answer = run_upgrade(alloc, &mut source, &mut journal, close, &mut sink)?;
+    assert_eq!(rt; journal.bytes(), wanted);
+    assert_eq!(rt; sink.bytes(), text);
+    assert_eq!(rt; answer, status);
+    Ok(())
+}
+
+#[test]
+fn journal_cuts_upgraded(rt: HostRuntime) -> Result<(), Fail> {
+    let open = b"MOLDJNL2SESSION001\0\0\0\0\0\0\0\0\x02\0\x02AB\0\0";
+    expect_upgrade(&rt, JOURNAL_1, true, CLOSED_2, b"upgraded 2 closed\n", 0)?;
+    expect_upgrade(&rt, JOURNAL_1, false, open, b"upgraded 2 open\n", 0)?;
+    expect_upgrade(&rt, CLOSED_2, false, CLOSED_2, b"upgraded 2 closed\n", 0)
+}
+
+#[test]
+fn files_that_are_not_upgraded(rt: HostRuntime) -> Result<(), Fail> {
+    let cut = CLOSED_2.get(..31).ok_or("too short")?;
+    expect_upgrade(&rt, cut, true, b"", b"refused CountDiffers 2 1\n", 2)?;
+    let cut = CLOSED_2.get(..30).ok_or("too short")?;
+    expect_upgrade(&rt, cut, true, b"", b"refused BlockCut 1\n", 2)?;
+    expect_upgrade(
+        &rt,
+        b"MOLDJNL1SESSION00",
+        true,
+        b"",
+        b"refused Short 17\n",
+        2,
+    )?;
+    expect_upgrade(
+        &rt,
+        b"MOLDJNL3SESSION001",
+        true,
+        b"",
+        b"refused BadMagic\n",
+        2,
+    )?;
+    let flag = b"MOLDJNL2SESSION001\x02\0\0\0\0\0\0\0\0";
+    expect_upgrade(&rt, flag, true, b"", b"refused BadFlag 2\n", 2)
+}
+
+#[test]
+fn each_device_of_an_upgrade_that_fails_is_told(rt: HostRuntime) -> Result<(), Fail> {
+    for call in 1..=2 {
+        let mut source = MemorySource::new(JOURNAL_1);
+        source.fail_at(call);
+        let mut journal = MemorySink::new(rt.alloc());
+        let mut sink = MemorySink::new(rt.alloc());
+        let outcome = run_upgrade(rt.alloc(), &mut source, &mut journal, true, &mut sink);
+        assert_eq!(rt; outcome, Err(CommandFault::Read), "read {call}");
+        assert!(rt; journal.bytes().is_empty());
+    }
+    let mut source = MemorySource::new(JOURNAL_1);
+    let mut journal = MemorySink::new(rt.alloc());
+    journal.fail_at(1);
+    let mut sink = MemorySink::new(rt.alloc());
+    let outcome = run_upgrade(rt.alloc(), &mut source, &mut journal, true, &mut sink);
+    assert_eq!(rt; outcome, Err(CommandFault::Write));
+    assert!(rt; sink.bytes().is_empty());
     Ok(())
 }
