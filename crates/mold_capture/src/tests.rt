@@ -157,9 +157,9 @@ fn holes_are_told(rt: HostRuntime) -> Result<(), Fail> {
 #[test]
 fn bytes_that_spell_no_packet(rt: HostRuntime) -> Result<(), Fail> {
     let beat = data(rt.alloc(), 1, &[])?;
-    let cut = &beat.bytes()[..19];
+    let cut = b"SESSION001\0\0\0\0\0\0\0\0\0";
     let reason = Reason::Malformed(DecodeError::Short { len: 19 });
-    expect_refused(&rt, rt.alloc(), &[beat.bytes(), cut], reason);
+    expect_refused(&rt, rt.alloc(), &[beat.bytes(), cut.as_slice()], reason);
     Ok(())
 }
 
@@ -172,16 +172,16 @@ fn another_session_comes_first(rt: HostRuntime) -> Result<(), Fail> {
     let past = foreign(alloc, MAX, &[b"x"])?;
     let (other, below) = (foreign_end(alloc, 4)?, foreign_end(alloc, 1)?);
     let (behind, differs) = (foreign(alloc, 4, &[])?, foreign(alloc, 1, &[b"x"])?);
-    for bytes in [
-        zero.bytes(),
-        past.bytes(),
-        other.bytes(),
-        behind.bytes(),
-        differs.bytes(),
-    ] {
-        let list = [one.bytes(), three.bytes(), bytes];
-        expect_refused(&rt, alloc, &list, Reason::WrongSession);
-    }
+    let list = [one.bytes(), three.bytes(), zero.bytes()];
+    expect_refused(&rt, alloc, &list, Reason::WrongSession);
+    let list = [one.bytes(), three.bytes(), past.bytes()];
+    expect_refused(&rt, alloc, &list, Reason::WrongSession);
+    let list = [one.bytes(), three.bytes(), other.bytes()];
+    expect_refused(&rt, alloc, &list, Reason::WrongSession);
+    let list = [one.bytes(), three.bytes(), behind.bytes()];
+    expect_refused(&rt, alloc, &list, Reason::WrongSession);
+    let list = [one.bytes(), three.bytes(), differs.bytes()];
+    expect_refused(&rt, alloc, &list, Reason::WrongSession);
     expect_refused(
         &rt,
         alloc,
@@ -197,14 +197,23 @@ fn number_zero_comes_second(rt: HostRuntime) -> Result<(), Fail> {
     let alloc = rt.alloc();
     let (one, two) = (data(alloc, 1, &[b"A"])?, end(alloc, 2)?);
     let (other, behind) = (end(alloc, 0)?, data(alloc, 0, &[b"", b"A", b"B"])?);
-    for bytes in [other.bytes(), behind.bytes()] {
-        let list = [one.bytes(), two.bytes(), bytes];
-        expect_refused(&rt, alloc, &list, Reason::SequenceZero);
-    }
+    let list = [one.bytes(), two.bytes(), other.bytes()];
+    expect_refused(&rt, alloc, &list, Reason::SequenceZero);
+    let list = [one.bytes(), two.bytes(), behind.bytes()];
+    expect_refused(&rt, alloc, &list, Reason::SequenceZero);
     let differs = data(alloc, 0, &[b"", b"x"])?;
-    for bytes in [other.bytes(), differs.bytes()] {
-        expect_refused(&rt, alloc, &[one.bytes(), bytes], Reason::SequenceZero);
-    }
+    expect_refused(
+        &rt,
+        alloc,
+        &[one.bytes(), other.bytes()],
+        Reason::SequenceZero,
+    );
+    expect_refused(
+        &rt,
+        alloc,
+        &[one.bytes(), differs.bytes()],
+        Reason::SequenceZero,
+    );
     Ok(())
 }
 
