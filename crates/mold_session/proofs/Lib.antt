@@ -7,3 +7,4 @@ pub mod PublisherLemmas
 pub mod ServingLemmas
 pub mod TruthLemmas
 pub mod SendingLemmas
+pub mod StateLemmas
