@@ -13,3 +13,4 @@ pub mod SavingLemmas
 pub mod ServingLemmas
 pub mod TruthLemmas
 pub mod SendingLemmas
+pub mod StateLemmas

@@ -1,5 +1,5 @@
 -- A publisher as its users see it, and which packets it sends.
-use Rattle.std.specs.Prelude.{◌≡◌, ℕ, ◌+◌, ◌≤◌, true, List, length, drop, ◌==◌}
+use Rattle.std.specs.Prelude.{◌≡◌, ℕ, ◌+◌, ◌≤◌, true, false, List, length, drop, ◌==◌}
 use Rattle.std.specs.Prelude.{if◌then◌else◌, Option, None, Some}
 use Rattle.mold_wire.specs.declared.packet.Packet.{Packet}
 use Rattle.mold_wire.specs.declared.packet.Body.TheVariants.{Data, Heartbeat, End}
@@ -66,6 +66,13 @@ published publisher message = record publisher { journal = appended publisher.jo
 
 abbrev pub closed : PublisherState → PublisherState
 closed publisher = record publisher { journal = record publisher.journal { closed = true } }
+
+-- a message that is refused by nothing: the session is open, the message is no longer than may be, and there
+-- is a number for it
+pub record MayPublish (publisher : PublisherState) (message : List ℕ) : Type 0 where
+  pub unclosed : publisher.journal.closed ≡ false
+  pub short : length message ≤ publisher.journal.max_message
+  pub number : length publisher.journal.messages ≡ 18446744073709551614 → ⊥
 
 -- what is lent spells the packet, and nothing is lent where there is none
 abbrev pub Lends : Option Packet → Option (List ℕ) → Type 0

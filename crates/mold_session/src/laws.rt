@@ -1,7 +1,7 @@
 //! What holds of the definitions alone. Each law is a function that does nothing: its contract is the
 //! law.
 
-ghost use Rattle.std.specs.Prelude.{◌≡◌, ◌+◌, ◌<◌, ◌≤◌, ◌++◌, ◌∷◌, [], List, ℕ, Bool, length, take, Ok, Some, slice_get};
+ghost use Rattle.std.specs.Prelude.{◌≡◌, ◌+◌, ◌<◌, ◌≤◌, ◌++◌, ◌∷◌, [], List, ℕ, Bool, length, take, None, Ok, Some, slice_get};
 ghost use Rattle.std.specs.List.{AllByRecursion};
 ghost use Rattle.mold_wire.specs.Packet.{spelling_of};
 ghost use Rattle.mold_wire.specs.Packing.{front};
@@ -11,11 +11,11 @@ ghost use Rattle.mold_wire.specs.declared.request.Request.{Request};
 ghost use Rattle.mold_wire.specs.Request.{SpellsRequest};
 ghost use Rattle.mold_session.specs.Answer.{answer, PlanState, IsPlan, plan_for, IsSpent, planned, FitAlone, HasFirst, SendsNext};
 ghost use Rattle.mold_session.specs.Datagrams.{data_packet, first_part, packing};
-ghost use Rattle.mold_session.specs.Journal.{IsJournal, IsWithin, JournalState};
+ghost use Rattle.mold_session.specs.Journal.{IsJournal, IsWithin, JournalState, append_refusal};
 ghost use Rattle.mold_session.specs.File.{SpellsJournal, SpellsJournal2};
 ghost use Rattle.mold_session.specs.FileFault.{JournalFault};
 ghost use Rattle.mold_session.specs.declared.error.FileError.{FileError};
-ghost use Rattle.mold_session.specs.Publisher.{IsPublisher, PublisherState, next_datagram, next_end, next_heartbeat};
+ghost use Rattle.mold_session.specs.Publisher.{IsPublisher, MayPublish, PublisherState, after_datagram, closed, next_datagram, next_end, next_heartbeat, published};
 ghost use Rattle.mold_session.specs.Truthful.{MayAnswer, TellsTruth};
 ghost use Rattle.mold_session.specs.Server.{ServerState, IsServer, IsAnswerable, asking, planning};
 
@@ -141,3 +141,18 @@ pub fn one_file_law()
         (bytes : List ℕ) (error : FileError) → most ≤ 65535 → SpellsJournal2 session messages closed bytes →
         AllByRecursion (IsWithin most) messages → ¬ JournalFault most bytes error }
 {}
+
+/// A publisher stays one while messages are published that nothing refuses, and sent, and when it is closed
+/// once all are sent.
+pub fn publisher_law()
+    ensures may { (publisher : PublisherState) (message : List ℕ) →
+        append_refusal publisher.journal message ≡ None → MayPublish publisher message }
+    ensures published { (publisher : PublisherState) (message : List ℕ) → IsPublisher publisher →
+        MayPublish publisher message → IsPublisher (published publisher message) }
+    ensures sent { (publisher : PublisherState) (packet : Packet) → IsPublisher publisher →
+        next_datagram publisher ≡ Some packet → IsPublisher (after_datagram publisher) }
+    ensures closed { (publisher : PublisherState) → IsPublisher publisher →
+        publisher.sent ≡ length publisher.journal.messages → IsPublisher (closed publisher) }
+{
+    front_law();
+}

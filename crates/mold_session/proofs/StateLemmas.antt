@@ -1,0 +1,84 @@
+-- What a publisher stays while messages are published and sent, and when it is closed.
+use Rattle.std.proofs.Common.{◌≡◌, ℕ, cond, ltb, eqb, Bool, true, false, List, [], ◌∷◌, ◌++◌, length}
+use Rattle.std.proofs.Common.{length-append, length-drop, Option, None, Some, refl, sym, ◌∙◌, inl, inr, arith}
+use Rattle.std.specs.List.{AllByRecursion}
+use Rattle.std.proofs.lemmas.Bool.{cases_eq, eq-eqb, eqb-false, ltb-false, false≢true}
+use Rattle.std.proofs.lemmas.Option.{none-some}
+use Rattle.mold_wire.specs.declared.packet.Packet.{Packet}
+use Rattle.mold_session.proofs.FrontLemmas.{FrontIs, front_within}
+use Rattle.mold_session.specs.Journal.{IsWithin, append_refusal}
+use Rattle.mold_session.specs.Publisher.{IsPublisher, MayPublish, PublisherState, after_datagram, closed, next_datagram}
+use Rattle.mold_session.specs.Publisher.{next_front, published, unsent_of}
+
+-- no first reason of several is no such reason and no other one
+none_if :
+    {E : Type 0} (refused : Bool) (error : E) (others : Option E) → cond refused (Some error) others ≡ None →
+    (refused ≡ false) × (others ≡ None)
+none_if true error others is = absurd (none-some error (sym is))
+none_if false error others is = (refl, is)
+
+-- a message that is not refused
+pub may_publish :
+    (publisher : PublisherState) (message : List ℕ) → append_refusal publisher.journal message ≡ None →
+    MayPublish publisher message
+may_publish publisher message none =
+    let open_session = none_if publisher.journal.closed _ _ none in
+    let short = none_if (ltb publisher.journal.max_message (length message)) _ _ open_session.1 in
+    let number = none_if (eqb (length publisher.journal.messages) 18446744073709551614) _ _ short.1 in
+    record {
+      unclosed = open_session.0;
+      short = ltb-false publisher.journal.max_message (length message) short.0;
+      number = eqb-false (length publisher.journal.messages) 18446744073709551614 number.0;
+    }
+
+each_pushed :
+    (most : ℕ) (messages : List (List ℕ)) (message : List ℕ) → AllByRecursion (IsWithin most) messages →
+    IsWithin most message → AllByRecursion (IsWithin most) (messages ++ message ∷ [])
+each_pushed most [] message each one = (one, tt)
+each_pushed most (first ∷ messages) message each one = (each.0, each_pushed most messages message each.1 one)
+
+pub stays_published :
+    (publisher : PublisherState) (message : List ℕ) → IsPublisher publisher → MayPublish publisher message →
+    IsPublisher (published publisher message)
+stays_published publisher message is may =
+    let longer = length-append publisher.journal.messages (message ∷ []) in
+    record {
+      limited = is.limited;
+      longest = is.longest;
+      journaled = record {
+        few = omega (arith, longer, is.journaled.few, may.number);
+        each = each_pushed publisher.journal.max_message publisher.journal.messages message is.journaled.each may.short;
+      };
+      published = omega (arith, longer, is.published);
+      finished = λ closed_now. absurd (false≢true (sym may.unclosed ∙ closed_now));
+    }
+
+pub stays_sent :
+    (publisher : PublisherState) (packet : Packet) → FrontIs → IsPublisher publisher →
+    next_datagram publisher ≡ Some packet → IsPublisher (after_datagram publisher)
+stays_sent publisher packet front_is is next =
+    let messages : List (List ℕ) = publisher.journal.messages in
+    let within = front_within publisher.limit (unsent_of publisher) (length messages) (next_front publisher)
+    (front_is publisher.limit (unsent_of publisher) (length messages) (omega (arith, is.limited.0)))
+    in
+    elim (cases_eq publisher.sent (length messages)) [
+      | inl all ↦ absurd (none-some packet (rw (eq-eqb publisher.sent (length messages) all) at next))
+      | inr more ↦ record {
+        limited = is.limited;
+        longest = is.longest;
+        journaled = is.journaled;
+        published = omega (arith, within, length-drop publisher.sent messages, is.published);
+        finished = λ closed_now. absurd (more (is.finished closed_now));
+      }
+    ]
+
+pub stays_closed :
+    (publisher : PublisherState) → IsPublisher publisher → publisher.sent ≡ length publisher.journal.messages →
+    IsPublisher (closed publisher)
+stays_closed publisher is all = record {
+  limited = is.limited;
+  longest = is.longest;
+  journaled = record { few = is.journaled.few; each = is.journaled.each };
+  published = is.published;
+  finished = λ _. all;
+}
