@@ -1,1 +1,4 @@
 pub mod MachineLemmas
+pub mod PlaceLemmas
+pub mod EventLemmas
+pub mod RunLemmas

@@ -39,7 +39,7 @@ pub record IsKept (machine : Machine) : Type 0 where
       (machine.closed ≡ true) × (length (machine.standings receiver).book ≡ length machine.published)
 
 -- what stands in two lists, one behind the other, stands in one of them
-append_cases :
+pub append_cases :
     {X : Type 0} (front back : List X) (place : ℕ) (element : X) → slice_get (front ++ back) place ≡ Some element →
     (slice_get front place ≡ Some element)
     ⊎ ((behind : ℕ) × (place ≡ length front + behind) × (slice_get back behind ≡ Some element))
@@ -52,7 +52,7 @@ append_cases (first ∷ front) back (suc place) element is =
     ]
 
 -- the first message has number 1
-at_place : (messages : List (List ℕ)) (place : ℕ) → published_at messages (1 + place) ≡ slice_get messages place
+pub at_place : (messages : List (List ℕ)) (place : ℕ) → published_at messages (1 + place) ≡ slice_get messages place
 at_place messages place =
     cond-true (leb 1 (1 + place)) (slice_get messages (1 + place - 1)) None (le-leb 1 (1 + place) (omega arith))
     ∙ ap (λ (t : ℕ). slice_get messages t) (omega arith)
@@ -121,7 +121,7 @@ kept_closed laws machine kept = record {
   whole = λ receiver ended. (refl, (kept.whole receiver ended).1);
 }
 
-one_alone : (bytes other : List ℕ) (place : ℕ) → slice_get (bytes ∷ []) place ≡ Some other → bytes ≡ other
+pub one_alone : (bytes other : List ℕ) (place : ℕ) → slice_get (bytes ∷ []) place ≡ Some other → bytes ≡ other
 one_alone bytes other zero is = same_Some bytes other is
 one_alone bytes other (suc place) is = absurd (none-some other is)
 
@@ -266,7 +266,7 @@ published_later laws machine (step ∷ steps) number message is =
     published_later laws (after machine step) steps number message (published_after laws machine step number message is)
 
 -- messages that are handed on from a number on, each of which was published with its own
-handed_published :
+pub handed_published :
     (published : List (List ℕ)) (receiver number : ℕ) (messages : List (List ℕ)) →
     ((place : ℕ) (message : List ℕ) → slice_get messages place ≡ Some message →
     published_at published (number + place) ≡ Some message) →
@@ -293,7 +293,7 @@ handed_in_step laws machine (Restart receiver next) kept allowed = tt
 handed_in_step laws machine Nothing kept allowed = tt
 
 -- what was published with its number before is so later
-each_later :
+pub each_later :
     (before later : List (List ℕ)) (handed : List HandOn) →
     ((number : ℕ) (message : List ℕ) → published_at before number ≡ Some message →
     published_at later number ≡ Some message) → ArePublished before handed → ArePublished later handed
@@ -301,7 +301,7 @@ each_later before later [] grows are = tt
 each_later before later (one ∷ handed) grows are =
     (grows one.number one.message are.0, each_later before later handed grows are.1)
 
-both_published :
+pub both_published :
     (published : List (List ℕ)) (front back : List HandOn) → ArePublished published front →
     ArePublished published back → ArePublished published (front ++ back)
 both_published published [] back are behind = behind
@@ -321,7 +321,7 @@ handed_run laws machine (step ∷ steps) kept allowed =
     (handed_run laws next steps (kept_after laws machine step kept allowed.0) allowed.1)
 
 -- a list that agrees with another at each of its places is a front of it
-prefix_from :
+pub prefix_from :
     (front whole : List (List ℕ)) →
     ((place : ℕ) (message : List ℕ) → slice_get front place ≡ Some message → slice_get whole place ≡ Some message) →
     IsPrefix front whole
@@ -345,7 +345,7 @@ book_is_prefix machine receiver kept =
     sym (at_place machine.published place)
     ∙ kept.books receiver (1 + place) message (at_place book place ∙ is))
 
-prefix_same : (front whole : List (List ℕ)) → IsPrefix front whole → length front ≡ length whole → front ≡ whole
+pub prefix_same : (front whole : List (List ℕ)) → IsPrefix front whole → length front ≡ length whole → front ≡ whole
 prefix_same front whole is same =
     let none : is.behind ≡ [] =
     nil_from_length is.behind (omega (

@@ -2,3 +2,5 @@ pub mod Machine
 pub mod Headline
 pub mod World
 pub mod Effect
+pub mod HandOns
+pub mod Kept

@@ -1,17 +1,25 @@
 //! What holds of the definitions alone. Each law is a function that does nothing: its contract is the law.
 
-ghost use Rattle.std.specs.Prelude.{◌≡◌, ℕ, Bool, List, true};
+ghost use Rattle.std.specs.Prelude.{◌≡◌, ℕ, Bool, List, Ok, Some, slice_get, true};
 ghost use Rattle.mold_receiver.specs.Honest.{IsHonest, IsTakenHonestly};
 ghost use Rattle.mold_receiver.specs.View.{View};
 ghost use Rattle.mold_wire.specs.Packet.{Spells};
 ghost use Rattle.mold_wire.specs.Truth.{IsTrue};
 ghost use Rattle.mold_wire.specs.declared.packet.Packet.{Packet};
 ghost use Rattle.mold_wire.specs.declared.session.Session.{Session};
+ghost use Rattle.mold_world.specs.Effect.{Happening, effect, run_events};
+ghost use Rattle.mold_world.specs.HandOns.{handed_by_all};
 ghost use Rattle.mold_world.specs.Headline.{ArePublished, HasAll, IsPrefix, all_handed};
+ghost use Rattle.mold_world.specs.Kept.{IsWorld};
 ghost use Rattle.mold_world.specs.Machine.{AreAllowed, Step, run, start};
+ghost use Rattle.mold_world.specs.World.{MayBegin, PlaceState, WorldState, beginning};
+ghost use Rattle.mold_world.specs.declared.report.Report.{Report};
 
-use mold_receiver::laws::honest_take_law;
-use mold_wire::laws::{one_spelling_law, true_packet_law, true_stays_law};
+use mold_receiver::laws::{
+    followed_law, honest_stays_law, honest_take_law, nothing_new_law, taken_law, wanted_law,
+};
+use mold_session::laws::{answered_law, publisher_law, sending_law};
+use mold_wire::laws::{one_spelling_law, reading_law, true_packet_law, true_stays_law};
 
 /// The headline: for every list of publications, sendings, deliveries that are lost, late, repeated or
 /// reordered, and restarts, each receiver's book is a prefix of what was published, every message ever
@@ -38,4 +46,37 @@ pub fn safety_law()
     one_spelling_law();
     true_stays_law();
     true_packet_law();
+}
+
+/// The headline for publisher, server and receivers together, by the rule of events: a world that begins
+/// as it may is one of which `IsWorld` holds, and every event keeps that, refused or not. In each such world
+/// every receiver's book is a prefix of what was published, and one whose known end is its next number has
+/// all of the closed session. Each message ever handed on in a run of events is, at the run's end, the one
+/// published with its number.
+pub fn run_law()
+    ensures begins { (session : Session) (limit server_limit burst : ℕ) (windows : List ℕ) →
+        MayBegin session limit server_limit → IsWorld (beginning session limit server_limit burst windows) }
+    ensures kept { (w new : WorldState) (happening : Happening) (report : Report) → IsWorld w →
+        effect w happening ≡ Ok (report, new) → IsWorld new }
+    ensures run { (w : WorldState) (happenings : List Happening) → IsWorld w → IsWorld (run_events w happenings) }
+    ensures books { (w : WorldState) (receiver : ℕ) (place : PlaceState) → IsWorld w →
+        slice_get w.places receiver ≡ Some place → IsPrefix place.book.messages w.publisher.journal.messages }
+    ensures whole { (w : WorldState) (receiver : ℕ) (place : PlaceState) → IsWorld w →
+        slice_get w.places receiver ≡ Some place →
+        place.arbitration.view.ended ≡ Some place.arbitration.view.next →
+        (w.publisher.journal.closed ≡ true) × (place.book.messages ≡ w.publisher.journal.messages) }
+    ensures handed { (w : WorldState) (happenings : List Happening) → IsWorld w →
+        ArePublished (run_events w happenings).publisher.journal.messages (handed_by_all w happenings) }
+{
+    reading_law();
+    true_stays_law();
+    honest_take_law();
+    honest_stays_law();
+    taken_law();
+    nothing_new_law();
+    followed_law();
+    wanted_law();
+    publisher_law();
+    sending_law();
+    answered_law();
 }

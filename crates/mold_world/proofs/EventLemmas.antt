@@ -1,0 +1,454 @@
+-- What every event keeps, and so every list of events.
+use Rattle.std.proofs.Common.{◌≡◌, ℕ, zero, suc, ◌+◌, ◌-◌, ◌<◌, ◌≤◌, cond, leb, ltb, List, [], ◌∷◌, ◌++◌, length, map, min, drop}
+use Rattle.std.proofs.Common.{refl, sym, ap, subst, ◌∙◌, inl, inr, arith}
+use Rattle.std.specs.Prelude.{◌⊎◌, ◌&&◌, Option, None, Some, Bool, true, false, not, Result, Ok, Err, slice_get, slice_set}
+use Rattle.std.specs.Str.{bytes_eq}
+use Rattle.std.proofs.lemmas.Bool.{and_parts, leb-true, ltb-false}
+use Rattle.std.proofs.lemmas.Option.{none-some, same_Some}
+use Rattle.std.proofs.lemmas.List.{take-append-drop, take_all}
+use Rattle.mold_wire.specs.Packet.{messages_of, spelling_of, top_of}
+use Rattle.mold_wire.specs.Reading.{reading}
+use Rattle.mold_wire.specs.Truth.{IsTrue}
+use Rattle.mold_wire.specs.declared.error.DecodeError.{DecodeError}
+use Rattle.mold_wire.specs.declared.packet.Packet.{Packet}
+use Rattle.mold_wire.specs.declared.request.Request.{Request as Asked}
+use Rattle.mold_wire.specs.declared.session.Session.{Session}
+use Rattle.mold_receiver.specs.Receive.{conflict, decide, end_below, end_conflict, first_some, past_end, past_last, receive_read}
+use Rattle.mold_receiver.specs.Receive.{reception, refuse_if, sequence_zero}
+use Rattle.mold_receiver.specs.declared.refused.Refused.TheVariants.{Malformed, WrongSession}
+use Rattle.mold_receiver.specs.View.{IsWellFormed, View}
+use Rattle.mold_receiver.specs.Wanted.{IsGap, gap_end, wanted}
+use Rattle.mold_receiver.specs.declared.line.Line.{Line}
+use Rattle.mold_receiver.specs.declared.refused.Refused.{Refused}
+use Rattle.mold_session.specs.Answer.{IsPlan, PlanState, answer, plan_for, planned}
+use Rattle.mold_session.specs.Server.{IsAnswerable, asking}
+use Rattle.mold_session.specs.declared.error.AnswerError.{AnswerError}
+use Rattle.mold_session.specs.Journal.{JournalState, append_refusal, appended}
+use Rattle.mold_session.specs.Publisher.{IsPublisher, MayPublish, PublisherState, after_datagram, closed}
+use Rattle.mold_session.specs.Publisher.{next_datagram, next_end, next_heartbeat, published}
+use Rattle.mold_session.specs.Truthful.{MayAnswer, TellsTruth}
+use Rattle.mold_session.specs.declared.error.AppendError.{AppendError}
+use Rattle.mold_world.proofs.MachineLemmas.{append_cases, one_alone}
+use Rattle.mold_world.proofs.PlaceLemmas.{IsSentTruly, ReceiverLaws, given_kept, noise_kept, place_closed, place_published}
+use Rattle.mold_world.proofs.PlaceLemmas.{place_sent, renewed_kept}
+use Rattle.mold_world.specs.Effect.{Happening, Outcome, delivered, effect, giving, is_own, noised, publishing, restarted}
+use Rattle.mold_world.specs.Effect.{after_event, after_outcome, answered, asked, asked_for, closing, given, renewed, requested, run_events, sending, unsent_count}
+use Rattle.mold_world.specs.Effect.{with_place}
+use Rattle.mold_world.specs.Effect.Happening.{Publish, Datagram, Heartbeat, Close, End, Request, Ask, Deliver, Noise, Restart}
+use Rattle.mold_world.specs.Headline.{IsPrefix}
+use Rattle.mold_world.specs.Kept.{IsPlaceKept, IsWorld}
+use Rattle.mold_world.specs.World.{PlaceState, WorldState}
+use Rattle.mold_world.specs.declared.report.Report.{Report}
+use Rattle.mold_world.specs.declared.report.Report.TheVariants as report
+use Rattle.mold_world.specs.declared.report.SessionRefusal.TheVariants as session
+use Rattle.mold_world.specs.declared.report.WorldError.{WorldError}
+use Rattle.mold_world.specs.declared.report.WorldError.TheVariants.{NotReached, Session as Refuses}
+
+-- what the laws of session and wire say
+pub record SendingLaws : Type 0 where
+  pub may : (publisher : PublisherState) (message : List ℕ) → append_refusal publisher.journal message ≡ None →
+      MayPublish publisher message
+  pub published : (publisher : PublisherState) (message : List ℕ) → IsPublisher publisher →
+      MayPublish publisher message → IsPublisher (published publisher message)
+  pub sent : (publisher : PublisherState) (packet : Packet) → IsPublisher publisher →
+      next_datagram publisher ≡ Some packet → IsPublisher (after_datagram publisher)
+  pub closed : (publisher : PublisherState) → IsPublisher publisher →
+      publisher.sent ≡ length publisher.journal.messages → IsPublisher (closed publisher)
+  pub datagram : (publisher : PublisherState) (packet : Packet) → IsPublisher publisher →
+      length publisher.journal.session.0 ≡ 10 → next_datagram publisher ≡ Some packet →
+      TellsTruth publisher.journal (spelling_of packet)
+  pub heartbeat : (publisher : PublisherState) (packet : Packet) → IsPublisher publisher →
+      length publisher.journal.session.0 ≡ 10 → next_heartbeat publisher ≡ Some packet →
+      TellsTruth publisher.journal (spelling_of packet)
+  pub end : (publisher : PublisherState) (packet : Packet) → IsPublisher publisher →
+      length publisher.journal.session.0 ≡ 10 → next_end publisher ≡ Some packet →
+      TellsTruth publisher.journal (spelling_of packet)
+  pub grows : (packet : Packet) (published : List (List ℕ)) (message : List ℕ) →
+      length published < 18446744073709551614 → IsTrue packet published false →
+      IsTrue packet (published ++ message ∷ []) false
+  pub closes : (packet : Packet) (published : List (List ℕ)) → IsTrue packet published false → IsTrue packet published true
+
+-- a message that is published
+world_published :
+    (laws : SendingLaws) (receivers : ReceiverLaws) (w : WorldState) (message : List ℕ) → IsWorld w →
+    MayPublish w.publisher message → IsWorld (record w { publisher = published w.publisher message })
+world_published laws receivers w message is may =
+    let publisher = laws.published w.publisher message is.publisher may in
+    record {
+      publisher = publisher;
+      answers = record {
+        journaled = publisher.journaled;
+        named = is.answers.named;
+        limited = is.answers.limited;
+        room = is.answers.room;
+      };
+      said = λ place bytes found.
+          let told = is.said place bytes found in
+          record {
+            packet = told.packet;
+            spelled = told.spelled;
+            session = told.session;
+            so = subst (λ (t : Bool). IsTrue told.packet (w.publisher.journal.messages ++ message ∷ []) t)
+                (sym may.unclosed)
+                (laws.grows told.packet w.publisher.journal.messages message
+                (omega (arith, is.publisher.journaled.few, may.number))
+                (subst (λ (t : Bool). IsTrue told.packet w.publisher.journal.messages t) may.unclosed told.so));
+          };
+      places = λ receiver place found.
+          place_published receivers w.publisher.journal w.sent message place may.unclosed (is.places receiver place found);
+    }
+
+true_once_closed :
+    (laws : SendingLaws) (packet : Packet) (messages : List (List ℕ)) (closed : Bool) → IsTrue packet messages closed →
+    IsTrue packet messages true
+true_once_closed laws packet messages true is = is
+true_once_closed laws packet messages false is = laws.closes packet messages is
+
+-- the session's end
+world_closed :
+    (laws : SendingLaws) (receivers : ReceiverLaws) (w : WorldState) → IsWorld w →
+    w.publisher.sent ≡ length w.publisher.journal.messages → IsWorld (record w { publisher = closed w.publisher })
+world_closed laws receivers w is all =
+    let publisher = laws.closed w.publisher is.publisher all in
+    record {
+      publisher = publisher;
+      answers = record {
+        journaled = publisher.journaled;
+        named = is.answers.named;
+        limited = is.answers.limited;
+        room = is.answers.room;
+      };
+      said = λ place bytes found.
+          let told = is.said place bytes found in
+          record {
+            packet = told.packet;
+            spelled = told.spelled;
+            session = told.session;
+            so = true_once_closed laws told.packet w.publisher.journal.messages w.publisher.journal.closed told.so;
+          };
+      places = λ receiver place found.
+          place_closed receivers w.publisher.journal w.sent place (is.places receiver place found);
+    }
+
+-- datagrams that tell the truth are sent, by a publisher with the same journal
+world_sent :
+    (w : WorldState) (publisher : PublisherState) (more : List (List ℕ)) → IsWorld w → IsPublisher publisher →
+    publisher.journal ≡ w.publisher.journal →
+    ((place : ℕ) (bytes : List ℕ) → slice_get more place ≡ Some bytes → TellsTruth w.publisher.journal bytes) →
+    IsWorld (record w { publisher = publisher; sent = w.sent ++ more })
+world_sent w publisher more is still same true_all =
+    let back = sym same in
+    record {
+      publisher = still;
+      answers = subst (λ (t : JournalState). MayAnswer t w.server_limit) back is.answers;
+      said = λ place bytes found.
+          subst (λ (t : JournalState). TellsTruth t bytes) back
+          (elim (append_cases w.sent more place bytes found) [
+            | inl before ↦ is.said place bytes before
+            | inr new ↦ true_all new.0 bytes new.2
+          ]);
+      places = λ receiver place found.
+          subst (λ (t : JournalState). IsPlaceKept t (w.sent ++ more) place) back
+          (place_sent w.publisher.journal w.sent more place (is.places receiver place found));
+    }
+
+-- a receiver is another
+set_cases :
+    {X : Type 0} (xs : List X) (at : ℕ) (new : X) (place : ℕ) (x : X) → slice_get (slice_set xs at new) place ≡ Some x →
+    (new ≡ x) ⊎ (slice_get xs place ≡ Some x)
+set_cases [] at new place x is = inr is
+set_cases (first ∷ xs) zero new zero x is = inl (same_Some new x is)
+set_cases (first ∷ xs) zero new (suc place) x is = inr is
+set_cases (first ∷ xs) (suc at) new zero x is = inr is
+set_cases (first ∷ xs) (suc at) new (suc place) x is = set_cases xs at new place x is
+
+world_with_place :
+    (w : WorldState) (receiver : ℕ) (new : PlaceState) → IsWorld w →
+    IsPlaceKept w.publisher.journal w.sent new → IsWorld (with_place w receiver new)
+world_with_place w receiver new is kept = record {
+  publisher = is.publisher;
+  answers = is.answers;
+  said = is.said;
+  places = λ other place found.
+      elim (set_cases w.places receiver new other place found) [
+        | inl here ↦ subst (λ (t : PlaceState). IsPlaceKept w.publisher.journal w.sent t) here kept
+        | inr there ↦ is.places other place there
+      ];
+}
+
+-- what is answered is what it says
+ok_world :
+    (here done : Report × WorldState) → IsWorld here.1 → ◌≡◌ {A = Outcome} (Ok here) (Ok done) → IsWorld done.1
+ok_world here done is same =
+    let path : here ≡ done = (let e = same in cc) in
+    subst (λ (t : Report × WorldState). IsWorld t.1) path is
+
+err_world :
+    (refused : WorldError) (done : Report × WorldState) → ◌≡◌ {A = Outcome} (Err refused) (Ok done) → IsWorld done.1
+err_world refused done same = absurd (let e = same in cc)
+
+publish_kept :
+    (laws : SendingLaws) (receivers : ReceiverLaws) (w : WorldState) (message : List ℕ) (refusal : Option AppendError)
+    (done : Report × WorldState) → IsWorld w → append_refusal w.publisher.journal message ≡ refusal →
+    publishing w message refusal ≡ Ok done → IsWorld done.1
+publish_kept laws receivers w message None done is none same =
+    ok_world _ done (world_published laws receivers w message is (laws.may w.publisher message none)) same
+publish_kept laws receivers w message (Some refusal) done is some same = err_world _ done same
+
+-- what is sent next tells the truth, and leaves a publisher with the same journal
+pub record IsSendable (w : WorldState) (publisher : PublisherState) (packet : Packet) : Type 0 where
+  pub still : IsPublisher publisher
+  pub same : publisher.journal ≡ w.publisher.journal
+  pub told : TellsTruth w.publisher.journal (spelling_of packet)
+
+send_kept :
+    (w : WorldState) (next : Option Packet) (publisher : PublisherState) (done : Report × WorldState) → IsWorld w →
+    ((packet : Packet) → next ≡ Some packet → IsSendable w publisher packet) → sending w next publisher ≡ Ok done →
+    IsWorld done.1
+send_kept w None publisher done is sendable same = ok_world _ done is same
+send_kept w (Some packet) publisher done is sendable same =
+    let may = sendable packet refl in
+    ok_world _ done (world_sent w publisher (spelling_of packet ∷ []) is may.still may.same (λ place bytes found.
+    subst (λ (t : List ℕ). TellsTruth w.publisher.journal t) (one_alone (spelling_of packet) bytes place found)
+    may.told)) same
+
+close_kept :
+    (laws : SendingLaws) (receivers : ReceiverLaws) (w : WorldState) (some : Bool) (done : Report × WorldState) →
+    IsWorld w → ltb 0 (unsent_count w.publisher) ≡ some →
+    cond {A = Outcome} some (Err (Refuses (session.Close (record { count = unsent_count w.publisher }))))
+    (Ok (report.Closed, record w { publisher = closed w.publisher })) ≡ Ok done → IsWorld done.1
+close_kept laws receivers w true done is unsent same = err_world _ done same
+close_kept laws receivers w false done is none same =
+    ok_world _ done (world_closed laws receivers w is
+    (omega (arith, ltb-false 0 (unsent_count w.publisher) none, is.publisher.published))) same
+
+deliver_kept :
+    (receivers : ReceiverLaws) (w : WorldState) (receiver at : ℕ) (line : Option Line) (place : Option PlaceState)
+    (datagram : Option (List ℕ)) (done : Report × WorldState) → IsWorld w → slice_get w.places receiver ≡ place →
+    slice_get w.sent at ≡ datagram → delivered w receiver line place datagram ≡ Ok done → IsWorld done.1
+deliver_kept receivers w receiver at line None datagram done is here sent same = err_world _ done same
+deliver_kept receivers w receiver at line (Some place) None done is here sent same = err_world _ done same
+deliver_kept receivers w receiver at line (Some place) (Some bytes) done is here sent same =
+    ok_world _ done (world_with_place w receiver (given place line bytes) is
+    (given_kept receivers w.publisher.journal w.sent place line bytes (is.places receiver place here)
+    (record { place = at; found = sent; told = is.said at bytes sent }))) same
+
+-- bytes that are no packet of the session are refused
+not_own :
+    (view : View) (own : Session) (read : Result Packet DecodeError) → view.session ≡ own → is_own own read ≡ false →
+    (refused : Refused) × (receive_read view read ≡ Err refused)
+not_own view own (Err error) same other = (Malformed error, refl)
+not_own view own (Ok packet) same other =
+    let differs : bytes_eq packet.session.0 view.session.0 ≡ false =
+    ap (λ (t : Session). bytes_eq packet.session.0 t.0) same ∙ other
+    in (
+      WrongSession,
+      ap (λ (t : Bool). decide (first_some (refuse_if (not t) WrongSession
+          ∷ sequence_zero packet
+          ∷ past_last packet
+          ∷ end_conflict packet.body packet.sequence view.ended
+          ∷ end_below packet.body packet.sequence view.known
+          ∷ past_end view.ended packet.body (top_of packet)
+          ∷ conflict view packet.sequence (messages_of packet.body)
+          ∷ [])) (reception view packet)) differs,
+    )
+
+noise_given :
+    (w : WorldState) (receiver : ℕ) (line : Option Line) (bytes : List ℕ) (place : Option PlaceState) (own : Bool)
+    (done : Report × WorldState) → IsWorld w → slice_get w.places receiver ≡ place →
+    is_own w.publisher.journal.session (reading bytes) ≡ own → noised w receiver line bytes place own ≡ Ok done →
+    IsWorld done.1
+noise_given w receiver line bytes None own done is here mine same = err_world _ done same
+noise_given w receiver line bytes (Some place) true done is here mine same = err_world _ done same
+noise_given w receiver line bytes (Some place) false done is here mine same =
+    let kept = is.places receiver place here in
+    let refused = not_own place.arbitration.view w.publisher.journal.session (reading bytes) kept.session mine in
+    ok_world _ done (world_with_place w receiver (given place line bytes) is
+    (noise_kept w.publisher.journal w.sent place line bytes refused.0 refused.1 kept)) same
+
+restart_given :
+    (receivers : ReceiverLaws) (w : WorldState) (receiver next : ℕ) (place : PlaceState) (reached : Bool)
+    (done : Report × WorldState) → IsWorld w → slice_get w.places receiver ≡ Some place →
+    (leb 1 next && leb next place.arbitration.view.next) ≡ reached →
+    cond {A = Outcome} reached (Ok (report.Restarted next, with_place w receiver (renewed place next)))
+    (Err (NotReached place.arbitration.view.next)) ≡ Ok done → IsWorld done.1
+restart_given receivers w receiver next place false done is here reached same = err_world _ done same
+restart_given receivers w receiver next place true done is here reached same =
+    let both = and_parts (leb 1 next) (leb next place.arbitration.view.next) reached in
+    ok_world _ done (world_with_place w receiver (renewed place next) is
+    (renewed_kept receivers w.publisher.journal w.sent place next is.publisher.journaled.few (leb-true 1 next both.0)
+    (leb-true next place.arbitration.view.next both.1) (is.places receiver place here))) same
+
+restart_kept :
+    (receivers : ReceiverLaws) (w : WorldState) (receiver next : ℕ) (place : Option PlaceState)
+    (done : Report × WorldState) → IsWorld w → slice_get w.places receiver ≡ place →
+    restarted w receiver next place ≡ Ok done → IsWorld done.1
+restart_kept receivers w receiver next None done is here same = err_world _ done same
+restart_kept receivers w receiver next (Some place) done is here same =
+    restart_given receivers w receiver next place (leb 1 next && leb next place.arbitration.view.next) done is here refl
+    same
+
+-- what the laws of answers and of requests say
+pub record AnswerLaws : Type 0 where
+  pub answerable : (journal : JournalState) (request : Asked) (bytes : List ℕ) → asking journal bytes ≡ Ok request →
+      IsAnswerable journal request
+  pub plan : (journal : JournalState) (burst : ℕ) (request : Asked) → IsAnswerable journal request →
+      IsPlan (plan_for journal burst request)
+  pub within : (journal : JournalState) (burst : ℕ) (request : Asked) →
+      (plan_for journal burst request).to ≤ length journal.messages + 1
+  pub answer_is : (journal : JournalState) (limit burst : ℕ) (request : Asked) → IsAnswerable journal request →
+      planned journal.messages limit (plan_for journal burst request)
+      ≡ answer journal.messages journal.session limit request.sequence request.count burst
+  pub told : (journal : JournalState) (limit : ℕ) (plan : PlanState) (place : ℕ) (packet : Packet) →
+      MayAnswer journal limit → IsPlan plan → plan.to ≤ length journal.messages + 1 → plan.session ≡ journal.session →
+      slice_get (planned journal.messages limit plan) place ≡ Some packet → TellsTruth journal (spelling_of packet)
+  pub asks : (view : View) (request : Asked) → wanted view ≡ Some request →
+      (request.session ≡ view.session) × (request.sequence ≡ view.next)
+      × (request.count ≡ min 65534 (gap_end view - view.next))
+  pub gap : (view : View) (request : Asked) → IsWellFormed view → wanted view ≡ Some request →
+      IsGap view (gap_end view)
+
+map_cases :
+    (packets : List Packet) (place : ℕ) (bytes : List ℕ) → slice_get (map spelling_of packets) place ≡ Some bytes →
+    (packet : Packet) × (slice_get packets place ≡ Some packet) × (spelling_of packet ≡ bytes)
+map_cases [] place bytes is = absurd (none-some bytes is)
+map_cases (packet ∷ packets) zero bytes is = (packet, refl, same_Some (spelling_of packet) bytes is)
+map_cases (packet ∷ packets) (suc place) bytes is = map_cases packets place bytes is
+
+-- an answer is sent
+answer_kept :
+    (answers : AnswerLaws) (w : WorldState) (request : Asked) (done : Report × WorldState) → IsWorld w →
+    IsAnswerable w.publisher.journal request → answered w request ≡ Ok done → IsWorld done.1
+answer_kept answers w request done is may same =
+    let journal : JournalState = w.publisher.journal in
+    let packets : List Packet =
+    answer journal.messages journal.session w.server_limit request.sequence request.count w.burst
+    in
+    ok_world _ done (world_sent w w.publisher (map spelling_of packets) is is.publisher refl (λ place bytes found.
+    let here = map_cases packets place bytes found in
+    subst (λ (t : List ℕ). TellsTruth journal t) here.2
+    (answers.told journal w.server_limit (plan_for journal w.burst request) place here.0 is.answers
+    (answers.plan journal w.burst request may) (answers.within journal w.burst request) refl
+    (ap (λ (t : List Packet). slice_get t place) (answers.answer_is journal w.server_limit w.burst request may)
+    ∙ here.1)))) same
+
+request_kept :
+    (answers : AnswerLaws) (w : WorldState) (bytes : List ℕ) (asks : Result Asked AnswerError)
+    (done : Report × WorldState) → IsWorld w → asking w.publisher.journal bytes ≡ asks →
+    requested w asks ≡ Ok done → IsWorld done.1
+request_kept answers w bytes (Ok request) done is asked_now same =
+    answer_kept answers w request done is (answers.answerable w.publisher.journal request bytes asked_now) same
+request_kept answers w bytes (Err refusal) done is asked_now same = err_world _ done same
+
+-- what a receiver of the world wants, the journal has
+wanted_answerable :
+    (answers : AnswerLaws) (journal : JournalState) (sent : List (List ℕ)) (place : PlaceState) (request : Asked) →
+    IsPlaceKept journal sent place → wanted place.arbitration.view ≡ Some request → IsAnswerable journal request
+wanted_answerable answers journal sent place request kept want =
+    let view : View = place.arbitration.view in
+    let asks = answers.asks view request want in
+    let gap = answers.gap view request kept.honest.well_formed want in
+    record {
+      session = asks.0 ∙ kept.session;
+      first = omega (arith, asks.1, kept.honest.well_formed.first);
+      last = omega (arith, asks.1, gap.after, gap.within, kept.honest.known);
+      count = omega (arith, asks.2, gap.after);
+    }
+
+ask_wanted :
+    (answers : AnswerLaws) (w : WorldState) (place : PlaceState) (want : Option Asked) (done : Report × WorldState) →
+    IsWorld w → IsPlaceKept w.publisher.journal w.sent place → wanted place.arbitration.view ≡ want →
+    asked_for w want ≡ Ok done → IsWorld done.1
+ask_wanted answers w place None done is kept want same = ok_world _ done is same
+ask_wanted answers w place (Some request) done is kept want same =
+    answer_kept answers w request done is (wanted_answerable answers w.publisher.journal w.sent place request kept want)
+    same
+
+ask_kept :
+    (answers : AnswerLaws) (w : WorldState) (receiver : ℕ) (place : Option PlaceState) (done : Report × WorldState) →
+    IsWorld w → slice_get w.places receiver ≡ place → asked w place ≡ Ok done → IsWorld done.1
+ask_kept answers w receiver None done is here same = err_world _ done same
+ask_kept answers w receiver (Some place) done is here same =
+    ask_wanted answers w place (wanted place.arbitration.view) done is (is.places receiver place here) refl same
+
+pub record AllLaws : Type 0 where
+  pub sending : SendingLaws
+  pub receivers : ReceiverLaws
+  pub answers : AnswerLaws
+
+-- every event that is not refused
+pub event_kept :
+    (laws : AllLaws) (w : WorldState) (happening : Happening) (done : Report × WorldState) → IsWorld w →
+    effect w happening ≡ Ok done → IsWorld done.1
+unfolding effect
+event_kept laws w (Publish message) done is same =
+    publish_kept laws.sending laws.receivers w message (append_refusal w.publisher.journal message) done is refl same
+event_kept laws w Datagram done is same =
+    send_kept w (next_datagram w.publisher) (after_datagram w.publisher) done is (λ packet next. record {
+      still = laws.sending.sent w.publisher packet is.publisher next;
+      same = refl;
+      told = laws.sending.datagram w.publisher packet is.publisher is.answers.named next;
+    }) same
+event_kept laws w Heartbeat done is same =
+    send_kept w (next_heartbeat w.publisher) w.publisher done is (λ packet next. record {
+      still = is.publisher;
+      same = refl;
+      told = laws.sending.heartbeat w.publisher packet is.publisher is.answers.named next;
+    }) same
+event_kept laws w Close done is same =
+    close_kept laws.sending laws.receivers w (ltb 0 (unsent_count w.publisher)) done is refl same
+event_kept laws w End done is same =
+    send_kept w (next_end w.publisher) w.publisher done is (λ packet next. record {
+      still = is.publisher;
+      same = refl;
+      told = laws.sending.end w.publisher packet is.publisher is.answers.named next;
+    }) same
+event_kept laws w (Request bytes) done is same =
+    request_kept laws.answers w bytes (asking w.publisher.journal bytes) done is refl same
+event_kept laws w (Ask receiver) done is same =
+    ask_kept laws.answers w receiver (slice_get w.places receiver) done is refl same
+event_kept laws w (Deliver receiver line at) done is same =
+    deliver_kept laws.receivers w receiver at line (slice_get w.places receiver) (slice_get w.sent at) done is refl refl
+    same
+event_kept laws w (Noise receiver line bytes) done is same =
+    noise_given w receiver line bytes (slice_get w.places receiver)
+    (is_own w.publisher.journal.session (reading bytes)) done is refl refl same
+event_kept laws w (Restart receiver next) done is same =
+    restart_kept laws.receivers w receiver next (slice_get w.places receiver) done is refl same
+
+pub outcome_kept :
+    (laws : AllLaws) (w : WorldState) (outcome : Outcome) → IsWorld w →
+    ((done : Report × WorldState) → outcome ≡ Ok done → IsWorld done.1) → IsWorld (after_outcome w outcome)
+outcome_kept laws w (Ok done) is kept = kept done refl
+outcome_kept laws w (Err refused) is kept = is
+
+-- and every list of events, refused ones among them
+pub run_kept :
+    (laws : AllLaws) (w : WorldState) (happenings : List Happening) → IsWorld w → IsWorld (run_events w happenings)
+run_kept laws w [] is = is
+run_kept laws w (happening ∷ happenings) is =
+    run_kept laws (after_event w happening) happenings
+    (outcome_kept laws w (effect w happening) is (λ done same. event_kept laws w happening done is same))
+
+-- each book is a prefix of what was published
+pub world_books :
+    (w : WorldState) (receiver : ℕ) (place : PlaceState) → IsWorld w → slice_get w.places receiver ≡ Some place →
+    IsPrefix place.book.messages w.publisher.journal.messages
+world_books w receiver place is here =
+    let kept = is.places receiver place here in
+    let front : ℕ = place.arbitration.view.next - 1 in
+    record {
+      behind = drop front w.publisher.journal.messages;
+      parts = sym (take-append-drop front w.publisher.journal.messages)
+          ∙ ap (λ (t : List (List ℕ)). t ++ drop front w.publisher.journal.messages) (sym kept.book);
+    }
+
+-- and all of it where the receiver is finished
+pub world_whole :
+    (w : WorldState) (receiver : ℕ) (place : PlaceState) → IsWorld w → slice_get w.places receiver ≡ Some place →
+    place.arbitration.view.ended ≡ Some place.arbitration.view.next →
+    (w.publisher.journal.closed ≡ true) × (place.book.messages ≡ w.publisher.journal.messages)
+world_whole w receiver place is here finished =
+    let kept = is.places receiver place here in
+    let end = kept.honest.ends place.arbitration.view.next finished in
+    (end.0, kept.book ∙ take_all (place.arbitration.view.next - 1) w.publisher.journal.messages (omega (arith, end.1)))

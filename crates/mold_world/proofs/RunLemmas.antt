@@ -1,0 +1,272 @@
+-- What every run of events from the start shows.
+use Rattle.std.proofs.Common.{◌≡◌, ℕ, zero, suc, ◌+◌, ◌-◌, ◌<◌, ◌≤◌, List, [], ◌∷◌, ◌++◌, length, map}
+use Rattle.std.proofs.Common.{refl, sym, ap, subst, ◌∙◌, arith}
+use Rattle.std.specs.Prelude.{Option, None, Some, Result, Ok, Err, false, slice_get}
+use Rattle.std.specs.FinMap as finite
+use Rattle.std.specs.Ordering.{nat_cmp}
+use Rattle.std.proofs.lemmas.List.{append-nil}
+use Rattle.std.proofs.lemmas.Option.{none-some, same_Some}
+use Rattle.mold_wire.specs.Packet.{spelling_of}
+use Rattle.mold_wire.specs.Truth.{published_at}
+use Rattle.mold_wire.specs.declared.packet.Packet.{Packet}
+use Rattle.mold_wire.specs.declared.session.Session.{Session}
+use Rattle.mold_receiver.specs.Receive.{Reception, receive}
+use Rattle.mold_receiver.specs.declared.refused.Refused.{Refused}
+use Rattle.mold_session.specs.Journal.{append_refusal}
+use Rattle.mold_session.specs.Publisher.{PublisherState}
+use Rattle.mold_session.specs.declared.error.AppendError.{AppendError}
+use Rattle.mold_world.proofs.EventLemmas.{AllLaws, event_kept, outcome_kept}
+use Rattle.mold_world.proofs.MachineLemmas.{both_published, each_later, handed_published}
+use Rattle.mold_world.specs.Effect.{Happening, Outcome, after_event, after_outcome, effect, run_events}
+use Rattle.mold_world.specs.Effect.Happening.{Publish, Datagram, Heartbeat, Close, End, Request, Ask, Deliver, Noise, Restart}
+use Rattle.mold_world.specs.HandOns.{handed_at, handed_by, handed_by_all, handed_of}
+use Rattle.mold_world.specs.Headline.{ArePublished}
+use Rattle.mold_world.specs.Kept.{IsPlaceKept, IsWorld}
+use Rattle.mold_world.specs.World.{MayBegin, PlaceState, WorldState, beginning, place_at}
+use Rattle.std.specs.Prelude.{Bool, true, ◌&&◌}
+use Rattle.std.proofs.Common.{cond, leb, ltb}
+use Rattle.mold_wire.specs.Reading.{reading}
+use Rattle.mold_wire.specs.declared.request.Request.{Request as Asked}
+use Rattle.mold_receiver.specs.View.{View}
+use Rattle.mold_receiver.specs.Wanted.{wanted}
+use Rattle.mold_receiver.specs.declared.line.Line.{Line}
+use Rattle.mold_session.specs.Journal.{JournalState}
+use Rattle.mold_session.specs.Publisher.{after_datagram, closed, next_datagram, next_end, next_heartbeat}
+use Rattle.mold_session.specs.Server.{asking}
+use Rattle.mold_session.specs.declared.error.AnswerError.{AnswerError}
+use Rattle.mold_world.specs.Effect.{asked, asked_for, delivered, is_own, noised, publishing, renewed, requested}
+use Rattle.mold_world.specs.Effect.{restarted, sending, unsent_count, with_place}
+use Rattle.mold_world.specs.declared.report.Report.{Report}
+use Rattle.mold_world.specs.declared.report.Report.TheVariants as report
+use Rattle.mold_world.specs.declared.report.SessionRefusal.TheVariants as session
+use Rattle.mold_world.specs.declared.report.WorldError.{WorldError}
+use Rattle.mold_world.specs.declared.report.WorldError.TheVariants.{NotReached, Session as Refuses}
+
+-- a world that begins is one
+place_of :
+    (session : Session) (windows : List ℕ) (receiver : ℕ) (place : PlaceState) →
+    slice_get (map (place_at session) windows) receiver ≡ Some place → (window : ℕ) × (place_at session window ≡ place)
+place_of session [] receiver place is = absurd (none-some place is)
+place_of session (window ∷ windows) zero place is = (window, same_Some (place_at session window) place is)
+place_of session (window ∷ windows) (suc receiver) place is = place_of session windows receiver place is
+
+pub begins :
+    (laws : AllLaws) (session : Session) (limit server_limit burst : ℕ) (windows : List ℕ) →
+    MayBegin session limit server_limit → IsWorld (beginning session limit server_limit burst windows)
+begins laws session limit server_limit burst windows may =
+    let w : WorldState = beginning session limit server_limit burst windows in
+    record {
+      publisher = record {
+        limited = may.limited;
+        longest = omega (arith, may.limited.0);
+        journaled = record { few = omega arith; each = tt };
+        published = omega arith;
+        finished = λ _. refl;
+      };
+      answers = record {
+        journaled = record { few = omega arith; each = tt };
+        named = may.named;
+        limited = may.served;
+        room = omega (arith, may.limited.0, may.room);
+      };
+      said = λ place bytes found. absurd (none-some bytes found);
+      places = λ receiver place found.
+          let here = place_of session windows receiver place found in
+          subst (λ (t : PlaceState). IsPlaceKept w.publisher.journal w.sent t) here.1
+          (record {
+            session = refl;
+            honest = laws.receivers.fresh session 1 here.0 [] false (omega arith) (omega arith) (omega arith);
+            book = refl;
+            follows = tt;
+            stored = λ number message held. absurd (none-some message (sym (finite.get-empty nat_cmp number) ∙ held));
+            ends = λ end known. absurd (none-some end known);
+          });
+    }
+
+-- messages are only ever published behind others
+abbrev GrowsTo : WorldState → WorldState → Type 0
+GrowsTo w new = (more : List (List ℕ)) × (new.publisher.journal.messages ≡ w.publisher.journal.messages ++ more)
+
+ok_grows :
+    (w : WorldState) (here done : Report × WorldState) → GrowsTo w here.1 → ◌≡◌ {A = Outcome} (Ok here) (Ok done) →
+    GrowsTo w done.1
+ok_grows w here done grows same =
+    let path : here ≡ done = (let e = same in cc) in
+    subst (λ (t : Report × WorldState). GrowsTo w t.1) path grows
+
+err_grows :
+    (w : WorldState) (refused : WorldError) (done : Report × WorldState) →
+    ◌≡◌ {A = Outcome} (Err refused) (Ok done) → GrowsTo w done.1
+err_grows w refused done same = absurd (let e = same in cc)
+
+stays : (w : WorldState) → GrowsTo w w
+stays w = ([], sym (append-nil w.publisher.journal.messages))
+
+publish_grows :
+    (w : WorldState) (message : List ℕ) (refusal : Option AppendError) (done : Report × WorldState) →
+    publishing w message refusal ≡ Ok done → GrowsTo w done.1
+publish_grows w message None done same = ok_grows w _ done (message ∷ [], refl) same
+publish_grows w message (Some refusal) done same = err_grows w _ done same
+
+send_grows :
+    (w : WorldState) (next : Option Packet) (publisher : PublisherState) (done : Report × WorldState) →
+    publisher.journal ≡ w.publisher.journal → sending w next publisher ≡ Ok done → GrowsTo w done.1
+send_grows w None publisher done journal same = ok_grows w _ done (stays w) same
+send_grows w (Some packet) publisher done journal same =
+    ok_grows w _ done (
+      [],
+      ap (λ (t : JournalState). t.messages) journal
+          ∙ sym (append-nil w.publisher.journal.messages),
+    ) same
+
+close_grows :
+    (w : WorldState) (unsent : Bool) (done : Report × WorldState) →
+    cond {A = Outcome} unsent (Err (Refuses (session.Close (record { count = unsent_count w.publisher }))))
+    (Ok (report.Closed, record w { publisher = closed w.publisher })) ≡ Ok done → GrowsTo w done.1
+close_grows w true done same = err_grows w _ done same
+close_grows w false done same = ok_grows w _ done (stays w) same
+
+request_grows :
+    (w : WorldState) (asks : Result Asked AnswerError) (done : Report × WorldState) → requested w asks ≡ Ok done →
+    GrowsTo w done.1
+request_grows w (Ok request) done same = ok_grows w _ done (stays w) same
+request_grows w (Err refusal) done same = err_grows w _ done same
+
+want_grows :
+    (w : WorldState) (want : Option Asked) (done : Report × WorldState) → asked_for w want ≡ Ok done → GrowsTo w done.1
+want_grows w None done same = ok_grows w _ done (stays w) same
+want_grows w (Some request) done same = ok_grows w _ done (stays w) same
+
+ask_grows :
+    (w : WorldState) (place : Option PlaceState) (done : Report × WorldState) → asked w place ≡ Ok done →
+    GrowsTo w done.1
+ask_grows w None done same = err_grows w _ done same
+ask_grows w (Some place) done same = want_grows w (wanted place.arbitration.view) done same
+
+deliver_grows :
+    (w : WorldState) (receiver : ℕ) (line : Option Line) (place : Option PlaceState) (datagram : Option (List ℕ))
+    (done : Report × WorldState) → delivered w receiver line place datagram ≡ Ok done → GrowsTo w done.1
+deliver_grows w receiver line None datagram done same = err_grows w _ done same
+deliver_grows w receiver line (Some place) None done same = err_grows w _ done same
+deliver_grows w receiver line (Some place) (Some bytes) done same = ok_grows w _ done (stays w) same
+
+noise_grows :
+    (w : WorldState) (receiver : ℕ) (line : Option Line) (bytes : List ℕ) (place : Option PlaceState) (own : Bool)
+    (done : Report × WorldState) → noised w receiver line bytes place own ≡ Ok done → GrowsTo w done.1
+noise_grows w receiver line bytes None own done same = err_grows w _ done same
+noise_grows w receiver line bytes (Some place) true done same = err_grows w _ done same
+noise_grows w receiver line bytes (Some place) false done same = ok_grows w _ done (stays w) same
+
+restart_at_grows :
+    (w : WorldState) (receiver next : ℕ) (place : PlaceState) (reached : Bool) (done : Report × WorldState) →
+    cond {A = Outcome} reached (Ok (report.Restarted next, with_place w receiver (renewed place next)))
+    (Err (NotReached place.arbitration.view.next)) ≡ Ok done → GrowsTo w done.1
+restart_at_grows w receiver next place true done same = ok_grows w _ done (stays w) same
+restart_at_grows w receiver next place false done same = err_grows w _ done same
+
+restart_grows :
+    (w : WorldState) (receiver next : ℕ) (place : Option PlaceState) (done : Report × WorldState) →
+    restarted w receiver next place ≡ Ok done → GrowsTo w done.1
+restart_grows w receiver next None done same = err_grows w _ done same
+restart_grows w receiver next (Some place) done same =
+    restart_at_grows w receiver next place (leb 1 next && leb next place.arbitration.view.next) done same
+
+event_grows :
+    (w : WorldState) (happening : Happening) (done : Report × WorldState) → effect w happening ≡ Ok done →
+    GrowsTo w done.1
+unfolding effect
+event_grows w (Publish message) done same =
+    publish_grows w message (append_refusal w.publisher.journal message) done same
+event_grows w Datagram done same =
+    send_grows w (next_datagram w.publisher) (after_datagram w.publisher) done refl same
+event_grows w Heartbeat done same = send_grows w (next_heartbeat w.publisher) w.publisher done refl same
+event_grows w Close done same = close_grows w (ltb 0 (unsent_count w.publisher)) done same
+event_grows w End done same = send_grows w (next_end w.publisher) w.publisher done refl same
+event_grows w (Request bytes) done same = request_grows w (asking w.publisher.journal bytes) done same
+event_grows w (Ask receiver) done same = ask_grows w (slice_get w.places receiver) done same
+event_grows w (Deliver receiver line at) done same =
+    deliver_grows w receiver line (slice_get w.places receiver) (slice_get w.sent at) done same
+event_grows w (Noise receiver line bytes) done same =
+    noise_grows w receiver line bytes (slice_get w.places receiver)
+    (is_own w.publisher.journal.session (reading bytes)) done same
+event_grows w (Restart receiver next) done same = restart_grows w receiver next (slice_get w.places receiver) done same
+
+outcome_grows :
+    (w : WorldState) (outcome : Outcome) →
+    ((done : Report × WorldState) → outcome ≡ Ok done → GrowsTo w done.1) → GrowsTo w (after_outcome w outcome)
+outcome_grows w (Ok done) grows = grows done refl
+outcome_grows w (Err refused) grows = stays w
+
+-- what has a number keeps it, whatever is published behind it
+pub record Keeps : Type 0 where
+  pub keeps : (published behind : List (List ℕ)) (number : ℕ) (message : List ℕ) →
+      published_at published number ≡ Some message → published_at (published ++ behind) number ≡ Some message
+
+grown_at :
+    (laws : Keeps) (w new : WorldState) (number : ℕ) (message : List ℕ) → GrowsTo w new →
+    published_at w.publisher.journal.messages number ≡ Some message →
+    published_at new.publisher.journal.messages number ≡ Some message
+grown_at laws w new number message grows is =
+    ap (λ (t : List (List ℕ)). published_at t number) grows.1
+    ∙ laws.keeps w.publisher.journal.messages grows.0 number message is
+
+later_at :
+    (laws : Keeps) (w : WorldState) (happenings : List Happening) (number : ℕ) (message : List ℕ) →
+    published_at w.publisher.journal.messages number ≡ Some message →
+    published_at (run_events w happenings).publisher.journal.messages number ≡ Some message
+later_at laws w [] number message is = is
+later_at laws w (happening ∷ happenings) number message is =
+    later_at laws (after_event w happening) happenings number message
+    (grown_at laws w (after_event w happening) number message
+    (outcome_grows w (effect w happening) (event_grows w happening)) is)
+
+-- what a delivery hands on was published
+handed_here :
+    (laws : AllLaws) (w : WorldState) (receiver at : ℕ) (place : Option PlaceState) (datagram : Option (List ℕ)) →
+    IsWorld w → slice_get w.places receiver ≡ place → slice_get w.sent at ≡ datagram →
+    ArePublished w.publisher.journal.messages (handed_at receiver place datagram)
+handed_here laws w receiver at None datagram is here sent = tt
+handed_here laws w receiver at (Some place) None is here sent = tt
+handed_here laws w receiver at (Some place) (Some bytes) is here sent =
+    let view : View = place.arbitration.view in
+    let kept = is.places receiver place here in
+    let told = is.said at bytes sent in
+    let took = laws.receivers.take view told.packet bytes w.publisher.journal.messages w.publisher.journal.closed
+    kept.honest told.spelled (told.session ∙ sym kept.session) told.so
+    in
+    subst (λ (t : Result Reception Refused). ArePublished w.publisher.journal.messages (handed_of receiver view.next t))
+    (sym took.received)
+    (handed_published w.publisher.journal.messages receiver view.next took.reception.handed took.handed)
+
+handed_in_event :
+    (laws : AllLaws) (w : WorldState) (happening : Happening) → IsWorld w →
+    ArePublished w.publisher.journal.messages (handed_by w happening)
+handed_in_event laws w (Publish message) is = tt
+handed_in_event laws w Datagram is = tt
+handed_in_event laws w Heartbeat is = tt
+handed_in_event laws w Close is = tt
+handed_in_event laws w End is = tt
+handed_in_event laws w (Request bytes) is = tt
+handed_in_event laws w (Ask receiver) is = tt
+handed_in_event laws w (Deliver receiver line at) is =
+    handed_here laws w receiver at (slice_get w.places receiver) (slice_get w.sent at) is refl refl
+handed_in_event laws w (Noise receiver line bytes) is = tt
+handed_in_event laws w (Restart receiver next) is = tt
+
+-- and stays so to the end of a run
+pub handed_run :
+    (laws : AllLaws) (keep : Keeps) (w : WorldState) (happenings : List Happening) → IsWorld w →
+    ArePublished (run_events w happenings).publisher.journal.messages (handed_by_all w happenings)
+handed_run laws keep w [] is = tt
+handed_run laws keep w (happening ∷ happenings) is =
+    let next : WorldState = after_event w happening in
+    let after : IsWorld next = outcome_kept laws w (effect w happening) is (λ done same.
+    event_kept laws w happening done is same)
+    in
+    let end : List (List ℕ) = (run_events next happenings).publisher.journal.messages in
+    both_published end (handed_by w happening) (handed_by_all next happenings)
+    (each_later w.publisher.journal.messages end (handed_by w happening) (λ number message at.
+    later_at keep next happenings number message
+    (grown_at keep w next number message (outcome_grows w (effect w happening) (event_grows w happening)) at))
+    (handed_in_event laws w happening is))
+    (handed_run laws keep next happenings after)

@@ -1,0 +1,39 @@
+-- What is handed on by the events of a run.
+use Rattle.std.specs.Prelude.{ℕ, List, [], ◌∷◌, ◌++◌, Option, None, Some, Result, Ok, Err, slice_get}
+use Rattle.mold_receiver.specs.Receive.{Reception, receive}
+use Rattle.mold_receiver.specs.declared.refused.Refused.{Refused}
+use Rattle.mold_world.specs.Effect.{Happening, after_event}
+use Rattle.mold_world.specs.Effect.Happening.{Publish, Datagram, Heartbeat, Close, End, Request, Ask, Deliver, Noise, Restart}
+use Rattle.mold_world.specs.Headline.{HandOn, handed_from}
+use Rattle.mold_world.specs.World.{PlaceState, WorldState}
+
+-- what is handed on of bytes that were taken, from the receiver's next number on
+abbrev pub handed_of : ℕ → ℕ → Result Reception Refused → List HandOn
+handed_of receiver next (Ok reception) = handed_from receiver next reception.handed
+handed_of receiver next (Err refused) = []
+
+-- what a receiver hands on when a datagram comes, where both are there
+abbrev pub handed_at : ℕ → Option PlaceState → Option (List ℕ) → List HandOn
+handed_at receiver None datagram = []
+handed_at receiver (Some place) None = []
+handed_at receiver (Some place) (Some bytes) =
+    handed_of receiver place.arbitration.view.next (receive place.arbitration.view bytes)
+
+-- only a delivery hands something on
+abbrev pub handed_by : WorldState → Happening → List HandOn
+handed_by w (Publish message) = []
+handed_by w Datagram = []
+handed_by w Heartbeat = []
+handed_by w Close = []
+handed_by w End = []
+handed_by w (Request bytes) = []
+handed_by w (Ask receiver) = []
+handed_by w (Deliver receiver line place) =
+    handed_at receiver (slice_get w.places receiver) (slice_get w.sent place)
+handed_by w (Noise receiver line bytes) = []
+handed_by w (Restart receiver next) = []
+
+-- all that is handed on by some events, also by receivers that begin anew later
+abbrev pub handed_by_all : WorldState → List Happening → List HandOn
+handed_by_all w [] = []
+handed_by_all w (happening ∷ happenings) = handed_by w happening ++ handed_by_all (after_event w happening) happenings
