@@ -23,16 +23,16 @@ use Rattle.mold_receiver.specs.declared.refused.Refused.{Refused}
 use Rattle.mold_session.specs.Answer.{IsPlan, PlanState, answer, plan_for, planned}
 use Rattle.mold_session.specs.Server.{IsAnswerable, asking}
 use Rattle.mold_session.specs.declared.error.AnswerError.{AnswerError}
-use Rattle.mold_session.specs.Journal.{JournalState, append_refusal, appended}
+use Rattle.mold_session.specs.Journal.{JournalState, append_refusal}
 use Rattle.mold_session.specs.Publisher.{IsPublisher, MayPublish, PublisherState, after_datagram, closed}
 use Rattle.mold_session.specs.Publisher.{next_datagram, next_end, next_heartbeat, published}
 use Rattle.mold_session.specs.Truthful.{MayAnswer, TellsTruth}
 use Rattle.mold_session.specs.declared.error.AppendError.{AppendError}
 use Rattle.mold_world.proofs.MachineLemmas.{append_cases, one_alone}
-use Rattle.mold_world.proofs.PlaceLemmas.{IsSentTruly, ReceiverLaws, given_kept, noise_kept, place_closed, place_published}
+use Rattle.mold_world.proofs.PlaceLemmas.{ReceiverLaws, given_kept, noise_kept, place_closed, place_published}
 use Rattle.mold_world.proofs.PlaceLemmas.{place_sent, renewed_kept}
-use Rattle.mold_world.specs.Effect.{Happening, Outcome, delivered, effect, giving, is_own, noised, publishing, restarted}
-use Rattle.mold_world.specs.Effect.{after_event, after_outcome, answered, asked, asked_for, closing, given, renewed, requested, run_events, sending, unsent_count}
+use Rattle.mold_world.specs.Effect.{Happening, Outcome, delivered, effect, is_own, noised, publishing, restarted}
+use Rattle.mold_world.specs.Effect.{after_event, after_outcome, answered, asked, asked_for, given, renewed, requested, run_events, sending, unsent_count}
 use Rattle.mold_world.specs.Effect.{with_place}
 use Rattle.mold_world.specs.Effect.Happening.{Publish, Datagram, Heartbeat, Close, End, Request, Ask, Deliver, Noise, Restart}
 use Rattle.mold_world.specs.Headline.{IsPrefix}
@@ -234,7 +234,7 @@ deliver_kept receivers w receiver at line (Some place) (Some bytes) done is here
     (record { place = at; found = sent; told = is.said at bytes sent }))) same
 
 -- bytes that are no packet of the session are refused
-not_own :
+pub not_own :
     (view : View) (own : Session) (read : Result Packet DecodeError) → view.session ≡ own → is_own own read ≡ false →
     (refused : Refused) × (receive_read view read ≡ Err refused)
 not_own view own (Err error) same other = (Malformed error, refl)
@@ -315,22 +315,32 @@ map_cases [] place bytes is = absurd (none-some bytes is)
 map_cases (packet ∷ packets) zero bytes is = (packet, refl, same_Some (spelling_of packet) bytes is)
 map_cases (packet ∷ packets) (suc place) bytes is = map_cases packets place bytes is
 
--- an answer is sent
-answer_kept :
-    (answers : AnswerLaws) (w : WorldState) (request : Asked) (done : Report × WorldState) → IsWorld w →
-    IsAnswerable w.publisher.journal request → answered w request ≡ Ok done → IsWorld done.1
-answer_kept answers w request done is may same =
+-- every packet of an answer tells the truth
+pub answer_told :
+    (answers : AnswerLaws) (w : WorldState) (request : Asked) → IsWorld w →
+    IsAnswerable w.publisher.journal request → (place : ℕ) (bytes : List ℕ) →
+    slice_get (map spelling_of (answer w.publisher.journal.messages w.publisher.journal.session w.server_limit
+    request.sequence request.count w.burst)) place ≡ Some bytes → TellsTruth w.publisher.journal bytes
+answer_told answers w request is may place bytes found =
     let journal : JournalState = w.publisher.journal in
     let packets : List Packet =
     answer journal.messages journal.session w.server_limit request.sequence request.count w.burst
     in
-    ok_world _ done (world_sent w w.publisher (map spelling_of packets) is is.publisher refl (λ place bytes found.
     let here = map_cases packets place bytes found in
     subst (λ (t : List ℕ). TellsTruth journal t) here.2
     (answers.told journal w.server_limit (plan_for journal w.burst request) place here.0 is.answers
     (answers.plan journal w.burst request may) (answers.within journal w.burst request) refl
     (ap (λ (t : List Packet). slice_get t place) (answers.answer_is journal w.server_limit w.burst request may)
-    ∙ here.1)))) same
+    ∙ here.1))
+
+-- an answer is sent
+answer_kept :
+    (answers : AnswerLaws) (w : WorldState) (request : Asked) (done : Report × WorldState) → IsWorld w →
+    IsAnswerable w.publisher.journal request → answered w request ≡ Ok done → IsWorld done.1
+answer_kept answers w request done is may same =
+    ok_world _ done (world_sent w w.publisher (map spelling_of (answer w.publisher.journal.messages
+    w.publisher.journal.session w.server_limit request.sequence request.count w.burst)) is is.publisher refl
+    (answer_told answers w request is may)) same
 
 request_kept :
     (answers : AnswerLaws) (w : WorldState) (bytes : List ℕ) (asks : Result Asked AnswerError)
@@ -341,7 +351,7 @@ request_kept answers w bytes (Ok request) done is asked_now same =
 request_kept answers w bytes (Err refusal) done is asked_now same = err_world _ done same
 
 -- what a receiver of the world wants, the journal has
-wanted_answerable :
+pub wanted_answerable :
     (answers : AnswerLaws) (journal : JournalState) (sent : List (List ℕ)) (place : PlaceState) (request : Asked) →
     IsPlaceKept journal sent place → wanted place.arbitration.view ≡ Some request → IsAnswerable journal request
 wanted_answerable answers journal sent place request kept want =

@@ -1,18 +1,16 @@
 -- What a receiver of the world stays while the session goes on, when it is given what was sent, when it
 -- refuses bytes, and when it begins anew.
-use Rattle.std.proofs.Common.{◌≡◌, ℕ, zero, suc, ◌+◌, ◌-◌, ◌<◌, ◌≤◌, min, List, [], ◌∷◌, ◌++◌, length, length-append}
-use Rattle.std.proofs.Common.{length-drop, take, drop, refl, sym, ap, subst, ◌∙◌, inl, inr, arith}
+use Rattle.std.proofs.Common.{◌≡◌, ℕ, zero, suc, ◌+◌, ◌-◌, ◌<◌, ◌≤◌, List, [], ◌∷◌, ◌++◌, length}
+use Rattle.std.proofs.Common.{take, drop, refl, sym, ap, subst, ◌∙◌, inl, inr, arith}
 use Rattle.std.specs.Prelude.{◌⊎◌, Option, None, Some, Bool, true, false, Result, Ok, Err, slice_get}
 use Rattle.std.specs.FinMap as finite
 use Rattle.std.specs.Ordering.{nat_cmp}
 use Rattle.std.proofs.Math.Seq.{take-add}
-use Rattle.std.proofs.lemmas.Bool.{false≢true}
 use Rattle.std.proofs.lemmas.Option.{none-some, same_Some, slice_get_past}
 use Rattle.std.proofs.lemmas.List.{append-nil, length-take, take_at, take-append-le}
 use Rattle.mold_wire.specs.Packet.{Spells}
 use Rattle.mold_wire.specs.Reading.{reading}
 use Rattle.mold_wire.specs.Truth.{Carries, IsTrue, published_at}
-use Rattle.mold_wire.specs.declared.error.DecodeError.{DecodeError}
 use Rattle.mold_wire.specs.declared.packet.Packet.{Packet}
 use Rattle.mold_wire.specs.declared.packet.Body.{Body}
 use Rattle.mold_wire.specs.declared.packet.Body.TheVariants.{Data, Heartbeat, End}
@@ -141,19 +139,19 @@ given_by place line bytes outcome = record {
   book = book_after place.book place.arbitration.view.next outcome;
 }
 
-view_taken :
+pub view_taken :
     (line : Option Line) (bytes : List ℕ) (old : Arbitration) (r : Reception) →
     (arbitrated line bytes old (Ok r)).view ≡ r.view
 view_taken None bytes old r = refl
 view_taken (Some line) bytes old r = refl
 
-view_refused :
+pub view_refused :
     (line : Option Line) (bytes : List ℕ) (old : Arbitration) (refused : Refused) →
     (arbitrated line bytes old (Err refused)).view ≡ old.view
 view_refused None bytes old refused = refl
 view_refused (Some line) bytes old refused = refl
 
-followed_messages :
+pub followed_messages :
     (book : Handed) (next : ℕ) (messages : List (List ℕ)) →
     (followed_by book next messages).messages ≡ book.messages ++ messages
 followed_messages book next [] = sym (append-nil book.messages)
@@ -203,7 +201,7 @@ pub record IsSentTruly (journal : JournalState) (sent : List (List ℕ)) (bytes 
   pub found : slice_get sent place ≡ Some bytes
   pub told : TellsTruth journal bytes
 
-same_Ok : {T E : Type 0} (one other : T) (r : Result T E) → r ≡ Ok one → r ≡ Ok other → one ≡ other
+pub same_Ok : {T E : Type 0} (one other : T) (r : Result T E) → r ≡ Ok one → r ≡ Ok other → one ≡ other
 same_Ok one other r is too = let e = is in let f = too in cc
 
 -- the packet of a session whose body is an end is the end packet with its number
@@ -334,7 +332,7 @@ cut_follows :
 cut_follows book next count follows whole first some few =
     cut_from book.first book.messages next (count - 1) count (omega (arith, some)) follows whole first some few
 
-handed_messages : (first : ℕ) (messages : List (List ℕ)) → (handed_from first messages).messages ≡ messages
+pub handed_messages : (first : ℕ) (messages : List (List ℕ)) → (handed_from first messages).messages ≡ messages
 handed_messages first [] = refl
 handed_messages first (message ∷ messages) = refl
 

@@ -1,7 +1,7 @@
 -- What an event does to the world: the one rule of events. A refusal leaves the world as it is, since its
 -- outcome has none.
-use Rattle.std.specs.Prelude.{◌≡◌, ℕ, zero, suc, ◌+◌, ◌-◌, ◌≤◌, List, [], ◌∷◌, ◌++◌, length, map, take, Bool, true, false}
-use Rattle.std.specs.Prelude.{Option, None, Some, Result, Ok, Err, not, ◌&&◌, nat_le, nat_lt, if◌then◌else◌, slice_get, slice_set}
+use Rattle.std.specs.Prelude.{ℕ, ◌+◌, ◌-◌, List, [], ◌∷◌, ◌++◌, length, map, take, Bool, true, false}
+use Rattle.std.specs.Prelude.{Option, None, Some, Result, Ok, Err, ◌&&◌, nat_le, nat_lt, if◌then◌else◌, slice_get, slice_set}
 use Rattle.std.specs.Str.{bytes_eq}
 use Rattle.mold_wire.specs.Packet.{spelling_of}
 use Rattle.mold_wire.specs.Reading.{reading}
@@ -9,10 +9,10 @@ use Rattle.mold_wire.specs.declared.error.DecodeError.{DecodeError}
 use Rattle.mold_wire.specs.declared.packet.Packet.{Packet}
 use Rattle.mold_wire.specs.declared.request.Request.{Request as Asked}
 use Rattle.mold_wire.specs.declared.session.Session.{Session}
-use Rattle.mold_receiver.specs.Arbiter.{Arbitration, arbitrates}
+use Rattle.mold_receiver.specs.Arbiter.{arbitrates}
 use Rattle.mold_receiver.specs.Batch.{Handed, followed_by, handed_from}
 use Rattle.mold_receiver.specs.Receive.{Reception, receive}
-use Rattle.mold_receiver.specs.View.{View, fresh}
+use Rattle.mold_receiver.specs.View.{fresh}
 use Rattle.mold_receiver.specs.Wanted.{wanted}
 use Rattle.mold_receiver.specs.declared.line.Line.{Line}
 use Rattle.mold_receiver.specs.declared.refused.Refused.{Refused}

@@ -2,7 +2,7 @@
 use Rattle.std.specs.Prelude.{◌≡◌, ℕ, ◌+◌, List, [], ◌∷◌, ◌++◌, length, Some, true}
 use Rattle.std.specs.List.{AllByRecursion}
 use Rattle.mold_wire.specs.Truth.{published_at}
-use Rattle.mold_world.specs.Machine.{Machine, Step, Standing, after}
+use Rattle.mold_world.specs.Machine.{Machine, Step, after}
 use Rattle.mold_world.specs.Machine.Step.{Publish, Close, Send, Deliver, Restart, Nothing}
 
 -- the second list is the first, followed by something

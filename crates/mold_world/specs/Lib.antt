@@ -4,3 +4,4 @@ pub mod World
 pub mod Effect
 pub mod HandOns
 pub mod Kept
+pub mod Steps

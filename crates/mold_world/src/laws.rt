@@ -11,6 +11,7 @@ ghost use Rattle.mold_world.specs.Effect.{Happening, effect, run_events};
 ghost use Rattle.mold_world.specs.HandOns.{handed_by_all};
 ghost use Rattle.mold_world.specs.Headline.{ArePublished, HasAll, IsPrefix, all_handed};
 ghost use Rattle.mold_world.specs.Kept.{IsWorld};
+ghost use Rattle.mold_world.specs.Steps.{AreSteps, machine_of};
 ghost use Rattle.mold_world.specs.Machine.{AreAllowed, Step, run, start};
 ghost use Rattle.mold_world.specs.World.{MayBegin, PlaceState, WorldState, beginning};
 ghost use Rattle.mold_world.specs.declared.report.Report.{Report};
@@ -53,6 +54,10 @@ pub fn safety_law()
 /// every receiver's book is a prefix of what was published, and one whose known end is its next number has
 /// all of the closed session. Each message ever handed on in a run of events is, at the run's end, the one
 /// published with its number.
+///
+/// And what an event does is made of steps of the machine of `safety_law`: one step, none where nothing that
+/// the machine sees changes, and as many as datagrams where a burst is sent. The world at the start is the
+/// machine at its start.
 pub fn run_law()
     ensures begins { (session : Session) (limit server_limit burst : ℕ) (windows : List ℕ) →
         MayBegin session limit server_limit → IsWorld (beginning session limit server_limit burst windows) }
@@ -67,6 +72,10 @@ pub fn run_law()
         (w.publisher.journal.closed ≡ true) × (place.book.messages ≡ w.publisher.journal.messages) }
     ensures handed { (w : WorldState) (happenings : List Happening) → IsWorld w →
         ArePublished (run_events w happenings).publisher.journal.messages (handed_by_all w happenings) }
+    ensures starts { (session : Session) (limit server_limit burst : ℕ) (windows : List ℕ) →
+        machine_of (beginning session limit server_limit burst windows) ≡ start session }
+    ensures steps { (w new : WorldState) (happening : Happening) (report : Report) → IsWorld w →
+        effect w happening ≡ Ok (report, new) → AreSteps w new }
 {
     reading_law();
     true_stays_law();

@@ -1,5 +1,6 @@
 use Rattle.mold_world.proofs.EventLemmas.{AllLaws, event_kept, run_kept, world_books, world_whole}
 use Rattle.mold_world.proofs.RunLemmas.{begins, handed_run}
+use Rattle.mold_world.proofs.StepLemmas.{begins_as_machine, event_steps}
 use Rattle.mold_world.proofs.laws.run_law.Goals.{After-answered_law}
 use Rattle.mold_world.proofs.laws.run_law.Goals as goal
 
@@ -45,4 +46,7 @@ returns c = record {
   books = world_books;
   whole = world_whole;
   handed = handed_run (all_laws c) (record { keeps = c.true_stays_law.ensures.message });
+  starts = begins_as_machine;
+  steps = λ w new happening report is same.
+      event_steps (all_laws c) (record { handed = c.nothing_new_law.ensures.handed }) w happening (report, new) is same;
 }

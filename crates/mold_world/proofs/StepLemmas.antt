@@ -1,0 +1,490 @@
+-- What an event does to the world is made of steps of the machine.
+use Rattle.std.proofs.Common.{◌≡◌, ℕ, zero, suc, ◌+◌, ◌-◌, cond, leb, ltb, List, [], ◌∷◌, ◌++◌, length, map}
+use Rattle.std.proofs.Common.{take, refl, sym, ap, subst, ◌∙◌, append_assoc, inl, inr, arith}
+use Rattle.std.specs.Prelude.{◌⊎◌, ◌&&◌, ◌==◌, Option, None, Some, Bool, true, false, Result, Ok, Err, slice_get, slice_set}
+use Rattle.std.proofs.lemmas.Bool.{and_parts, cond-false, cond-true, cases_eq, eq-eqb, eqb-true, false≢true, leb-true, ne_eqb}
+use Rattle.std.proofs.lemmas.List.{append-nil, length-take}
+use Rattle.std.proofs.lemmas.Option.{none-some}
+use Rattle.mold_wire.specs.Packet.{Spells, messages_of, spelling_of}
+use Rattle.mold_wire.specs.Reading.{reading}
+use Rattle.mold_wire.specs.Truth.{Carries}
+use Rattle.mold_wire.specs.declared.packet.Packet.{Packet}
+use Rattle.mold_wire.specs.declared.request.Request.{Request as Asked}
+use Rattle.mold_receiver.specs.Receive.{Reception, handed_on, receive}
+use Rattle.mold_receiver.specs.View.{View}
+use Rattle.mold_receiver.specs.Wanted.{wanted}
+use Rattle.mold_receiver.specs.declared.line.Line.{Line}
+use Rattle.mold_receiver.specs.declared.refused.Refused.{Refused}
+use Rattle.mold_session.specs.Answer.{answer}
+use Rattle.mold_session.specs.Journal.{JournalState, append_refusal}
+use Rattle.mold_session.specs.Publisher.{PublisherState, after_datagram, closed, next_datagram, next_end, next_heartbeat}
+use Rattle.mold_session.specs.Server.{IsAnswerable, asking}
+use Rattle.mold_session.specs.Truthful.{TellsTruth}
+use Rattle.mold_session.specs.declared.error.AnswerError.{AnswerError}
+use Rattle.mold_session.specs.declared.error.AppendError.{AppendError}
+use Rattle.mold_world.proofs.EventLemmas.{AllLaws, answer_told, not_own, wanted_answerable}
+use Rattle.mold_world.proofs.PlaceLemmas.{followed_messages, given_kept, handed_messages, same_Ok, view_refused}
+use Rattle.mold_receiver.specs.Arbiter.{arbitrated}
+use Rattle.std.specs.FinMap as finite
+use Rattle.mold_world.specs.Effect.{Happening, Outcome, answered, book_after, asked, asked_for, delivered, effect, given, is_own, noised}
+use Rattle.mold_world.specs.Effect.{publishing, renewed, requested, restarted, sending, unsent_count, with_place}
+use Rattle.mold_world.specs.Effect.Happening.{Publish as PublishEvent, Datagram, Heartbeat, Close as CloseEvent, End, Request, Ask, Deliver as DeliverEvent, Noise, Restart as RestartEvent}
+use Rattle.mold_world.specs.Kept.{IsPlaceKept, IsWorld}
+use Rattle.mold_world.specs.Machine.{AreAllowed, IsEndSent, IsSaid, IsSentAs, Machine, Standing, after, run, standing_at, start}
+use Rattle.mold_world.specs.Machine.Step.{Publish, Close, Send, Deliver, Restart}
+use Rattle.mold_world.specs.Steps.{AreSteps, is_end, is_finished, machine_of, standing_of}
+use Rattle.mold_wire.specs.declared.session.Session.{Session}
+use Rattle.mold_world.specs.World.{PlaceState, WorldState, beginning, place_at}
+use Rattle.mold_world.specs.declared.report.Report.{Report}
+use Rattle.mold_world.specs.declared.report.Report.TheVariants as report
+use Rattle.mold_world.specs.declared.report.SessionRefusal.TheVariants as session
+use Rattle.mold_world.specs.declared.report.WorldError.{WorldError}
+use Rattle.mold_world.specs.declared.report.WorldError.TheVariants.{NotReached, Session as Refuses}
+
+-- what is answered is what it says
+ok_steps :
+    (w : WorldState) (here done : Report × WorldState) → AreSteps w here.1 → ◌≡◌ {A = Outcome} (Ok here) (Ok done) →
+    AreSteps w done.1
+ok_steps w here done steps same =
+    let path : here ≡ done = (let e = same in cc) in
+    subst (λ (t : Report × WorldState). AreSteps w t.1) path steps
+
+err_steps :
+    (w : WorldState) (refused : WorldError) (done : Report × WorldState) →
+    ◌≡◌ {A = Outcome} (Err refused) (Ok done) → AreSteps w done.1
+err_steps w refused done same = absurd (let e = same in cc)
+
+-- a world that stays
+none : (w : WorldState) → AreSteps w w
+none w = record { steps = []; allowed = tt; made = refl }
+
+publish_steps :
+    (laws : AllLaws) (w : WorldState) (message : List ℕ) (refusal : Option AppendError) (done : Report × WorldState) →
+    IsWorld w → append_refusal w.publisher.journal message ≡ refusal → publishing w message refusal ≡ Ok done →
+    AreSteps w done.1
+publish_steps laws w message None done is free same =
+    let may = laws.sending.may w.publisher message free in
+    ok_steps w _ done (record {
+      steps = Publish message ∷ [];
+      allowed = ((may.unclosed, omega (arith, is.publisher.journaled.few, may.number)), tt);
+      made = refl;
+    }) same
+publish_steps laws w message (Some refusal) done is some same = err_steps w _ done same
+
+-- what tells the truth may be said
+said_of :
+    (w : WorldState) (bytes : List ℕ) → TellsTruth w.publisher.journal bytes → IsSaid (machine_of w) bytes
+said_of w bytes told =
+    record { packet = told.packet; spelled = told.spelled; named = told.session; is_true = told.so }
+
+send_steps :
+    (w : WorldState) (next : Option Packet) (publisher : PublisherState) (done : Report × WorldState) →
+    publisher.journal ≡ w.publisher.journal →
+    ((packet : Packet) → next ≡ Some packet → TellsTruth w.publisher.journal (spelling_of packet)) →
+    sending w next publisher ≡ Ok done → AreSteps w done.1
+send_steps w None publisher done journal told same = ok_steps w _ done (none w) same
+send_steps w (Some packet) publisher done journal told same =
+    ok_steps w _ done (record {
+      steps = Send (spelling_of packet) ∷ [];
+      allowed = (said_of w (spelling_of packet) (told packet refl), tt);
+      made = ap (λ (t : JournalState). record {
+        session = t.session;
+        published = t.messages;
+        closed = t.closed;
+        sent = w.sent ++ spelling_of packet ∷ [];
+        standings = λ receiver. standing_of (slice_get w.places receiver);
+      }) journal;
+    }) same
+
+close_steps :
+    (w : WorldState) (unsent : Bool) (done : Report × WorldState) →
+    cond {A = Outcome} unsent (Err (Refuses (session.Close (record { count = unsent_count w.publisher }))))
+    (Ok (report.Closed, record w { publisher = closed w.publisher })) ≡ Ok done → AreSteps w done.1
+close_steps w true done same = err_steps w _ done same
+close_steps w false done same =
+    ok_steps w _ done (record { steps = Close ∷ []; allowed = (tt, tt); made = refl }) same
+
+-- datagrams that are sent one after the other
+sends_allowed :
+    (machine : Machine) (more : List (List ℕ)) →
+    ((place : ℕ) (bytes : List ℕ) → slice_get more place ≡ Some bytes → IsSaid machine bytes) →
+    AreAllowed machine (map Send more)
+sends_allowed machine [] said = tt
+sends_allowed machine (bytes ∷ more) said = (
+  said zero bytes refl,
+  sends_allowed (after machine (Send bytes)) more (λ place other found.
+      let told = said (suc place) other found in
+      record { packet = told.packet; spelled = told.spelled; named = told.named; is_true = told.is_true }),
+)
+
+sends_made :
+    (machine : Machine) (more : List (List ℕ)) →
+    run machine (map Send more) ≡ record machine { sent = machine.sent ++ more }
+sends_made machine [] = ap (λ (t : List (List ℕ)). record machine { sent = t }) (sym (append-nil machine.sent))
+sends_made machine (bytes ∷ more) =
+    sends_made (after machine (Send bytes)) more
+    ∙ ap (λ (t : List (List ℕ)). record machine { sent = t }) (append_assoc machine.sent (bytes ∷ []) more)
+
+answer_steps :
+    (laws : AllLaws) (w : WorldState) (request : Asked) (done : Report × WorldState) → IsWorld w →
+    IsAnswerable w.publisher.journal request → answered w request ≡ Ok done → AreSteps w done.1
+answer_steps laws w request done is may same =
+    let more : List (List ℕ) = map spelling_of (answer w.publisher.journal.messages w.publisher.journal.session
+    w.server_limit request.sequence request.count w.burst)
+    in
+    ok_steps w _ done (record {
+      steps = map Send more;
+      allowed = sends_allowed (machine_of w) more (λ place bytes found.
+          said_of w bytes (answer_told laws.answers w request is may place bytes found));
+      made = sym (sends_made (machine_of w) more);
+    }) same
+
+request_steps :
+    (laws : AllLaws) (w : WorldState) (bytes : List ℕ) (asks : Result Asked AnswerError)
+    (done : Report × WorldState) → IsWorld w → asking w.publisher.journal bytes ≡ asks →
+    requested w asks ≡ Ok done → AreSteps w done.1
+request_steps laws w bytes (Ok request) done is asked_now same =
+    answer_steps laws w request done is (laws.answers.answerable w.publisher.journal request bytes asked_now) same
+request_steps laws w bytes (Err refusal) done is asked_now same = err_steps w _ done same
+
+want_steps :
+    (laws : AllLaws) (w : WorldState) (place : PlaceState) (want : Option Asked) (done : Report × WorldState) →
+    IsWorld w → IsPlaceKept w.publisher.journal w.sent place → wanted place.arbitration.view ≡ want →
+    asked_for w want ≡ Ok done → AreSteps w done.1
+want_steps laws w place None done is kept want same = ok_steps w _ done (none w) same
+want_steps laws w place (Some request) done is kept want same =
+    answer_steps laws w request done is
+    (wanted_answerable laws.answers w.publisher.journal w.sent place request kept want) same
+
+ask_steps :
+    (laws : AllLaws) (w : WorldState) (receiver : ℕ) (place : Option PlaceState) (done : Report × WorldState) →
+    IsWorld w → slice_get w.places receiver ≡ place → asked w place ≡ Ok done → AreSteps w done.1
+ask_steps laws w receiver None done is here same = err_steps w _ done same
+ask_steps laws w receiver (Some place) done is here same =
+    want_steps laws w place (wanted place.arbitration.view) done is (is.places receiver place here) refl same
+
+-- a receiver is another: so the machine sees it
+get_set_same :
+    {X : Type 0} (xs : List X) (at : ℕ) (old new : X) → slice_get xs at ≡ Some old →
+    slice_get (slice_set xs at new) at ≡ Some new
+get_set_same [] at old new is = absurd (none-some old is)
+get_set_same (x ∷ xs) zero old new is = refl
+get_set_same (x ∷ xs) (suc at) old new is = get_set_same xs at old new is
+
+get_set_other :
+    {X : Type 0} (xs : List X) (at : ℕ) (new : X) (place : ℕ) → (place ≡ at → ⊥) →
+    slice_get (slice_set xs at new) place ≡ slice_get xs place
+get_set_other [] at new place other = refl
+get_set_other (x ∷ xs) zero new zero other = absurd (other refl)
+get_set_other (x ∷ xs) zero new (suc place) other = refl
+get_set_other (x ∷ xs) (suc at) new zero other = refl
+get_set_other (x ∷ xs) (suc at) new (suc place) other =
+    get_set_other xs at new place (λ same. other (let z : suc place ≡ suc at = omega (arith, same) in z))
+
+stands_at :
+    (w : WorldState) (receiver : ℕ) (old new : PlaceState) (standing : Standing) →
+    slice_get w.places receiver ≡ Some old → standing_of (Some new) ≡ standing → (other : ℕ) →
+    standing_of (slice_get (slice_set w.places receiver new) other)
+    ≡ standing_at (λ (q : ℕ). standing_of (slice_get w.places q)) receiver standing other
+stands_at w receiver old new standing here same other =
+    elim (cases_eq other receiver) [
+      | inl is ↦
+          ap (λ (t : ℕ). standing_of (slice_get (slice_set w.places receiver new) t)) is
+          ∙ ap standing_of (get_set_same w.places receiver old new here)
+          ∙ same
+          ∙ sym (cond-true (other == receiver) standing (standing_of (slice_get w.places other)) (eq-eqb other receiver is))
+      | inr differs ↦
+          ap standing_of (get_set_other w.places receiver new other differs)
+          ∙ sym (cond-false (other == receiver) standing (standing_of (slice_get w.places other)) (ne_eqb other receiver differs))
+    ]
+
+machine_with :
+    (w : WorldState) (receiver : ℕ) (old new : PlaceState) (standing : Standing) →
+    slice_get w.places receiver ≡ Some old → standing_of (Some new) ≡ standing →
+    machine_of (with_place w receiver new)
+    ≡ record (machine_of w) { standings = standing_at (machine_of w).standings receiver standing }
+machine_with w receiver old new standing here same =
+    λ i. record {
+      session = w.publisher.journal.session;
+      published = w.publisher.journal.messages;
+      closed = w.publisher.journal.closed;
+      sent = w.sent;
+      standings = λ other. stands_at w receiver old new standing here same other i;
+    }
+
+end_is : (ended : Option ℕ) (next : ℕ) → is_end ended next ≡ true → ended ≡ Some next
+end_is None next is = absurd (false≢true is)
+end_is (Some end) next is = ap (λ (t : ℕ). Some t) (eqb-true end next is)
+
+stands_same :
+    (w : WorldState) (receiver : ℕ) (place : PlaceState) → slice_get w.places receiver ≡ Some place → (other : ℕ) →
+    standing_at (λ (q : ℕ). standing_of (slice_get w.places q)) receiver (standing_of (Some place)) other
+    ≡ standing_of (slice_get w.places other)
+stands_same w receiver place here other =
+    elim (cases_eq other receiver) [
+      | inl is ↦
+          cond-true (other == receiver) (standing_of (Some place)) (standing_of (slice_get w.places other))
+          (eq-eqb other receiver is)
+          ∙ sym (ap standing_of (ap (λ (t : ℕ). slice_get w.places t) is ∙ here))
+      | inr differs ↦
+          cond-false (other == receiver) (standing_of (Some place)) (standing_of (slice_get w.places other))
+          (ne_eqb other receiver differs)
+    ]
+
+-- how long a book is
+book_length :
+    (journal : JournalState) (sent : List (List ℕ)) (place : PlaceState) → IsPlaceKept journal sent place →
+    length place.book.messages + 1 ≡ place.arbitration.view.next
+book_length journal sent place kept =
+    omega (
+      arith,
+      ap (λ (t : List (List ℕ)). length t) kept.book,
+      length-take (place.arbitration.view.next - 1) journal.messages,
+      kept.honest.well_formed.first,
+      kept.honest.well_formed.ahead,
+      kept.honest.known,
+    )
+
+-- what is handed on was sent
+pub record HandsOnSent (w : WorldState) (receiver : ℕ) (old new : PlaceState) (handed : List (List ℕ)) : Type 0 where
+  pub here : slice_get w.places receiver ≡ Some old
+  pub kept : IsPlaceKept w.publisher.journal w.sent old
+  pub still : IsPlaceKept w.publisher.journal w.sent new
+  pub book : new.book.messages ≡ old.book.messages ++ handed
+  pub each : (i : ℕ) (message : List ℕ) → slice_get handed i ≡ Some message →
+      IsSentAs w.sent (old.arbitration.view.next + i) message
+
+deliver_made :
+    (w : WorldState) (receiver : ℕ) (old new : PlaceState) (handed : List (List ℕ)) →
+    HandsOnSent w receiver old new handed → AreSteps w (with_place w receiver new)
+deliver_made w receiver old new handed hands =
+    let standing : Standing = standing_of (slice_get w.places receiver) in
+    let book : standing.book ≡ old.book.messages =
+    ap (λ (t : Option PlaceState). (standing_of t).book) hands.here
+    in
+    let ended : Bool = is_finished new.arbitration.view in
+    let longer : standing.book ++ handed ≡ new.book.messages =
+    ap (λ (t : List (List ℕ)). t ++ handed) book ∙ sym hands.book
+    in
+    record {
+      steps = Deliver receiver handed ended ∷ [];
+      allowed = (
+        (
+          (λ i message found.
+              subst (λ (t : ℕ). IsSentAs w.sent t message)
+              (let z : old.arbitration.view.next + i ≡ length standing.book + 1 + i =
+              omega (
+                arith,
+                book_length w.publisher.journal w.sent old hands.kept,
+                ap (λ (t : List (List ℕ)). length t) book,
+              )
+              in z)
+              (hands.each i message found)),
+          (λ told.
+              subst (λ (t : ℕ). IsEndSent w.sent w.publisher.journal.session t)
+              (sym (ap (λ (t : List (List ℕ)). length t + 1) longer
+              ∙ book_length w.publisher.journal w.sent new hands.still))
+              (hands.still.ends new.arbitration.view.next
+              (end_is new.arbitration.view.ended new.arbitration.view.next told))),
+        ),
+        tt,
+      );
+      made = machine_with w receiver old new (record { book = standing.book ++ handed; ended = ended }) hands.here
+          (ap (λ (t : List (List ℕ)). record { book = t; ended = ended }) (sym longer));
+    }
+
+-- what the receiver's law says of what is handed on
+pub record HandsOnLaw : Type 0 where
+  pub handed : (v : View) (p : Packet) (i : ℕ) (m : List ℕ) →
+      slice_get (handed_on v p.sequence (messages_of p.body)) i ≡ Some m →
+      (finite.get v.store (v.next + i) ≡ Some m) ⊎ Carries p (v.next + i) m
+
+-- a receiver takes what was sent
+taken_hands :
+    (laws : AllLaws) (law : HandsOnLaw) (w : WorldState) (receiver at : ℕ) (line : Option Line) (place : PlaceState)
+    (bytes : List ℕ) (r : Reception) → IsWorld w → slice_get w.places receiver ≡ Some place →
+    slice_get w.sent at ≡ Some bytes → receive place.arbitration.view bytes ≡ Ok r →
+    HandsOnSent w receiver place (given place line bytes) r.handed
+taken_hands laws law w receiver at line place bytes r is here found received =
+    let view : View = place.arbitration.view in
+    let kept = is.places receiver place here in
+    let told = is.said at bytes found in
+    let took = laws.receivers.taken view bytes r received in
+    let packet : Packet = took.packet in
+    let same : told.packet ≡ packet = same_Ok told.packet packet (reading bytes)
+    (laws.receivers.read told.packet bytes told.spelled) took.read
+    in
+    let spelled : Spells packet bytes = subst (λ (t : Packet). Spells t bytes) same told.spelled in
+    record {
+      here = here;
+      kept = kept;
+      still = given_kept laws.receivers w.publisher.journal w.sent place line bytes kept
+          (record { place = at; found = found; told = told });
+      book = ap (λ (t : Result Reception Refused). (book_after place.book view.next t).messages) received
+          ∙ followed_messages place.book view.next r.handed;
+      each = λ i message at_i.
+          elim (law.handed view packet i message
+          (sym (ap (λ (t : Reception). slice_get t.handed i) took.taken) ∙ at_i)) [
+            | inl stored ↦ kept.stored (view.next + i) message stored
+            | inr carried ↦ record {
+              place = at;
+              bytes = bytes;
+              packet = packet;
+              found = found;
+              spelled = spelled;
+              carried = carried;
+            }
+          ];
+    }
+
+deliver_steps :
+    (laws : AllLaws) (law : HandsOnLaw) (w : WorldState) (receiver at : ℕ) (line : Option Line)
+    (place : Option PlaceState) (datagram : Option (List ℕ)) (done : Report × WorldState) → IsWorld w →
+    slice_get w.places receiver ≡ place → slice_get w.sent at ≡ datagram →
+    delivered w receiver line place datagram ≡ Ok done → AreSteps w done.1
+deliver_steps laws law w receiver at line None datagram done is here found same = err_steps w _ done same
+deliver_steps laws law w receiver at line (Some place) None done is here found same = err_steps w _ done same
+deliver_steps laws law w receiver at line (Some place) (Some bytes) done is here found same =
+    let kept = is.places receiver place here in
+    let told = is.said at bytes found in
+    let took = laws.receivers.take place.arbitration.view told.packet bytes w.publisher.journal.messages
+    w.publisher.journal.closed kept.honest told.spelled (told.session ∙ sym kept.session) told.so
+    in
+    ok_steps w _ done (deliver_made w receiver place (given place line bytes) took.reception.handed
+    (taken_hands laws law w receiver at line place bytes took.reception is here found took.received)) same
+
+-- a receiver that refuses bytes is the same to the machine
+refused_made :
+    (w : WorldState) (receiver : ℕ) (line : Option Line) (bytes : List ℕ) (place : PlaceState) (refused : Refused) →
+    slice_get w.places receiver ≡ Some place → receive place.arbitration.view bytes ≡ Err refused →
+    AreSteps w (with_place w receiver (given place line bytes))
+refused_made w receiver line bytes place refused here is =
+    let new : PlaceState = given place line bytes in
+    let view : new.arbitration.view ≡ place.arbitration.view =
+    ap (λ (t : Result Reception Refused). (arbitrated line bytes place.arbitration t).view) is
+    ∙ view_refused line bytes place.arbitration refused
+    in
+    let book : new.book ≡ place.book =
+    ap (λ (t : Result Reception Refused). book_after place.book place.arbitration.view.next t) is
+    in
+    let standing : standing_of (Some new) ≡ standing_of (Some place) =
+    λ i. record { book = (book i).messages; ended = is_finished (view i) }
+    in
+    record {
+      steps = [];
+      allowed = tt;
+      made = λ i. record {
+        session = w.publisher.journal.session;
+        published = w.publisher.journal.messages;
+        closed = w.publisher.journal.closed;
+        sent = w.sent;
+        standings = λ other.
+            (stands_at w receiver place new (standing_of (Some place)) here standing other
+            ∙ stands_same w receiver place here other) i;
+      };
+    }
+
+noise_steps :
+    (w : WorldState) (receiver : ℕ) (line : Option Line) (bytes : List ℕ) (place : Option PlaceState) (own : Bool)
+    (done : Report × WorldState) → IsWorld w → slice_get w.places receiver ≡ place →
+    is_own w.publisher.journal.session (reading bytes) ≡ own → noised w receiver line bytes place own ≡ Ok done →
+    AreSteps w done.1
+noise_steps w receiver line bytes None own done is here mine same = err_steps w _ done same
+noise_steps w receiver line bytes (Some place) true done is here mine same = err_steps w _ done same
+noise_steps w receiver line bytes (Some place) false done is here mine same =
+    let kept = is.places receiver place here in
+    let refused = not_own place.arbitration.view w.publisher.journal.session (reading bytes) kept.session mine in
+    ok_steps w _ done (refused_made w receiver line bytes place refused.0 here refused.1) same
+
+restart_at_steps :
+    (w : WorldState) (receiver next : ℕ) (place : PlaceState) (reached : Bool) (done : Report × WorldState) →
+    IsWorld w → slice_get w.places receiver ≡ Some place →
+    (leb 1 next && leb next place.arbitration.view.next) ≡ reached →
+    cond {A = Outcome} reached (Ok (report.Restarted next, with_place w receiver (renewed place next)))
+    (Err (NotReached place.arbitration.view.next)) ≡ Ok done → AreSteps w done.1
+restart_at_steps w receiver next place false done is here reached same = err_steps w _ done same
+restart_at_steps w receiver next place true done is here reached same =
+    let kept = is.places receiver place here in
+    let both = and_parts (leb 1 next) (leb next place.arbitration.view.next) reached in
+    let standing : Standing = standing_of (slice_get w.places receiver) in
+    let book : standing.book ≡ place.book.messages =
+    ap (λ (t : Option PlaceState). (standing_of t).book) here
+    in
+    let cut : take (next - 1) standing.book ≡ (renewed place next).book.messages =
+    ap (λ (t : List (List ℕ)). take (next - 1) t) book
+    ∙ sym (handed_messages place.book.first (take (next - 1) place.book.messages))
+    in
+    ok_steps w _ done (record {
+      steps = Restart receiver next ∷ [];
+      allowed = (
+        (
+          leb-true 1 next both.0,
+          omega (
+            arith,
+            leb-true next place.arbitration.view.next both.1,
+            book_length w.publisher.journal w.sent place kept,
+            ap (λ (t : List (List ℕ)). length t) book,
+          ),
+        ),
+        tt,
+      );
+      made = machine_with w receiver place (renewed place next)
+          (record { book = take (next - 1) standing.book; ended = false }) here
+          (ap (λ (t : List (List ℕ)). record { book = t; ended = false }) (sym cut));
+    }) same
+
+restart_steps :
+    (w : WorldState) (receiver next : ℕ) (place : Option PlaceState) (done : Report × WorldState) → IsWorld w →
+    slice_get w.places receiver ≡ place → restarted w receiver next place ≡ Ok done → AreSteps w done.1
+restart_steps w receiver next None done is here same = err_steps w _ done same
+restart_steps w receiver next (Some place) done is here same =
+    restart_at_steps w receiver next place (leb 1 next && leb next place.arbitration.view.next) done is here refl same
+
+-- every event that is not refused
+pub event_steps :
+    (laws : AllLaws) (law : HandsOnLaw) (w : WorldState) (happening : Happening) (done : Report × WorldState) →
+    IsWorld w → effect w happening ≡ Ok done → AreSteps w done.1
+unfolding effect
+event_steps laws law w (PublishEvent message) done is same =
+    publish_steps laws w message (append_refusal w.publisher.journal message) done is refl same
+event_steps laws law w Datagram done is same =
+    send_steps w (next_datagram w.publisher) (after_datagram w.publisher) done refl
+    (λ packet next. laws.sending.datagram w.publisher packet is.publisher is.answers.named next) same
+event_steps laws law w Heartbeat done is same =
+    send_steps w (next_heartbeat w.publisher) w.publisher done refl
+    (λ packet next. laws.sending.heartbeat w.publisher packet is.publisher is.answers.named next) same
+event_steps laws law w CloseEvent done is same = close_steps w (ltb 0 (unsent_count w.publisher)) done same
+event_steps laws law w End done is same =
+    send_steps w (next_end w.publisher) w.publisher done refl
+    (λ packet next. laws.sending.end w.publisher packet is.publisher is.answers.named next) same
+event_steps laws law w (Request bytes) done is same =
+    request_steps laws w bytes (asking w.publisher.journal bytes) done is refl same
+event_steps laws law w (Ask receiver) done is same =
+    ask_steps laws w receiver (slice_get w.places receiver) done is refl same
+event_steps laws law w (DeliverEvent receiver line at) done is same =
+    deliver_steps laws law w receiver at line (slice_get w.places receiver) (slice_get w.sent at) done is refl refl same
+event_steps laws law w (Noise receiver line bytes) done is same =
+    noise_steps w receiver line bytes (slice_get w.places receiver)
+    (is_own w.publisher.journal.session (reading bytes)) done is refl refl same
+event_steps laws law w (RestartEvent receiver next) done is same =
+    restart_steps w receiver next (slice_get w.places receiver) done is refl same
+
+-- at the start no receiver has handed anything on
+empty_standing :
+    (session_name : Session) (windows : List ℕ) (receiver : ℕ) →
+    standing_of (slice_get (map (place_at session_name) windows) receiver) ≡ record { book = []; ended = false }
+empty_standing session_name [] receiver = refl
+empty_standing session_name (window ∷ windows) zero = refl
+empty_standing session_name (window ∷ windows) (suc receiver) = empty_standing session_name windows receiver
+
+pub begins_as_machine :
+    (session_name : Session) (limit server_limit burst : ℕ) (windows : List ℕ) →
+    machine_of (beginning session_name limit server_limit burst windows) ≡ start session_name
+begins_as_machine session_name limit server_limit burst windows =
+    λ i. record {
+      session = session_name;
+      published = [];
+      closed = false;
+      sent = [];
+      standings = λ receiver. empty_standing session_name windows receiver i;
+    }
