@@ -19,13 +19,13 @@ use Rattle.mold_capture.proofs.ListLemmas.{ReadsBack}
 use Rattle.mold_capture.proofs.SumLemmas.{none_consistent, accepted, not_refused, after_more, heard_whole, whole_heard}
 
 -- one datagram more
-front_more : (list : List (List ℕ)) (i : ℕ) (bytes : List ℕ) → i < length list → get_or list i [] ≡ bytes →
+pub front_more : (list : List (List ℕ)) (i : ℕ) (bytes : List ℕ) → i < length list → get_or list i [] ≡ bytes →
     take (i + 1) list ≡ take i list ++ bytes ∷ []
 front_more list i bytes within at =
     take_more list i [] within ∙ ap (λ (b : List ℕ). take i list ++ b ∷ []) at
 
 -- what holds where a datagram is refused for a reason
-refused_for : ReadsBack → (list : List (List ℕ)) (i : ℕ) (bytes : List ℕ) (why : Reason) → i < length list →
+pub refused_for : ReadsBack → (list : List (List ℕ)) (i : ℕ) (bytes : List ℕ) (why : Reason) → i < length list →
     get_or list i [] ≡ bytes → Consistent (take i list) → reason (take i list) bytes ≡ Some why
     → (i < length list) × Consistent (take i list) × (Consistent (take (i + 1) list) → ⊥)
     × (reason (take i list) (get_or list i []) ≡ Some why)

@@ -9,3 +9,4 @@ pub mod KeepLemmas
 pub mod GapLemmas
 pub mod CheckerLemmas
 pub mod CheckLemmas
+pub mod OutcomeLemmas

@@ -4,3 +4,4 @@ pub mod Refusal
 pub mod Verdict
 pub mod Check
 pub mod Runs
+pub mod Outcome

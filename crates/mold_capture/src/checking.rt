@@ -2,6 +2,7 @@
 
 ghost use Rattle.std.specs.Prelude.{◌≡◌, IfOk, IfErr, map};
 ghost use Rattle.mold_capture.specs.Check.{IsRefusedAt};
+ghost use Rattle.mold_capture.specs.Outcome.{Answers, IsOutcome, Outcome};
 ghost use Rattle.mold_capture.specs.Verdict.{IsVerdictOn};
 
 use crate::checker::Checker;
@@ -15,6 +16,7 @@ use std::alloc::Global;
 /// the list's length and `Memory` where memory for the verdict is refused.
 pub fn check(alloc: Global, list: &[&[u8]]) -> Result<Verdict, (usize, Reason)>
     ensures verdict { IfOk result (λ verdict. IsVerdictOn verdict (map (λ bytes. bytes.now) list.now)) }
+    ensures outcome { (outcome : Outcome) → IsOutcome (map (λ bytes. bytes.now) list.now) outcome → Answers outcome result }
     ensures refused { IfErr result (λ refused. IsRefusedAt refused.0 refused.1 (map (λ bytes. bytes.now) list.now)) }
 {
     reading_law();

@@ -2,10 +2,12 @@
 //! nothing: its contract is the law.
 
 ghost use Rattle.std.specs.Prelude.{◌≡◌, ◌↔◌, ◌+◌, ◌++◌, ◌∷◌, [], None, List, ℕ, length};
+ghost use Rattle.std.specs.List.{All};
 ghost use Rattle.mold_wire.specs.Block.{IsBytes};
 ghost use Rattle.mold_wire.specs.Packet.{Spells};
 ghost use Rattle.mold_wire.specs.declared.packet.Packet.{Packet};
 ghost use Rattle.mold_capture.specs.Consistent.{Consistent, Whole};
+ghost use Rattle.mold_capture.specs.Outcome.{Outcome, IsOutcome};
 ghost use Rattle.mold_capture.specs.Refusal.{reason};
 ghost use Rattle.mold_capture.specs.Seen.{after, seen_of};
 ghost use Rattle.mold_capture.specs.Verdict.{IsWholeSeen};
@@ -42,6 +44,15 @@ pub fn whole_is_one_law()
     ensures whole { (list : List (List ℕ)) (count : ℕ) → Consistent list →
         IsWholeSeen (seen_of list) (count + 1) →
         (messages : List (List ℕ)) × (Whole list messages × (length messages ≡ count)) }
+{
+    reading_law();
+}
+
+/// Datagrams have one outcome and no other.
+pub fn outcome_law()
+    ensures some { (list : List (List ℕ)) → All IsBytes list → (outcome : Outcome) × IsOutcome list outcome }
+    ensures one { (list : List (List ℕ)) (one other : Outcome) →
+        IsOutcome list one → IsOutcome list other → one ≡ other }
 {
     reading_law();
 }

@@ -310,3 +310,35 @@ fn a_refused_growth_changes_nothing(rt: HostRuntime) -> Result<(), Fail> {
     verdict_again(&rt, &checker, &Verdict::Whole { messages: 6 });
     Ok(())
 }
+
+/// To be run with each allocation refused in turn: a datagram that brings nothing new takes no memory, so it
+/// is never refused for want of it, nor is one that is refused for another reason.
+#[test]
+fn what_brings_nothing_new_takes_no_memory(rt: HostRuntime) -> Result<(), Fail> {
+    let alloc = rt.alloc();
+    let (low, high) = (
+        data(alloc, 1, &[b"A", b"B"])?,
+        data(alloc, 3, &[b"C", b"D"])?,
+    );
+    let (middle, all) = (
+        data(alloc, 2, &[b"B", b"C"])?,
+        data(alloc, 1, &[b"A", b"B", b"C", b"D"])?,
+    );
+    let (beat, closed) = (data(alloc, 5, &[])?, end(alloc, 5)?);
+    let (differs, behind) = (data(alloc, 3, &[b"C", b"x"])?, data(alloc, 5, &[b"E"])?);
+    let empty = incomplete(alloc, &[], None)?;
+    let mut checker = Checker::new(alloc);
+    add_again(&rt, &mut checker, low.bytes(), &empty);
+    add_again(&rt, &mut checker, high.bytes(), &empty);
+    for datagram in [&low, &high, &middle, &all, &beat, &closed, &closed] {
+        assert_eq!(rt; checker.add(datagram.bytes()), Ok(()));
+    }
+    let conflict = Err(Reason::Conflict { number: 4 });
+    assert_eq!(rt; checker.add(differs.bytes()), conflict);
+    assert_eq!(rt;
+        checker.add(behind.bytes()),
+        Err(Reason::PastEnd { end: 5 })
+    );
+    verdict_again(&rt, &checker, &Verdict::Whole { messages: 4 });
+    Ok(())
+}

@@ -1,4 +1,5 @@
 pub mod DatagramLemmas
 pub mod PackLemmas
+pub mod PublishLoopLemmas
 pub mod PublishingLemmas
 pub mod ShowLemmas

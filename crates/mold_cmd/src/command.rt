@@ -2,15 +2,17 @@
 
 ghost use Rattle.std.specs.Prelude.{◌≡◌, IfOk, IfSome};
 ghost use Rattle.std.specs.Io.KnownBytes.{Appends};
-ghost use Rattle.mold_cmd.specs.Command.{IsStreamed, text, status};
+ghost use Rattle.mold_cmd.specs.Command.{IsStreamed, sim_start, text, status};
 ghost use Rattle.mold_devices.specs.Devices.{AppendsFront};
 ghost use Rattle.mold_devices.specs.Faults.{CountsCommand};
 
 use crate::pack::Pack;
 use crate::show::Show;
 use mold_devices::{CommandFault, Sink, Source, run_lines};
-use mold_words::Order;
-use std::alloc::Global;
+use mold_sim::Sim;
+use mold_wire::Session;
+use mold_words::{Order, SimOrder};
+use std::alloc::{AllocError, Global};
 
 /// Does what an order that reads lines says with the whole input of the source, and answers the status: 0 done, 2
 /// something was refused. After a fault a beginning of the output is written. `Read` and `Write` come
@@ -35,6 +37,27 @@ pub fn run_command<S: Source, K: Sink>(
             run_lines(alloc, &mut Show::new(alloc, *request), source, sink)
         }
         Order::Pack(order) => run_lines(alloc, &mut Pack::new(alloc, order)?, source, sink),
-        Order::Upgrade(_) => unreachable!(),
+        Order::Sim(order) => run_lines(alloc, &mut sim_of(alloc, order)?, source, sink),
+        Order::Check { folder: _ }
+        | Order::Publish(_)
+        | Order::Serve(_)
+        | Order::Listen(_)
+        | Order::Loop(_)
+        | Order::Upgrade(_) => unreachable!(),
     }
+}
+
+// The command of an order to simulate.
+fn sim_of(alloc: Global, order: &SimOrder) -> Result<Sim, AllocError>
+    ensures { IfOk result (λ sim. sim ≡ sim_start order.now) }
+{
+    Sim::new(
+        alloc,
+        Session(order.session),
+        order.limits.limit,
+        order.limits.server_limit,
+        order.burst,
+        order.window,
+        order.receivers,
+    )
 }

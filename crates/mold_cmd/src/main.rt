@@ -3,9 +3,19 @@
 
 mod command;
 mod filling;
+mod folder;
+#[cfg(test)]
+mod folder_tests;
 mod line_refusal;
+mod looping;
 mod pack;
+mod program_fault;
+mod publish_loop;
+#[cfg(test)]
+mod publish_loop_tests;
+mod sending;
 mod show;
+mod sockets;
 #[cfg(test)]
 mod tests;
 mod upgrading;
@@ -13,6 +23,9 @@ mod upgrading;
 ghost use Rattle.mold_cmd.specs.Command.{IsStreamed};
 
 use crate::command::run_command;
+use crate::folder::run_check;
+use crate::program_fault::ProgramFault;
+use crate::sockets::{run_listen, run_loop, run_publish, run_serve};
 use crate::upgrading::run_upgrade;
 use mold_devices::{CommandFault, FromRead, IntoWrite, NewFile};
 use mold_words::{Order, UpgradeOrder, UsageFault, read_words};
@@ -43,6 +56,10 @@ fn tell_usage(rt: &(impl Print + Eprint), fault: UsageFault) -> ExitCode {
         UsageFault::Usage { text } => {
             let _ = rt.eprint(text.as_str());
             tell_fault(rt, "Usage")
+        }
+        UsageFault::Address { text } => {
+            let _ = rt.eprint(text.as_str());
+            tell_fault(rt, "Address")
         }
         UsageFault::Memory => tell_fault(rt, CommandFault::Memory.word()),
     }
@@ -101,11 +118,17 @@ fn run_files(rt: &HostRuntime, order: &UpgradeOrder) -> Result<u8, CommandFault>
     flushed(outcome, sink.into_inner().flush())
 }
 
-fn run(rt: &HostRuntime, order: &Order) -> Result<u8, CommandFault> {
+fn run(rt: &HostRuntime, order: &Order) -> Result<u8, ProgramFault> {
     match order {
-        Order::Show { request: _ } => run_streamed(rt, order),
-        Order::Pack(_) => run_streamed(rt, order),
-        Order::Upgrade(files) => run_files(rt, files),
+        Order::Show { request: _ } => Ok(run_streamed(rt, order)?),
+        Order::Pack(_) => Ok(run_streamed(rt, order)?),
+        Order::Sim(_) => Ok(run_streamed(rt, order)?),
+        Order::Check { folder } => Ok(run_check(rt, folder.as_str())?),
+        Order::Publish(order) => run_publish(rt, order),
+        Order::Serve(order) => run_serve(rt, order),
+        Order::Listen(order) => run_listen(rt, order),
+        Order::Loop(order) => run_loop(rt, order),
+        Order::Upgrade(files) => Ok(run_files(rt, files)?),
     }
 }
 

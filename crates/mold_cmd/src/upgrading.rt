@@ -9,8 +9,9 @@ use mold_session::{FileError, Upgraded, upgrade};
 use mold_text::{Word, push_line, push_refused};
 use std::alloc::{AllocError, Global};
 
-// Writes the line of why a file is no journal.
-fn push_file_refused(out: &mut Vec<u8>, error: FileError) -> Result<(), AllocError>
+/// Writes the line of why a file is no journal. After an error, which is want of memory, a part of it stands
+/// behind what was there.
+pub fn push_file_refused(out: &mut Vec<u8>, error: FileError) -> Result<(), AllocError>
     ensures text { OnOk result (out.new.items ≡ out.old.items ++ refused_line (file_fault_words error)) }
 {
     match error {

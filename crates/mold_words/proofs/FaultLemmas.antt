@@ -1,20 +1,22 @@
 -- What a fault tells of the words.
-use Rattle.std.proofs.Common.{◌≡◌, ◌∙◌, ◌⊎◌, List, [], Option, Result, Ok, Err, None, is_err, true}
+use Rattle.std.proofs.Common.{◌≡◌, ◌∙◌, ◌⊎◌, Bool, List, [], Option, Result, Ok, Err, None, is_err, true}
 use Rattle.std.proofs.lemmas.Bool.{false≢true}
 use Rattle.std.proofs.lemmas.Option.{none-some}
 use Rattle.std.proofs.Common.{ap, inl, inr, refl, subst, sym}
 use Rattle.std.specs.declared.string.String.{String}
 use Rattle.std.specs.declared.alloc.AllocError.{AllocError}
 use Rattle.std.specs.declared.alloc.Global.{Global}
-use Rattle.clap.specs.Words.{App, HasKind, HasMatchesOf, IsAmong, Kinds, Text, fault_of, kind_of, subcommand_rows_of}
+use Rattle.clap.specs.Words.{App, HasKind, HasMatchesOf, IsAmong, Kinds, Row, Text, fault_of, kind_of}
+use Rattle.clap.specs.Words.{subcommand_of, subcommand_rows_of}
 use Rattle.clap.specs.declared.parser.matches.ArgMatches.{ArgMatches}
-use Rattle.mold_words.proofs.OrderLemmas.{order_of-matches}
+use Rattle.mold_words.proofs.OrderLemmas.{found-matches, order_of-matches}
 use Rattle.clap.specs.declared.error.Error.{Error}
 use Rattle.clap.specs.declared.error.kind.ErrorKind.{ErrorKind}
-use Rattle.clap.specs.declared.error.kind.ErrorKind.TheVariants.{OutOfMemory, ValueValidation}
+use Rattle.clap.specs.declared.error.kind.ErrorKind.TheVariants.{OutOfMemory}
 use Rattle.mold_words.specs.Words.{mold_app}
-use Rattle.mold_words.specs.Orders.{order_in, order_of, Say, Wanted}
-use Rattle.mold_words.specs.Faults.{Tells, TellsOf, told, told_if_made}
+use Rattle.mold_words.specs.NoOrders.{is_address}
+use Rattle.mold_words.specs.Orders.{lacks_address, order_in, order_of, Say, Wanted}
+use Rattle.mold_words.specs.Faults.{Tells, TellsOf, told, told_if_made, value_told}
 use Rattle.mold_words.specs.declared.no_order.NoOrder.{NoOrder}
 use Rattle.mold_words.specs.declared.no_order.NoOrder.TheVariants as no_order
 use Rattle.mold_words.specs.declared.fault.UsageFault.{UsageFault}
@@ -43,48 +45,57 @@ pub tells-nothing : (kinds : Kinds) (fault : UsageFault) → kinds ≡ [] → Te
 tells-nothing kinds fault none (inl memory) = memory
 tells-nothing kinds fault none (inr told) = absurd (subst (IsAmong told.0) none told.2)
 
--- words that give no order, where memory was not refused, say nothing; where it was, the text of why is
--- not made
-pub record GivesNone (words : List Text) (none : NoOrder) (found : Option Wanted)
+-- words that give no order, where memory was not refused, say nothing, and not for an address unless one is
+-- none; where it was, the text of why is not made
+pub record GivesNone (words : List Text) (none : NoOrder) (found : Option (Text × List Row))
     (text : Result (String Global) AllocError) : Type 0 where
-  pub says : order_of words ≡ found
-  pub nothing : (none ≡ no_order.Memory) ⊎ (found ≡ None)
+  pub named : subcommand_of mold_app words ≡ found
+  pub says : order_of words ≡ order_in found
+  pub nothing : (none ≡ no_order.Memory) ⊎ ((order_in found ≡ None) × (is_address none ≡ lacks_address found))
   pub unmade : none ≡ no_order.Memory → is_err text ≡ true
 
 pub gives-none : (words : List Text) (app : App) (m : ArgMatches) (none : NoOrder)
     (text : Result (String Global) AllocError) → app ≡ mold_app → HasMatchesOf app words m
-    → (none ≡ no_order.Memory) ⊎ (order_in (subcommand_rows_of m) ≡ None)
-    → (none ≡ no_order.Memory → is_err text ≡ true) → GivesNone words none (order_in (subcommand_rows_of m)) text
-gives-none words app m none text same matches nothing unmade =
-    record { says = order_of-matches words app m same matches; nothing = nothing; unmade = unmade }
+    → (none ≡ no_order.Memory) ⊎ ((order_in (subcommand_rows_of m) ≡ None)
+    × (is_address none ≡ lacks_address (subcommand_rows_of m)))
+    → (none ≡ no_order.Memory → is_err text ≡ true) → GivesNone words none (subcommand_rows_of m) text
+gives-none words app m none text same matches nothing unmade = record {
+  named = found-matches words app m same matches;
+  says = order_of-matches words app m same matches;
+  nothing = nothing;
+  unmade = unmade;
+}
 
-unmade-memory : (text : Result (String Global) AllocError) → is_err text ≡ true
-    → told_if_made ValueValidation text ≡ Memory
-unmade-memory (Ok text) unmade = absurd (false≢true unmade)
-unmade-memory (Err refused) unmade = refl
+unmade-memory : (is : Bool) (text : Result (String Global) AllocError) → is_err text ≡ true
+    → value_told is text ≡ Memory
+unmade-memory is (Ok text) unmade = absurd (false≢true unmade)
+unmade-memory is (Err refused) unmade = refl
 
-told-value : (words : List Text) (text : Result (String Global) AllocError) (fault : UsageFault)
-    → order_of words ≡ None → fault ≡ told_if_made ValueValidation text → TellsOf words fault
-told-value words (Ok text) fault nothing made = inr (nothing, (text, made))
-told-value words (Err refused) fault nothing made = inl (inl made)
+told-value : (words : List Text) (is : Bool) (text : Result (String Global) AllocError) (fault : UsageFault)
+    → order_of words ≡ None → is ≡ lacks_address (subcommand_of mold_app words) → fault ≡ value_told is text
+    → TellsOf words fault
+told-value words is (Ok text) fault nothing same made =
+    inr (nothing, (text, made ∙ ap (λ (b : Bool). value_told b (Ok text)) same))
+told-value words is (Err refused) fault nothing same made = inl (inl made)
 
 -- their fault tells that
-pub tells-none : (words : List Text) (none : NoOrder) (found : Option Wanted)
+pub tells-none : (words : List Text) (none : NoOrder) (found : Option (Text × List Row))
     (text : Result (String Global) AllocError) (fault : UsageFault) → GivesNone words none found text
-    → fault ≡ told_if_made ValueValidation text → TellsOf words fault
+    → fault ≡ value_told (is_address none) text → TellsOf words fault
 tells-none words none found text fault gives made =
     elim gives.nothing [
-      | inl memory ↦ inl (inl (made ∙ unmade-memory text (gives.unmade memory)))
-      | inr nothing ↦ told-value words text fault (gives.says ∙ nothing) made
+      | inl memory ↦ inl (inl (made ∙ unmade-memory (is_address none) text (gives.unmade memory)))
+      | inr nothing ↦ told-value words (is_address none) text fault (gives.says ∙ nothing.0)
+          (nothing.1 ∙ sym (ap lacks_address gives.named)) made
     ]
 
 -- and words that say something gave none for want of memory alone
-pub says-none : (words : List Text) (none : NoOrder) (found : Option Wanted)
+pub says-none : (words : List Text) (none : NoOrder) (found : Option (Text × List Row))
     (text : Result (String Global) AllocError) (fault : UsageFault) (wanted : Wanted)
-    → GivesNone words none found text → fault ≡ told_if_made ValueValidation text → Say words wanted
+    → GivesNone words none found text → fault ≡ value_told (is_address none) text → Say words wanted
     → fault ≡ Memory
 says-none words none found text fault wanted gives made say =
     elim gives.nothing [
-      | inl memory ↦ made ∙ unmade-memory text (gives.unmade memory)
-      | inr nothing ↦ absurd (none-some wanted (sym (gives.says ∙ nothing) ∙ say.1))
+      | inl memory ↦ made ∙ unmade-memory (is_address none) text (gives.unmade memory)
+      | inr nothing ↦ absurd (none-some wanted (sym (gives.says ∙ nothing.0) ∙ say.1))
     ]

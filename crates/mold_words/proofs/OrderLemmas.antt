@@ -30,13 +30,18 @@ unfolding clap_on_literals mold_app order_of
 none-order f [] empty = refl
 none-order f (x ∷ xs) empty = absurd (grind (arith, nat_tests))
 
--- the matches of a parse say what the words do
+-- the matches of a parse are of the command that the words name
+pub found-matches : (words : List Text) (app : App) (m : ArgMatches) → app ≡ mold_app → HasMatchesOf app words m
+    → subcommand_of mold_app words ≡ subcommand_rows_of m
+found-matches words app m same matches =
+    let found = (matches (ap is_simple same ∙ mold_is_simple)).1 in
+    ap (λ (a : App). subcommand_of a words) (sym same) ∙ sym found
+
+-- and say what the words do
 pub order_of-matches : (words : List Text) (app : App) (m : ArgMatches) → app ≡ mold_app → HasMatchesOf app words m
     → order_of words ≡ order_in (subcommand_rows_of m)
 unfolding order_of
-order_of-matches words app m same matches =
-    let found = (matches (ap is_simple same ∙ mold_is_simple)).1 in
-    ap order_in (ap (λ (a : App). subcommand_of a words) (sym same) ∙ sym found)
+order_of-matches words app m same matches = ap order_in (found-matches words app m same matches)
 
 -- a parse that succeeds found no fault in the words
 pub taken-by : (words : List Text) (app : App) → app ≡ mold_app → fault_of app words ≡ [] → AreTaken words

@@ -1,15 +1,15 @@
 -- How words are told that give no order.
-use Rattle.std.specs.Prelude.{◌≡◌, ◌⊎◌, List, None, Result, Ok, Err}
+use Rattle.std.specs.Prelude.{◌≡◌, ◌⊎◌, Bool, if◌then◌else◌, List, None, Result, Ok, Err}
 use Rattle.std.specs.declared.string.String.{String}
 use Rattle.std.specs.declared.alloc.AllocError.{AllocError}
 use Rattle.std.specs.declared.alloc.Global.{Global}
-use Rattle.clap.specs.Words.{IsAmong, Kinds, Text, fault_of}
+use Rattle.clap.specs.Words.{IsAmong, Kinds, Text, fault_of, subcommand_of}
 use Rattle.clap.specs.declared.error.kind.ErrorKind.{ErrorKind}
 use Rattle.clap.specs.declared.error.kind.ErrorKind.TheVariants as kind
-use Rattle.mold_words.specs.Orders.{order_of}
+use Rattle.mold_words.specs.Orders.{lacks_address, order_of}
 use Rattle.mold_words.specs.Words.{mold_app}
 use Rattle.mold_words.specs.declared.fault.UsageFault.{UsageFault}
-use Rattle.mold_words.specs.declared.fault.UsageFault.TheVariants.{Help, Version, Usage, Memory}
+use Rattle.mold_words.specs.declared.fault.UsageFault.TheVariants.{Address, Help, Version, Usage, Memory}
 
 -- the fault that tells an error of this kind by its text
 abbrev pub told : ErrorKind → String Global → UsageFault
@@ -28,8 +28,15 @@ abbrev pub Tells : Kinds → UsageFault → Type 0
 Tells kinds fault = (fault ≡ Memory) ⊎ ((error : ErrorKind) × (text : String Global)
     × IsAmong error kinds × (fault ≡ told error text))
 
--- memory was refused, the fault tells what `clap` has against the words, or it tells a text that is no
--- value of its option
+-- the fault that tells by its text an address that is none, or another text that is no value of its option;
+-- where memory was refused for the text, that
+abbrev pub value_told : Bool → Result (String Global) AllocError → UsageFault
+value_told is_address (Ok text) = if is_address then Address text else Usage text
+value_told is_address (Err _) = Memory
+
+-- memory was refused, the fault tells what `clap` has against the words, or it tells a text that is no value
+-- of its option, an address among them in any case
 abbrev pub TellsOf : List Text → UsageFault → Type 0
 TellsOf words fault = Tells (fault_of mold_app words) fault
-    ⊎ ((order_of words ≡ None) × ((text : String Global) × (fault ≡ Usage text)))
+    ⊎ ((order_of words ≡ None)
+    × ((text : String Global) × (fault ≡ value_told (lacks_address (subcommand_of mold_app words)) (Ok text))))

@@ -1,4 +1,6 @@
+pub mod Addresses
 pub mod Faults
+pub mod NoOrders
 pub mod Orders
 pub mod Table
 pub mod Values

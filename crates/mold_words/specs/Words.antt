@@ -6,13 +6,41 @@ use Rattle.std.specs.Str.{bytes_eq}
 use Rattle.clap.specs.Words.{App, Rule, Text, new_app, new_rule, with_rule, with_subcommand}
 use Rattle.clap.specs.declared.builder.ArgAction.TheVariants.{Set, SetTrue}
 use Rattle.mold_words.specs.declared.table.Kind.{Kind}
-use Rattle.mold_words.specs.declared.table.Kind.TheVariants.{Flag, Optional, Required}
+use Rattle.mold_words.specs.declared.table.Kind.TheVariants.{Flag, Optional, Required, Word}
 
 -- the commands, each with its options
 abbrev pub commands : List (Text × List (Text × Kind))
 commands =
     (codes "show", (codes "request", Flag) ∷ [])
     ∷ (codes "pack", (codes "session", Required) ∷ (codes "limit", Optional) ∷ [])
+    ∷ (
+      codes "sim",
+      (codes "session", Required) ∷ (codes "limit", Optional) ∷ (codes "server-limit", Optional)
+          ∷ (codes "window", Optional) ∷ (codes "receivers", Optional) ∷ (codes "burst", Optional) ∷ [],
+    )
+    ∷ (codes "check", (codes "folder", Word) ∷ [])
+    ∷ (
+      codes "publish",
+      (codes "session", Required) ∷ (codes "limit", Optional) ∷ (codes "a", Required) ∷ (codes "b", Required)
+          ∷ (codes "journal", Required) ∷ (codes "beats", Optional) ∷ (codes "ends", Optional) ∷ [],
+    )
+    ∷ (
+      codes "serve",
+      (codes "journal", Required) ∷ (codes "limit", Optional) ∷ (codes "burst", Optional)
+          ∷ (codes "bind", Required) ∷ (codes "turns", Optional) ∷ [],
+    )
+    ∷ (
+      codes "listen",
+      (codes "session", Required) ∷ (codes "next", Optional) ∷ (codes "window", Optional)
+          ∷ (codes "a", Required) ∷ (codes "b", Required) ∷ (codes "server", Required)
+          ∷ (codes "burst", Optional) ∷ (codes "turns", Optional) ∷ [],
+    )
+    ∷ (
+      codes "loop",
+      (codes "session", Required) ∷ (codes "limit", Optional) ∷ (codes "server-limit", Optional)
+          ∷ (codes "window", Optional) ∷ (codes "burst", Optional) ∷ (codes "drop-a", Optional)
+          ∷ (codes "drop-b", Optional) ∷ (codes "turns", Optional) ∷ [],
+    )
     ∷ (codes "upgrade", (codes "journal", Required) ∷ (codes "to", Required) ∷ (codes "close", Flag) ∷ [])
     ∷ []
 
@@ -20,12 +48,13 @@ commands =
 abbrev pub is_command : Text → Bool
 is_command name = list_any (λ command. bytes_eq command.0 name) commands
 
--- an option of this name: a flag has no value, the value of another is a text
+-- an option of this name: a flag has no value, the value of another is a text; a word stands without the name
 abbrev pub rule_for : Text → Kind → Rule
 rule_for name Flag = record (new_rule name) { long = Some name; action = Some SetTrue }
 rule_for name Optional = record (new_rule name) { long = Some name; action = Some Set }
 rule_for name Required =
     record (new_rule name) { long = Some name; action = Some Set; required = true }
+rule_for name Word = record (new_rule name) { action = Some Set; required = true }
 
 -- a command with one more option
 abbrev pub with_option : App → Text × Kind → App

@@ -22,13 +22,15 @@ fn argument_of<'a>(alloc: Global, option: OptionRow) -> Arg<'a>
     ensures rule { rule_of result ≡ rule_for option.name.now option.kind }
     ensures local { result.global ≡ false }
 {
-    let argument = Arg::new(alloc, option.name)
-        .long(option.name)
-        .help(option.help);
+    let argument = Arg::new(alloc, option.name).help(option.help);
     match option.kind {
-        Kind::Flag => argument.action(ArgAction::SetTrue),
-        Kind::Optional => argument.action(ArgAction::Set),
-        Kind::Required => argument.action(ArgAction::Set).required(true),
+        Kind::Flag => argument.long(option.name).action(ArgAction::SetTrue),
+        Kind::Optional => argument.long(option.name).action(ArgAction::Set),
+        Kind::Required => argument
+            .long(option.name)
+            .action(ArgAction::Set)
+            .required(true),
+        Kind::Word => argument.action(ArgAction::Set).required(true),
     }
 }
 

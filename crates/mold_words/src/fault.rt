@@ -1,6 +1,6 @@
 //! Why words give no order.
 ghost use Rattle.std.specs.Prelude.{◌≡◌};
-ghost use Rattle.mold_words.specs.Faults.{told_if_made};
+ghost use Rattle.mold_words.specs.Faults.{told_if_made, value_told};
 ghost use Rattle.mold_words.specs.declared.fault.UsageFault.TheVariants.{Memory};
 
 use clap::error::ErrorKind;
@@ -15,6 +15,8 @@ pub enum UsageFault {
     Version { text: String },
     /// The words are no command of the program. The text says why, in whole lines.
     Usage { text: String },
+    /// An option's text is no address. The text says which, in whole lines.
+    Address { text: String },
     /// Memory was refused.
     Memory,
 }
@@ -39,5 +41,16 @@ pub(crate) fn fault_for(kind: ErrorKind, text: Result<String, AllocError>) -> Us
         ErrorKind::DisplayVersion => UsageFault::Version { text },
         ErrorKind::OutOfMemory => UsageFault::Memory,
         _ => UsageFault::Usage { text },
+    }
+}
+
+/// The fault that tells, by the text that was made of it, an option's text that is no value of it.
+pub(crate) fn value_fault(is_address: bool, text: Result<String, AllocError>) -> UsageFault
+    ensures { result ≡ value_told is_address text }
+{
+    match text {
+        Ok(text) if is_address => UsageFault::Address { text },
+        Ok(text) => UsageFault::Usage { text },
+        Err(_) => UsageFault::Memory,
     }
 }

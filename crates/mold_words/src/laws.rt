@@ -3,7 +3,9 @@ ghost use Rattle.std.specs.Prelude.{◌≡◌, [], ◌∷◌, IfSome, IsTrue, Li
 ghost use Rattle.clap.specs.Words.{Text, fault_of, subcommand_of};
 ghost use Rattle.clap.specs.declared.error.kind.ErrorKind.TheVariants.{DisplayHelp, DisplayVersion};
 ghost use Rattle.clap.specs.declared.error.kind.ErrorKind.TheVariants.{UnknownArgument};
-ghost use Rattle.mold_words.specs.Orders.{AreTaken, Say, order_of, pack_wanted, show_wanted, upgrade_wanted};
+ghost use Rattle.mold_words.specs.Orders.{AreTaken, Say, check_wanted, listen_wanted, loop_wanted, order_of};
+ghost use Rattle.mold_words.specs.Orders.{pack_wanted, publish_wanted, serve_wanted, show_wanted, sim_wanted};
+ghost use Rattle.mold_words.specs.Orders.{upgrade_wanted};
 ghost use Rattle.mold_words.specs.Words.{is_command, mold_app};
 
 /// The words `show` and `show --request` are taken and say to show, and so is `--` alone, which
@@ -25,6 +27,110 @@ pub fn pack_taken_law()
         (pack_wanted (codes "SESSION001") 64) }
     ensures small { order_of
         (codes "pack" ∷ codes "--session" ∷ codes "MKT" ∷ codes "--limit" ∷ codes "63" ∷ []) ≡ None }
+{}
+
+/// The words `sim --session MKT` are taken, and say to run two receivers of the session `MKT` with windows of
+/// 1,024 messages, with packets of up to 1,400 bytes, one to a request; each option says another number. A
+/// limit above the server's says nothing, and is refused.
+pub fn sim_taken_law()
+    ensures usual { Say (codes "sim" ∷ codes "--session" ∷ codes "MKT" ∷ [])
+        (sim_wanted (record {
+          session = codes "MKT       ";
+          limit = 1400;
+          server_limit = 1400;
+          window = 1024;
+          receivers = 2;
+          burst = 1;
+        })) }
+    ensures given { Say
+        (codes "sim" ∷ codes "--session" ∷ codes "MKT" ∷ codes "--limit" ∷ codes "64"
+        ∷ codes "--server-limit" ∷ codes "65507" ∷ codes "--window" ∷ codes "4" ∷ codes "--receivers" ∷ codes "8"
+        ∷ codes "--burst" ∷ codes "3" ∷ [])
+        (sim_wanted (record {
+          session = codes "MKT       ";
+          limit = 64;
+          server_limit = 65507;
+          window = 4;
+          receivers = 8;
+          burst = 3;
+        })) }
+    ensures above { order_of
+        (codes "sim" ∷ codes "--session" ∷ codes "MKT" ∷ codes "--limit" ∷ codes "1401" ∷ []) ≡ None }
+{}
+
+/// The words `check DIR` are taken, and say to check the folder `DIR`.
+pub fn check_taken_law()
+    ensures { Say (codes "check" ∷ codes "DIR" ∷ []) (check_wanted (codes "DIR")) }
+{}
+
+/// The words `publish --session MKT --a .. --b .. --journal J` are taken, and say to send the session `MKT` to
+/// these addresses in packets of up to 1,400 bytes, with a heartbeat and an end packet behind it, and to save
+/// its journal in `J`. An address is four numbers of a byte with points between them, a colon, and a port's
+/// number; a text that is none says nothing, and is refused, and so is a number with a zero before it.
+pub fn publish_taken_law()
+    ensures usual { Say
+        (codes "publish" ∷ codes "--session" ∷ codes "MKT" ∷ codes "--a" ∷ codes "127.0.0.1:9000"
+        ∷ codes "--b" ∷ codes "10.20.30.255:0" ∷ codes "--journal" ∷ codes "J" ∷ [])
+        (publish_wanted (record {
+          session = codes "MKT       ";
+          limit = 1400;
+          a = (127 ∷ 0 ∷ 0 ∷ 1 ∷ [], 9000);
+          b = (10 ∷ 20 ∷ 30 ∷ 255 ∷ [], 0);
+          journal = codes "J";
+          beats = 1;
+          ends = 1;
+        })) }
+    ensures zero { order_of
+        (codes "publish" ∷ codes "--session" ∷ codes "MKT" ∷ codes "--a" ∷ codes "127.0.0.01:9000"
+        ∷ codes "--b" ∷ codes "127.0.0.1:9001" ∷ codes "--journal" ∷ codes "J" ∷ []) ≡ None }
+{}
+
+/// The words `serve --journal J --bind ..` are taken, and say to answer requests from the journal of `J` in one
+/// packet of up to 1,400 bytes each, with 1,000 receives.
+pub fn serve_taken_law()
+    ensures { Say
+        (codes "serve" ∷ codes "--journal" ∷ codes "J" ∷ codes "--bind" ∷ codes "0.0.0.0:65535" ∷ [])
+        (serve_wanted (record {
+          journal = codes "J";
+          limit = 1400;
+          burst = 1;
+          bind = (0 ∷ 0 ∷ 0 ∷ 0 ∷ [], 65535);
+          turns = 1000;
+        })) }
+{}
+
+/// The words `listen --session MKT --a .. --b .. --server ..` are taken, and say to print the session `MKT` from
+/// message 1 on with a window of 1,024 messages, one packet to a request, in 1,000 turns at most.
+pub fn listen_taken_law()
+    ensures { Say
+        (codes "listen" ∷ codes "--session" ∷ codes "MKT" ∷ codes "--a" ∷ codes "127.0.0.1:9000"
+        ∷ codes "--b" ∷ codes "127.0.0.1:9001" ∷ codes "--server" ∷ codes "127.0.0.1:9002" ∷ [])
+        (listen_wanted (record {
+          session = codes "MKT       ";
+          next = 1;
+          window = 1024;
+          a = (127 ∷ 0 ∷ 0 ∷ 1 ∷ [], 9000);
+          b = (127 ∷ 0 ∷ 0 ∷ 1 ∷ [], 9001);
+          server = (127 ∷ 0 ∷ 0 ∷ 1 ∷ [], 9002);
+          burst = 1;
+          turns = 1000;
+        })) }
+{}
+
+/// The words `loop --session MKT` are taken, and say to send the session `MKT` to itself with limits of 1,400
+/// bytes, a window of 1,024 messages, one packet to a request, and 1,000 rounds at most, with nothing left out.
+pub fn loop_taken_law()
+    ensures { Say (codes "loop" ∷ codes "--session" ∷ codes "MKT" ∷ [])
+        (loop_wanted (record {
+          session = codes "MKT       ";
+          limit = 1400;
+          server_limit = 1400;
+          window = 1024;
+          burst = 1;
+          drop_a = 0;
+          drop_b = 0;
+          turns = 1000;
+        })) }
 {}
 
 /// The words `upgrade --journal A --to B` are taken, and say to write the journal of `A` in `B`; `--close`

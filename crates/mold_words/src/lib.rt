@@ -1,13 +1,22 @@
 //! The words of the program `mold`: which order they say.
 #![tactic(auto)]
 
+mod address;
+mod addresses;
 mod command;
 mod fault;
 pub mod laws;
+mod limits;
+mod listen_order;
+mod loop_order;
 mod no_order;
+mod options;
 mod orders;
 mod pack_order;
+mod publish_order;
 mod reading;
+mod serve_order;
+mod sim_order;
 mod table;
 #[cfg(test)]
 mod tests;
@@ -15,9 +24,16 @@ mod types;
 mod upgrade_order;
 mod values;
 
+pub use address::Address;
 pub use command::VERSION;
 pub use fault::UsageFault;
+pub use limits::Limits;
+pub use listen_order::ListenOrder;
+pub use loop_order::LoopOrder;
 pub use pack_order::PackOrder;
+pub use publish_order::PublishOrder;
 pub use reading::read_words;
+pub use serve_order::ServeOrder;
+pub use sim_order::SimOrder;
 pub use types::Order;
 pub use upgrade_order::UpgradeOrder;

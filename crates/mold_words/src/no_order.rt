@@ -23,6 +23,12 @@ pub(crate) enum NoOrder {
         least: u64,
         most: u64,
     },
+    /// The text of this option is no address.
+    Address {
+        name: &'static str,
+    },
+    /// The server's limit is below the publisher's.
+    ServerLimit,
     /// The two files are one.
     SameFiles,
     /// Memory was refused.
@@ -41,6 +47,15 @@ impl From<AllocError> for NoOrder {
 }
 
 impl NoOrder {
+    ghost use Rattle.mold_words.specs.NoOrders.{is_address};
+
+    /// Whether an address is none.
+    pub(crate) fn is_address(self) -> bool
+        ensures { result ≡ is_address self }
+    {
+        matches!(self, NoOrder::Address { name: _ })
+    }
+
     /// What the user is told, in whole lines.
     pub(crate) fn text(self, alloc: Global) -> Result<String, AllocError>
         ensures { self ≡ NoOrder.Memory → is_err result ≡ true }
@@ -55,6 +70,13 @@ impl NoOrder {
             ),
             NoOrder::Number { name, least, most } => format!(in alloc;
                 "error: invalid value for '--{name} <{name}>': not a number from {least} to {most}\n"
+            ),
+            NoOrder::Address { name } => format!(in alloc;
+                "error: invalid value for '--{name} <{name}>': not an address such as 127.0.0.1:9000\n"
+            ),
+            NoOrder::ServerLimit => String::from_str(
+                alloc,
+                "error: '--server-limit' is below '--limit'\n",
             ),
             NoOrder::SameFiles => {
                 String::from_str(alloc, "error: '--journal' and '--to' name one file\n")

@@ -1,30 +1,42 @@
 //! The order of the command that a parse found.
-ghost use Rattle.std.specs.Prelude.{◌≡◌, ◌⊎◌, ◌≤◌, IfOk, MatchResult, None, Some, option_map, true};
-ghost use Rattle.std.specs.List.{list_all};
-ghost use Rattle.clap.specs.Words.{first_of, found_of, rows_of, subcommand_rows_of};
-ghost use Rattle.mold_words.specs.Orders.{flag_in, number_in, order_at, order_in, pack_of, session_in};
-ghost use Rattle.mold_words.specs.Orders.{show_of, upgrade_of, view};
-ghost use Rattle.mold_words.specs.Values.{is_character};
 
+ghost use Rattle.std.specs.Prelude.{◌≡◌, ◌⊎◌, MatchResult, None, Some};
+ghost use Rattle.clap.specs.Words.{found_of, rows_of, subcommand_rows_of};
+ghost use Rattle.mold_words.specs.NoOrders.{LacksOrder, LacksValue, is_address};
+ghost use Rattle.mold_words.specs.Orders.{check_of, lacks_address, listen_of, loop_of, order_at, order_in, pack_of};
+ghost use Rattle.mold_words.specs.Orders.{publish_of, serve_of, show_of, sim_of, upgrade_of, view};
+
+use crate::listen_order::ListenOrder;
+use crate::loop_order::LoopOrder;
 use crate::no_order::NoOrder;
+use crate::options::{
+    address_in, burst_in, check_addresses, flag_in, limit_in, limits_in, number_in, required_in,
+    session_in, turns_in, window_in,
+};
 use crate::pack_order::PackOrder;
+use crate::publish_order::PublishOrder;
+use crate::serve_order::ServeOrder;
+use crate::sim_order::SimOrder;
 use crate::types::Order;
 use crate::upgrade_order::UpgradeOrder;
-use crate::values::{number_of, session_of};
 use clap::ArgMatches;
 use std::alloc::Global;
 
-/// The limit of a packet where none is given.
-const USUAL_LIMIT: u64 = 1400;
+/// The greatest number that a listener may begin with.
+const MOST_NEXT: u64 = 9_223_372_036_854_775_807;
 
 /// The order of the command that was found; where none was, to show packets.
 pub(crate) fn order_from(alloc: Global, matches: &ArgMatches<'_>) -> Result<Order, NoOrder>
     ensures { MatchResult result
         (λ order. order_in (subcommand_rows_of matches.now) ≡ Some (view order))
-        (λ none. (none ≡ NoOrder.Memory) ⊎ (order_in (subcommand_rows_of matches.now) ≡ None)) }
+        (λ none. (none ≡ NoOrder.Memory) ⊎ ((order_in (subcommand_rows_of matches.now) ≡ None)
+        × (is_address none ≡ lacks_address (subcommand_rows_of matches.now)))) }
 {
     match matches.subcommand() {
-        Some((name, options)) => order_at(alloc, name, options),
+        Some((name, options)) => {
+            check_addresses(options)?;
+            order_at(alloc, name, options)
+        }
         None => Ok(Order::Show { request: false }),
     }
 }
@@ -34,12 +46,17 @@ pub(crate) fn order_from(alloc: Global, matches: &ArgMatches<'_>) -> Result<Orde
 fn order_at(alloc: Global, name: &str, options: &ArgMatches<'_>) -> Result<Order, NoOrder>
     ensures { MatchResult result
         (λ order. order_at name.now (rows_of (found_of options.now)) ≡ Some (view order))
-        (λ none. (none ≡ NoOrder.Memory)
-        ⊎ (order_at name.now (rows_of (found_of options.now)) ≡ None)) }
+        (LacksOrder (order_at name.now (rows_of (found_of options.now)))) }
 {
     match name {
         "show" => Ok(show_order(options)),
         "pack" => Ok(Order::Pack(pack_order(options)?)),
+        "sim" => Ok(Order::Sim(sim_order(options)?)),
+        "check" => check_order(alloc, options),
+        "publish" => Ok(Order::Publish(publish_order(alloc, options)?)),
+        "serve" => Ok(Order::Serve(serve_order(alloc, options)?)),
+        "listen" => Ok(Order::Listen(listen_order(options)?)),
+        "loop" => Ok(Order::Loop(loop_order(options)?)),
         "upgrade" => Ok(Order::Upgrade(upgrade_order(alloc, options)?)),
         _ => Err(NoOrder::Command),
     }
@@ -60,14 +77,11 @@ fn show_order(options: &ArgMatches<'_>) -> Order
 fn pack_order(options: &ArgMatches<'_>) -> Result<PackOrder, NoOrder>
     ensures { MatchResult result
         (λ order. pack_of (rows_of (found_of options.now)) ≡ Some (view (Order.Pack order)))
-        (λ _. pack_of (rows_of (found_of options.now)) ≡ None) }
+        (LacksValue (pack_of (rows_of (found_of options.now)))) }
 {
     let session = session_in(options, "session")?;
-    let limit = number_in(options, "limit", USUAL_LIMIT, 64, 65507)?;
-    Ok(PackOrder {
-        session,
-        limit: limit as usize,
-    })
+    let limit = limit_in(options, "limit")?;
+    Ok(PackOrder { session, limit })
 }
 
 // The order of `upgrade`.
@@ -75,7 +89,7 @@ fn pack_order(options: &ArgMatches<'_>) -> Result<PackOrder, NoOrder>
 fn upgrade_order(alloc: Global, options: &ArgMatches<'_>) -> Result<UpgradeOrder, NoOrder>
     ensures { MatchResult result
         (λ order. upgrade_of (rows_of (found_of options.now)) ≡ Some (view (Order.Upgrade order)))
-        (λ none. (none ≡ NoOrder.Memory) ⊎ (upgrade_of (rows_of (found_of options.now)) ≡ None)) }
+        (LacksOrder (upgrade_of (rows_of (found_of options.now)))) }
 {
     let journal = required_in(options, "journal")?;
     let to = required_in(options, "to")?;
@@ -89,59 +103,134 @@ fn upgrade_order(alloc: Global, options: &ArgMatches<'_>) -> Result<UpgradeOrder
     })
 }
 
-// The text of an option that has one.
-fn required_in<'a>(options: &ArgMatches<'a>, name: &'static str) -> Result<&'a str, NoOrder>
+// The order of `sim`.
+#[tactic(auto, unfolding(crate::specs::Orders::sim_of))]
+fn sim_order(options: &ArgMatches<'_>) -> Result<SimOrder, NoOrder>
     ensures { MatchResult result
-        (λ text. first_of name.now (rows_of (found_of options.now)) ≡ Some text.now)
-        (λ _. first_of name.now (rows_of (found_of options.now)) ≡ None) }
+        (λ order. sim_of (rows_of (found_of options.now)) ≡ Some (view (Order.Sim order)))
+        (LacksValue (sim_of (rows_of (found_of options.now)))) }
 {
-    text_in(options, name).ok_or(NoOrder::Missing { name })
+    let session = session_in(options, "session")?;
+    let limits = limits_in(options)?;
+    let window = window_in(options)?;
+    let receivers = number_in(options, "receivers", 2, 1, 8)?;
+    let burst = burst_in(options)?;
+    Ok(SimOrder {
+        session,
+        limits,
+        window,
+        receivers: receivers as usize,
+        burst,
+    })
 }
 
-// Whether the flag was given.
-fn flag_in(options: &ArgMatches<'_>, name: &str) -> bool
-    ensures { result ≡ flag_in name.now (rows_of (found_of options.now)) }
+// The order of `check`.
+#[tactic(auto, unfolding(crate::specs::Orders::check_of))]
+fn check_order(alloc: Global, options: &ArgMatches<'_>) -> Result<Order, NoOrder>
+    ensures { MatchResult result
+        (λ order. check_of (rows_of (found_of options.now)) ≡ Some (view order))
+        (LacksOrder (check_of (rows_of (found_of options.now)))) }
 {
-    text_in(options, name).is_some_and(|text| text == "true")
+    let folder = required_in(options, "folder")?;
+    Ok(Order::Check {
+        folder: String::from_str(alloc, folder)?,
+    })
 }
 
-// The session of the option.
-fn session_in(options: &ArgMatches<'_>, name: &'static str) -> Result<[u8; 10], NoOrder>
-    ensures value { MatchResult result
-        (λ session. session_in name.now (rows_of (found_of options.now)) ≡ Some session)
-        (λ _. session_in name.now (rows_of (found_of options.now)) ≡ None) }
-    ensures named { IfOk result (λ session. list_all is_character session ≡ true) }
+// The order of `publish`.
+#[tactic(auto, unfolding(crate::specs::Orders::publish_of))]
+fn publish_order(alloc: Global, options: &ArgMatches<'_>) -> Result<PublishOrder, NoOrder>
+    ensures { MatchResult result
+        (λ order. publish_of (rows_of (found_of options.now)) ≡ Some (view (Order.Publish order)))
+        (LacksOrder (publish_of (rows_of (found_of options.now)))) }
 {
-    match text_in(options, name) {
-        Some(text) => session_of(text).ok_or(NoOrder::Session { name }),
-        None => Err(NoOrder::Session { name }),
-    }
+    let session = session_in(options, "session")?;
+    let limit = limit_in(options, "limit")?;
+    let a = address_in(options, "a")?;
+    let b = address_in(options, "b")?;
+    let journal = required_in(options, "journal")?;
+    let beats = number_in(options, "beats", 1, 0, 1000)?;
+    let ends = number_in(options, "ends", 1, 0, 1000)?;
+    Ok(PublishOrder {
+        session,
+        limit,
+        a,
+        b,
+        journal: String::from_str(alloc, journal)?,
+        beats: beats as u32,
+        ends: ends as u32,
+    })
 }
 
-// The number of the option, in its range, and the usual one where it has no text.
-fn number_in(
-    options: &ArgMatches<'_>,
-    name: &'static str,
-    usual: u64,
-    least: u64,
-    most: u64,
-) -> Result<u64, NoOrder>
-    requires { (least ≤ usual) × (usual ≤ most) }
-    ensures value { MatchResult result
-        (λ number. number_in name.now usual least most (rows_of (found_of options.now)) ≡ Some number)
-        (λ _. number_in name.now usual least most (rows_of (found_of options.now)) ≡ None) }
-    ensures within { IfOk result (λ number. (least ≤ number) × (number ≤ most)) }
+// The order of `serve`.
+#[tactic(auto, unfolding(crate::specs::Orders::serve_of))]
+fn serve_order(alloc: Global, options: &ArgMatches<'_>) -> Result<ServeOrder, NoOrder>
+    ensures { MatchResult result
+        (λ order. serve_of (rows_of (found_of options.now)) ≡ Some (view (Order.Serve order)))
+        (LacksOrder (serve_of (rows_of (found_of options.now)))) }
 {
-    match text_in(options, name) {
-        Some(text) => number_of(text, least, most).ok_or(NoOrder::Number { name, least, most }),
-        None => Ok(usual),
-    }
+    let journal = required_in(options, "journal")?;
+    let limit = limit_in(options, "limit")?;
+    let burst = burst_in(options)?;
+    let bind = address_in(options, "bind")?;
+    let turns = turns_in(options)?;
+    Ok(ServeOrder {
+        journal: String::from_str(alloc, journal)?,
+        limit,
+        burst,
+        bind,
+        turns,
+    })
 }
 
-// The text of the option, where it has one.
-fn text_in<'a>(options: &ArgMatches<'a>, name: &str) -> Option<&'a str>
-    ensures { option_map (λ text. text.now) result
-        ≡ first_of name.now (rows_of (found_of options.now)) }
+// The order of `listen`.
+#[tactic(auto, unfolding(crate::specs::Orders::listen_of))]
+fn listen_order(options: &ArgMatches<'_>) -> Result<ListenOrder, NoOrder>
+    ensures { MatchResult result
+        (λ order. listen_of (rows_of (found_of options.now)) ≡ Some (view (Order.Listen order)))
+        (LacksValue (listen_of (rows_of (found_of options.now)))) }
 {
-    options.get_str(name)
+    let session = session_in(options, "session")?;
+    let next = number_in(options, "next", 1, 1, MOST_NEXT)?;
+    let window = window_in(options)?;
+    let a = address_in(options, "a")?;
+    let b = address_in(options, "b")?;
+    let server = address_in(options, "server")?;
+    let burst = burst_in(options)?;
+    let turns = turns_in(options)?;
+    Ok(ListenOrder {
+        session,
+        next,
+        window,
+        a,
+        b,
+        server,
+        burst,
+        turns,
+    })
+}
+
+// The order of `loop`.
+#[tactic(auto, unfolding(crate::specs::Orders::loop_of))]
+fn loop_order(options: &ArgMatches<'_>) -> Result<LoopOrder, NoOrder>
+    ensures { MatchResult result
+        (λ order. loop_of (rows_of (found_of options.now)) ≡ Some (view (Order.Loop order)))
+        (LacksValue (loop_of (rows_of (found_of options.now)))) }
+{
+    let session = session_in(options, "session")?;
+    let limits = limits_in(options)?;
+    let window = window_in(options)?;
+    let burst = burst_in(options)?;
+    let drop_a = number_in(options, "drop-a", 0, 0, 1000)?;
+    let drop_b = number_in(options, "drop-b", 0, 0, 1000)?;
+    let turns = turns_in(options)?;
+    Ok(LoopOrder {
+        session,
+        limits,
+        window,
+        burst,
+        drop_a: drop_a as u32,
+        drop_b: drop_b as u32,
+        turns,
+    })
 }

@@ -4,10 +4,9 @@ ghost use Rattle.mold_words.specs.Faults.{TellsOf};
 ghost use Rattle.mold_words.specs.Orders.{AreTaken, Say, Wanted, order_of, view};
 
 use crate::command::mold_command;
-use crate::fault::{UsageFault, fault_for};
+use crate::fault::{UsageFault, fault_for, value_fault};
 use crate::orders::order_from;
 use crate::types::Order;
-use clap::error::ErrorKind;
 use std::alloc::Global;
 
 /// The order that the words say. The words come without the program's name. A request for help or
@@ -19,7 +18,8 @@ pub fn read_words(alloc: Global, words: &[String]) -> Result<Order, UsageFault>
     ensures order { IfOk result (λ order. order_of (map string_bytes words.now) ≡ Some (view order)) }
 
     // Words that `clap` takes, and that say something, fail for want of memory alone; of others a
-    // fault tells what `clap` has against them, or that a text is no value of its option.
+    // fault tells what `clap` has against them, or that a text is no value of its option; an address that is
+    // none is told before other such texts.
     ensures refused { IfErr result (λ fault. (wanted : Wanted) → Say (map string_bytes words.now) wanted
         → fault ≡ UsageFault.Memory) }
     ensures fault { IfErr result (TellsOf (map string_bytes words.now)) }
@@ -32,7 +32,7 @@ pub fn read_words(alloc: Global, words: &[String]) -> Result<Order, UsageFault>
     match command.try_get_matches_from(words) {
         Ok(matches) => match order_from(alloc, &matches) {
             Ok(order) => Ok(order),
-            Err(none) => Err(fault_for(ErrorKind::ValueValidation, none.text(alloc))),
+            Err(none) => Err(value_fault(none.is_address(), none.text(alloc))),
         },
         Err(error) => Err(fault_for(error.kind(), error.to_string(alloc))),
     }

@@ -9,9 +9,11 @@ pub enum Kind {
     Optional,
     /// With a value, and has to be there.
     Required,
+    /// A word without dashes, which has to be there.
+    Word,
 }
 
-/// An option, whose name stands behind two dashes.
+/// An option, whose name stands behind two dashes, or a word that stands by itself.
 #[derive(Clone, Copy)]
 pub struct OptionRow {
     pub name: &'static str,
@@ -28,7 +30,7 @@ pub struct CommandRow {
 }
 
 /// The commands, in the order in which help lists them.
-pub static COMMANDS: [CommandRow; 3] = [
+pub static COMMANDS: [CommandRow; 9] = [
     CommandRow {
         name: "show",
         about: "Print packets given as lines of hexadecimal digits on standard input",
@@ -51,6 +53,215 @@ pub static COMMANDS: [CommandRow; 3] = [
                 name: "limit",
                 kind: Kind::Optional,
                 help: "The most bytes of a packet, 64 to 65507 [default: 1400]",
+            },
+        ],
+    },
+    CommandRow {
+        name: "sim",
+        about: "Run the script of events that standard input gives, and print what each does",
+        options: &[
+            OptionRow {
+                name: "session",
+                kind: Kind::Required,
+                help: "The session's name, 1 to 10 characters from space to ~",
+            },
+            OptionRow {
+                name: "limit",
+                kind: Kind::Optional,
+                help: "The most bytes of a packet, 64 to 65507 [default: 1400]",
+            },
+            OptionRow {
+                name: "server-limit",
+                kind: Kind::Optional,
+                help: "The most bytes of an answer, 64 to 65507, not below the limit [default: 1400]",
+            },
+            OptionRow {
+                name: "window",
+                kind: Kind::Optional,
+                help: "How many messages a receiver looks ahead, 1 to 65536 [default: 1024]",
+            },
+            OptionRow {
+                name: "receivers",
+                kind: Kind::Optional,
+                help: "How many receivers there are, 1 to 8 [default: 2]",
+            },
+            OptionRow {
+                name: "burst",
+                kind: Kind::Optional,
+                help: "The most packets that answer a request, 1 to 64 [default: 1]",
+            },
+        ],
+    },
+    CommandRow {
+        name: "check",
+        about: "Say whether the datagrams of a folder come from one whole session",
+        options: &[OptionRow {
+            name: "folder",
+            kind: Kind::Word,
+            help: "The folder; each of its files whose name ends in .pkt is a datagram",
+        }],
+    },
+    CommandRow {
+        name: "publish",
+        about: "Send a session, whose messages standard input gives, on two lines",
+        options: &[
+            OptionRow {
+                name: "session",
+                kind: Kind::Required,
+                help: "The session's name, 1 to 10 characters from space to ~",
+            },
+            OptionRow {
+                name: "limit",
+                kind: Kind::Optional,
+                help: "The most bytes of a packet, 64 to 65507 [default: 1400]",
+            },
+            OptionRow {
+                name: "a",
+                kind: Kind::Required,
+                help: "Where line A goes to, as 127.0.0.1:9000",
+            },
+            OptionRow {
+                name: "b",
+                kind: Kind::Required,
+                help: "Where line B goes to",
+            },
+            OptionRow {
+                name: "journal",
+                kind: Kind::Required,
+                help: "The file that the journal is saved in",
+            },
+            OptionRow {
+                name: "beats",
+                kind: Kind::Optional,
+                help: "How many heartbeats follow the messages, 0 to 1000 [default: 1]",
+            },
+            OptionRow {
+                name: "ends",
+                kind: Kind::Optional,
+                help: "How many end packets follow those, 0 to 1000 [default: 1]",
+            },
+        ],
+    },
+    CommandRow {
+        name: "serve",
+        about: "Answer requests from the journal of a file",
+        options: &[
+            OptionRow {
+                name: "journal",
+                kind: Kind::Required,
+                help: "The file of the journal",
+            },
+            OptionRow {
+                name: "limit",
+                kind: Kind::Optional,
+                help: "The most bytes of a packet, 64 to 65507 [default: 1400]",
+            },
+            OptionRow {
+                name: "burst",
+                kind: Kind::Optional,
+                help: "The most packets that answer a request, 1 to 64 [default: 1]",
+            },
+            OptionRow {
+                name: "bind",
+                kind: Kind::Required,
+                help: "The address that requests come to, as 127.0.0.1:9000",
+            },
+            OptionRow {
+                name: "turns",
+                kind: Kind::Optional,
+                help: "How many turns are made, each of one receive that waits 100 ms at most, 1 to 1000000 [default: 1000]",
+            },
+        ],
+    },
+    CommandRow {
+        name: "listen",
+        about: "Print the messages of a session that come on two lines, and request what is missing",
+        options: &[
+            OptionRow {
+                name: "session",
+                kind: Kind::Required,
+                help: "The session's name, 1 to 10 characters from space to ~",
+            },
+            OptionRow {
+                name: "next",
+                kind: Kind::Optional,
+                help: "The number of the first message, 1 to 9223372036854775807 [default: 1]",
+            },
+            OptionRow {
+                name: "window",
+                kind: Kind::Optional,
+                help: "How many messages a receiver looks ahead, 1 to 65536 [default: 1024]",
+            },
+            OptionRow {
+                name: "a",
+                kind: Kind::Required,
+                help: "The address that line A comes to, as 127.0.0.1:9000",
+            },
+            OptionRow {
+                name: "b",
+                kind: Kind::Required,
+                help: "The address that line B comes to",
+            },
+            OptionRow {
+                name: "server",
+                kind: Kind::Required,
+                help: "The address that requests go to",
+            },
+            OptionRow {
+                name: "burst",
+                kind: Kind::Optional,
+                help: "The most packets that answer a request, 1 to 64 [default: 1]",
+            },
+            OptionRow {
+                name: "turns",
+                kind: Kind::Optional,
+                help: "The most turns that are made, each of a receive on A, one on B and one request, of 100 ms a receive at most, 1 to 1000000 [default: 1000]",
+            },
+        ],
+    },
+    CommandRow {
+        name: "loop",
+        about: "Publish, serve and listen in one process over ports of 127.0.0.1",
+        options: &[
+            OptionRow {
+                name: "session",
+                kind: Kind::Required,
+                help: "The session's name, 1 to 10 characters from space to ~",
+            },
+            OptionRow {
+                name: "limit",
+                kind: Kind::Optional,
+                help: "The most bytes of a packet, 64 to 65507 [default: 1400]",
+            },
+            OptionRow {
+                name: "server-limit",
+                kind: Kind::Optional,
+                help: "The most bytes of an answer, 64 to 65507, not below the limit [default: 1400]",
+            },
+            OptionRow {
+                name: "window",
+                kind: Kind::Optional,
+                help: "How many messages a receiver looks ahead, 1 to 65536 [default: 1024]",
+            },
+            OptionRow {
+                name: "burst",
+                kind: Kind::Optional,
+                help: "The most packets that answer a request, 1 to 64 [default: 1]",
+            },
+            OptionRow {
+                name: "drop-a",
+                kind: Kind::Optional,
+                help: "Each so many-th packet is not sent on line A, 0 to 1000; 0 drops none [default: 0]",
+            },
+            OptionRow {
+                name: "drop-b",
+                kind: Kind::Optional,
+                help: "Each so many-th packet is not sent on line B, 0 to 1000; 0 drops none [default: 0]",
+            },
+            OptionRow {
+                name: "turns",
+                kind: Kind::Optional,
+                help: "The most rounds of requests behind the messages, 1 to 1000000 [default: 1000]",
             },
         ],
     },

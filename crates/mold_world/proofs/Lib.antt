@@ -3,3 +3,10 @@ pub mod PlaceLemmas
 pub mod EventLemmas
 pub mod RunLemmas
 pub mod StepLemmas
+pub mod GivingLemmas
+pub mod RowLemmas
+pub mod BurstLemmas
+pub mod PlaceRowLemmas
+pub mod RequestRowLemmas
+pub mod ApplyLemmas
+pub mod RunningLemmas

@@ -5,3 +5,10 @@ pub mod Effect
 pub mod HandOns
 pub mod Kept
 pub mod Steps
+pub mod Seen
+pub mod Refusals
+pub mod Runs
+pub mod Codes
+pub mod Inside
+pub mod Renewals
+pub mod Sending

@@ -1,7 +1,22 @@
 //! The world of a MoldUDP64 session: what is promised of its receivers, whatever the network does.
 #![tactic(auto)]
 
+mod beginning;
+mod burst;
+mod event;
 pub mod laws;
+mod parts;
+mod place;
+mod refusal;
 mod report;
+mod stopped;
+#[cfg(test)]
+mod tests;
+mod way;
+mod world;
 
+pub use event::Event;
 pub use report::{Report, SessionRefusal, WorldError};
+pub use stopped::Stopped;
+pub use way::Way;
+pub use world::World;

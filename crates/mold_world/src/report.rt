@@ -39,7 +39,9 @@ pub enum SessionRefusal {
     Answer(AnswerError),
 }
 
-/// Why an event is refused. The world is then as it was.
+/// Why an event is refused, or a world is not made. The world is then as it was. The last three are of
+/// `World::new` alone, which answers, where several apply, `BadLimit` before `BadBurst` before `BadWindow`
+/// before `Memory`.
 #[derive(Clone, Copy, Debug, PartialEq, Eq, Error)]
 pub enum WorldError {
     /// No receiver has this number.
@@ -60,4 +62,13 @@ pub enum WorldError {
     /// A growth was refused.
     #[error("out of memory")]
     Memory,
+    /// No world is made with a limit outside 64 to 65,507 bytes, or a server's below the publisher's.
+    #[error("a datagram's limit is 64 to 65,507 bytes, and the server's no less than the publisher's")]
+    BadLimit,
+    /// No world is made with a window outside 1 to 65,536 messages; the first receiver with such a window.
+    #[error("the window of receiver {r} is not 1 to 65,536 messages")]
+    BadWindow { r: usize },
+    /// No world is made with a burst outside 1 to 64 datagrams.
+    #[error("a request is answered by at most 1 to 64 datagrams")]
+    BadBurst,
 }

@@ -1,8 +1,9 @@
-use Rattle.std.proofs.Common.{sym, subst, arith, length}
+use Rattle.std.proofs.Common.{inl, refl, sym, subst, arith, length}
 use Rattle.std.proofs.lemmas.List.{take_all}
 use Rattle.mold_capture.specs.Consistent.{Consistent}
 use Rattle.mold_capture.specs.Verdict.{IsVerdict}
 use Rattle.mold_capture.proofs.CheckLemmas.{checked_refused, checked_more, verdict_on, bytes_of, length-bytes_of, bytes_at, none_checked, all_checked}
+use Rattle.mold_capture.proofs.OutcomeLemmas.{refused_answers, verdict_answers}
 use Rattle.mold_capture.proofs.checking.check.Goals as goal
 
 pub loop-index-init : goal.loop-index-init
@@ -15,6 +16,15 @@ returns-in-Err-clause-refused c =
     (omega (arith, length-bytes_of c.args.list.now, c.loop-index-test.true))
     c.in-Err.ensures.refused
     (bytes_at c.args.list.now c.loop-index.index _ c.loop-index-test.true)
+
+pub returns-in-Err-clause-outcome : goal.returns-in-Err-clause-outcome
+returns-in-Err-clause-outcome c =
+    refused_answers c.reading_law.ensures.read (bytes_of c.args.list.now) c.loop-index.index c.in-Err.reason
+    (checked_refused c.reading_law.ensures.read (bytes_of c.args.list.now) c.loop-index.index _ c.loop-index.checker
+    c.in-Err.reason c.loop-index.invariant
+    (omega (arith, length-bytes_of c.args.list.now, c.loop-index-test.true))
+    c.in-Err.ensures.refused
+    (bytes_at c.args.list.now c.loop-index.index _ c.loop-index-test.true))
 
 pub loop-index-preserved : goal.loop-index-preserved
 loop-index-preserved c =
@@ -33,6 +43,19 @@ returns-in-Ok-clause-verdict c =
     in
     verdict_on c.reading_law.ensures.read list all.0 c.in-Ok.verdict
     (subst (IsVerdict c.in-Ok.verdict) all.1 c.in-Ok.ensures)
+
+pub returns-in-Ok-clause-outcome : goal.returns-in-Ok-clause-outcome
+returns-in-Ok-clause-outcome c =
+    let list = bytes_of c.args.list.now in
+    let all = all_checked list c.loop-index.index c.loop-index.checker
+    (omega (arith, length-bytes_of c.args.list.now, c.loop-index-test.false)) c.loop-index.invariant
+    in
+    verdict_answers c.reading_law.ensures.read list c.in-Ok.verdict
+    (verdict_on c.reading_law.ensures.read list all.0 c.in-Ok.verdict
+    (subst (IsVerdict c.in-Ok.verdict) all.1 c.in-Ok.ensures))
+
+pub returns-clause-outcome : goal.returns-clause-outcome
+returns-clause-outcome c = λ outcome told. inl refl
 
 pub returns-clause-refused : goal.returns-clause-refused
 returns-clause-refused c =

@@ -5,12 +5,12 @@ use Rattle.mold_words.proofs.command.argument_of.Goals as goal
 
 pub returns-in-Flag-clause-rule : goal.returns-in-Flag-clause-rule
 returns-in-Flag-clause-rule c =
-    rw (c.in-Flag.is, c.action.ensures, c.help-argument.ensures, c.long.ensures)
+    rw (c.in-Flag.is, c.action.ensures, c.long.ensures, c.help-argument.ensures)
     (ap (λ (rule : Rule). record rule { long = Some c.args.option.name.now; action = Some SetTrue }) c.new.ensures.rule)
 
 pub returns-in-Optional-clause-rule : goal.returns-in-Optional-clause-rule
 returns-in-Optional-clause-rule c =
-    rw (c.in-Optional.is, c.action-in-Optional.ensures, c.help-argument.ensures, c.long.ensures)
+    rw (c.in-Optional.is, c.action-in-Optional.ensures, c.long-in-Optional.ensures, c.help-argument.ensures)
     (ap (λ (rule : Rule). record rule { long = Some c.args.option.name.now; action = Some Set }) c.new.ensures.rule)
 
 pub returns-in-Required-clause-rule : goal.returns-in-Required-clause-rule
@@ -19,8 +19,13 @@ returns-in-Required-clause-rule c =
       c.in-Required.is,
       c.required.ensures,
       c.action-in-Required.ensures,
+      c.long-in-Required.ensures,
       c.help-argument.ensures,
-      c.long.ensures,
     )
     (ap (λ (rule : Rule). record rule { long = Some c.args.option.name.now; action = Some Set; required = true })
     c.new.ensures.rule)
+
+pub returns-in-Word-clause-rule : goal.returns-in-Word-clause-rule
+returns-in-Word-clause-rule c =
+    rw (c.in-Word.is, c.required-in-Word.ensures, c.action-in-Word.ensures, c.help-argument.ensures)
+    (ap (λ (rule : Rule). record rule { action = Some Set; required = true }) c.new.ensures.rule)

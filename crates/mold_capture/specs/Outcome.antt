@@ -1,0 +1,39 @@
+-- What a check of datagrams tells.
+use Rattle.std.specs.Prelude.{◌≡◌, ◌⊎◌, ℕ, ◌+◌, ◌<◌, List, [], take, length, slice_index_or, Option, Some, Result, MatchResult}
+use Rattle.mold_ranges.specs.Ranges.{Range}
+use Rattle.mold_capture.specs.Consistent.{Consistent, Whole}
+use Rattle.mold_capture.specs.Refusal.{reason}
+use Rattle.mold_capture.specs.Seen.{seen_of}
+use Rattle.mold_capture.specs.Verdict.{missing_in, ranges_of}
+use Rattle.mold_capture.specs.declared.reason.Reason.{Reason}
+use Rattle.mold_capture.specs.declared.reason.Reason.TheVariants.{Memory}
+use Rattle.mold_capture.specs.declared.verdict.Verdict.{Verdict}
+use Rattle.mold_capture.specs.declared.verdict.Verdict.TheVariants.{Whole as IsWhole, Incomplete as IsIncomplete}
+
+-- whole, by so many messages; not whole, with the ranges that are missing and the end; or refused at an index
+pub data Outcome : Type 0 where
+  whole : ℕ → Outcome
+  incomplete : List Range → Option ℕ → Outcome
+  refused : ℕ → Reason → Outcome
+
+-- the outcome of datagrams: whole by some messages, of which the number is told; or consistent and whole by no
+-- messages, with what is missing; or those in front of the index are consistent, with the one there they
+-- aren't, and this is the reason why
+abbrev pub IsOutcome : List (List ℕ) → Outcome → Type 0
+IsOutcome list (whole count) = (messages : List (List ℕ)) × (Whole list messages × (length messages ≡ count))
+IsOutcome list (incomplete missing end) =
+    Consistent list × (missing ≡ missing_in (seen_of list)) × (end ≡ (seen_of list).ended)
+    × ((messages : List (List ℕ)) → Whole list messages → ⊥)
+IsOutcome list (refused index why) =
+    (index < length list) × Consistent (take index list) × (Consistent (take (index + 1) list) → ⊥)
+    × (reason (take index list) (slice_index_or list index []) ≡ Some why)
+
+-- the outcome that a verdict tells
+abbrev pub outcome_in : Verdict → Outcome
+outcome_in (IsWhole messages) = whole messages
+outcome_in (IsIncomplete missing end) = incomplete (ranges_of missing.items) end
+
+-- the answer tells this outcome, unless memory was refused
+abbrev pub Answers : Outcome → Result Verdict (ℕ × Reason) → Type 0
+Answers outcome answer = MatchResult answer (λ verdict. outcome_in verdict ≡ outcome)
+    (λ r. (r.1 ≡ Memory) ⊎ (refused r.0 r.1 ≡ outcome))

@@ -1,0 +1,81 @@
+-- What `mold check` prints, and the status that it ends with.
+use Rattle.std.specs.Prelude.{◌≡◌, ℕ, ◌-◌, List, [], ◌∷◌, ◌++◌, length, map, slice_index_or, codes, decimal, Option, None, Some, Result, Ok, Err}
+use Rattle.std.specs.List.{flat_map}
+use Rattle.mold_ranges.specs.Ranges.{Range}
+use Rattle.mold_text.specs.Line.{line_of}
+use Rattle.mold_text.specs.Text.{fault_words, refused_line}
+use Rattle.mold_capture.specs.Outcome.{Outcome, whole, incomplete, refused, IsOutcome}
+use Rattle.mold_capture.specs.declared.reason.Reason.{Reason}
+use Rattle.mold_capture.specs.declared.reason.Reason.TheVariants.{Malformed, WrongSession, SequenceZero, PastLast, EndConflict, EndBelow, PastEnd, Conflict, Memory}
+use Rattle.mold_devices.specs.Devices.{one_more}
+use Rattle.mold_devices.specs.declared.fault.CommandFault.{CommandFault}
+use Rattle.mold_devices.specs.declared.fault.CommandFault.TheVariants as fault
+use Rattle.mold_check.specs.Entries.{IsOrder, bytes_of, name_of}
+use Rattle.mold_check.specs.declared.entry.Entry.{Entry}
+
+-- the line of how many entries are datagrams, and how many are skipped
+abbrev pub counts_line : ℕ → ℕ → List ℕ
+counts_line files skipped =
+    line_of (codes "files" ∷ decimal files ∷ codes "skipped" ∷ decimal skipped ∷ [])
+
+-- the number of the end, where it is known
+abbrev pub end_word : Option ℕ → List ℕ
+end_word None = codes "none"
+end_word (Some number) = decimal number
+
+abbrev pub missing_line : Range → List ℕ
+missing_line range = line_of (codes "missing" ∷ decimal range.first ∷ decimal range.last ∷ [])
+
+abbrev pub missing_text : List Range → List ℕ
+missing_text missing = flat_map missing_line missing
+
+-- the first line of what isn't whole
+abbrev pub incomplete_line : Option ℕ → List ℕ
+incomplete_line end = line_of (codes "incomplete" ∷ codes "end" ∷ end_word end ∷ [])
+
+-- why a datagram is refused: a name, and what goes with it
+abbrev pub reason_words : Reason → List (List ℕ)
+reason_words (Malformed error) = codes "Malformed" ∷ fault_words error
+reason_words WrongSession = codes "WrongSession" ∷ []
+reason_words SequenceZero = codes "SequenceZero" ∷ []
+reason_words PastLast = codes "PastLast" ∷ []
+reason_words (EndConflict end) = codes "EndConflict" ∷ decimal end ∷ []
+reason_words (EndBelow known) = codes "EndBelow" ∷ decimal known ∷ []
+reason_words (PastEnd end) = codes "PastEnd" ∷ decimal end ∷ []
+reason_words (Conflict number) = codes "Conflict" ∷ decimal number ∷ []
+reason_words Memory = codes "Memory" ∷ []
+
+-- the lines of the outcome of datagrams with these names
+abbrev pub outcome_text : List (List ℕ) → Outcome → List ℕ
+outcome_text names (whole messages) = line_of (codes "whole" ∷ decimal messages ∷ [])
+outcome_text names (incomplete missing end) = incomplete_line end ++ missing_text missing
+outcome_text names (refused index why) = refused_line (slice_index_or names index [] ∷ reason_words why)
+
+-- the status: 0 whole, 1 not whole, 2 a datagram was refused
+abbrev pub outcome_status : Outcome → ℕ
+outcome_status (whole messages) = 0
+outcome_status (incomplete missing end) = 1
+outcome_status (refused index why) = 2
+
+-- a check of entries: the order in which the datagrams are taken, and the outcome of their bytes
+pub record Checked (entries : List Entry) : Type 0 where
+  pub order : List Entry
+  pub ordered : IsOrder entries order
+  pub outcome : Outcome
+  pub told : IsOutcome (map bytes_of order) outcome
+
+-- what is printed
+abbrev pub report : {entries : List Entry} → Checked entries → List ℕ
+report {entries} checked =
+    counts_line (length checked.order) (length entries - length checked.order)
+    ++ outcome_text (map name_of checked.order) checked.outcome
+
+-- the sink failed once more where that is the fault, and else it didn't; nothing is read here
+abbrev pub CountsWriteFault : ℕ → ℕ → CommandFault → Type 0
+CountsWriteFault old new fault.Write = new ≡ one_more old
+CountsWriteFault old new fault.Memory = new ≡ old
+CountsWriteFault old new fault.Read = ⊥
+
+abbrev pub CountsWrite : {T : Type 0} → ℕ → ℕ → Result T CommandFault → Type 0
+CountsWrite old new (Ok _) = new ≡ old
+CountsWrite old new (Err why) = CountsWriteFault old new why

@@ -1,0 +1,190 @@
+//! The report of a check.
+
+ghost use Rattle.std.specs.Prelude.{◌≡◌, ◌++◌, ◌∷◌, [], OnOk, IfOk};
+ghost use Rattle.std.specs.Io.KnownBytes.{Appends};
+ghost use Rattle.mold_capture.specs.Outcome.{outcome_in, whole};
+ghost use Rattle.mold_capture.specs.Verdict.{ranges_of};
+ghost use Rattle.mold_check.specs.Entries.{NamesDiffer};
+ghost use Rattle.mold_check.specs.Report.{Checked, CountsWrite, counts_line, incomplete_line, missing_line, missing_text, outcome_status, outcome_text, reason_words, report};
+ghost use Rattle.mold_devices.specs.Devices.{AppendsFront};
+ghost use Rattle.mold_ranges.specs.Ranges as lacking;
+ghost use Rattle.mold_text.specs.Text.{refused_line};
+
+use crate::datagrams::{lend_bytes, sorted_datagrams};
+use crate::entry::Entry;
+use mold_capture::laws::outcome_law;
+use mold_capture::{Range, Reason, Verdict, check};
+use mold_devices::{CommandFault, LARGE, Sink, send};
+use mold_text::{Word, packet_fault_words, push_line, push_refused};
+use std::alloc::{AllocError, Global};
+
+fn push_counts(text: &mut Vec<u8>, files: usize, skipped: usize) -> Result<(), AllocError>
+    ensures { OnOk result (text.new.items ≡ text.old.items ++ counts_line files skipped) }
+{
+    push_line(
+        text,
+        &[
+            Word::Text(b"files"),
+            Word::Number(files as u64),
+            Word::Text(b"skipped"),
+            Word::Number(skipped as u64),
+        ],
+    )
+}
+
+fn push_whole(text: &mut Vec<u8>, messages: u64) -> Result<(), AllocError>
+    ensures { OnOk result (text.new.items ≡ text.old.items ++ outcome_text [] (whole messages)) }
+{
+    push_line(text, &[Word::Text(b"whole"), Word::Number(messages)])
+}
+
+// The line of what isn't whole, without those of what is missing.
+fn push_incomplete(text: &mut Vec<u8>, end: Option<u64>) -> Result<(), AllocError>
+    ensures { OnOk result (text.new.items ≡ text.old.items ++ incomplete_line end) }
+{
+    let end = match end {
+        Some(number) => Word::Number(number),
+        None => Word::Text(b"none"),
+    };
+    push_line(text, &[Word::Text(b"incomplete"), Word::Text(b"end"), end])
+}
+
+fn push_missing(text: &mut Vec<u8>, range: Range) -> Result<(), AllocError>
+    ensures { OnOk result (text.new.items ≡ text.old.items ++ missing_line (lacking.range range.first range.last)) }
+{
+    push_line(
+        text,
+        &[
+            Word::Text(b"missing"),
+            Word::Number(range.first),
+            Word::Number(range.last),
+        ],
+    )
+}
+
+fn push_refusal(text: &mut Vec<u8>, name: &[u8], reason: Reason) -> Result<(), AllocError>
+    ensures { OnOk result (text.new.items ≡ text.old.items ++ refused_line (name.now ∷ reason_words reason)) }
+{
+    let name = Word::Text(name);
+    match reason {
+        Reason::Malformed(error) => {
+            let [kind, number] = packet_fault_words(error);
+            push_refused(text, &[name, Word::Text(b"Malformed"), kind, number])
+        }
+        Reason::WrongSession => push_refused(text, &[name, Word::Text(b"WrongSession")]),
+        Reason::SequenceZero => push_refused(text, &[name, Word::Text(b"SequenceZero")]),
+        Reason::PastLast => push_refused(text, &[name, Word::Text(b"PastLast")]),
+        Reason::EndConflict { end } => push_refused(
+            text,
+            &[name, Word::Text(b"EndConflict"), Word::Number(end)],
+        ),
+        Reason::EndBelow { known } => {
+            push_refused(text, &[name, Word::Text(b"EndBelow"), Word::Number(known)])
+        }
+        Reason::PastEnd { end } => {
+            push_refused(text, &[name, Word::Text(b"PastEnd"), Word::Number(end)])
+        }
+        Reason::Conflict { number } => {
+            push_refused(text, &[name, Word::Text(b"Conflict"), Word::Number(number)])
+        }
+        Reason::Memory => push_refused(text, &[name, Word::Text(b"Memory")]),
+    }
+}
+
+// Writes the text, and behind it the lines of what is missing, in pieces of 65,536 bytes or more.
+fn send_missing<K: Sink>(
+    sink: &mut K,
+    text: &mut Vec<u8>,
+    missing: &[Range],
+) -> Result<(), CommandFault>
+    ensures whole { OnOk result (Appends (K.held sink.old) (K.held sink.new)
+        (text.old.items ++ missing_text (ranges_of missing.now))) }
+    ensures front { AppendsFront (K.held sink.old) (K.held sink.new)
+        (text.old.items ++ missing_text (ranges_of missing.now)) }
+    ensures failures { CountsWrite (K.failed sink.old) (K.failed sink.new) result }
+{
+    for range in missing {
+        push_missing(text, *range)?;
+        if text.len() >= LARGE {
+            send(sink, text)?;
+        }
+    }
+    send(sink, text)
+}
+
+// Writes the text, and behind it what the verdict tells; it answers the status.
+fn tell_verdict<K: Sink>(
+    sink: &mut K,
+    text: &mut Vec<u8>,
+    verdict: &Verdict,
+) -> Result<u8, CommandFault>
+    ensures whole { IfOk result (λ status. Appends (K.held sink.old) (K.held sink.new)
+        (text.old.items ++ outcome_text [] (outcome_in verdict.now))
+        × (status ≡ outcome_status (outcome_in verdict.now))) }
+    ensures front { AppendsFront (K.held sink.old) (K.held sink.new)
+        (text.old.items ++ outcome_text [] (outcome_in verdict.now)) }
+    ensures failures { CountsWrite (K.failed sink.old) (K.failed sink.new) result }
+{
+    match verdict {
+        Verdict::Whole { messages } => {
+            push_whole(text, *messages)?;
+            send(sink, text)?;
+            Ok(0)
+        }
+        Verdict::Incomplete { missing, end } => {
+            push_incomplete(text, *end)?;
+            send_missing(sink, text, missing.as_slice())?;
+            Ok(1)
+        }
+    }
+}
+
+// Writes the text, and behind it why the entry of this name is refused; it answers the status.
+fn tell_refusal<K: Sink>(
+    sink: &mut K,
+    text: &mut Vec<u8>,
+    name: &[u8],
+    reason: Reason,
+) -> Result<u8, CommandFault>
+    ensures whole { IfOk result (λ status. Appends (K.held sink.old) (K.held sink.new)
+        (text.old.items ++ refused_line (name.now ∷ reason_words reason)) × (status ≡ 2)) }
+    ensures front { AppendsFront (K.held sink.old) (K.held sink.new)
+        (text.old.items ++ refused_line (name.now ∷ reason_words reason)) }
+    ensures failures { CountsWrite (K.failed sink.old) (K.failed sink.new) result }
+{
+    push_refusal(text, name, reason)?;
+    send(sink, text)?;
+    Ok(2)
+}
+
+/// Checks the entries that are datagrams, in ascending order of the bytes of their names, and tells the
+/// outcome in the sink; it answers the status: 0 whole, 1 not whole, 2 a datagram is refused. No entry is
+/// copied, but for what the checker keeps of the messages. After a fault a beginning of the text is
+/// written, if no two entries have the same name. `Write` comes only where the sink failed, `Memory` only
+/// where a growth was refused, and `Read` never.
+pub fn check_entries<K: Sink>(
+    alloc: Global,
+    entries: &[Entry],
+    sink: &mut K,
+) -> Result<u8, CommandFault>
+    ensures whole { IfOk result (λ status. (checked : Checked entries.now)
+        × (Appends (K.held sink.old) (K.held sink.new) (report checked)
+        × (status ≡ outcome_status checked.outcome))) }
+    ensures front { NamesDiffer entries.now → (checked : Checked entries.now) →
+        AppendsFront (K.held sink.old) (K.held sink.new) (report checked) }
+    ensures failures { CountsWrite (K.failed sink.old) (K.failed sink.new) result }
+{
+    outcome_law();
+    let order = sorted_datagrams(alloc, entries)?;
+    let datagrams = lend_bytes(alloc, order.as_slice())?;
+    let mut text = Vec::new(alloc);
+    push_counts(&mut text, order.len(), entries.len() - order.len())?;
+    match check(alloc, datagrams.as_slice()) {
+        Ok(verdict) => tell_verdict(sink, &mut text, &verdict),
+        Err((_, Reason::Memory)) => Err(CommandFault::Memory),
+        Err((index, reason)) => {
+            let name = order[index].name.as_str().as_bytes();
+            tell_refusal(sink, &mut text, name, reason)
+        }
+    }
+}

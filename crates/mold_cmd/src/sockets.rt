@@ -1,0 +1,216 @@
+//! The commands whose ports are UDP sockets.
+
+ghost use Rattle.std.specs.Prelude.{◌≡◌, IfOk};
+
+use crate::flushed;
+use crate::looping::{Drops, Ear, Wires, run_over};
+use crate::program_fault::ProgramFault;
+use crate::publish_loop::publish_loop;
+use crate::upgrading::push_file_refused;
+use mold_devices::{CommandFault, FromRead, IntoWrite, NewFile, send};
+use mold_listen::{Desk, listen_loop};
+use mold_ports::UdpPort;
+use mold_receiver::{Arbiter, Receiver};
+use mold_serve::serve_loop;
+use mold_session::{FileError, Journal, Publisher, Server};
+use mold_wire::Session;
+use mold_wire::laws::packet_length_law;
+use mold_words::{Address, ListenOrder, LoopOrder, PublishOrder, ServeOrder};
+use std::fs::File;
+use std::io::Write;
+use std::net::{Ipv4Addr, Net, SocketAddr, SocketAddrV4};
+
+/// A port that the system gives, on every address of the machine, and on this machine alone.
+const ANY: Address = Address {
+    host: [0; 4],
+    port: 0,
+};
+
+const OWN: Address = Address {
+    host: [127, 0, 0, 1],
+    port: 0,
+};
+
+fn socket_address(address: Address) -> SocketAddrV4 {
+    let [first, second, third, fourth] = address.host;
+    SocketAddrV4::new(Ipv4Addr::new(first, second, third, fourth), address.port)
+}
+
+fn open_port<R: Net>(rt: &R, address: Address) -> Result<UdpPort, ProgramFault> {
+    match UdpPort::bind(rt, socket_address(address)) {
+        Ok(port) => Ok(port),
+        Err(_) => Err(ProgramFault::Socket),
+    }
+}
+
+// The journal of a file, or why the file is none.
+fn load_journal(
+    rt: &HostRuntime,
+    name: &str,
+    max_message: u16,
+) -> Result<Result<Journal, FileError>, CommandFault>
+    ensures { IfOk result (λ loaded. IfOk loaded (λ journal. journal.max_message ≡ max_message)) }
+{
+    let Ok(file) = File::open(rt, name) else {
+        return Err(CommandFault::Read);
+    };
+    match Journal::load(rt.alloc(), max_message, &mut FromRead::new(file)) {
+        Ok(journal) => Ok(Ok(journal)),
+        Err(FileError::Read) => Err(CommandFault::Read),
+        Err(FileError::Memory) => Err(CommandFault::Memory),
+        Err(error) => Ok(Err(error)),
+    }
+}
+
+// Tells on standard output why a file is no journal, and answers the status.
+fn tell_file_refused(rt: &HostRuntime, error: FileError) -> Result<u8, CommandFault> {
+    let mut text = Vec::new(rt.alloc());
+    push_file_refused(&mut text, error)?;
+    let mut sink = IntoWrite::new(rt.stdout());
+    let outcome = send(&mut sink, &mut text);
+    let outcome = match outcome {
+        Ok(()) => Ok(2),
+        Err(fault) => Err(fault),
+    };
+    flushed(outcome, sink.into_inner().flush())
+}
+
+/// Serves a journal over a port. The journal is loaded before the port is opened.
+pub fn run_serve(rt: &HostRuntime, order: &ServeOrder) -> Result<u8, ProgramFault> {
+    let max_message = (order.limit - 22) as u16;
+    let journal = match load_journal(rt, order.journal.as_str(), max_message)? {
+        Ok(journal) => journal,
+        Err(error) => return Ok(tell_file_refused(rt, error)?),
+    };
+    let mut port = open_port(rt, order.bind)?;
+    // The limits of an order are in their ranges, so only memory can be wanting.
+    let Ok(mut server) = Server::new(rt.alloc(), order.limit, max_message, order.burst) else {
+        return Err(ProgramFault::Command(CommandFault::Memory));
+    };
+    let mut sink = IntoWrite::new(rt.stdout());
+    let outcome = serve_loop(
+        rt.alloc(),
+        &mut port,
+        &mut server,
+        &journal,
+        u64::from(order.turns),
+        &mut sink,
+    );
+    Ok(flushed(outcome, sink.into_inner().flush())?)
+}
+
+/// Listens on two ports, and asks the server from a third one. A line's wait ends where the other line has
+/// something, and the wait for an answer where one of the lines has. No wait ends for an answer that nobody
+/// waits for, since it would stay there and end every wait.
+pub fn run_listen(rt: &HostRuntime, order: &ListenOrder) -> Result<u8, ProgramFault> {
+    let mut a = open_port(rt, order.a)?;
+    let mut b = open_port(rt, order.b)?;
+    let mut requests = open_port(rt, ANY)?;
+    a.stand_beside(&b);
+    b.stand_beside(&a);
+    requests.stand_beside(&a);
+    requests.stand_beside(&b);
+    // The numbers of an order are in their ranges, so only memory can be wanting.
+    let Ok(receiver) = Receiver::new(rt.alloc(), Session(order.session), order.next, order.window)
+    else {
+        return Err(ProgramFault::Command(CommandFault::Memory));
+    };
+    let mut arbiter = Arbiter::new(receiver);
+    let mut sink = IntoWrite::new(rt.stdout());
+    let outcome = listen_loop(
+        rt.alloc(),
+        &mut a,
+        &mut b,
+        &mut requests,
+        SocketAddr::V4(socket_address(order.server)),
+        &mut arbiter,
+        order.burst,
+        u64::from(order.turns),
+        &mut sink,
+    );
+    Ok(flushed(outcome, sink.into_inner().flush())?)
+}
+
+/// Publishes the messages of standard input on two lines from a port of its own. The journal's file is made at
+/// its first write.
+pub fn run_publish(rt: &HostRuntime, order: &PublishOrder) -> Result<u8, ProgramFault> {
+    let mut port = open_port(rt, ANY)?;
+    // The limit of an order is in its range, so only memory can be wanting.
+    let Ok(mut publisher) = Publisher::new(rt.alloc(), Session(order.session), order.limit) else {
+        return Err(ProgramFault::Command(CommandFault::Memory));
+    };
+    let mut source = FromRead::new(rt.stdin());
+    let mut journal = IntoWrite::new(NewFile::new(rt, order.journal.as_str()));
+    let mut sink = IntoWrite::new(rt.stdout());
+    let outcome = publish_loop(
+        rt.alloc(),
+        &mut port,
+        SocketAddr::V4(socket_address(order.a)),
+        SocketAddr::V4(socket_address(order.b)),
+        &mut publisher,
+        order.beats,
+        order.ends,
+        &mut source,
+        &mut sink,
+        &mut journal,
+    );
+    Ok(flushed(outcome, sink.into_inner().flush())?)
+}
+
+// The five ports of a loop.
+fn open_wires<R: Net>(rt: &R) -> Result<Wires, ProgramFault> {
+    Ok(Wires {
+        publisher: open_port(rt, OWN)?,
+        server: open_port(rt, OWN)?,
+        a: open_port(rt, OWN)?,
+        b: open_port(rt, OWN)?,
+        requests: open_port(rt, OWN)?,
+    })
+}
+
+// What a loop listens with.
+fn open_ear(rt: &HostRuntime, order: &LoopOrder) -> Result<Ear, CommandFault> {
+    // The window of an order is in its range, so only memory can be wanting.
+    let Ok(receiver) = Receiver::new(rt.alloc(), Session(order.session), 1, order.window) else {
+        return Err(CommandFault::Memory);
+    };
+    Ok(Ear {
+        arbiter: Arbiter::new(receiver),
+        desk: Desk::new(rt.alloc()),
+    })
+}
+
+/// Publishes, serves and listens in one process, over five ports of this machine that the system gives.
+pub fn run_loop(rt: &HostRuntime, order: &LoopOrder) -> Result<u8, ProgramFault> {
+    packet_length_law();
+    let mut wires = open_wires(rt)?;
+    let limits = order.limits;
+    // The limits of an order are in their ranges, so only memory can be wanting.
+    let Ok(mut publisher) = Publisher::new(rt.alloc(), Session(order.session), limits.limit) else {
+        return Err(ProgramFault::Command(CommandFault::Memory));
+    };
+    let max_message = (limits.limit - 22) as u16;
+    let Ok(mut server) = Server::new(rt.alloc(), limits.server_limit, max_message, order.burst)
+    else {
+        return Err(ProgramFault::Command(CommandFault::Memory));
+    };
+    let mut ear = open_ear(rt, order)?;
+    let drops = Drops {
+        a: order.drop_a,
+        b: order.drop_b,
+    };
+    let mut source = FromRead::new(rt.stdin());
+    let mut sink = IntoWrite::new(rt.stdout());
+    let outcome = run_over(
+        rt.alloc(),
+        &mut wires,
+        &mut publisher,
+        &mut server,
+        drops,
+        order.turns,
+        &mut ear,
+        &mut source,
+        &mut sink,
+    );
+    Ok(flushed(outcome, sink.into_inner().flush())?)
+}

@@ -1,0 +1,14 @@
+//! Listening to a session on two lines: what comes is printed, and what is lacking is asked for.
+#![tactic(auto)]
+
+mod desk;
+mod handed;
+mod hearing;
+mod listening;
+mod refusal;
+#[cfg(test)]
+mod tests;
+
+pub use desk::Desk;
+pub use hearing::{LONGEST, hear_port};
+pub use listening::{listen_loop, push_last};

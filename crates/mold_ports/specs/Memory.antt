@@ -1,0 +1,26 @@
+-- Ports in memory.
+use Rattle.std.specs.Prelude.{ℕ, Bool, true, false, List}
+use Rattle.std.specs.Global.{Vec}
+use Rattle.mold_ports.specs.Ports.{Port, Receipt, Datagram, Quiet, Failure, offered}
+use Rattle.mold_ports.specs.declared.step.Step.{Step}
+use Rattle.mold_ports.specs.declared.step.Step.TheVariants as step
+
+-- what a receive at this step of the script gives
+abbrev pub receipt_at : Step → Receipt ℕ
+receipt_at (step.Come from bytes) = Datagram from bytes.items
+receipt_at step.Quiet = Quiet
+receipt_at step.Fail = Failure
+
+-- a letter that was kept: to whom it was sent, and its bytes
+abbrev pub letter_of : ℕ × Vec ℕ → ℕ × List ℕ
+letter_of letter = (letter.0, letter.1.items)
+
+-- the port where a letter was not kept, and where it was
+abbrev pub kept_letter : Bool → ℕ → List ℕ → Port ℕ → Port ℕ
+kept_letter true to bytes port = port
+kept_letter false to bytes port = offered false to bytes port
+
+-- a port in memory: the port, and which send from now on fails (0 where none does)
+pub record MemoryState : Type 0 where
+  pub port : Port ℕ
+  pub fails_at : ℕ

@@ -1,0 +1,14 @@
+//! Ports, by which datagrams are sent and received: UDP sockets, and scripts in memory.
+#![tactic(auto)]
+
+mod datagrams;
+mod memory_port;
+mod step;
+#[cfg(test)]
+mod tests;
+mod udp_port;
+
+pub use datagrams::Datagrams;
+pub use memory_port::MemoryPort;
+pub use step::Step;
+pub use udp_port::UdpPort;

@@ -1,0 +1,151 @@
+//! A script in memory as a port.
+
+ghost use Rattle.std.specs.Prelude.{◌≡◌, ◌-◌, ◌≤◌, ℕ, Bool, true, [], length, map, is_err, IfOk, IfSome, IsErr};
+ghost use Rattle.mold_devices.specs.Devices.{Counts};
+ghost use Rattle.mold_ports.specs.Memory.{kept_letter, letter_of, receipt_at};
+ghost use Rattle.mold_ports.specs.Ports.{Port, cut, next_of, offered, receipt_of, received};
+
+use crate::datagrams::Datagrams;
+use crate::step::Step;
+use mold_devices::DeviceFault;
+use std::alloc::{AllocError, Global};
+use std::marker::Model;
+
+/// A script as a port: each receive takes its next step, and nothing comes behind the last. It keeps what is
+/// sent. A send fails only where `fail_send` says, or where memory is refused for what is kept.
+#[derive(Drop)]
+pub struct MemoryPort {
+    alloc: Global,
+    script: Vec<Step>,
+    // How many steps were taken.
+    used: usize,
+    letters: Vec<(u32, Vec<u8>)>,
+    // The send that fails, counted from 1 for the next one. 0 is none.
+    fails_at: u64,
+    failures: u64,
+}
+
+impl Model for MemoryPort {
+    ghost use Rattle.std.specs.Prelude.{drop, map};
+    ghost use Rattle.mold_ports.specs.Memory.{MemoryState, letter_of, receipt_at};
+
+    ghost Value = { MemoryState };
+
+    ghost view = { λ s. record {
+      port = record {
+        comes = map receipt_at (drop s.used s.script.items);
+        sent = map letter_of s.letters.items;
+        failures = s.failures;
+      };
+      fails_at = s.fails_at;
+    } };
+}
+
+impl MemoryPort {
+    /// A port whose receives give these steps. It takes no memory yet.
+    pub fn new(alloc: Global, script: Vec<Step>) -> MemoryPort
+        ensures { result ≡ record {
+          port = record { comes = map receipt_at script.items; sent = []; failures = 0 };
+          fails_at = 0;
+        } }
+    {
+        MemoryPort {
+            alloc,
+            script,
+            used: 0,
+            letters: Vec::new(alloc),
+            fails_at: 0,
+            failures: 0,
+        }
+    }
+
+    /// Lets the `k`-th send from now on fail, counted from 1, and no other. 0 is none.
+    pub fn fail_send(&mut self, k: u64)
+        ensures { self.new ≡ record self.old { fails_at = k } }
+    {
+        self.fails_at = k;
+    }
+
+    /// What was sent, in order: to whom, and the bytes. What failed is not in it.
+    pub fn sent(&self) -> &[(u32, Vec<u8>)]
+        ensures { map letter_of result.now ≡ self.now.port.sent }
+    {
+        self.letters.as_slice()
+    }
+
+    /// How many steps were not taken yet.
+    pub fn left(&self) -> usize
+        ensures { result ≡ length self.now.port.comes }
+    {
+        self.script.len().saturating_sub(self.used)
+    }
+
+    // Keeps a letter.
+    fn keep(&mut self, to: u32, bytes: &[u8]) -> Result<(), AllocError>
+        ensures kept { self.new.port ≡ kept_letter (is_err result) to bytes.now self.old.port }
+        ensures fails_at { self.new.fails_at ≡ self.old.fails_at }
+    {
+        let mut copy = Vec::new(self.alloc);
+        copy.extend_from_slice(bytes)?;
+        self.letters.push((to, copy))?;
+        Ok(())
+    }
+}
+
+impl Datagrams for MemoryPort {
+    type Peer = u32;
+
+    ghost tells = { true };
+
+    ghost port = { λ s. s.port };
+
+    fn send(&mut self, to: u32, bytes: &[u8]) -> Result<(), DeviceFault>
+        // What a port does.
+        ensures sent { self.new.port ≡ offered (is_err result) to bytes.now self.old.port }
+        ensures failures { Counts self.old.port.failures self.new.port.failures result }
+
+        // Just what this one does.
+        ensures fails { self.old.fails_at ≡ 1 → IsErr result }
+        ensures fails_at { self.new.fails_at ≡ self.old.fails_at - 1 }
+    {
+        let fails = self.fails_at == 1;
+        self.fails_at = self.fails_at.saturating_sub(1);
+        if fails || self.keep(to, bytes).is_err() {
+            self.failures = self.failures.saturating_add(1);
+            return Err(DeviceFault);
+        }
+        Ok(())
+    }
+
+    fn receive(&mut self, place: &mut [u8]) -> Result<Option<(usize, u32)>, DeviceFault>
+        // What a port does.
+        ensures count { IfOk result (λ answer. IfSome answer (λ found. found.0 ≤ length place.new)) }
+        ensures came { receipt_of result place.new ≡ cut (length place.new) (next_of self.old.port) }
+        ensures left { self.new.port ≡ received self.old.port }
+        ensures failures { Counts self.old.port.failures self.new.port.failures result }
+
+        // Just what this one does.
+        ensures fails_at { self.new.fails_at ≡ self.old.fails_at }
+    {
+        let Some(step) = self.script.get(self.used) else {
+            return Ok(None);
+        };
+        self.used += 1;
+        match step {
+            Step::Come { from, bytes } => {
+                let count = bytes.len().min(place.len());
+                place[..count].copy_from_slice(&bytes[..count]);
+                Ok(Some((count, *from)))
+            }
+            Step::Quiet => Ok(None),
+            Step::Fail => {
+                self.failures = self.failures.saturating_add(1);
+                Err(DeviceFault)
+            }
+        }
+    }
+
+    fn failures(&self) -> u64 {
+        self.failures
+    }
+}

@@ -1,0 +1,4 @@
+pub mod Rounds
+pub mod CatchUp
+pub mod Taking
+pub mod Examples

@@ -1,0 +1,57 @@
+//! What holds of the definitions alone. Each law is a function that does nothing: its contract is the law.
+
+ghost use Rattle.std.specs.Prelude.{◌≡◌, ◌+◌, ◌<◌, ◌≤◌, [], ◌∷◌, List, ℕ, suc, length, take, drop};
+ghost use Rattle.mold_receiver.specs.Store.{Message};
+ghost use Rattle.mold_receiver.specs.View.{View, IsWellFormed};
+ghost use Rattle.mold_receiver.specs.Wanted.{missing};
+ghost use Rattle.mold_rounds.specs.Examples.{five, heard, twenty};
+ghost use Rattle.mold_rounds.specs.Rounds.{asks, brought, carried, nameless, rounds};
+ghost use Rattle.mold_session.specs.Datagrams.{packing};
+ghost use Rattle.mold_wire.specs.Packing.{front};
+ghost use Rattle.mold_wire.specs.declared.session.Session.{Session};
+
+use mold_receiver::laws::missing_law;
+use mold_session::laws::{first_part_law, packing_law};
+use mold_wire::laws::front_law;
+
+/// How many requests bring what is lacking: none where no message fits; else one, and those for what is left
+/// behind the messages of its answer, which are some. They are no more than the messages. How many messages
+/// the packets of an answer carry doesn't depend on their session and their numbers.
+pub fn asks_law()
+    ensures none { (limit burst : ℕ) (messages : List Message) →
+        length (front limit messages 65534) ≡ 0 → asks limit burst messages ≡ 0 }
+    ensures more { (limit burst : ℕ) (messages : List Message) → 20 ≤ limit → 1 ≤ burst →
+        0 < length (front limit messages 65534) →
+        asks limit burst messages ≡ suc (asks limit burst (drop (brought limit burst messages) messages)) }
+    ensures some { (limit burst : ℕ) (messages : List Message) → 20 ≤ limit → 1 ≤ burst →
+        0 < length (front limit messages 65534) → 0 < brought limit burst messages }
+    ensures few { (limit burst : ℕ) (messages : List Message) → asks limit burst messages ≤ length messages }
+    ensures any { (limit burst sequence : ℕ) (session : Session) (messages : List Message) →
+        carried (take burst (packing limit session sequence messages))
+        ≡ carried (take burst (packing limit nameless 1 messages)) }
+{
+    front_law();
+    first_part_law();
+    packing_law();
+}
+
+/// No more requests are needed than messages are missing.
+pub fn rounds_law()
+    ensures few { (v : View) (published : List Message) (limit burst : ℕ) → IsWellFormed v →
+        rounds v published limit burst ≤ missing v }
+{
+    missing_law();
+}
+
+/// How many rounds the worked example needs, where a datagram has room for two of its messages: message 3 is
+/// there, and two gaps are left; nothing is there, and each round brings as many datagrams as the burst allows;
+/// messages 2 and 4 are there, and three gaps of one are left.
+pub fn example_law()
+    ensures two_gaps { rounds (heard 8 ((3, twenty 3) ∷ [])) five 64 1 ≡ 2 }
+    ensures one_gap { rounds (heard 1 []) five 64 1 ≡ 3 }
+    ensures bursts_of_two { rounds (heard 1 []) five 64 2 ≡ 2 }
+    ensures bursts_of_three { rounds (heard 1 []) five 64 3 ≡ 1 }
+    ensures three_gaps { rounds (heard 8 ((2, twenty 2) ∷ (4, twenty 4) ∷ [])) five 64 1 ≡ 3 }
+    ensures missing { (missing (heard 8 ((3, twenty 3) ∷ [])) ≡ 4) × (missing (heard 1 []) ≡ 5)
+        × (missing (heard 8 ((2, twenty 2) ∷ (4, twenty 4) ∷ [])) ≡ 3) }
+{}

@@ -1,0 +1,12 @@
+//! Catching up: a receiver beside a journal is repaired in a counted number of requests.
+#![tactic(auto)]
+
+mod catching;
+pub mod laws;
+mod memory;
+mod rounding;
+#[cfg(test)]
+mod tests;
+
+pub use catching::catch_up;
+pub use memory::Memory;

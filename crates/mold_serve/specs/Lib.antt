@@ -1,0 +1,4 @@
+pub mod Answering
+pub mod Serving
+pub mod Tally
+pub mod Text

@@ -1,0 +1,4 @@
+pub mod NumberLemmas
+pub mod ReceiverLemmas
+pub mod SimLemmas
+pub mod WordLemmas

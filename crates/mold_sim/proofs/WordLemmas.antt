@@ -1,0 +1,54 @@
+-- Where words are cut.
+use Rattle.std.proofs.Common.{◌≡◌, ℕ, zero, suc, ◌+◌, ◌<◌, true, false, eqb, List, [], ◌∷◌, length, take, drop, refl, sym, ap, ◌∙◌, inl, inr, arith, add-one}
+use Rattle.std.proofs.lemmas.Bool.{cond-true, cond-false, cases_Bool}
+use Rattle.memchr.specs.Find.{NoneBefore, Nowhere, Passes, is_byte}
+use Rattle.mold_devices.specs.Lines.{onto_first}
+use Rattle.mold_sim.specs.Script.{words_of}
+
+-- the byte at this place is a space
+abbrev pub IsSpace : List ℕ → ℕ → Type 0
+IsSpace = Passes (is_byte 32)
+
+no_space : (byte : ℕ) → (eqb byte 32 ≡ true → ⊥) → eqb byte 32 ≡ false
+no_space byte none = elim (cases_Bool (eqb byte 32)) [ inl is ↦ absurd (none is) | inr is ↦ is ]
+
+-- without a space a line is one word
+pub one_word : (line : List ℕ) → Nowhere (IsSpace line) 0 (length line) → words_of line ≡ line ∷ []
+one_word [] none = refl
+one_word (byte ∷ bytes) none =
+    cond-false (eqb byte 32) _ _ (no_space byte (none 0 (omega arith) (omega arith)))
+    ∙ ap (onto_first byte) (one_word bytes (λ k low high is. none (suc k) (omega arith) (omega arith) is))
+
+first_cut : (line : List ℕ) (at : ℕ) → at < length line → IsSpace line at → Nowhere (IsSpace line) 0 at →
+    words_of line ≡ take at line ∷ words_of (drop (suc at) line)
+first_cut [] at lt is none = absurd (omega arith)
+first_cut (byte ∷ bytes) zero lt is none = cond-true (eqb byte 32) _ _ is
+first_cut (byte ∷ bytes) (suc at) lt is none =
+    cond-false (eqb byte 32) _ _ (no_space byte (none 0 (omega arith) (omega arith)))
+    ∙ ap (onto_first byte)
+    (first_cut bytes at (omega arith) is (λ k low high space. none (suc k) (omega arith) (omega arith) space))
+
+-- the first space ends the first word
+pub first_word : (line : List ℕ) (at : ℕ) → NoneBefore (IsSpace line) 0 (length line) at → IsSpace line at →
+    words_of line ≡ take at line ∷ words_of (drop (at + 1) line)
+first_word line at none is =
+    first_cut line at none.high is none.before
+    ∙ ap (λ (n : ℕ). take at line ∷ words_of (drop n line)) (sym (add-one at))
+
+onto_some : (byte : ℕ) (words : List (List ℕ)) → 0 < length (onto_first byte words)
+onto_some byte [] = omega arith
+onto_some byte (word ∷ words) = omega arith
+
+some_word : (line : List ℕ) → 0 < length (words_of line)
+some_word [] = omega arith
+some_word (byte ∷ bytes) = elim (cases_Bool (eqb byte 32)) [
+  | inl is ↦ rw (cond-true (eqb byte 32) _ _ is) (omega arith)
+  | inr is ↦ rw (cond-false (eqb byte 32) _ _ is) (onto_some byte (words_of bytes))
+]
+
+-- a line with four spaces has more than four words
+pub five_words : (line one two three four first second third fourth : List ℕ) →
+    words_of line ≡ first ∷ words_of one → words_of one ≡ second ∷ words_of two →
+    words_of two ≡ third ∷ words_of three → words_of three ≡ fourth ∷ words_of four → 4 < length (words_of line)
+five_words line one two three four first second third fourth p q r s =
+    rw (p, q, r, s) (let some = some_word four in omega arith)

@@ -1,0 +1,5 @@
+pub mod Actions
+pub mod Reports
+pub mod Script
+pub mod Sim
+pub mod Words

@@ -1,0 +1,104 @@
+-- What is printed of an event: what it did, or why it is refused; and of a receiver at the end.
+use Rattle.std.specs.Prelude.{ℕ, ◌+◌, ◌-◌, List, [], ◌∷◌, ◌++◌, length, codes, decimal, Bool, nat_lt, if◌then◌else◌, Option, None, Some}
+use Rattle.mold_receiver.specs.declared.refused.Refused.{Refused}
+use Rattle.mold_receiver.specs.declared.refused.Refused.TheVariants as refused
+use Rattle.mold_session.specs.declared.error.AnswerError.{AnswerError}
+use Rattle.mold_session.specs.declared.error.AnswerError.TheVariants as answer
+use Rattle.mold_session.specs.declared.error.AppendError.{AppendError}
+use Rattle.mold_session.specs.declared.error.AppendError.TheVariants as append
+use Rattle.mold_text.specs.Line.{line_of}
+use Rattle.mold_text.specs.Text.{fault_words}
+use Rattle.mold_world.specs.Steps.{is_finished}
+use Rattle.mold_world.specs.World.{PlaceState}
+use Rattle.mold_world.specs.declared.report.Report.{Report}
+use Rattle.mold_world.specs.declared.report.Report.TheVariants as report
+use Rattle.mold_world.specs.declared.report.SessionRefusal.{SessionRefusal}
+use Rattle.mold_world.specs.declared.report.SessionRefusal.TheVariants as session
+use Rattle.mold_world.specs.declared.report.WorldError.{WorldError}
+use Rattle.mold_world.specs.declared.report.WorldError.TheVariants as error
+
+-- why a message is not published: a name and its number
+abbrev pub append_words : AppendError → List (List ℕ)
+append_words append.Closed = codes "Closed" ∷ []
+append_words (append.TooLong len) = codes "TooLong" ∷ decimal len ∷ []
+append_words append.Full = codes "Full" ∷ []
+append_words append.Memory = codes "Memory" ∷ []
+
+-- why a request is not answered
+abbrev pub answer_words : AnswerError → List (List ℕ)
+answer_words (answer.RequestLength len) = codes "RequestLength" ∷ decimal len ∷ []
+answer_words answer.WrongSession = codes "WrongSession" ∷ []
+answer_words answer.SequenceZero = codes "SequenceZero" ∷ []
+answer_words answer.EmptyRequest = codes "EmptyRequest" ∷ []
+answer_words (answer.Ahead next) = codes "Ahead" ∷ decimal next ∷ []
+
+-- why publisher or server refuse
+abbrev pub session_words : SessionRefusal → List (List ℕ)
+session_words (session.Append why) = append_words why
+session_words (session.Close unsent) = codes "Unsent" ∷ decimal unsent.count ∷ []
+session_words (session.Answer why) = answer_words why
+
+-- why an event is refused; of what publisher or server refuse, their reason alone. The last four are never
+-- told of an event
+abbrev pub error_words : WorldError → List (List ℕ)
+error_words error.NoReceiver = codes "NoReceiver" ∷ []
+error_words error.NoSuchDatagram = codes "NoSuchDatagram" ∷ []
+error_words error.NotNoise = codes "NotNoise" ∷ []
+error_words (error.NotReached next) = codes "NotReached" ∷ decimal next ∷ []
+error_words (error.Session why) = session_words why
+error_words error.Memory = codes "Memory" ∷ []
+error_words error.BadLimit = codes "BadLimit" ∷ []
+error_words (error.BadWindow r) = codes "BadWindow" ∷ decimal r ∷ []
+error_words error.BadBurst = codes "BadBurst" ∷ []
+
+-- why a receiver refuses a datagram; `Malformed` is followed by why the bytes spell no packet
+abbrev pub noise_words : Refused → List (List ℕ)
+noise_words (refused.Malformed fault) = codes "Malformed" ∷ fault_words fault
+noise_words refused.WrongSession = codes "WrongSession" ∷ []
+noise_words refused.SequenceZero = codes "SequenceZero" ∷ []
+noise_words refused.PastLast = codes "PastLast" ∷ []
+noise_words (refused.EndConflict end) = codes "EndConflict" ∷ decimal end ∷ []
+noise_words (refused.EndBelow known) = codes "EndBelow" ∷ decimal known ∷ []
+noise_words (refused.PastEnd end) = codes "PastEnd" ∷ decimal end ∷ []
+noise_words (refused.Conflict number) = codes "Conflict" ∷ decimal number ∷ []
+noise_words refused.Memory = codes "Memory" ∷ []
+
+-- the places of the datagrams of an answer: the first, and the last too where there are several
+abbrev pub burst_words : ℕ → ℕ → List (List ℕ)
+burst_words first count =
+    if nat_lt 1 count
+    then codes "sent" ∷ decimal first ∷ codes "to" ∷ decimal (first + count - 1) ∷ []
+    else codes "sent" ∷ decimal first ∷ []
+
+-- what an event did
+abbrev pub report_words : Report → List (List ℕ)
+report_words (report.Published number) = codes "published" ∷ decimal number ∷ []
+report_words (report.Sent place) = codes "sent" ∷ decimal place ∷ []
+report_words (report.Burst first count) = burst_words first count
+report_words report.Nothing = codes "nothing" ∷ []
+report_words report.Closed = codes "closed" ∷ []
+report_words (report.Delivered taken) =
+    codes "delivered" ∷ decimal taken.handed ∷ decimal taken.kept ∷ decimal taken.beyond ∷ []
+report_words (report.NoiseRefused why) = codes "noise" ∷ noise_words why
+report_words (report.Restarted next) = codes "restarted" ∷ decimal next ∷ []
+
+-- whether a receiver has the whole session
+abbrev pub state_word : Bool → List ℕ
+state_word finished = if finished then codes "finished" else codes "open"
+
+-- the line of the receiver with this number
+abbrev pub receiver_line : ℕ → PlaceState → List ℕ
+receiver_line number place = line_of
+    (codes "receiver" ∷ decimal number ∷ codes "next" ∷ decimal place.arbitration.view.next
+    ∷ codes "known" ∷ decimal place.arbitration.view.known ∷ codes "book" ∷ decimal (length place.book.messages)
+    ∷ state_word (is_finished place.arbitration.view) ∷ [])
+
+-- the same where there is such a receiver
+abbrev pub some_receiver_line : ℕ → Option PlaceState → List ℕ
+some_receiver_line number None = []
+some_receiver_line number (Some place) = receiver_line number place
+
+-- the lines of receivers that are numbered from the first one's number on
+unfoldable pub receiver_lines : ℕ → List PlaceState → List ℕ
+receiver_lines number [] = []
+receiver_lines number (place ∷ places) = receiver_line number place ++ receiver_lines (number + 1) places

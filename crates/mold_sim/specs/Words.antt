@@ -1,0 +1,11 @@
+-- The words of a line as code has them.
+use Rattle.std.specs.Prelude.{ℕ, List, [], ◌∷◌}
+use Rattle.mold_sim.specs.declared.words.Words.{Words}
+use Rattle.mold_sim.specs.declared.words.Words.TheVariants.{One, Two, Three, Four}
+
+-- some words as a list
+abbrev pub words_in : Words → List (List ℕ)
+words_in (One first) = first.now ∷ []
+words_in (Two first second) = first.now ∷ second.now ∷ []
+words_in (Three first second third) = first.now ∷ second.now ∷ third.now ∷ []
+words_in (Four first second third fourth) = first.now ∷ second.now ∷ third.now ∷ fourth.now ∷ []

@@ -1,0 +1,15 @@
+//! `mold sim`: a script of events is read line by line, each event is applied to a world, and what comes of
+//! it is printed.
+#![tactic(auto)]
+
+mod action;
+mod number;
+mod reading;
+mod refusal;
+mod report;
+mod sim;
+#[cfg(test)]
+mod tests;
+mod words;
+
+pub use sim::Sim;

@@ -1,0 +1,31 @@
+//! Numbers in decimal digits.
+
+ghost use Rattle.std.specs.Prelude.{◌≡◌};
+ghost use Rattle.mold_sim.specs.Script.{is_sized, number_in};
+
+/// The most digits that a number is given in.
+const MOST_DIGITS: usize = 20;
+
+fn is_sized(word: &[u8]) -> bool
+    ensures { result ≡ is_sized word.now }
+{
+    !word.is_empty() && word.len() <= MOST_DIGITS
+}
+
+/// The number that the word spells: 1 to 20 decimal digits, leading zeros among them, and at most
+/// 18446744073709551615.
+pub fn read_number(word: &[u8]) -> Option<u64>
+    ensures { result ≡ number_in word.now }
+{
+    if !is_sized(word) {
+        return None;
+    }
+    let mut number = 0u128;
+    'digits: for digit in word {
+        if !digit.is_ascii_digit() {
+            return None;
+        }
+        number = number * 10 + u128::from(*digit - b'0');
+    }
+    u64::try_from(number).ok()
+}

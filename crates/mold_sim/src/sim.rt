@@ -1,0 +1,133 @@
+//! `mold sim`: a script of events, each of which is applied to a world.
+
+ghost use Rattle.std.specs.Prelude.{◌≡◌, ◌≤◌, ◌++◌, length, take, IfOk, OnErr};
+ghost use Rattle.mold_sim.specs.Sim.{sim_beginning, told};
+
+use crate::reading::read_line;
+use crate::refusal::push_error;
+use crate::report::{push_receivers, push_report};
+use mold_devices::{LineCommand, Lines, ReadFault, Source, Turn};
+use mold_text::{Word, push_refused};
+use mold_wire::Session;
+use mold_world::World;
+use std::alloc::{AllocError, Global};
+use std::marker::Model;
+
+/// The most receivers of a script.
+const RECEIVERS: usize = 8;
+
+// Applies the event that the line says and writes what came of it, and answers whether the line is refused.
+// The event's bytes go into `bytes`, whatever that held.
+#[tactic(auto, unfolding(crate::specs::Sim::told))]
+fn tell_line(
+    world: &mut World,
+    line: &[u8],
+    bytes: &mut Vec<u8>,
+    out: &mut Vec<u8>,
+) -> Result<bool, AllocError>
+    ensures text { IfOk result (λ _. out.new.items ≡ out.old.items ++ (told world.old line.now).text) }
+    ensures refused { IfOk result (λ refused. refused ≡ (told world.old line.now).refused) }
+    ensures world { IfOk result (λ _. world.new ≡ (told world.old line.now).world) }
+    ensures kept { OnErr result (take (length out.old.items) out.new.items ≡ out.old.items) }
+{
+    if line.is_empty() {
+        return Ok(false);
+    }
+    let Some(action) = read_line(line, bytes)? else {
+        push_refused(out, &[Word::Text(b"Syntax")])?;
+        return Ok(true);
+    };
+    match world.apply(&action.with(bytes.as_slice())) {
+        Ok(report) => {
+            push_report(out, report)?;
+            Ok(false)
+        }
+        Err(why) => {
+            push_error(out, why)?;
+            Ok(true)
+        }
+    }
+}
+
+/// The command `sim`: it applies the events that the lines of its input say to a world, and prints what
+/// comes of each, and how the receivers stand at the end.
+#[derive(Drop)]
+pub struct Sim {
+    world: World,
+    refused: bool,
+    bytes: Vec<u8>,
+}
+
+impl Model for Sim {
+    ghost use Rattle.mold_sim.specs.Sim.{SimState, sim_code};
+
+    ghost Value = { SimState };
+
+    ghost coded = { sim_code };
+
+    ghost view = { λ s. record { world = s.world; refused = s.refused } };
+}
+
+impl Sim {
+    /// A session that begins, with so many receivers of this window. The limits are in bytes, `burst` is in
+    /// datagrams and `window` in messages. It takes the memory of two datagrams and of the windows.
+    pub fn new(
+        alloc: Global,
+        session: Session,
+        limit: usize,
+        server_limit: usize,
+        burst: u16,
+        window: u32,
+        receivers: usize,
+    ) -> Result<Sim, AllocError>
+        requires limit { 64 ≤ limit }
+        requires server_limit { limit ≤ server_limit }
+        requires greatest { server_limit ≤ 65507 }
+        requires some_burst { 1 ≤ burst }
+        requires burst { burst ≤ 64 }
+        requires some_window { 1 ≤ window }
+        requires window { window ≤ 65536 }
+        requires some_receiver { 1 ≤ receivers }
+        requires receivers { receivers ≤ 8 }
+        ensures { IfOk result (λ sim. sim ≡ sim_beginning session limit server_limit burst window receivers) }
+    {
+        let windows = [window; RECEIVERS];
+        // The ranges are those of a world, so only memory can be wanting.
+        let Ok(world) = World::new(
+            alloc,
+            session,
+            limit,
+            server_limit,
+            burst,
+            &windows[..receivers],
+        ) else {
+            return Err(AllocError);
+        };
+        Ok(Sim {
+            world,
+            refused: false,
+            bytes: Vec::new(alloc),
+        })
+    }
+}
+
+impl LineCommand for Sim {
+    ghost use Rattle.mold_sim.specs.Sim.{sim_printing};
+
+    ghost prints = { sim_printing };
+
+    fn turn<S: Source>(
+        &mut self,
+        lines: &mut Lines,
+        source: &mut S,
+        out: &mut Vec<u8>,
+    ) -> Result<Turn, ReadFault> {
+        if !lines.advance(source)? {
+            push_receivers(out, &self.world)?;
+            let status = if self.refused { 2 } else { 0 };
+            return Ok(Turn::Done { status });
+        }
+        self.refused |= tell_line(&mut self.world, lines.line(), &mut self.bytes, out)?;
+        Ok(Turn::More)
+    }
+}

@@ -1,0 +1,47 @@
+//! A line cut into words.
+
+ghost use Rattle.std.specs.Prelude.{◌≡◌, ◌<◌, [], ◌∷◌, length, MatchOption};
+ghost use Rattle.mold_sim.specs.Script.{words_of};
+ghost use Rattle.mold_sim.specs.Words.{words_in};
+
+use memchr::memchr;
+
+/// The words of a line, as many as an event has.
+#[derive(Drop)]
+pub enum Words<'a> {
+    One(&'a [u8]),
+    Two(&'a [u8], &'a [u8]),
+    Three(&'a [u8], &'a [u8], &'a [u8]),
+    Four(&'a [u8], &'a [u8], &'a [u8], &'a [u8]),
+}
+
+// The first word and what stands behind the space that ends it; none where no space is left.
+fn split_word(line: &[u8]) -> Option<(&[u8], &[u8])>
+    ensures { MatchOption result (words_of line.now ≡ line.now ∷ [])
+        (λ parts. words_of line.now ≡ parts.0.now ∷ words_of parts.1.now) }
+{
+    let Some(at) = memchr(b' ', line) else {
+        return None;
+    };
+    Some((&line[..at], &line[at + 1..]))
+}
+
+/// The line's words; none where there are more than four.
+pub fn cut(line: &[u8]) -> Option<Words<'_>>
+    ensures { MatchOption result (4 < length (words_of line.now))
+        (λ words. words_of line.now ≡ words_in words) }
+{
+    let Some((first, behind)) = split_word(line) else {
+        return Some(Words::One(line));
+    };
+    let Some((second, behind)) = split_word(behind) else {
+        return Some(Words::Two(first, behind));
+    };
+    let Some((third, behind)) = split_word(behind) else {
+        return Some(Words::Three(first, second, behind));
+    };
+    match split_word(behind) {
+        Some(_) => None,
+        None => Some(Words::Four(first, second, third, behind)),
+    }
+}

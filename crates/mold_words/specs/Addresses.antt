@@ -1,0 +1,52 @@
+-- Addresses of ports, as words say them.
+use Rattle.std.specs.Prelude.{ℕ, ◌==◌, ◌||◌, ◌&&◌, List, [], ◌∷◌, Bool, not, length, nat_le, nat_lt, if◌then◌else◌}
+use Rattle.std.specs.Prelude.{Option, None, Some}
+use Rattle.std.specs.List.{after_first, before_first, position_or_len, slice_index}
+use Rattle.std.specs.Option.{option_and_then}
+use Rattle.clap.specs.Words.{Text}
+use Rattle.mold_words.specs.Values.{number_of}
+
+-- what stands before the first byte of this kind, and what behind it; none where there is none
+abbrev pub cut_at : ℕ → Text → Option (Text × Text)
+cut_at byte text =
+    if nat_lt (position_or_len (λ b. b == byte) text) (length text)
+    then Some (before_first (λ b. b == byte) text, after_first (λ b. b == byte) text)
+    else None
+
+-- the first digit is not 0 where there are more
+abbrev pub is_plain : Text → Bool
+is_plain text = nat_le (length text) 1 || not (slice_index text 0 == 48)
+
+-- a number in decimal digits without zeros before it
+unfoldable pub plain_number : ℕ → Text → Option ℕ
+plain_number most text = if is_plain text then number_of 0 most text else None
+
+-- four numbers of a byte each, with points between them
+unfoldable pub host_of : Text → Option (List ℕ)
+host_of text =
+    option_and_then
+    (λ front. option_and_then
+    (λ middle. option_and_then
+    (λ back. option_and_then
+    (λ first. option_and_then
+    (λ second. option_and_then
+    (λ third. option_and_then
+    (λ fourth. Some (first ∷ second ∷ third ∷ fourth ∷ []))
+    (plain_number 255 back.1))
+    (plain_number 255 back.0))
+    (plain_number 255 middle.0))
+    (plain_number 255 front.0))
+    (cut_at 46 middle.1))
+    (cut_at 46 front.1))
+    (cut_at 46 text)
+
+-- a host, a colon and a port's number
+unfoldable pub address_of : Text → Option (List ℕ × ℕ)
+address_of text =
+    option_and_then
+    (λ parts. option_and_then
+    (λ host. option_and_then
+    (λ port. Some (host, port))
+    (plain_number 65535 parts.1))
+    (host_of parts.0))
+    (cut_at 58 text)

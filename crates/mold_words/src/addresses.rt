@@ -1,0 +1,75 @@
+//! The addresses that texts of options stand for.
+
+ghost use Rattle.std.specs.Prelude.{◌≡◌, option_map};
+ghost use Rattle.mold_words.specs.Addresses.{address_of, cut_at, host_of, is_plain, plain_number};
+ghost use Rattle.mold_words.specs.Orders.{address_view};
+
+use crate::address::Address;
+use crate::values::number_of;
+
+// What stands before the first point or colon, and what behind it.
+fn cut_at_point(text: &str) -> Option<(&str, &str)>
+    ensures { option_map (λ parts. (parts.0.now, parts.1.now)) result ≡ cut_at 46 text.now }
+{
+    text.split_once('.')
+}
+
+fn cut_at_colon(text: &str) -> Option<(&str, &str)>
+    ensures { option_map (λ parts. (parts.0.now, parts.1.now)) result ≡ cut_at 58 text.now }
+{
+    text.split_once(':')
+}
+
+fn is_plain(text: &str) -> bool
+    ensures { result ≡ is_plain text.now }
+{
+    text.len() <= 1 || text.as_bytes()[0] != b'0'
+}
+
+#[tactic(auto, unfolding(crate::specs::Addresses::plain_number))]
+fn byte_of(text: &str) -> Option<u8>
+    ensures { result ≡ plain_number 255 text.now }
+{
+    if is_plain(text) {
+        Some(number_of(text, 0, 255)? as u8)
+    } else {
+        None
+    }
+}
+
+#[tactic(auto, unfolding(crate::specs::Addresses::plain_number))]
+fn port_of(text: &str) -> Option<u16>
+    ensures { result ≡ plain_number 65535 text.now }
+{
+    if is_plain(text) {
+        Some(number_of(text, 0, 65535)? as u16)
+    } else {
+        None
+    }
+}
+
+#[tactic(auto, unfolding(crate::specs::Addresses::host_of))]
+fn host_of(text: &str) -> Option<[u8; 4]>
+    ensures { result ≡ host_of text.now }
+{
+    let (first, rest) = cut_at_point(text)?;
+    let (second, rest) = cut_at_point(rest)?;
+    let (third, fourth) = cut_at_point(rest)?;
+    let first = byte_of(first)?;
+    let second = byte_of(second)?;
+    let third = byte_of(third)?;
+    let fourth = byte_of(fourth)?;
+    Some([first, second, third, fourth])
+}
+
+/// The address that four numbers of 0 to 255 with points between them, a colon and a port's number spell, all
+/// in decimal digits without zeros before them.
+#[tactic(auto, unfolding(crate::specs::Addresses::address_of))]
+pub(crate) fn address_of(text: &str) -> Option<Address>
+    ensures { option_map address_view result ≡ address_of text.now }
+{
+    let (host, port) = cut_at_colon(text)?;
+    let host = host_of(host)?;
+    let port = port_of(port)?;
+    Some(Address { host, port })
+}

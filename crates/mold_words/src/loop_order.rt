@@ -1,0 +1,31 @@
+//! What `loop` is told.
+
+ghost use Rattle.std.specs.Prelude.{◌≡◌, ◌≤◌, true};
+ghost use Rattle.std.specs.List.{list_all};
+ghost use Rattle.mold_words.specs.Values.{is_character};
+
+use crate::limits::Limits;
+
+/// The session that `loop` sends to itself.
+#[derive(Clone, Copy, Debug, PartialEq, Eq)]
+pub struct LoopOrder {
+    /// The session's name in characters 20 to 7E, spaces behind the ones that were given.
+    pub session: [u8; 10],
+    /// How long packets may be.
+    pub limits: Limits,
+    /// The receiver's window in messages, 1 to 65,536.
+    pub window: u32,
+    /// The most packets that answer a request, 1 to 64.
+    pub burst: u16,
+    /// Each so many-th data packet is not sent on line A, up to 1,000; 0 leaves none out.
+    pub drop_a: u32,
+    /// Each so many-th data packet is not sent on line B, up to 1,000; 0 leaves none out.
+    pub drop_b: u32,
+    /// The most rounds of requests that are made behind the messages, 1 to 1,000,000.
+    pub turns: u32,
+    ghost named: { list_all is_character session ≡ true },
+    ghost windowed: { (1 ≤ window) × (window ≤ 65536) },
+    ghost bursting: { (1 ≤ burst) × (burst ≤ 64) },
+    ghost dropping: { (drop_a ≤ 1000) × (drop_b ≤ 1000) },
+    ghost turning: { (1 ≤ turns) × (turns ≤ 1000000) },
+}

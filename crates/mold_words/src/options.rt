@@ -1,0 +1,181 @@
+//! The values of a command's options, as a parse found them.
+
+ghost use Rattle.std.specs.Prelude.{◌≡◌, ◌≤◌, IfOk, MatchResult, None, Some, false, option_map, true};
+ghost use Rattle.std.specs.List.{list_all};
+ghost use Rattle.clap.specs.Words.{first_of, found_of, rows_of};
+ghost use Rattle.mold_words.specs.NoOrders.{LacksValue, is_address};
+ghost use Rattle.mold_words.specs.Orders.{address_in, address_view, flag_in, has_no_address, is_no_address};
+ghost use Rattle.mold_words.specs.Orders.{burst_in, limit_in, limits_in, number_in, session_in, turns_in, window_in};
+ghost use Rattle.mold_words.specs.Values.{is_character};
+
+use crate::address::Address;
+use crate::addresses::address_of;
+use crate::limits::Limits;
+use crate::no_order::NoOrder;
+use crate::values::{number_of, session_of};
+use clap::ArgMatches;
+
+/// What holds where an option is not given.
+const USUAL_LIMIT: u64 = 1400;
+
+const USUAL_WINDOW: u64 = 1024;
+
+const USUAL_TURNS: u64 = 1000;
+
+/// The most turns.
+const MOST_TURNS: u64 = 1_000_000;
+
+/// The text of an option that has one.
+pub(crate) fn required_in<'a>(
+    options: &ArgMatches<'a>,
+    name: &'static str,
+) -> Result<&'a str, NoOrder>
+    ensures { MatchResult result
+        (λ text. first_of name.now (rows_of (found_of options.now)) ≡ Some text.now)
+        (LacksValue (first_of name.now (rows_of (found_of options.now)))) }
+{
+    text_in(options, name).ok_or(NoOrder::Missing { name })
+}
+
+/// Whether the flag was given.
+pub(crate) fn flag_in(options: &ArgMatches<'_>, name: &str) -> bool
+    ensures { result ≡ flag_in name.now (rows_of (found_of options.now)) }
+{
+    text_in(options, name).is_some_and(|text| text == "true")
+}
+
+/// The session of the option.
+pub(crate) fn session_in(options: &ArgMatches<'_>, name: &'static str) -> Result<[u8; 10], NoOrder>
+    ensures value { MatchResult result
+        (λ session. session_in name.now (rows_of (found_of options.now)) ≡ Some session)
+        (LacksValue (session_in name.now (rows_of (found_of options.now)))) }
+    ensures named { IfOk result (λ session. list_all is_character session ≡ true) }
+{
+    match text_in(options, name) {
+        Some(text) => session_of(text).ok_or(NoOrder::Session { name }),
+        None => Err(NoOrder::Session { name }),
+    }
+}
+
+/// The number of the option, in its range, and the usual one where it has no text.
+pub(crate) fn number_in(
+    options: &ArgMatches<'_>,
+    name: &'static str,
+    usual: u64,
+    least: u64,
+    most: u64,
+) -> Result<u64, NoOrder>
+    requires { (least ≤ usual) × (usual ≤ most) }
+    ensures value { MatchResult result
+        (λ number. number_in name.now usual least most (rows_of (found_of options.now)) ≡ Some number)
+        (LacksValue (number_in name.now usual least most (rows_of (found_of options.now)))) }
+    ensures within { IfOk result (λ number. (least ≤ number) × (number ≤ most)) }
+{
+    match text_in(options, name) {
+        Some(text) => number_of(text, least, most).ok_or(NoOrder::Number { name, least, most }),
+        None => Ok(usual),
+    }
+}
+
+// The text of the option, where it has one.
+fn text_in<'a>(options: &ArgMatches<'a>, name: &str) -> Option<&'a str>
+    ensures { option_map (λ text. text.now) result
+        ≡ first_of name.now (rows_of (found_of options.now)) }
+{
+    options.get_str(name)
+}
+
+/// The most bytes of a packet.
+pub(crate) fn limit_in(options: &ArgMatches<'_>, name: &'static str) -> Result<usize, NoOrder>
+    ensures value { MatchResult result
+        (λ number. limit_in name.now (rows_of (found_of options.now)) ≡ Some number)
+        (LacksValue (limit_in name.now (rows_of (found_of options.now)))) }
+    ensures within { IfOk result (λ number. (64 ≤ number) × (number ≤ 65507)) }
+{
+    Ok(number_in(options, name, USUAL_LIMIT, 64, 65507)? as usize)
+}
+
+/// The messages that a receiver looks ahead.
+pub(crate) fn window_in(options: &ArgMatches<'_>) -> Result<u32, NoOrder>
+    ensures value { MatchResult result
+        (λ number. window_in (rows_of (found_of options.now)) ≡ Some number)
+        (LacksValue (window_in (rows_of (found_of options.now)))) }
+    ensures within { IfOk result (λ number. (1 ≤ number) × (number ≤ 65536)) }
+{
+    Ok(number_in(options, "window", USUAL_WINDOW, 1, 65536)? as u32)
+}
+
+/// The most packets that answer a request.
+pub(crate) fn burst_in(options: &ArgMatches<'_>) -> Result<u16, NoOrder>
+    ensures value { MatchResult result
+        (λ number. burst_in (rows_of (found_of options.now)) ≡ Some number)
+        (LacksValue (burst_in (rows_of (found_of options.now)))) }
+    ensures within { IfOk result (λ number. (1 ≤ number) × (number ≤ 64)) }
+{
+    Ok(number_in(options, "burst", 1, 1, 64)? as u16)
+}
+
+/// How many turns are made.
+pub(crate) fn turns_in(options: &ArgMatches<'_>) -> Result<u32, NoOrder>
+    ensures value { MatchResult result
+        (λ number. turns_in (rows_of (found_of options.now)) ≡ Some number)
+        (LacksValue (turns_in (rows_of (found_of options.now)))) }
+    ensures within { IfOk result (λ number. (1 ≤ number) × (number ≤ 1000000)) }
+{
+    Ok(number_in(options, "turns", USUAL_TURNS, 1, MOST_TURNS)? as u32)
+}
+
+/// The limits of the publisher and of its server, which has room for the publisher's messages.
+#[tactic(auto, unfolding(crate::specs::Orders::limits_in))]
+pub(crate) fn limits_in(options: &ArgMatches<'_>) -> Result<Limits, NoOrder>
+    ensures { MatchResult result
+        (λ limits. limits_in (rows_of (found_of options.now)) ≡ Some (limits.limit, limits.server_limit))
+        (LacksValue (limits_in (rows_of (found_of options.now)))) }
+{
+    let limit = limit_in(options, "limit")?;
+    let server_limit = limit_in(options, "server-limit")?;
+    if server_limit < limit {
+        return Err(NoOrder::ServerLimit);
+    }
+    Ok(Limits {
+        limit,
+        server_limit,
+    })
+}
+
+/// The address of the option. That its text is an address is found before by `check_addresses`.
+pub(crate) fn address_in(options: &ArgMatches<'_>, name: &'static str) -> Result<Address, NoOrder>
+    ensures { MatchResult result
+        (λ address. address_in name.now (rows_of (found_of options.now)) ≡ Some (address_view address))
+        (LacksValue (address_in name.now (rows_of (found_of options.now)))) }
+{
+    match text_in(options, name) {
+        Some(text) => address_of(text).ok_or(NoOrder::Missing { name }),
+        None => Err(NoOrder::Missing { name }),
+    }
+}
+
+// Refuses a text of the option that is no address.
+fn check_address(options: &ArgMatches<'_>, name: &'static str) -> Result<(), NoOrder>
+    ensures { MatchResult result
+        (λ _. is_no_address (rows_of (found_of options.now)) name.now ≡ false)
+        (λ none. (is_no_address (rows_of (found_of options.now)) name.now ≡ true) × (is_address none ≡ true)) }
+{
+    match text_in(options, name) {
+        Some(text) if address_of(text).is_none() => Err(NoOrder::Address { name }),
+        _ => Ok(()),
+    }
+}
+
+/// Refuses options that are addresses by their names, and whose texts are none.
+#[tactic(auto, unfolding(crate::specs::Orders::has_no_address))]
+pub(crate) fn check_addresses(options: &ArgMatches<'_>) -> Result<(), NoOrder>
+    ensures { MatchResult result
+        (λ _. has_no_address (rows_of (found_of options.now)) ≡ false)
+        (λ none. (has_no_address (rows_of (found_of options.now)) ≡ true) × (is_address none ≡ true)) }
+{
+    check_address(options, "a")?;
+    check_address(options, "b")?;
+    check_address(options, "server")?;
+    check_address(options, "bind")
+}

@@ -1,0 +1,26 @@
+//! What `sim` is told.
+
+ghost use Rattle.std.specs.Prelude.{◌≡◌, ◌≤◌, true};
+ghost use Rattle.std.specs.List.{list_all};
+ghost use Rattle.mold_words.specs.Values.{is_character};
+
+use crate::limits::Limits;
+
+/// The session that `sim` runs, and its receivers.
+#[derive(Clone, Copy, Debug, PartialEq, Eq)]
+pub struct SimOrder {
+    /// The session's name in characters 20 to 7E, spaces behind the ones that were given.
+    pub session: [u8; 10],
+    /// How long packets may be.
+    pub limits: Limits,
+    /// The window of each receiver in messages, 1 to 65,536.
+    pub window: u32,
+    /// How many receivers there are, 1 to 8.
+    pub receivers: usize,
+    /// The most packets that answer a request, 1 to 64.
+    pub burst: u16,
+    ghost named: { list_all is_character session ≡ true },
+    ghost windowed: { (1 ≤ window) × (window ≤ 65536) },
+    ghost received: { (1 ≤ receivers) × (receivers ≤ 8) },
+    ghost bursting: { (1 ≤ burst) × (burst ≤ 64) },
+}

@@ -1,0 +1,185 @@
+-- What an event does to a receiver, by what the receiver's calls ensure.
+use Rattle.std.proofs.Common.{◌≡◌, ℕ, zero, suc, ◌<◌, cond, leb, ltb, List, [], ◌∷◌, length}
+use Rattle.std.proofs.Common.{refl, sym, ap, subst, ◌∙◌, inl, inr, arith}
+use Rattle.std.specs.Prelude.{◌&&◌, Option, None, Some, Bool, true, false, Result, Ok, Err, IsOk, slice_get, slice_set}
+use Rattle.std.proofs.lemmas.Bool.{and_parts, le-leb, leb-true, ltb-false, ltb-true}
+use Rattle.std.proofs.lemmas.Option.{slice_get_past}
+use Rattle.mold_wire.specs.Reading.{reading}
+use Rattle.mold_receiver.specs.Receive.{IsCopied, Reception, receive}
+use Rattle.mold_receiver.specs.declared.line.Line.{Line}
+use Rattle.mold_receiver.specs.declared.refused.Refused.{Refused}
+use Rattle.mold_world.proofs.EventLemmas.{not_own}
+use Rattle.mold_world.specs.Effect.{Outcome, delivered, effect, given, is_own, noised, renewed, restarted, told, with_place}
+use Rattle.mold_world.specs.Effect.Happening.{Deliver, Noise, Restart}
+use Rattle.mold_world.specs.Kept.{IsWorld}
+use Rattle.mold_world.specs.Refusals.{Applies, Refuses}
+use Rattle.mold_world.specs.Renewals.{HasReached, Renews}
+use Rattle.mold_world.specs.World.{PlaceState, WorldState}
+use Rattle.mold_world.specs.declared.report.Report.{Report}
+use Rattle.mold_world.specs.declared.report.Report.TheVariants.{Restarted}
+use Rattle.mold_world.specs.declared.report.WorldError.{WorldError}
+use Rattle.mold_world.specs.declared.report.WorldError.TheVariants.{Memory, NoReceiver, NoSuchDatagram, NotNoise, NotReached}
+
+-- no element behind the last
+past_end :
+    {X : Type 0} (xs : List X) (count at : ℕ) (within : Bool) → ltb at count ≡ within → count ≡ length xs →
+    (at < count → false ≡ true) → slice_get xs at ≡ None
+past_end xs count at true is same outside = absurd (let e = outside (ltb-true at count is) in cc)
+past_end xs count at false is same outside =
+    let behind = ltb-false at count is in slice_get_past xs at (omega (arith, behind, same))
+
+pub none_there :
+    {X : Type 0} (xs : List X) (count at : ℕ) → count ≡ length xs → (at < count → false ≡ true) →
+    slice_get xs at ≡ None
+none_there xs count at same outside = past_end xs count at (ltb at count) refl same outside
+
+-- an element put where it was
+set_back : {X : Type 0} (xs : List X) (at : ℕ) (x : X) → slice_get xs at ≡ Some x → slice_set xs at x ≡ xs
+set_back [] at x is = refl
+set_back (first ∷ xs) zero x is = let e : first ≡ x = (let s = is in cc) in ap (λ t. t ∷ xs) (sym e)
+set_back (first ∷ xs) (suc at) x is = ap (λ t. first ∷ t) (set_back xs at x is)
+
+pub put_back :
+    (w : WorldState) (receiver : ℕ) (place new : PlaceState) → slice_get w.places receiver ≡ Some place →
+    new ≡ place → with_place w receiver new ≡ w
+put_back w receiver place new here same =
+    ap (λ (t : PlaceState). with_place w receiver t) same
+    ∙ ap (λ (t : List PlaceState). record w { places = t }) (set_back w.places receiver place here)
+
+pub deliver_nobody :
+    (w : WorldState) (receiver : ℕ) (line : Option Line) (at : ℕ) → slice_get w.places receiver ≡ None →
+    Refuses w (Deliver receiver line at) NoReceiver
+unfolding effect
+deliver_nobody w receiver line at none =
+    inr (ap (λ (t : Option PlaceState). delivered w receiver line t (slice_get w.sent at)) none)
+
+-- the row at a receiver and a datagram that are known to be there, or not
+deliver_at :
+    (w : WorldState) (receiver : ℕ) (line : Option Line) (at : ℕ) (place : PlaceState)
+    (datagram : Option (List ℕ)) → slice_get w.places receiver ≡ Some place → slice_get w.sent at ≡ datagram →
+    effect w (Deliver receiver line at) ≡ delivered w receiver line (Some place) datagram
+unfolding effect
+deliver_at w receiver line at place datagram here found =
+    λ j. delivered w receiver line (here j) (found j)
+
+pub deliver_nothing :
+    (w : WorldState) (receiver : ℕ) (line : Option Line) (at : ℕ) (place new : PlaceState) →
+    slice_get w.places receiver ≡ Some place → slice_get w.sent at ≡ None → new ≡ place →
+    Refuses w (Deliver receiver line at) NoSuchDatagram × (with_place w receiver new ≡ w)
+deliver_nothing w receiver line at place new here none same =
+    (inr (deliver_at w receiver line at place None here none), put_back w receiver place new here same)
+
+pub deliver_done :
+    (w : WorldState) (receiver : ℕ) (line : Option Line) (at : ℕ) (place new : PlaceState) (bytes : List ℕ)
+    (says : Report) → slice_get w.places receiver ≡ Some place → slice_get w.sent at ≡ Some bytes →
+    says ≡ told (receive place.arbitration.view bytes) → new ≡ given place line bytes →
+    effect w (Deliver receiver line at) ≡ Ok (says, with_place w receiver new)
+deliver_done w receiver line at place new bytes says here found reported is =
+    deliver_at w receiver line at place (Some bytes) here found
+    ∙ (λ j. Ok (sym reported j, with_place w receiver (sym is j)))
+
+pub deliver_wanting :
+    (w : WorldState) (receiver : ℕ) (line : Option Line) (at : ℕ) (place new : PlaceState) (bytes : List ℕ) →
+    slice_get w.places receiver ≡ Some place → slice_get w.sent at ≡ Some bytes →
+    IsCopied place.arbitration.view bytes → new ≡ place →
+    Refuses w (Deliver receiver line at) Memory × (with_place w receiver new ≡ w)
+deliver_wanting w receiver line at place new bytes here found copied same = (
+  inl (refl, record { place = place; bytes = bytes; here = here; found = found; copied = copied }),
+  put_back w receiver place new here same,
+)
+
+noise_at :
+    (w : WorldState) (receiver : ℕ) (line : Option Line) (bytes : List ℕ) (place : Option PlaceState) (own : Bool) →
+    slice_get w.places receiver ≡ place → own ≡ is_own w.publisher.journal.session (reading bytes) →
+    effect w (Noise receiver line bytes) ≡ noised w receiver line bytes place own
+unfolding effect
+noise_at w receiver line bytes place own here mine = λ j. noised w receiver line bytes (here j) (sym mine j)
+
+pub noise_nobody :
+    (w : WorldState) (receiver : ℕ) (line : Option Line) (bytes : List ℕ) → slice_get w.places receiver ≡ None →
+    Refuses w (Noise receiver line bytes) NoReceiver
+noise_nobody w receiver line bytes none =
+    inr (noise_at w receiver line bytes None (is_own w.publisher.journal.session (reading bytes)) none refl)
+
+pub noise_own :
+    (w : WorldState) (receiver : ℕ) (line : Option Line) (bytes : List ℕ) (place new : PlaceState) →
+    slice_get w.places receiver ≡ Some place → true ≡ is_own w.publisher.journal.session (reading bytes) →
+    new ≡ place → Refuses w (Noise receiver line bytes) NotNoise × (with_place w receiver new ≡ w)
+noise_own w receiver line bytes place new here mine same =
+    (inr (noise_at w receiver line bytes (Some place) true here mine), put_back w receiver place new here same)
+
+pub noise_done :
+    (w : WorldState) (receiver : ℕ) (line : Option Line) (bytes : List ℕ) (place new : PlaceState) (says : Report) →
+    slice_get w.places receiver ≡ Some place → false ≡ is_own w.publisher.journal.session (reading bytes) →
+    says ≡ told (receive place.arbitration.view bytes) → new ≡ given place line bytes →
+    effect w (Noise receiver line bytes) ≡ Ok (says, with_place w receiver new)
+noise_done w receiver line bytes place new says here other reported is =
+    noise_at w receiver line bytes (Some place) false here other
+    ∙ (λ j. Ok (sym reported j, with_place w receiver (sym is j)))
+
+-- nothing of bytes that are no packet of the session is copied
+pub noise_never_wants :
+    (w : WorldState) (receiver : ℕ) (bytes : List ℕ) (place : PlaceState) → IsWorld w →
+    slice_get w.places receiver ≡ Some place → false ≡ is_own w.publisher.journal.session (reading bytes) →
+    IsCopied place.arbitration.view bytes → ⊥
+noise_never_wants w receiver bytes place is here other copied =
+    let refused = not_own place.arbitration.view w.publisher.journal.session (reading bytes)
+    (is.places receiver place here).session (sym other)
+    in
+    let both : ◌≡◌ {A = Result Reception Refused} (Ok copied.reception) (Err refused.0) =
+    sym copied.received ∙ refused.1
+    in
+    (let e = both in cc)
+
+-- the row of a restart
+restart_at :
+    (w : WorldState) (receiver next : ℕ) (place : PlaceState) (reached : Bool) →
+    slice_get w.places receiver ≡ Some place → (leb 1 next && leb next place.arbitration.view.next) ≡ reached →
+    effect w (Restart receiver next)
+    ≡ cond {A = Outcome} reached (Ok (Restarted next, with_place w receiver (renewed place next)))
+    (Err (NotReached place.arbitration.view.next))
+unfolding effect
+restart_at w receiver next place reached here is =
+    ap (λ (t : Option PlaceState). restarted w receiver next t) here
+    ∙ ap (λ (t : Bool). cond {A = Outcome} t (Ok (Restarted next, with_place w receiver (renewed place next)))
+    (Err (NotReached place.arbitration.view.next))) is
+
+reached_true : (place : PlaceState) (next : ℕ) → HasReached place next →
+    (leb 1 next && leb next place.arbitration.view.next) ≡ true
+reached_true place next reached =
+    λ j. le-leb 1 next reached.0 j && le-leb next place.arbitration.view.next reached.1 j
+
+unreached :
+    (place : PlaceState) (next : ℕ) (reached : Bool) → (leb 1 next && leb next place.arbitration.view.next) ≡ reached →
+    (HasReached place next → ⊥) → reached ≡ false
+unreached place next false is not = refl
+unreached place next true is not =
+    let both = and_parts (leb 1 next) (leb next place.arbitration.view.next) is in
+    absurd (not (leb-true 1 next both.0, leb-true next place.arbitration.view.next both.1))
+
+pub restart_nobody :
+    (w : WorldState) (receiver next : ℕ) → slice_get w.places receiver ≡ None →
+    Refuses w (Restart receiver next) NoReceiver
+unfolding effect
+restart_nobody w receiver next none = inr (ap (λ (t : Option PlaceState). restarted w receiver next t) none)
+
+pub restart_applied :
+    (w : WorldState) (receiver next : ℕ) (place new : PlaceState) (result : Result Report WorldError) →
+    slice_get w.places receiver ≡ Some place → Renews place next result new →
+    Applies w (Restart receiver next) result (with_place w receiver new)
+restart_applied w receiver next place new (Ok says) here is =
+    restart_at w receiver next place true here (reached_true place next is.0)
+    ∙ (λ j. Ok (sym is.1 j, with_place w receiver (sym is.2 j)))
+restart_applied w receiver next place new (Err error) here is = (
+  elim is.1 [
+    | inl wanting ↦ inl (
+      wanting.1,
+      subst (λ (t : Outcome). IsOk t)
+          (sym (restart_at w receiver next place true here (reached_true place next wanting.0))) refl,
+    )
+    | inr other ↦ inr (restart_at w receiver next place false here
+        (unreached place next (leb 1 next && leb next place.arbitration.view.next) refl other.0)
+        ∙ ap (λ (t : WorldError). Err t) (sym other.1))
+  ],
+  put_back w receiver place new here is.0,
+)

@@ -1,0 +1,128 @@
+-- A run of events, one after the other.
+use Rattle.std.proofs.Common.{◌≡◌, ℕ, ◌+◌, ◌<◌, ◌≤◌, List, [], ◌∷◌, ◌++◌, length, map, take, get_or, refl, sym, ap, subst, ◌∙◌, arith}
+use Rattle.std.specs.Prelude.{true, false, Some, Result, Ok, Err, OnErr, OnOk, is_err, slice_get}
+use Rattle.std.proofs.lemmas.List.{get_or-map, length-map, take_all, take_more}
+use Rattle.std.proofs.lemmas.Option.{slice_get-get_or}
+use Rattle.mold_world.specs.Effect.{Happening, Outcome, after_event, after_outcome, effect, run_events}
+use Rattle.mold_world.specs.Headline.{IsPrefix}
+use Rattle.mold_world.specs.Kept.{IsWorld}
+use Rattle.mold_world.specs.Machine.{AreAllowed, Machine, Step, after as after_step, run}
+use Rattle.mold_world.specs.Refusals.{MayWant}
+use Rattle.mold_world.specs.Runs.{IsHeadline, IsStopped}
+use Rattle.mold_world.specs.Seen.{seen}
+use Rattle.mold_world.specs.Steps.{AreSteps, machine_of}
+use Rattle.mold_world.specs.World.{PlaceState, WorldState}
+use Rattle.mold_world.specs.declared.event.Event.{Event}
+use Rattle.mold_world.specs.declared.report.Report.{Report}
+
+-- the laws of runs
+pub record RunLaws : Type 0 where
+  pub run : (w : WorldState) (happenings : List Happening) → IsWorld w → IsWorld (run_events w happenings)
+  pub books : (w : WorldState) (receiver : ℕ) (place : PlaceState) → IsWorld w →
+      slice_get w.places receiver ≡ Some place → IsPrefix place.book.messages w.publisher.journal.messages
+  pub whole : (w : WorldState) (receiver : ℕ) (place : PlaceState) → IsWorld w →
+      slice_get w.places receiver ≡ Some place →
+      place.arbitration.view.ended ≡ Some place.arbitration.view.next →
+      (w.publisher.journal.closed ≡ true) × (place.book.messages ≡ w.publisher.journal.messages)
+  pub steps : (w new : WorldState) (happening : Happening) (report : Report) → IsWorld w →
+      effect w happening ≡ Ok (report, new) → AreSteps w new
+
+-- what holds after success, and after an error
+pub on_ok : {T E X : Type 0} (result : Result T E) → false ≡ is_err result → OnOk result X → X
+on_ok (Ok done) is holds = holds
+on_ok (Err error) is holds = absurd (let e = is in cc)
+
+pub on_err : {T E X : Type 0} (result : Result T E) → true ≡ is_err result → OnErr result X → X
+on_err (Ok done) is holds = absurd (let e = is in cc)
+on_err (Err error) is holds = holds
+
+run_more :
+    (w : WorldState) (happenings : List Happening) (happening : Happening) →
+    run_events w (happenings ++ happening ∷ []) ≡ after_event (run_events w happenings) happening
+run_more w [] happening = refl
+run_more w (first ∷ happenings) happening = run_more (after_event w first) happenings happening
+
+seen_at : (events : List Event) (at : ℕ) (none : Event) → at < length events →
+    get_or (map seen events) at (seen none) ≡ seen (get_or events at none)
+seen_at events at none within = get_or-map seen events at none (seen none) within
+
+within_seen : (events : List Event) (at : ℕ) → at < length events → at < length (map seen events)
+within_seen events at within = omega (arith, within, length-map events seen)
+
+-- one event more
+pub passed_more :
+    (w now new : WorldState) (events : List Event) (at : ℕ) (none : Event) → at < length events →
+    now ≡ run_events w (take at (map seen events)) → new ≡ after_event now (seen (get_or events at none)) →
+    new ≡ run_events w (take (at + 1) (map seen events))
+passed_more w now new events at none within so is =
+    is
+    ∙ ap (λ (t : WorldState). after_event t (seen (get_or events at none))) so
+    ∙ sym (run_more w (take at (map seen events)) (seen (get_or events at none)))
+    ∙ ap (λ (t : Happening). run_events w (take at (map seen events) ++ t ∷ [])) (sym (seen_at events at none within))
+    ∙ ap (λ (t : List Happening). run_events w t)
+    (sym (take_more (map seen events) at (seen none) (within_seen events at within)))
+
+pub stopped_at :
+    (w now : WorldState) (events : List Event) (at : ℕ) (none : Event) → at < length events →
+    now ≡ run_events w (take at (map seen events)) → MayWant now (seen (get_or events at none)) →
+    IsStopped w (map seen events) at
+stopped_at w now events at none within so wants = record {
+  happening = seen (get_or events at none);
+  found = slice_get-get_or (map seen events) at (seen none) (within_seen events at within)
+      ∙ ap (λ (t : Happening). Some t) (seen_at events at none within);
+  wanting = subst (λ (t : WorldState). MayWant t (seen (get_or events at none))) so wants;
+}
+
+-- all events
+pub passed_all :
+    (w now : WorldState) (events : List Event) (at : ℕ) → length events ≤ at →
+    now ≡ run_events w (take at (map seen events)) → now ≡ run_events w (map seen events)
+passed_all w now events at all so =
+    so ∙ ap (λ (t : List Happening). run_events w t)
+    (take_all at (map seen events) (omega (arith, all, length-map events seen)))
+
+pub headline_of : (laws : RunLaws) (w : WorldState) (happenings : List Happening) → IsWorld w →
+    IsHeadline (run_events w happenings)
+headline_of laws w happenings is =
+    let kept = laws.run w happenings is in
+    record {
+      books = λ receiver place here. laws.books (run_events w happenings) receiver place kept here;
+      whole = λ receiver place here ended. laws.whole (run_events w happenings) receiver place kept here ended;
+    }
+
+-- steps behind steps
+allowed_both :
+    (machine : Machine) (first second : List Step) → AreAllowed machine first → AreAllowed (run machine first) second →
+    AreAllowed machine (first ++ second)
+allowed_both machine [] second one two = two
+allowed_both machine (step ∷ first) second one two =
+    (one.0, allowed_both (after_step machine step) first second one.1 two)
+
+run_both : (machine : Machine) (first second : List Step) → run machine (first ++ second) ≡ run (run machine first) second
+run_both machine [] second = refl
+run_both machine (step ∷ first) second = run_both (after_step machine step) first second
+
+steps_both : (old mid new : WorldState) → AreSteps old mid → AreSteps mid new → AreSteps old new
+steps_both old mid new one two = record {
+  steps = one.steps ++ two.steps;
+  allowed = allowed_both (machine_of old) one.steps two.steps one.allowed
+      (subst (λ (t : Machine). AreAllowed t two.steps) one.made two.allowed);
+  made = two.made
+      ∙ ap (λ (t : Machine). run t two.steps) one.made
+      ∙ sym (run_both (machine_of old) one.steps two.steps);
+}
+
+outcome_steps :
+    (w : WorldState) (outcome : Outcome) →
+    ((report : Report) (new : WorldState) → outcome ≡ Ok (report, new) → AreSteps w new) →
+    AreSteps w (after_outcome w outcome)
+outcome_steps w (Ok done) steps = steps done.0 done.1 refl
+outcome_steps w (Err refused) steps = record { steps = []; allowed = tt; made = refl }
+
+pub run_steps :
+    (laws : RunLaws) (w : WorldState) (happenings : List Happening) → IsWorld w → AreSteps w (run_events w happenings)
+run_steps laws w [] is = record { steps = []; allowed = tt; made = refl }
+run_steps laws w (happening ∷ happenings) is =
+    steps_both w (after_event w happening) (run_events (after_event w happening) happenings)
+    (outcome_steps w (effect w happening) (λ report new done. laws.steps w new happening report is done))
+    (run_steps laws (after_event w happening) happenings (laws.run w (happening ∷ []) is))

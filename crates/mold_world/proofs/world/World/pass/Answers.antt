@@ -1,0 +1,8 @@
+use Rattle.mold_world.proofs.ApplyLemmas.{wanting_where_memory}
+use Rattle.mold_world.specs.Seen.{seen}
+use Rattle.mold_world.proofs.world.World.pass.Goals as goal
+
+pub returns-in-Err-Memory-clause-wanting : goal.returns-in-Err-Memory-clause-wanting
+returns-in-Err-Memory-clause-wanting c =
+    wanting_where_memory c.args.self.now (seen c.args.event.now) _
+    c.in-Err-Memory.field-0-is c.in-Err-Memory.ensures.refused

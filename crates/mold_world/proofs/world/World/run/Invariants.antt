@@ -1,0 +1,8 @@
+use Rattle.std.proofs.Common.{◌≡◌, map, take}
+use Rattle.mold_world.specs.Effect.{run_events}
+use Rattle.mold_world.specs.Seen.{seen}
+use Rattle.mold_world.proofs.world.World.run.Given as goal
+
+-- the events so far happened
+abbrev pub invariant-loop-at : goal.invariant-loop-at
+invariant-loop-at l = l.self ≡ run_events l.fn.self (take l.at (map seen l.events))

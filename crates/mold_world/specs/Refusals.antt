@@ -1,0 +1,71 @@
+-- Why a world is not made, why an event is refused, and where memory may be wanting.
+use Rattle.std.specs.Prelude.{◌≡◌, ◌⊎◌, ℕ, List, Option, Some, Result, Ok, Err, IsOk, not, Bool, ◌&&◌, nat_le, if◌then◌else◌}
+use Rattle.std.specs.Prelude.{slice_get, position}
+use Rattle.std.specs.Option.{option_map}
+use Rattle.mold_receiver.specs.Receive.{IsCopied}
+use Rattle.mold_world.specs.Effect.{Happening, effect}
+use Rattle.mold_world.specs.Effect.Happening.{Publish, Datagram, Heartbeat, Close, End, Request, Ask, Deliver, Noise, Restart}
+use Rattle.mold_world.specs.World.{PlaceState, WorldState}
+use Rattle.mold_session.specs.declared.error.AppendError.{AppendError}
+use Rattle.mold_session.specs.declared.error.AppendError.TheVariants as append
+use Rattle.mold_world.specs.declared.report.Report.{Report}
+use Rattle.mold_world.specs.declared.report.SessionRefusal.TheVariants as session
+use Rattle.mold_world.specs.declared.report.WorldError.{WorldError}
+use Rattle.mold_world.specs.declared.report.WorldError.TheVariants.{Memory, BadLimit, BadBurst, BadWindow, Session as Refused}
+
+-- a datagram's limit, a burst and a window that there may be
+abbrev pub is_limit : ℕ → Bool
+is_limit limit = nat_le 64 limit && nat_le limit 65507
+
+abbrev pub is_burst : ℕ → Bool
+is_burst burst = nat_le 1 burst && nat_le burst 64
+
+abbrev pub is_window : ℕ → Bool
+is_window window = nat_le 1 window && nat_le window 65536
+
+-- why a world is not made, the first reason of several, and of several windows the first; none where only
+-- memory may be wanting
+abbrev pub world_refusal : ℕ → ℕ → ℕ → List ℕ → Option WorldError
+world_refusal limit server_limit burst windows =
+    if not (is_limit limit && is_limit server_limit && nat_le limit server_limit) then Some BadLimit
+    else if not (is_burst burst) then Some BadBurst
+    else option_map (λ r. BadWindow r) (position (λ window. not (is_window window)) windows)
+
+-- a datagram that was sent comes to a receiver, which hands something on of it or stores something
+pub record IsCopying (w : WorldState) (receiver sent : ℕ) : Type 0 where
+  pub place : PlaceState
+  pub bytes : List ℕ
+  pub here : slice_get w.places receiver ≡ Some place
+  pub found : slice_get w.sent sent ≡ Some bytes
+  pub copied : IsCopied place.arbitration.view bytes
+
+-- where memory may be wanting: in place of a message's publication, before anything is sent, where a
+-- receiver is that asks, where a datagram is copied, and in place of a restart; so an event that is refused
+-- for another cause is refused for that, unless it may send
+abbrev pub MayWant : WorldState → Happening → Type 0
+MayWant w (Publish message) = IsOk (effect w (Publish message))
+MayWant w Datagram = Unit {0}
+MayWant w Heartbeat = Unit {0}
+MayWant w Close = ⊥
+MayWant w End = Unit {0}
+MayWant w (Request bytes) = Unit {0}
+MayWant w (Ask receiver) = IsOk (effect w (Ask receiver))
+MayWant w (Deliver receiver line sent) = IsCopying w receiver sent
+MayWant w (Noise receiver line bytes) = ⊥
+MayWant w (Restart receiver next) = IsOk (effect w (Restart receiver next))
+
+-- why an event is refused: memory is wanting where it may, or the rule refuses it
+abbrev pub Refuses : WorldState → Happening → WorldError → Type 0
+Refuses w happening error = ((error ≡ Memory) × MayWant w happening) ⊎ (effect w happening ≡ Err error)
+
+-- an event happens as the rule says, or it is refused and nothing changes
+abbrev pub Applies : WorldState → Happening → Result Report WorldError → WorldState → Type 0
+Applies old happening (Ok report) new = effect old happening ≡ Ok (report, new)
+Applies old happening (Err error) new = Refuses old happening error × (new ≡ old)
+
+-- what the publisher's and the server's refusals are to the world
+abbrev pub append_error : AppendError → WorldError
+append_error append.Memory = Memory
+append_error append.Closed = Refused (session.Append append.Closed)
+append_error (append.TooLong len) = Refused (session.Append (append.TooLong len))
+append_error append.Full = Refused (session.Append append.Full)

@@ -1,0 +1,30 @@
+-- A run of events, and what it promises.
+use Rattle.std.specs.Prelude.{◌≡◌, ℕ, List, [], ◌∷◌, take, Option, None, Some, Result, Ok, Err, true, slice_get}
+use Rattle.mold_world.specs.Effect.{Happening, Outcome, after_event, effect, run_events}
+use Rattle.mold_world.specs.Effect.Happening.{Publish, Datagram, Heartbeat, Close, End, Request, Ask, Deliver, Noise, Restart}
+use Rattle.mold_world.specs.Headline.{IsPrefix}
+use Rattle.mold_world.specs.Refusals.{MayWant}
+use Rattle.mold_world.specs.World.{PlaceState, WorldState}
+use Rattle.mold_world.specs.declared.report.Report.{Report}
+use Rattle.mold_world.specs.declared.report.Report.TheVariants as report
+use Rattle.mold_world.specs.declared.stopped.Stopped.{Stopped}
+
+-- the events of a run that were applied: all, or those before the one at which it stopped
+abbrev pub applied : {T : Type 0} → Result T Stopped → List Happening → List Happening
+applied (Ok done) happenings = happenings
+applied (Err stopped) happenings = take stopped.at happenings
+
+-- a run stopped at an event at which memory may be wanting
+pub record IsStopped (w : WorldState) (happenings : List Happening) (at : ℕ) : Type 0 where
+  pub happening : Happening
+  pub found : slice_get happenings at ≡ Some happening
+  pub wanting : MayWant (run_events w (take at happenings)) happening
+
+-- the headline of a world: each book is a prefix of what was published, and all of the closed session where
+-- the receiver's end is its next number
+pub record IsHeadline (w : WorldState) : Type 0 where
+  pub books : (receiver : ℕ) (place : PlaceState) → slice_get w.places receiver ≡ Some place →
+      IsPrefix place.book.messages w.publisher.journal.messages
+  pub whole : (receiver : ℕ) (place : PlaceState) → slice_get w.places receiver ≡ Some place →
+      place.arbitration.view.ended ≡ Some place.arbitration.view.next →
+      (w.publisher.journal.closed ≡ true) × (place.book.messages ≡ w.publisher.journal.messages)

@@ -1,0 +1,82 @@
+//! What a world begins with.
+
+ghost use Rattle.std.specs.Prelude.{◌≡◌, ◌≤◌, None, Some, IfErr, IfOk, OnOk, length, map, not, position};
+ghost use Rattle.mold_wire.specs.Packer.{IsLimit};
+ghost use Rattle.mold_world.specs.Refusals.{is_window, world_refusal};
+ghost use Rattle.mold_world.specs.World.{place_at};
+
+use crate::place::Place;
+use crate::report::WorldError;
+use mold_wire::Session;
+use std::alloc::{AllocError, Global};
+
+/// The least and the greatest limit of a datagram; the latter is the greatest payload of UDP over IPv4.
+const LEAST: usize = 64;
+
+const GREATEST: usize = 65507;
+
+/// The most datagrams that answer a request.
+const MOST: u16 = 64;
+
+/// The greatest window.
+const WIDEST: u32 = 65536;
+
+// Whether a receiver may have this window.
+fn is_wide(window: u32) -> bool
+    ensures { result ≡ is_window window }
+{
+    1 <= window && window <= WIDEST
+}
+
+// The place of the first window that no receiver may have.
+fn first_bad(windows: &[u32]) -> Option<usize>
+    ensures { result ≡ position (λ window. not (is_window window)) windows.now }
+{
+    windows.iter().position(|window| !is_wide(*window))
+}
+
+/// The first reason not to make a world, if there is one.
+pub(crate) fn check_world(
+    limit: usize,
+    server_limit: usize,
+    burst: u16,
+    windows: &[u32],
+) -> Result<(), WorldError>
+    ensures may { OnOk result (world_refusal limit server_limit burst windows.now ≡ None) }
+    ensures refused { IfErr result (λ error. world_refusal limit server_limit burst windows.now ≡ Some error) }
+    ensures limits { OnOk result (IsLimit limit × IsLimit server_limit × (limit ≤ server_limit)) }
+{
+    if limit < LEAST || server_limit > GREATEST || server_limit < limit {
+        return Err(WorldError::BadLimit);
+    }
+    if burst == 0 || MOST < burst {
+        return Err(WorldError::BadBurst);
+    }
+    match first_bad(windows) {
+        Some(r) => Err(WorldError::BadWindow { r }),
+        None => Ok(()),
+    }
+}
+
+/// A receiver from message 1 on for each window. An error comes where a growth is refused, and where no
+/// receiver may have a window.
+pub(crate) fn make_places(
+    alloc: Global,
+    session: Session,
+    windows: &[u32],
+) -> Result<Vec<Place>, AllocError>
+    ensures { IfOk result (λ places. places.items ≡ map (place_at session) windows.now) }
+{
+    let mut places = Vec::with_capacity(alloc, windows.len())?;
+    for window in windows {
+        places.push(Place::new(alloc, session, *window)?)?;
+    }
+    Ok(places)
+}
+
+/// A session's name has ten bytes.
+pub(crate) fn has_name(session: Session)
+    ensures { length session.0 ≡ 10 }
+{
+    let _name = session.0;
+}
