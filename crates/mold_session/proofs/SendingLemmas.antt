@@ -73,12 +73,12 @@ front_is_packet laws session number limit longest most messages named fits some 
       );
     }
 
--- so what a publisher sends next tells the truth: a datagram
-pub datagram_says :
+-- so what a publisher sends next has a spelling that tells the truth: a datagram
+pub datagram_spelled :
     (laws : WireLaws) (publisher : PublisherState) (packet : Packet) → IsPublisher publisher →
     length publisher.journal.session.0 ≡ 10 → next_datagram publisher ≡ Some packet →
-    TellsTruth publisher.journal (spelling_of packet)
-datagram_says laws publisher packet is named next =
+    Spells packet (spelling_of packet)
+datagram_spelled laws publisher packet is named next =
     let messages : List (List ℕ) = publisher.journal.messages in
     let count : length (unsent_of publisher) ≡ length messages - publisher.sent =
     length-drop publisher.sent messages
@@ -99,14 +99,20 @@ datagram_says laws publisher packet is named next =
             each = each_drop (IsWithin publisher.journal.max_message) publisher.sent messages is.journaled.each;
             some = omega (arith, count, is.published, more);
           } in
-          let spelled = subst (λ (t : Packet). Spells t (spelling_of t)) same
+          subst (λ (t : Packet). Spells t (spelling_of t)) same
           (laws.spelled first (front_is_packet laws publisher.journal.session (publisher.sent + 1) publisher.limit
           publisher.journal.max_message (length messages) (unsent_of publisher) named
           (omega (arith, is.published, is.journaled.few)) (omega (arith, is.published, more)) may))
-          in
-          datagram_true publisher (spelling_of packet) laws.piece laws.front_is is
-          (subst (λ (t : Option Packet). Lends t (Some (spelling_of packet))) (sym next) spelled)
     ]
+
+pub datagram_says :
+    (laws : WireLaws) (publisher : PublisherState) (packet : Packet) → IsPublisher publisher →
+    length publisher.journal.session.0 ≡ 10 → next_datagram publisher ≡ Some packet →
+    TellsTruth publisher.journal (spelling_of packet)
+datagram_says laws publisher packet is named next =
+    datagram_true publisher (spelling_of packet) laws.piece laws.front_is is
+    (subst (λ (t : Option Packet). Lends t (Some (spelling_of packet))) (sym next)
+    (datagram_spelled laws publisher packet is named next))
 
 -- a packet without messages is one
 bare_is_packet :

@@ -3,7 +3,7 @@
 
 ghost use Rattle.std.specs.Prelude.{◌≡◌, ◌+◌, ◌<◌, ◌≤◌, ◌++◌, ◌∷◌, [], List, ℕ, Bool, length, take, None, Ok, Some, slice_get};
 ghost use Rattle.std.specs.List.{AllByRecursion};
-ghost use Rattle.mold_wire.specs.Packet.{spelling_of};
+ghost use Rattle.mold_wire.specs.Packet.{Spells, spelling_of};
 ghost use Rattle.mold_wire.specs.Packing.{front};
 ghost use Rattle.mold_wire.specs.declared.packet.Packet.{Packet};
 ghost use Rattle.mold_wire.specs.declared.session.Session.{Session};
@@ -98,8 +98,11 @@ pub fn answer_not_empty_law()
 }
 
 /// What a publisher sends next, and all packets of an answer, have a spelling that tells the truth of the
-/// journal, wherever the session's name has its ten bytes.
+/// journal, wherever the session's name has its ten bytes. That of a datagram spells the datagram itself.
 pub fn sending_law()
+    ensures spelled { (publisher : PublisherState) (packet : Packet) → IsPublisher publisher →
+        length publisher.journal.session.0 ≡ 10 → next_datagram publisher ≡ Some packet →
+        Spells packet (spelling_of packet) }
     ensures datagram { (publisher : PublisherState) (packet : Packet) → IsPublisher publisher →
         length publisher.journal.session.0 ≡ 10 → next_datagram publisher ≡ Some packet →
         TellsTruth publisher.journal (spelling_of packet) }

@@ -10,3 +10,4 @@ pub mod PlaceRowLemmas
 pub mod RequestRowLemmas
 pub mod ApplyLemmas
 pub mod RunningLemmas
+pub mod StraightLemmas

@@ -12,3 +12,4 @@ pub mod Codes
 pub mod Inside
 pub mod Renewals
 pub mod Sending
+pub mod Straight

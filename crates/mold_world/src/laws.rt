@@ -13,11 +13,13 @@ ghost use Rattle.mold_world.specs.Headline.{ArePublished, HasAll, IsPrefix, all_
 ghost use Rattle.mold_world.specs.Kept.{IsWorld};
 ghost use Rattle.mold_world.specs.Steps.{AreSteps, machine_of};
 ghost use Rattle.mold_world.specs.Machine.{AreAllowed, Step, run, start};
+ghost use Rattle.mold_world.specs.Straight.{HasSent, IsStraight};
 ghost use Rattle.mold_world.specs.World.{MayBegin, PlaceState, WorldState, beginning};
 ghost use Rattle.mold_world.specs.declared.report.Report.{Report};
 
 use mold_receiver::laws::{
-    followed_law, honest_stays_law, honest_take_law, nothing_new_law, taken_law, wanted_law,
+    followed_law, honest_stays_law, honest_take_law, nothing_new_law, taken_law, through_law,
+    wanted_law,
 };
 use mold_session::laws::{answered_law, publisher_law, sending_law};
 use mold_wire::laws::{one_spelling_law, reading_law, true_packet_law, true_stays_law};
@@ -88,4 +90,19 @@ pub fn run_law()
     publisher_law();
     sending_law();
     answered_law();
+}
+
+/// The straight path: a receiver whose book begins with all that was put in datagrams, to which each
+/// datagram of new messages comes as soon as it is sent, and which does not begin anew, has a book that
+/// begins with all that was put in datagrams afterwards.
+pub fn straight_law()
+    ensures { (w : WorldState) (happenings : List Happening) (receiver : ℕ) → IsWorld w →
+        IsStraight w receiver happenings → HasSent w receiver → HasSent (run_events w happenings) receiver }
+{
+    run_law();
+    reading_law();
+    honest_take_law();
+    taken_law();
+    through_law();
+    sending_law();
 }

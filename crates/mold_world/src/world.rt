@@ -12,12 +12,13 @@ ghost use Rattle.mold_world.specs.Refusals.{MayWant, Refuses, world_refusal};
 ghost use Rattle.mold_world.specs.Runs.{IsHeadline, IsStopped, applied};
 ghost use Rattle.mold_world.specs.Seen.{seen};
 ghost use Rattle.mold_world.specs.Steps.{AreSteps, is_finished};
+ghost use Rattle.mold_world.specs.Straight.{HasSent, IsStraight};
 ghost use Rattle.mold_world.specs.World.{beginning};
 ghost use Rattle.mold_world.specs.declared.report.WorldError.{WorldError};
 
 use crate::beginning::{check_world, has_name, make_places};
 use crate::event::Event;
-use crate::laws::run_law;
+use crate::laws::{run_law, straight_law};
 use crate::parts::Parts;
 use crate::report::{Report, WorldError};
 use crate::stopped::Stopped;
@@ -125,6 +126,9 @@ impl World {
     /// Whether it stops or not: after each event every book is a prefix of what is published, and all of the
     /// closed session where the receiver is finished; and each message that was handed on at a number, also
     /// by a receiver that began anew since, is the one published with that number at the end.
+    ///
+    /// After `Ok` a receiver to which each datagram of new messages came as soon as it was sent, and which
+    /// did not begin anew, has all that was put in datagrams, if it had that before.
     pub fn run(&mut self, events: &[Event<'_>]) -> Result<(), Stopped>
         ensures left { self.new ≡ run_events self.old (applied result (map seen events.now)) }
         ensures place { IfErr result (λ stopped. stopped.at < length events.now) }
@@ -133,8 +137,11 @@ impl World {
         ensures handed { ArePublished self.new.publisher.journal.messages
             (handed_by_all self.old (applied result (map seen events.now))) }
         ensures steps { AreSteps self.old self.new }
+        ensures straight { OnOk result ((receiver : ℕ) → IsStraight self.old receiver (map seen events.now) →
+            HasSent self.old receiver → HasSent self.new receiver) }
     {
         run_law();
+        straight_law();
         self.keep();
         for (at, event) in events.iter().enumerate() {
             if self.pass(event).is_err() {

@@ -1,5 +1,5 @@
 use Rattle.std.proofs.Common.{refl}
-use Rattle.mold_session.proofs.SendingLemmas.{WireLaws, datagram_says, end_says, heartbeat_says, planned_says}
+use Rattle.mold_session.proofs.SendingLemmas.{WireLaws, datagram_says, datagram_spelled, end_says, heartbeat_says, planned_says}
 use Rattle.mold_session.proofs.laws.sending_law.Goals.{After-true_packet_law}
 use Rattle.mold_session.proofs.laws.sending_law.Goals as goal
 
@@ -15,6 +15,7 @@ wire_laws c = record {
 
 pub returns : goal.returns
 returns c = record {
+  spelled = datagram_spelled (wire_laws c);
   datagram = datagram_says (wire_laws c);
   heartbeat = heartbeat_says (wire_laws c);
   end = end_says (wire_laws c);

@@ -5,6 +5,7 @@ use Rattle.mold_world.specs.HandOns.{handed_by_all}
 use Rattle.mold_world.specs.Headline.{ArePublished}
 use Rattle.mold_world.specs.Seen.{seen}
 use Rattle.mold_world.specs.Steps.{AreSteps}
+use Rattle.mold_world.specs.Straight.{HasSent}
 use Rattle.mold_world.specs.World.{WorldState}
 use Rattle.mold_world.proofs.world.World.run.Goals.{After-keep}
 use Rattle.mold_world.proofs.world.World.run.Goals as goal
@@ -76,3 +77,12 @@ returns-clause-steps c =
     subst (λ (t : WorldState). AreSteps c.args.self.now t) (sym left)
     (run_steps (laws (goal.at.returns-clause-steps c).After-keep) c.args.self.now (map seen c.args.events.now)
     c.keep.ensures)
+
+pub returns-clause-straight : goal.returns-clause-straight
+returns-clause-straight c =
+    let left =
+    passed_all c.args.self.now c.loop-at.self c.args.events.now c.loop-at.at c.loop-at-test.false c.loop-at.invariant
+    in
+    λ receiver path has.
+    subst (λ (t : WorldState). HasSent t receiver) (sym left)
+    (c.straight_law.ensures c.args.self.now (map seen c.args.events.now) receiver c.keep.ensures path has)

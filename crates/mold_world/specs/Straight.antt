@@ -1,0 +1,30 @@
+-- The straight path: a receiver that is given each datagram of new messages as soon as it is sent, and that
+-- does not begin anew.
+use Rattle.std.specs.Prelude.{◌≡◌, ℕ, ◌+◌, List, take, Option, Some, Ok, slice_get}
+use Rattle.mold_receiver.specs.declared.line.Line.{Line}
+use Rattle.mold_world.specs.Effect.{Happening, effect, run_events}
+use Rattle.mold_world.specs.Effect.Happening.{Datagram, Deliver, Restart}
+use Rattle.mold_world.specs.Headline.{IsPrefix}
+use Rattle.mold_world.specs.World.{PlaceState, WorldState}
+use Rattle.mold_world.specs.declared.report.Report.{Report}
+use Rattle.mold_world.specs.declared.report.Report.TheVariants as report
+
+-- what happens is that the datagram sent at a place comes to the receiver, on a line or as an answer
+pub record IsDelivery (receiver place : ℕ) (happening : Option Happening) : Type 0 where
+  pub line : Option Line
+  pub so : happening ≡ Some (Deliver receiver line place)
+
+-- each datagram of new messages is delivered to the receiver right after it is sent, and no restart of the
+-- receiver is applied
+pub record IsStraight (w : WorldState) (receiver : ℕ) (happenings : List Happening) : Type 0 where
+  pub delivered : (at place : ℕ) (new : WorldState) → slice_get happenings at ≡ Some Datagram →
+      effect (run_events w (take at happenings)) Datagram ≡ Ok (report.Sent place, new) →
+      IsDelivery receiver place (slice_get happenings (at + 1))
+  pub stays : (at next : ℕ) (done : Report × WorldState) → slice_get happenings at ≡ Some (Restart receiver next) →
+      effect (run_events w (take at happenings)) (Restart receiver next) ≡ Ok done → ⊥
+
+-- the receiver's book begins with all messages that were put in datagrams
+pub record HasSent (w : WorldState) (receiver : ℕ) : Type 0 where
+  pub place : PlaceState
+  pub here : slice_get w.places receiver ≡ Some place
+  pub front : IsPrefix (take w.publisher.sent w.publisher.journal.messages) place.book.messages
