@@ -1,15 +1,27 @@
 #!/bin/sh
-# A session over UDP on this machine: a file of messages is published on two lines, and a listener prints them.
-# Run it at the top of the repository, as `sh examples/session.sh`. The ports 41001 and 41002 have to be free.
+# A session over UDP on this machine: a file of messages is published on two lines that lose half of their datagrams,
+# and a listener prints all of it, since it asks a server for what neither line brought.
+# Run it at the top of the repository, as `sh examples/session.sh`. The ports 41001 to 41005 have to be free.
 set -eu
 work=$(mktemp -d)
 trap 'rm -rf -- "$work"' EXIT
-printf '4142\n4344\n4546\n' >"$work/messages"
-./mold show </dev/null # builds the program, where it is not built yet
+seq 1001 1060 >"$work/messages" # 60 messages of two bytes
+./mold show </dev/null          # builds the program, where it is not built yet
 
-# The listener comes first: what is sent before it listens is lost. Nobody serves at the port of requests.
-./mold listen --session DEMO --a 127.0.0.1:41001 --b 127.0.0.1:41002 --server 127.0.0.1:41003 --turns 100 >"$work/heard" &
+# The listener comes first: what is sent before it listens is lost. It asks at port 41005.
+python3 examples/lossy-lines.py 41001 41003 41002 41004 >"$work/lost" &
+./mold listen --session DEMO --a 127.0.0.1:41003 --b 127.0.0.1:41004 --server 127.0.0.1:41005 --turns 100 \
+    >"$work/heard" &
+listener=$!
 sleep 1
-./mold publish --session DEMO --a 127.0.0.1:41001 --b 127.0.0.1:41002 --journal "$work/journal" <"$work/messages"
-wait $!
-cat "$work/heard"
+
+# The end of the session is sent five times, since that may be lost too. Then the journal is there to serve from.
+./mold publish --session DEMO --limit 64 --a 127.0.0.1:41001 --b 127.0.0.1:41002 --ends 5 --journal "$work/journal" \
+    <"$work/messages"
+./mold serve --journal "$work/journal" --bind 127.0.0.1:41005 --turns 20 >"$work/served" &
+wait "$listener"
+wait
+
+cat "$work/lost"
+sed -n '/^[0-9]/s/^[0-9]* //p' "$work/heard" | cmp - "$work/messages" && echo 'heard all messages, in order'
+tail -n 1 "$work/heard"

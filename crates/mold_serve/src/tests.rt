@@ -4,7 +4,7 @@
 ghost use Rattle.std.specs.Prelude.{◌≡◌, IfOk};
 
 use crate::{Tally, answer_request, serve_loop};
-use mold_devices::{CommandFault, MemorySink};
+use mold_devices::{CommandFault, MemorySink, Sink};
 use mold_ports::{Datagrams, MemoryPort, Step};
 use mold_session::{AppendError, Journal, Server};
 use mold_wire::{Request, Session};
@@ -215,5 +215,38 @@ fn one_request_is_answered_and_counted(rt: HostRuntime) -> Result<(), Fail> {
     answer_request(&mut port, &mut server, &journal, 7, request, &mut tally)?;
     assert_eq!(rt; (tally.answered(), tally.failed()), (2, 1));
     assert_eq!(rt; server.answered(), 1);
+    Ok(())
+}
+
+/// To be run with each allocation refused in turn.
+#[test]
+fn a_refused_growth_leaves_a_beginning(rt: HostRuntime) -> Result<(), Fail> {
+    let text = b"answered 2 2\nrefused Ahead 6\nanswered 1 refused 1 quiet 1 failed 1\n";
+    let unsent = b"refused Ahead 6\nanswered 0 refused 1 quiet 1 failed 2\n";
+    let mut port = MemoryPort::new(rt.alloc(), script(rt.alloc(), 4)?);
+    let mut sink = MemorySink::new(rt.alloc());
+    let outcome = serve(rt.alloc(), &mut port, 1, 4, &mut sink)?;
+    // A letter that the port has no memory for is a failed send.
+    let wanted = if port.failures() > 1 {
+        unsent.as_slice()
+    } else {
+        text.as_slice()
+    };
+    match outcome {
+        Ok(status) => {
+            assert_eq!(rt; status, 0);
+            assert_eq!(rt; sink.bytes(), wanted);
+        }
+        Err(fault) => {
+            let refused = if sink.failures() > 0 {
+                CommandFault::Write
+            } else {
+                CommandFault::Memory
+            };
+            assert_eq!(rt; fault, refused);
+            assert!(rt; wanted.starts_with(sink.bytes()));
+            assert!(rt; port.sent().len() <= 1);
+        }
+    }
     Ok(())
 }
