@@ -13,7 +13,7 @@ use Rattle.mold_capture.specs.declared.verdict.Verdict.TheVariants.{Whole as IsW
 use Rattle.mold_capture.specs.Check.{IsRefusedAt}
 use Rattle.mold_capture.specs.Consistent.{Consistent}
 use Rattle.mold_capture.specs.Refusal.{reason, refusal, told}
-use Rattle.mold_capture.specs.Seen.{Seen, after, seen_of}
+use Rattle.mold_capture.specs.Seen.{Seen, BringsNew, after, seen_of}
 use Rattle.mold_capture.specs.Verdict.{IsVerdict, IsVerdictOn}
 use Rattle.mold_capture.proofs.ListLemmas.{ReadsBack}
 use Rattle.mold_capture.proofs.SumLemmas.{none_consistent, accepted, not_refused, after_more, heard_whole, whole_heard}
@@ -39,16 +39,18 @@ refused_for reads list i bytes why within at consistent is = (
 )
 
 refused_at : ReadsBack → (list : List (List ℕ)) (i : ℕ) (bytes : List ℕ) → i < length list → get_or list i [] ≡ bytes →
-    Consistent (take i list) → (why : Reason) → reason (take i list) bytes ≡ told why → IsRefusedAt i why list
-refused_at reads list i bytes within at consistent Memory is = (omega arith, consistent)
-refused_at reads list i bytes within at consistent (Malformed e) is = refused_for reads list i bytes _ within at consistent is
-refused_at reads list i bytes within at consistent WrongSession is = refused_for reads list i bytes _ within at consistent is
-refused_at reads list i bytes within at consistent SequenceZero is = refused_for reads list i bytes _ within at consistent is
-refused_at reads list i bytes within at consistent PastLast is = refused_for reads list i bytes _ within at consistent is
-refused_at reads list i bytes within at consistent (EndConflict e) is = refused_for reads list i bytes _ within at consistent is
-refused_at reads list i bytes within at consistent (EndBelow k) is = refused_for reads list i bytes _ within at consistent is
-refused_at reads list i bytes within at consistent (PastEnd e) is = refused_for reads list i bytes _ within at consistent is
-refused_at reads list i bytes within at consistent (Conflict n) is = refused_for reads list i bytes _ within at consistent is
+    Consistent (take i list) → (why : Reason) → reason (take i list) bytes ≡ told why
+    → (why ≡ Memory → BringsNew (seen_of (take i list)) bytes) → IsRefusedAt i why list
+refused_at reads list i bytes within at consistent Memory is new =
+    (omega arith, consistent, λ below. subst (BringsNew (seen_of (take i list))) (sym at) (new refl))
+refused_at reads list i bytes within at consistent (Malformed e) is new = refused_for reads list i bytes _ within at consistent is
+refused_at reads list i bytes within at consistent WrongSession is new = refused_for reads list i bytes _ within at consistent is
+refused_at reads list i bytes within at consistent SequenceZero is new = refused_for reads list i bytes _ within at consistent is
+refused_at reads list i bytes within at consistent PastLast is new = refused_for reads list i bytes _ within at consistent is
+refused_at reads list i bytes within at consistent (EndConflict e) is new = refused_for reads list i bytes _ within at consistent is
+refused_at reads list i bytes within at consistent (EndBelow k) is new = refused_for reads list i bytes _ within at consistent is
+refused_at reads list i bytes within at consistent (PastEnd e) is new = refused_for reads list i bytes _ within at consistent is
+refused_at reads list i bytes within at consistent (Conflict n) is new = refused_for reads list i bytes _ within at consistent is
 
 -- the datagrams so far are consistent, and what they have said is known
 pub record HasChecked (list : List (List ℕ)) (i : ℕ) (seen : Seen) : Type 0 where
@@ -56,11 +58,12 @@ pub record HasChecked (list : List (List ℕ)) (i : ℕ) (seen : Seen) : Type 0 
   pub said : seen ≡ seen_of (take i list)
 
 pub checked_refused : ReadsBack → (list : List (List ℕ)) (i : ℕ) (bytes : List ℕ) (seen : Seen) (why : Reason) →
-    HasChecked list i seen → i < length list → refusal seen bytes ≡ told why → get_or list i [] ≡ bytes
-    → IsRefusedAt i why list
-checked_refused reads list i bytes seen why checked within is at =
+    HasChecked list i seen → i < length list → refusal seen bytes ≡ told why
+    → (why ≡ Memory → BringsNew seen bytes) → get_or list i [] ≡ bytes → IsRefusedAt i why list
+checked_refused reads list i bytes seen why checked within is new at =
     refused_at reads list i bytes within at checked.consistent why
     (ap (λ (s : Seen). refusal s bytes) (sym checked.said) ∙ is)
+    (λ memory. subst (λ (s : Seen). BringsNew s bytes) checked.said (new memory))
 
 pub checked_more : ReadsBack → (list : List (List ℕ)) (i : ℕ) (bytes : List ℕ) (seen now : Seen) (v : Packet) →
     HasChecked list i seen → i < length list → now ≡ after seen bytes → get_or list i [] ≡ bytes → Spells v bytes

@@ -1,5 +1,5 @@
 -- What was carried, when messages are kept or taken back.
-use Rattle.std.proofs.Common.{◌≡◌, ℕ, suc, ◌+◌, List, [], ◌∷◌, length, refl, sym, ap, subst, ◌∙◌, inl, inr, arith, true, false, Bor}
+use Rattle.std.proofs.Common.{◌≡◌, ℕ, suc, ◌+◌, ◌<◌, List, [], ◌∷◌, length, refl, sym, ap, subst, ◌∙◌, inl, inr, arith, true, false, Bor}
 use Rattle.std.specs.Prelude.{Option, None, Some, is_some, Result, Ok, Err, IfErr, OnOk}
 use Rattle.std.specs.BTreeMap.{is_at}
 use Rattle.std.specs.FinMap as finite
@@ -15,7 +15,7 @@ use Rattle.mold_capture.specs.declared.reason.Reason.{Reason}
 use Rattle.mold_capture.specs.declared.reason.Reason.TheVariants.{Conflict, Memory}
 use Rattle.mold_capture.specs.Refusal.{conflict, differs, told}
 use Rattle.mold_capture.specs.Runs.{Runs, pairs_of, HasRun, AreRuns, AreFree}
-use Rattle.mold_capture.specs.Seen.{Pairs, pairs_with}
+use Rattle.mold_capture.specs.Seen.{Pairs, BringNew, pairs_with}
 use Rattle.mold_capture.proofs.RefusalLemmas.{agrees_from}
 use Rattle.mold_capture.proofs.GrowLemmas.{free_pairs}
 use Rattle.mold_capture.proofs.PairLemmas.{option_or_first, option_or_second, message_bounds, message_below, message_past, message_first, message_next, message_none, get-with, same_pairs}
@@ -106,6 +106,16 @@ with_held pairs n k m ms next found =
     in
     ap (λ (p : Pairs). pairs_with p k ms) (sym same) ∙ with_next pairs n k m ms next
 
+-- a message at a number that had none is new
+pub brings_first : (pairs : Pairs) (n : ℕ) (m : List ℕ) (ms : List (List ℕ)) → finite.get pairs n ≡ None →
+    BringNew pairs n (m ∷ ms)
+brings_first pairs n m ms none = λ same.
+    none-some m
+    (sym none ∙ sym (ap (λ (p : Pairs). finite.get p n) same)
+    ∙ get-with pairs n (m ∷ ms) n
+    ∙ option_or_second (finite.get pairs n) (message_at n (m ∷ ms) n) none
+    ∙ message_first n m ms n refl)
+
 -- behind a message that doesn't differ the conflict is that of the others
 pub conflict_next : (pairs : Pairs) (n k : ℕ) (m : List ℕ) (ms : List (List ℕ)) → k ≡ n + 1 →
     differs (finite.get pairs n) m ≡ false → conflict pairs k ms ≡ conflict pairs n (m ∷ ms)
@@ -123,6 +133,18 @@ pub copied_some : (o : Option (Bor (List ℕ))) → is_some o ≡ true → (x : 
 copied_some None some = absurd (true≢false (sym some))
 copied_some (Some b) some = (b.now, refl)
 
+pub copied_none : (o : Option (Bor (List ℕ))) → is_some o ≡ false → option_copied o ≡ None
+copied_none None none = refl
+copied_none (Some b) none = absurd (true≢false none)
+
+-- where no run has a number of the messages, they are new
+pub free_brings : (runs : Runs) (kept : List (List ℕ)) → AreRuns runs (length kept) → (n : ℕ) (ms : List (List ℕ)) →
+    0 < length ms → AreFree runs n (n + length ms) → BringNew (pairs_of runs.entries kept) n ms
+free_brings runs kept are n [] some free = absurd (omega (arith, some))
+free_brings runs kept are n (m ∷ ms) some free =
+    brings_first (pairs_of runs.entries kept) n m ms
+    (free_pairs runs kept are n (n + length (m ∷ ms)) free n (omega arith) (omega (arith, some)))
+
 -- where no run has a number of the messages, nothing conflicts
 pub free_conflict : (runs : Runs) (kept : List (List ℕ)) → AreRuns runs (length kept) → (n : ℕ) (ms : List (List ℕ)) →
     AreFree runs n (n + length ms) → conflict (pairs_of runs.entries kept) n ms ≡ None
@@ -136,6 +158,10 @@ pub memory_told : (r : Result (Unit {0}) Reason) (o : Option Reason) → IfErr r
     IfErr r (λ x. o ≡ told x)
 memory_told (Ok u) o memory none = tt
 memory_told (Err x) o memory none = none ∙ sym (ap told memory)
+
+pub always_memory : {T : Type 0} (r : Result T Reason) (P : Type 0) → P → IfErr r (λ x. x ≡ Memory → P)
+always_memory (Ok u) P holds = tt
+always_memory (Err x) P holds = λ memory. holds
 
 pub always_ok : {E : Type 0} (r : Result (Unit {0}) E) (P : Type 0) → P → OnOk r P
 always_ok (Ok u) P holds = holds

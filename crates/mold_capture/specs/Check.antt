@@ -4,11 +4,15 @@ use Rattle.mold_capture.specs.declared.reason.Reason.{Reason}
 use Rattle.mold_capture.specs.declared.reason.Reason.TheVariants.{Memory}
 use Rattle.mold_capture.specs.Consistent.{Consistent}
 use Rattle.mold_capture.specs.Refusal.{reason}
+use Rattle.mold_capture.specs.Seen.{BringsNew, seen_of}
 
 -- the datagrams in front of the index are consistent, with the one there they aren't, and this is the reason
--- why; where only memory was refused, the datagrams in front of the index are consistent
+-- why; where only memory was refused, the datagrams in front of the index are consistent, and the one there,
+-- if one is, brings a message
 abbrev pub IsRefusedAt : ℕ → Reason → List (List ℕ) → Type 0
-IsRefusedAt index Memory list = (index ≤ length list) × Consistent (take index list)
+IsRefusedAt index Memory list =
+    (index ≤ length list) × Consistent (take index list)
+    × (index < length list → BringsNew (seen_of (take index list)) (slice_index_or list index []))
 IsRefusedAt index why list =
     (index < length list) × Consistent (take index list) × (Consistent (take (index + 1) list) → ⊥)
     × (reason (take index list) (slice_index_or list index []) ≡ Some why)

@@ -101,6 +101,10 @@ joined seen packet = record {
   pairs = pairs_with seen.pairs packet.sequence (messages_of packet.body);
 }
 
+-- the messages bring one at a number that had none
+abbrev pub BringNew : Pairs → ℕ → List (List ℕ) → Type 0
+BringNew pairs first messages = pairs_with pairs first messages ≡ pairs → ⊥
+
 -- a datagram that spells no packet says nothing
 abbrev pub joined_read : Seen → Result Packet DecodeError → Seen
 joined_read seen (Ok packet) = joined seen packet
@@ -108,6 +112,10 @@ joined_read seen (Err error) = seen
 
 abbrev pub after : Seen → List ℕ → Seen
 after seen bytes = joined_read seen (reading bytes)
+
+-- the datagram brings a message at a number that had none
+abbrev pub BringsNew : Seen → List ℕ → Type 0
+BringsNew seen bytes = (after seen bytes).pairs ≡ seen.pairs → ⊥
 
 -- what was said fits together: `known` is a number from 1 on, an end is `known`, and each message carried is
 -- below it

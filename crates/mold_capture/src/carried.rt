@@ -5,7 +5,8 @@ ghost use Rattle.std.specs.FinMap as finite;
 ghost use Rattle.std.specs.Ordering.{nat_cmp};
 ghost use Rattle.mold_ranges.specs.Ranges as lacking;
 ghost use Rattle.mold_capture.specs.Refusal.{conflict, told};
-ghost use Rattle.mold_capture.specs.Seen.{pairs_with};
+ghost use Rattle.mold_capture.specs.Seen.{BringNew, pairs_with};
+ghost use Rattle.mold_capture.specs.declared.reason.Reason.TheVariants.{Memory};
 ghost use Rattle.mold_capture.specs.Verdict.{lacks, ranges_of};
 
 use crate::compare::compare;
@@ -58,13 +59,14 @@ impl Carried {
     }
 
     /// Adds a packet's messages, the first of which has the number `first`. A message that is there already
-    /// isn't stored again. After an error everything is as before.
+    /// isn't stored again. After an error everything is as before. Memory is refused only where a message is new.
     pub(crate) fn join(&mut self, first: u64, blocks: &Blocks<'_>) -> Result<(), Reason>
         requires few { first + length blocks.now < 2 ^ 64 }
         ensures refused { IfErr result (λ reason. conflict self.old first blocks.now ≡ told reason) }
         ensures taken { OnOk result (conflict self.old first blocks.now ≡ None) }
         ensures ok { OnOk result (self.new ≡ pairs_with self.old first blocks.now) }
         ensures err { OnErr result (self.new ≡ self.old) }
+        ensures new { IfErr result (λ reason. reason ≡ Memory → BringNew self.old first blocks.now) }
     {
         let top = first + u64::from(blocks.len());
         if is_free(&self.runs, first, top) {

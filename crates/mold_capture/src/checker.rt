@@ -5,8 +5,9 @@ ghost use Rattle.std.specs.Option.{option_or};
 ghost use Rattle.mold_wire.specs.Packet.{Spells, messages_of, top_of};
 ghost use Rattle.mold_wire.specs.declared.packet.Packet.{Packet};
 ghost use Rattle.mold_capture.specs.Refusal.{conflict, refusal, told};
-ghost use Rattle.mold_capture.specs.Seen.{after, end_in, pairs_with, seen_of};
+ghost use Rattle.mold_capture.specs.Seen.{BringNew, BringsNew, after, end_in, pairs_with, seen_of};
 ghost use Rattle.mold_capture.specs.Verdict.{IsVerdict};
+ghost use Rattle.mold_capture.specs.declared.reason.Reason.TheVariants.{Memory as IsMemory};
 
 use crate::carried::Carried;
 use crate::reason::{Memory, Reason};
@@ -33,6 +34,7 @@ fn join_messages(carried: &mut Carried, packet: &Packet<'_>) -> Result<(), Reaso
     ensures taken { OnOk result (conflict carried.old packet.now.sequence (messages_of packet.now.body) ≡ None) }
     ensures ok { OnOk result (carried.new ≡ pairs_with carried.old packet.now.sequence (messages_of packet.now.body)) }
     ensures err { OnErr result (carried.new ≡ carried.old) }
+    ensures new { IfErr result (λ reason. reason ≡ IsMemory → BringNew carried.old packet.now.sequence (messages_of packet.now.body)) }
 {
     match &packet.body {
         Body::Data(blocks) => carried.join(packet.sequence, blocks),
@@ -82,13 +84,14 @@ impl Checker {
     /// Accepts a datagram, or refuses it with the first reason why it may not stand behind those that were
     /// accepted; after an error the checker is as before. The session is that of the first datagram accepted,
     /// and `known` is the greatest top accepted, at least 1. A message is compared with any message accepted
-    /// before at the same number. Memory is refused only where all other reasons don't apply.
+    /// before at the same number. Memory is refused only where no other reason applies and a message is new.
     pub fn add(&mut self, bytes: &[u8]) -> Result<(), Reason>
         ensures refused { IfErr result (λ reason. refusal self.old bytes.now ≡ told reason) }
         ensures taken { OnOk result (refusal self.old bytes.now ≡ None) }
         ensures spelled { OnOk result ((packet : Packet) × Spells packet bytes.now) }
         ensures ok { OnOk result (self.new ≡ after self.old bytes.now) }
         ensures err { OnErr result (self.new ≡ self.old) }
+        ensures new { IfErr result (λ reason. reason ≡ IsMemory → BringsNew self.old bytes.now) }
     {
         let packet = match decode(bytes) {
             Ok(packet) => packet,

@@ -1,11 +1,11 @@
 //! A packet's messages beside those that were carried.
 
-ghost use Rattle.std.specs.Prelude.{◌≡◌, ◌+◌, ◌<◌, ◌^◌, length, Some, None, IsTrue, IfSome, IfOk, IfErr, OnOk};
+ghost use Rattle.std.specs.Prelude.{◌≡◌, ◌+◌, ◌<◌, ◌^◌, false, length, Some, None, IsTrue, IfSome, IfOk, IfErr, OnOk};
 ghost use Rattle.std.specs.FinMap as finite;
 ghost use Rattle.std.specs.Option.{option_copied};
 ghost use Rattle.mold_capture.specs.Refusal.{conflict, differs};
 ghost use Rattle.mold_capture.specs.Runs.{AreRuns, HasRun, carried};
-ghost use Rattle.mold_capture.specs.Seen.{pairs_with};
+ghost use Rattle.mold_capture.specs.Seen.{BringNew, pairs_with};
 ghost use Rattle.mold_capture.specs.declared.reason.Reason.TheVariants.{Conflict};
 
 use crate::run::{Run, run_at};
@@ -54,6 +54,7 @@ pub(crate) fn compare(
     requires few { first + length blocks.now < 2 ^ 64 }
     ensures other { IfErr result (λ number. conflict (carried runs.now kept.now) first blocks.now ≡ Some (Conflict number)) }
     ensures same { OnOk result (conflict (carried runs.now kept.now) first blocks.now ≡ None) }
+    ensures new { IfOk result (λ all. all ≡ false → BringNew (carried runs.now kept.now) first blocks.now) }
     ensures all { IfOk result (λ all. IsTrue all → pairs_with (carried runs.now kept.now) first blocks.now ≡ carried runs.now kept.now) }
 {
     let mut near = None;

@@ -3,54 +3,78 @@
 
 use crate::{Checker, Memory, Range, Reason, Verdict, check};
 use mold_wire::{DecodeError, Packer, Session};
-use std::alloc::Global;
+use std::alloc::{AllocError, Global};
 use std::process::Abort;
 use std::test::Fail;
 
 const SESSION: Session = Session(*b"SESSION001");
 
+const OTHER: Session = Session(*b"SESSION002");
+
 const MAX: u64 = 18446744073709551615;
 
+/// A packer, made once more where memory was refused.
+fn packer(alloc: Global) -> Result<Packer, Fail> {
+    match Packer::new(alloc, 65507) {
+        Ok(packer) => Ok(packer),
+        Err(_) => Ok(Packer::new(alloc, 65507)?),
+    }
+}
+
 /// A packet of messages from a number on, a heartbeat where there are none.
-fn data<'w, 'm>(alloc: Global, first: u64, messages: &'w [&'m [u8]]) -> Result<Packer, Fail> {
-    let mut packer = Packer::new(alloc, 65507)?;
-    packer.start(SESSION, first);
+fn packet_of<'w, 'm>(
+    alloc: Global,
+    session: Session,
+    first: u64,
+    messages: &'w [&'m [u8]],
+) -> Result<Packer, Fail> {
+    let mut packer = packer(alloc)?;
+    packer.start(session, first);
     for message in messages {
         packer.add(message);
     }
     Ok(packer)
+}
+
+fn end_of(alloc: Global, session: Session, number: u64) -> Result<Packer, Fail> {
+    let mut packer = packer(alloc)?;
+    packer.end(session, number);
+    Ok(packer)
+}
+
+fn data<'w, 'm>(alloc: Global, first: u64, messages: &'w [&'m [u8]]) -> Result<Packer, Fail> {
+    packet_of(alloc, SESSION, first, messages)
 }
 
 fn end(alloc: Global, number: u64) -> Result<Packer, Fail> {
-    let mut packer = Packer::new(alloc, 64)?;
-    packer.end(SESSION, number);
-    Ok(packer)
+    end_of(alloc, SESSION, number)
 }
 
 fn foreign<'w, 'm>(alloc: Global, first: u64, messages: &'w [&'m [u8]]) -> Result<Packer, Fail> {
-    let mut packer = Packer::new(alloc, 65507)?;
-    packer.start(Session(*b"SESSION002"), first);
-    for message in messages {
-        packer.add(message);
-    }
-    Ok(packer)
+    packet_of(alloc, OTHER, first, messages)
 }
 
 fn foreign_end(alloc: Global, number: u64) -> Result<Packer, Fail> {
-    let mut packer = Packer::new(alloc, 64)?;
-    packer.end(Session(*b"SESSION002"), number);
-    Ok(packer)
+    end_of(alloc, OTHER, number)
 }
 
-/// The verdict that isn't whole, with these ranges.
-fn incomplete(alloc: Global, ranges: &[(u64, u64)], end: Option<u64>) -> Result<Verdict, Fail> {
-    let mut missing = Vec::new(alloc);
+fn ranges_of(alloc: Global, ranges: &[(u64, u64)]) -> Result<Vec<Range>, AllocError> {
+    let mut made = Vec::new(alloc);
     for (first, last) in ranges {
-        missing.push(Range {
+        made.push(Range {
             first: *first,
             last: *last,
         })?;
     }
+    Ok(made)
+}
+
+/// The verdict that isn't whole, with these ranges; made once more where memory was refused.
+fn incomplete(alloc: Global, ranges: &[(u64, u64)], end: Option<u64>) -> Result<Verdict, Fail> {
+    let missing = match ranges_of(alloc, ranges) {
+        Ok(missing) => missing,
+        Err(_) => ranges_of(alloc, ranges)?,
+    };
     Ok(Verdict::Incomplete { missing, end })
 }
 
@@ -308,6 +332,25 @@ fn a_refused_growth_changes_nothing(rt: HostRuntime) -> Result<(), Fail> {
     let closed = end(alloc, 7)?;
     add_again(&rt, &mut checker, closed.bytes(), &nothing);
     verdict_again(&rt, &checker, &Verdict::Whole { messages: 6 });
+    Ok(())
+}
+
+/// To be run with each allocation refused in turn: want of memory is told at the datagram that brings something
+/// new, or behind the last one.
+#[test]
+fn a_check_tells_where_memory_was_refused(rt: HostRuntime) -> Result<(), Fail> {
+    let alloc = rt.alloc();
+    let (five, two) = (data(alloc, 5, &[])?, data(alloc, 2, &[b"B"])?);
+    let list = [five.bytes(), two.bytes(), two.bytes()];
+    let wanted = incomplete(alloc, &[(1, 1), (3, 4)], None)?;
+    match check(alloc, &list) {
+        Ok(verdict) => assert!(rt; verdict == wanted),
+        Err((index, reason)) => {
+            assert_eq!(rt; reason, Reason::Memory);
+            assert!(rt; index == 1 || index == list.len(), "refused at {index}");
+            assert_eq!(rt; check(alloc, &list), Ok(wanted));
+        }
+    }
     Ok(())
 }
 

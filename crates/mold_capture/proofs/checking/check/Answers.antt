@@ -14,7 +14,7 @@ returns-in-Err-clause-refused c =
     checked_refused c.reading_law.ensures.read (bytes_of c.args.list.now) c.loop-index.index _ c.loop-index.checker
     c.in-Err.reason c.loop-index.invariant
     (omega (arith, length-bytes_of c.args.list.now, c.loop-index-test.true))
-    c.in-Err.ensures.refused
+    c.in-Err.ensures.refused c.in-Err.ensures.new
     (bytes_at c.args.list.now c.loop-index.index _ c.loop-index-test.true)
 
 pub returns-in-Err-clause-outcome : goal.returns-in-Err-clause-outcome
@@ -23,7 +23,7 @@ returns-in-Err-clause-outcome c =
     (checked_refused c.reading_law.ensures.read (bytes_of c.args.list.now) c.loop-index.index _ c.loop-index.checker
     c.in-Err.reason c.loop-index.invariant
     (omega (arith, length-bytes_of c.args.list.now, c.loop-index-test.true))
-    c.in-Err.ensures.refused
+    c.in-Err.ensures.refused c.in-Err.ensures.new
     (bytes_at c.args.list.now c.loop-index.index _ c.loop-index-test.true))
 
 pub loop-index-preserved : goal.loop-index-preserved
@@ -65,4 +65,5 @@ returns-clause-refused c =
     in (
       omega (arith, length-bytes_of c.args.list.now),
       subst Consistent (sym (take_all (length c.args.list.now) list (omega (arith, length-bytes_of c.args.list.now)))) all.0,
+      λ below. absurd (omega (arith, below, length-bytes_of c.args.list.now)),
     )

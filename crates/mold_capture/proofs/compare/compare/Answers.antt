@@ -1,10 +1,17 @@
-use Rattle.std.proofs.Common.{ℕ, ◌+◌, List, length, not, refl, sym, ap, ◌∙◌, arith}
-use Rattle.std.proofs.lemmas.Bool.{or_parts, not-true}
+use Rattle.std.proofs.Common.{◌≡◌, ◌||◌, Bool, true, false, ℕ, ◌+◌, List, length, not, refl, sym, ap, ◌∙◌, inl, inr, arith}
+use Rattle.std.proofs.lemmas.Bool.{or_cases, or_parts, cases_Bool, true≢false, not-true, not-false}
 use Rattle.mold_capture.specs.Refusal.{conflict, differs}
 use Rattle.mold_capture.specs.Runs.{carried}
 use Rattle.mold_capture.specs.Seen.{pairs_with}
-use Rattle.mold_capture.proofs.KeepLemmas.{with_none, with_held, conflict_next, copied_some}
+use Rattle.mold_capture.proofs.KeepLemmas.{with_none, with_held, brings_first, conflict_next, copied_some, copied_none}
 use Rattle.mold_capture.proofs.compare.compare.Goals as goal
+
+is_new : (a b : Bool) → a ≡ false → (a || b) ≡ true → b ≡ true
+is_new a b held is =
+    elim (or_cases a b is) [
+      | inl new ↦ absurd (true≢false (sym new ∙ held))
+      | inr none ↦ none
+    ]
 
 pub loop-message-preserved : goal.loop-message-preserved
 loop-message-preserved c =
@@ -30,7 +37,20 @@ loop-message-preserved c =
           (found.0, sym c.message_at-carried.ensures.message ∙ found.1)
           ∙ ap (pairs_with pairs number) (sym steps)
           ∙ old.all parts.0;
+      some = λ is.
+          elim (cases_Bool c.loop-message.new) [
+            | inl new ↦ old.some new
+            | inr held ↦
+                let none = is_new c.loop-message.new c.is_none-new.result held is in
+                let found = copied_none c.message_at-carried.result (c.is_none-new.ensures ∙ ap not none) in
+                λ same.
+                brings_first pairs number message rest (sym c.message_at-carried.ensures.message ∙ found)
+                (ap (pairs_with pairs number) (sym steps) ∙ old.all held ∙ same)
+          ];
     }
+
+pub returns-clause-new : goal.returns-clause-new
+returns-clause-new c = λ some. c.loop-message.invariant.some (not-false c.loop-message.new some)
 
 pub returns-clause-all : goal.returns-clause-all
 returns-clause-all c = λ all.

@@ -1,8 +1,8 @@
-use Rattle.std.proofs.Common.{◌≡◌, ◌+◌, length, false}
+use Rattle.std.proofs.Common.{◌≡◌, ◌+◌, length, true, false}
 use Rattle.std.specs.Prelude.{IfSome}
 use Rattle.mold_capture.specs.Refusal.{conflict}
 use Rattle.mold_capture.specs.Runs.{HasRun, carried}
-use Rattle.mold_capture.specs.Seen.{pairs_with}
+use Rattle.mold_capture.specs.Seen.{BringNew, pairs_with}
 use Rattle.mold_capture.proofs.compare.compare.Given as goal
 
 abbrev pub invariant-loop-message : goal.invariant-loop-message
@@ -15,4 +15,5 @@ invariant-loop-message l = record {
   all :
       l.new ≡ false → pairs_with (carried l.runs l.kept) l.number l.message-iterator
       ≡ pairs_with (carried l.runs l.kept) l.first l.blocks;
+  some : l.new ≡ true → BringNew (carried l.runs l.kept) l.first l.blocks;
 }

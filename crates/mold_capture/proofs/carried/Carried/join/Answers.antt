@@ -1,8 +1,8 @@
 use Rattle.std.proofs.Common.{◌≡◌, ◌+◌, length, None, subst, arith}
 use Rattle.mold_capture.specs.Refusal.{conflict}
 use Rattle.mold_capture.specs.Runs.{AreFree}
-use Rattle.mold_capture.specs.Seen.{Pairs}
-use Rattle.mold_capture.proofs.KeepLemmas.{free_conflict, memory_told, always_ok}
+use Rattle.mold_capture.specs.Seen.{Pairs, BringNew}
+use Rattle.mold_capture.proofs.KeepLemmas.{free_brings, free_conflict, memory_told, always_memory, always_ok}
 use Rattle.mold_capture.proofs.carried.Carried.join.Goals as goal
 
 pub add_all-requires-clause-free : goal.add_all-requires-clause-free
@@ -17,6 +17,17 @@ none c =
     in
     subst (λ (p : Pairs). conflict p c.args.first c.args.blocks.now ≡ None) c.self.view_is
     (free_conflict c.self.inside.runs c.self.inside.kept.messages c.self.invariant c.args.first c.args.blocks.now free)
+
+pub returns-then-is_free-clause-new : goal.returns-then-is_free-clause-new
+returns-then-is_free-clause-new c =
+    let free : AreFree c.self.inside.runs c.args.first (c.args.first + length c.args.blocks.now) =
+    λ f run number has covers low high.
+    c.is_free.ensures c.if-is_free.true f run number has covers low (omega (arith, c.from.ensures, c.len.ensures.length))
+    in
+    always_memory c.add_all.result _
+    (subst (λ (p : Pairs). BringNew p c.args.first c.args.blocks.now) c.self.view_is
+    (free_brings c.self.inside.runs c.self.inside.kept.messages c.self.invariant c.args.first c.args.blocks.now
+    c.len.ensures.range.0 free))
 
 pub returns-then-is_free-clause-refused : goal.returns-then-is_free-clause-refused
 returns-then-is_free-clause-refused c = memory_told c.add_all.result _ c.add_all.ensures.memory (none c)
