@@ -26,28 +26,15 @@ const KEPT: i32 = 1 << 22;
 /// In the place of a descriptor: none.
 const NONE: RawFd = -1;
 
-// What ends the wait of a receive.
-#[derive(Clone, Copy, PartialEq, Eq)]
-enum Patience {
-    // A datagram, here or at a port beside.
-    Shared,
-    // An answer to what was sent, and nothing at a port beside: else requests and late answers would pile up
-    // where the ports beside are faster than the server.
-    Asking,
-    // As where it is shared, until a datagram comes: the last wait for an answer was in vain.
-    Unanswered,
-}
-
 /// A UDP socket over IPv4 as a port. A receive waits at most 100 milliseconds, and it ends its wait early,
-/// with none, where a port that it stands beside has a datagram. Only where something was sent, the first
-/// receive behind it waits for the answer, unless the last such wait was in vain. The socket is closed where
-/// the port is dropped.
+/// with none, where a port that it stands beside has a datagram. Where one had, the next few receives that
+/// find nothing don't wait at all, unless something was sent meanwhile, which may be answered. The socket is
+/// closed where the port is dropped.
 #[derive(Drop)]
 pub struct UdpPort {
     socket: UdpSocket,
     address: SocketAddr,
     beside: [RawFd; 2],
-    patience: Patience,
     // How many receives from now on don't wait.
     passes: u8,
     failures: u64,
@@ -72,7 +59,6 @@ impl UdpPort {
                 socket,
                 address,
                 beside: [NONE; 2],
-                patience: Patience::Shared,
                 passes: 0,
                 failures: 0,
             }),
@@ -101,7 +87,6 @@ impl UdpPort {
     {
         match self.socket.recv_from(place) {
             Ok(found) => {
-                self.patience = Patience::Shared;
                 self.passes = 0;
                 Ok(Some(found))
             }
@@ -110,12 +95,12 @@ impl UdpPort {
         }
     }
 
-    // Waits as its patience says, at most its time. Answers whether a datagram may be here.
+    // Waits until a datagram is here or at a port beside it, or the time is over. Answers whether one may be
+    // here.
     fn wait(&mut self) -> bool
         ensures { self.new ≡ self.old }
     {
-        let is_asking = self.patience == Patience::Asking;
-        let [one, other] = if is_asking { [NONE; 2] } else { self.beside };
+        let [one, other] = self.beside;
         let mut asked = [
             watched(self.socket.as_raw_fd(), POLLIN),
             watched(one, POLLIN),
@@ -125,9 +110,7 @@ impl UdpPort {
         if found < 0 || asked[0].revents != 0 {
             return true;
         }
-        if is_asking {
-            self.patience = Patience::Unanswered;
-        } else if found > 0 {
+        if found > 0 {
             self.passes = PASSES;
         }
         false
@@ -150,16 +133,6 @@ impl UdpPort {
             self.take(place)
         } else {
             Ok(None)
-        }
-    }
-
-    // From now on an answer is waited for, unless the last wait for one was in vain.
-    fn expect_answer(&mut self)
-        ensures { self.new ≡ self.old }
-    {
-        if self.patience != Patience::Unanswered {
-            self.patience = Patience::Asking;
-            self.passes = 0;
         }
     }
 
@@ -189,7 +162,7 @@ impl Datagrams for UdpPort {
         }
         match sent {
             Ok(count) if count == bytes.len() => {
-                self.expect_answer();
+                self.passes = 0;
                 Ok(())
             }
             _ => Err(self.fail()),
