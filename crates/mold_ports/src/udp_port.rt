@@ -16,6 +16,10 @@ use std::os::fd::{AsRawFd, RawFd};
 /// How many milliseconds a receive or a send waits at most.
 const WAIT: i32 = 100;
 
+/// How many of them a receive behind a send waits for the answer alone: it is mostly here by then, and to ask
+/// anew before it is lets answers pile up.
+const ANSWER_WAIT: i32 = 2;
+
 /// How many receives that find nothing don't wait, after one whose wait a port beside it ended: that port is
 /// busy, and to ask again costs a call of the system.
 const PASSES: u8 = 3;
@@ -26,15 +30,27 @@ const KEPT: i32 = 1 << 22;
 /// In the place of a descriptor: none.
 const NONE: RawFd = -1;
 
+// What is waited for.
+#[derive(Clone, Copy, PartialEq, Eq)]
+enum Patience {
+    // A datagram, here or at a port beside.
+    Shared,
+    // First the answer to what was sent.
+    Asking,
+    // As where it is shared, until a datagram comes: the last wait for an answer was in vain.
+    Unanswered,
+}
+
 /// A UDP socket over IPv4 as a port. A receive waits at most 100 milliseconds, and it ends its wait early,
 /// with none, where a port that it stands beside has a datagram. Where one had, the next few receives that
-/// find nothing don't wait at all, unless something was sent meanwhile, which may be answered. The socket is
-/// closed where the port is dropped.
+/// find nothing don't wait at all. Behind a send a receive first gives the answer two milliseconds, unless
+/// the last answer did not come in them. The socket is closed where the port is dropped.
 #[derive(Drop)]
 pub struct UdpPort {
     socket: UdpSocket,
     address: SocketAddr,
     beside: [RawFd; 2],
+    patience: Patience,
     // How many receives from now on don't wait.
     passes: u8,
     failures: u64,
@@ -59,6 +75,7 @@ impl UdpPort {
                 socket,
                 address,
                 beside: [NONE; 2],
+                patience: Patience::Shared,
                 passes: 0,
                 failures: 0,
             }),
@@ -87,6 +104,7 @@ impl UdpPort {
     {
         match self.socket.recv_from(place) {
             Ok(found) => {
+                self.patience = Patience::Shared;
                 self.passes = 0;
                 Ok(Some(found))
             }
@@ -100,13 +118,20 @@ impl UdpPort {
     fn wait(&mut self) -> bool
         ensures { self.new ≡ self.old }
     {
+        if self.patience == Patience::Asking {
+            self.patience = Patience::Unanswered;
+            let mut asked = [watched(self.socket.as_raw_fd(), POLLIN)];
+            if poll(&mut asked, ANSWER_WAIT) != 0 {
+                return true;
+            }
+        }
         let [one, other] = self.beside;
         let mut asked = [
             watched(self.socket.as_raw_fd(), POLLIN),
             watched(one, POLLIN),
             watched(other, POLLIN),
         ];
-        let found = poll(&mut asked, WAIT);
+        let found = poll(&mut asked, WAIT - ANSWER_WAIT);
         if found < 0 || asked[0].revents != 0 {
             return true;
         }
@@ -136,6 +161,16 @@ impl UdpPort {
         }
     }
 
+    // From now on an answer is waited for, unless the last wait for one was in vain.
+    fn expect_answer(&mut self)
+        ensures { self.new ≡ self.old }
+    {
+        self.passes = 0;
+        if self.patience == Patience::Shared {
+            self.patience = Patience::Asking;
+        }
+    }
+
     // Counts a failure.
     fn fail(&mut self) -> DeviceFault
         ensures { self.new.failures ≡ one_more self.old.failures }
@@ -162,7 +197,7 @@ impl Datagrams for UdpPort {
         }
         match sent {
             Ok(count) if count == bytes.len() => {
-                self.passes = 0;
+                self.expect_answer();
                 Ok(())
             }
             _ => Err(self.fail()),
