@@ -1,10 +1,10 @@
 //! A UDP socket as a port.
 
-ghost use Rattle.std.specs.Prelude.{◌≡◌, false, [], IfOk};
+ghost use Rattle.std.specs.Prelude.{◌≡◌, ◌≤◌, false, [], length, IfOk, IfSome};
 ghost use Rattle.mold_devices.specs.Devices.{one_more};
 
 use crate::datagrams::Datagrams;
-use libc::net::{POLLIN, SO_RCVBUF, SOL_SOCKET, poll, setsockopt};
+use libc::net::{POLLIN, POLLOUT, SO_RCVBUF, SOL_SOCKET, poll, setsockopt};
 use libc::types::pollfd;
 use mold_devices::DeviceFault;
 use std::io;
@@ -12,10 +12,17 @@ use std::io::ErrorKind;
 use std::marker::Model;
 use std::net::{Net, SocketAddr, SocketAddrV4, UdpSocket};
 use std::os::fd::{AsRawFd, RawFd};
-use std::time::Duration;
 
-/// How many milliseconds a receive waits at most.
-const WAIT: u16 = 100;
+/// How many milliseconds a receive or a send waits at most.
+const WAIT: i32 = 100;
+
+/// How many of them a receive behind a send waits for the answer alone: it is mostly here by then, and to ask
+/// anew before it is lets answers pile up.
+const ANSWER_WAIT: i32 = 2;
+
+/// How many receives that find nothing don't wait, after one whose wait a port beside it ended: that port is
+/// busy, and to ask again costs a call of the system.
+const PASSES: u8 = 3;
 
 /// How many bytes the system is asked to keep of what was not received yet. It may keep fewer.
 const KEPT: i32 = 1 << 22;
@@ -23,13 +30,29 @@ const KEPT: i32 = 1 << 22;
 /// In the place of a descriptor: none.
 const NONE: RawFd = -1;
 
+// What is waited for.
+#[derive(Clone, Copy, PartialEq, Eq)]
+enum Patience {
+    // A datagram, here or at a port beside.
+    Shared,
+    // First the answer to what was sent.
+    Asking,
+    // As where it is shared, until a datagram comes: the last wait for an answer was in vain.
+    Unanswered,
+}
+
 /// A UDP socket over IPv4 as a port. A receive waits at most 100 milliseconds, and it ends its wait early,
-/// with none, where a port that it stands beside has a datagram. It is closed where it is dropped.
+/// with none, where a port that it stands beside has a datagram. Where one had, the next few receives that
+/// find nothing don't wait at all. Behind a send a receive first gives the answer two milliseconds, unless
+/// the last answer did not come in them. The socket is closed where the port is dropped.
 #[derive(Drop)]
 pub struct UdpPort {
     socket: UdpSocket,
     address: SocketAddr,
     beside: [RawFd; 2],
+    patience: Patience,
+    // How many receives from now on don't wait.
+    passes: u8,
     failures: u64,
 }
 
@@ -52,6 +75,8 @@ impl UdpPort {
                 socket,
                 address,
                 beside: [NONE; 2],
+                patience: Patience::Shared,
+                passes: 0,
                 failures: 0,
             }),
             Err(_) => Err(DeviceFault),
@@ -72,17 +97,78 @@ impl UdpPort {
         self.beside = [other.socket.as_raw_fd(), self.beside[0]];
     }
 
-    // Waits until a datagram is here or at a port beside it, or the time is over, and answers whether to
-    // look for one here.
-    fn wait(&self) -> bool {
+    // Takes a datagram that is here; none where none is.
+    fn take(&mut self, place: &mut [u8]) -> io::Result<Option<(usize, SocketAddr)>>
+        ensures count { IfOk result (λ answer. IfSome answer (λ found. found.0 ≤ length place.new)) }
+        ensures failures { self.new ≡ self.old }
+    {
+        match self.socket.recv_from(place) {
+            Ok(found) => {
+                self.patience = Patience::Shared;
+                self.passes = 0;
+                Ok(Some(found))
+            }
+            Err(error) if error.kind() == ErrorKind::WouldBlock => Ok(None),
+            Err(error) => Err(error),
+        }
+    }
+
+    // Waits until a datagram is here or at a port beside it, or the time is over. Answers whether one may be
+    // here.
+    fn wait(&mut self) -> bool
+        ensures { self.new ≡ self.old }
+    {
+        if self.patience == Patience::Asking {
+            self.patience = Patience::Unanswered;
+            let mut asked = [watched(self.socket.as_raw_fd(), POLLIN)];
+            if poll(&mut asked, ANSWER_WAIT) != 0 {
+                return true;
+            }
+        }
         let [one, other] = self.beside;
         let mut asked = [
-            watched(self.socket.as_raw_fd()),
-            watched(one),
-            watched(other),
+            watched(self.socket.as_raw_fd(), POLLIN),
+            watched(one, POLLIN),
+            watched(other, POLLIN),
         ];
-        let found = poll(&mut asked, i32::from(WAIT));
-        found < 0 || asked[0].revents != 0
+        let found = poll(&mut asked, WAIT - ANSWER_WAIT);
+        if found < 0 || asked[0].revents != 0 {
+            return true;
+        }
+        if found > 0 {
+            self.passes = PASSES;
+        }
+        false
+    }
+
+    // Takes a datagram that is here or comes in its time; none where none does.
+    fn take_in_time(&mut self, place: &mut [u8]) -> io::Result<Option<(usize, SocketAddr)>>
+        ensures count { IfOk result (λ answer. IfSome answer (λ found. found.0 ≤ length place.new)) }
+        ensures failures { self.new ≡ self.old }
+    {
+        if let Some(found) = self.take(place)? {
+            return Ok(Some(found));
+        }
+        if self.passes > 0 {
+            self.passes -= 1;
+            return Ok(None);
+        }
+        // A datagram that ended the wait may be gone, as by a wrong checksum.
+        if self.wait() {
+            self.take(place)
+        } else {
+            Ok(None)
+        }
+    }
+
+    // From now on an answer is waited for, unless the last wait for one was in vain.
+    fn expect_answer(&mut self)
+        ensures { self.new ≡ self.old }
+    {
+        self.passes = 0;
+        if self.patience == Patience::Shared {
+            self.patience = Patience::Asking;
+        }
     }
 
     // Counts a failure.
@@ -102,20 +188,25 @@ impl Datagrams for UdpPort {
     ghost port = { λ p. record { comes = []; sent = []; failures = p.failures } };
 
     fn send(&mut self, to: SocketAddr, bytes: &[u8]) -> Result<(), DeviceFault> {
-        match self.socket.send_to(bytes, to) {
-            Ok(count) if count == bytes.len() => Ok(()),
+        let mut sent = self.socket.send_to(bytes, to);
+        if matches!(&sent, Err(error) if error.kind() == ErrorKind::WouldBlock) {
+            // The system has no room for it yet.
+            let mut asked = [watched(self.socket.as_raw_fd(), POLLOUT)];
+            let _ = poll(&mut asked, WAIT);
+            sent = self.socket.send_to(bytes, to);
+        }
+        match sent {
+            Ok(count) if count == bytes.len() => {
+                self.expect_answer();
+                Ok(())
+            }
             _ => Err(self.fail()),
         }
     }
 
     fn receive(&mut self, place: &mut [u8]) -> Result<Option<(usize, SocketAddr)>, DeviceFault> {
-        if !self.wait() {
-            return Ok(None);
-        }
-        match self.socket.recv_from(place) {
-            Ok(found) => Ok(Some(found)),
-            // The datagram may be gone, as by a wrong checksum.
-            Err(error) if is_late(&error) => Ok(None),
+        match self.take_in_time(place) {
+            Ok(answer) => Ok(answer),
             Err(_) => Err(self.fail()),
         }
     }
@@ -125,10 +216,10 @@ impl Datagrams for UdpPort {
     }
 }
 
-// A socket at the address, and the address and port that it got.
+// A socket at the address, of which no call waits, and the address and port that it got.
 fn open<R: Net>(rt: &R, address: SocketAddrV4) -> io::Result<(UdpSocket, SocketAddr)> {
     let socket = UdpSocket::bind(rt, SocketAddr::V4(address))?;
-    socket.set_read_timeout(Some(Duration::from_millis(u64::from(WAIT))))?;
+    socket.set_nonblocking(true)?;
     let mut size = [0u8; 16];
     size[..4].copy_from_slice(&KEPT.to_ne_bytes());
     // Where the system refuses it, fewer datagrams wait and more are lost, as may happen anyway.
@@ -137,16 +228,11 @@ fn open<R: Net>(rt: &R, address: SocketAddrV4) -> io::Result<(UdpSocket, SocketA
     Ok((socket, address))
 }
 
-// A descriptor of which `poll` is to tell whether it has something; none never has.
-fn watched(descriptor: RawFd) -> pollfd {
+// A descriptor of which `poll` is to tell whether it is ready for the events; none never is.
+fn watched(descriptor: RawFd, events: i16) -> pollfd {
     pollfd {
         fd: descriptor,
-        events: POLLIN,
+        events,
         revents: 0,
     }
-}
-
-// Whether a receive ended because nothing came in its time.
-fn is_late(error: &io::Error) -> bool {
-    matches!(error.kind(), ErrorKind::WouldBlock | ErrorKind::TimedOut)
 }
