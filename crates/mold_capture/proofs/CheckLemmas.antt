@@ -41,16 +41,16 @@ refused_for reads list i bytes why within at consistent is = (
 refused_at : ReadsBack → (list : List (List ℕ)) (i : ℕ) (bytes : List ℕ) → i < length list → get_or list i [] ≡ bytes →
     Consistent (take i list) → (why : Reason) → reason (take i list) bytes ≡ told why
     → (why ≡ Memory → BringsNew (seen_of (take i list)) bytes) → IsRefusedAt i why list
-refused_at reads list i bytes within at consistent Memory is new =
-    (omega arith, consistent, λ below. subst (BringsNew (seen_of (take i list))) (sym at) (new refl))
-refused_at reads list i bytes within at consistent (Malformed e) is new = refused_for reads list i bytes _ within at consistent is
-refused_at reads list i bytes within at consistent WrongSession is new = refused_for reads list i bytes _ within at consistent is
-refused_at reads list i bytes within at consistent SequenceZero is new = refused_for reads list i bytes _ within at consistent is
-refused_at reads list i bytes within at consistent PastLast is new = refused_for reads list i bytes _ within at consistent is
-refused_at reads list i bytes within at consistent (EndConflict e) is new = refused_for reads list i bytes _ within at consistent is
-refused_at reads list i bytes within at consistent (EndBelow k) is new = refused_for reads list i bytes _ within at consistent is
-refused_at reads list i bytes within at consistent (PastEnd e) is new = refused_for reads list i bytes _ within at consistent is
-refused_at reads list i bytes within at consistent (Conflict n) is new = refused_for reads list i bytes _ within at consistent is
+refused_at reads list i bytes within at all Memory is new =
+    (omega arith, all, λ below. subst (BringsNew (seen_of (take i list))) (sym at) (new refl))
+refused_at reads list i bytes within at all (Malformed e) is new = refused_for reads list i bytes _ within at all is
+refused_at reads list i bytes within at all WrongSession is new = refused_for reads list i bytes _ within at all is
+refused_at reads list i bytes within at all SequenceZero is new = refused_for reads list i bytes _ within at all is
+refused_at reads list i bytes within at all PastLast is new = refused_for reads list i bytes _ within at all is
+refused_at reads list i bytes within at all (EndConflict e) is new = refused_for reads list i bytes _ within at all is
+refused_at reads list i bytes within at all (EndBelow k) is new = refused_for reads list i bytes _ within at all is
+refused_at reads list i bytes within at all (PastEnd e) is new = refused_for reads list i bytes _ within at all is
+refused_at reads list i bytes within at all (Conflict n) is new = refused_for reads list i bytes _ within at all is
 
 -- the datagrams so far are consistent, and what they have said is known
 pub record HasChecked (list : List (List ℕ)) (i : ℕ) (seen : Seen) : Type 0 where
