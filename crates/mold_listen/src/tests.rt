@@ -1,8 +1,8 @@
 //! Listening over ports in memory, with the text that is printed.
 
 use crate::{Desk, LONGEST, hear_port, listen_loop, push_last};
-use mold_devices::{CommandFault, MemorySink};
-use mold_ports::{MemoryPort, Step};
+use mold_devices::{CommandFault, MemorySink, Sink};
+use mold_ports::{Datagrams, MemoryPort, Step};
 use mold_receiver::{Arbiter, Line, Receiver};
 use mold_wire::Session;
 use std::alloc::{AllocError, Global};
@@ -219,6 +219,35 @@ fn failure_at_each_receive_of_an_answer(rt: HostRuntime) -> Result<(), Fail> {
             b"1 41\n2 42\n3 43\nfinished next 4 failed 1\n".as_slice()
         );
         assert_eq!(rt; listener.requests.sent().len(), 3);
+    }
+    Ok(())
+}
+
+/// To be run with each allocation refused in turn.
+#[test]
+fn a_refused_growth_leaves_a_beginning(rt: HostRuntime) -> Result<(), Fail> {
+    let mut listener = with_gap(rt.alloc(), None)?;
+    let outcome = listener.listen(rt.alloc(), 1, 4);
+    // A letter that the port has no memory for is a failed send.
+    let text = if listener.requests.failures() > 0 {
+        b"1 41\n2 42\n3 43\nfinished next 4 failed 1\n"
+    } else {
+        b"1 41\n2 42\n3 43\nfinished next 4 failed 0\n"
+    };
+    match outcome {
+        Ok(status) => {
+            assert_eq!(rt; status, 0);
+            assert_eq!(rt; listener.sink.bytes(), text.as_slice());
+        }
+        Err(fault) => {
+            let refused = if listener.sink.failures() > 0 {
+                CommandFault::Write
+            } else {
+                CommandFault::Memory
+            };
+            assert_eq!(rt; fault, refused);
+            assert!(rt; text.starts_with(listener.sink.bytes()));
+        }
     }
     Ok(())
 }
