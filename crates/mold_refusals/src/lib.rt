@@ -1,8 +1,8 @@
 //! Why a publisher, a re-request server and a receiver refuse something, as words of a line.
 #![tactic(auto)]
 
-mod appending;
 mod answering;
+mod appending;
 mod receiving;
 #[cfg(test)]
 mod tests;

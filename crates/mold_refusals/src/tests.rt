@@ -10,11 +10,7 @@ use std::test::Fail;
 #[test]
 fn refusals_are_words_behind_others(rt: HostRuntime) -> Result<(), Fail> {
     let mut out = Vec::new(rt.alloc());
-    let line = [
-        Word::Text(b"refused"),
-        Word::Text(b"line"),
-        Word::Number(2),
-    ];
+    let line = [Word::Text(b"refused"), Word::Text(b"line"), Word::Number(2)];
     push_append_refusal(&mut out, &line, AppendError::TooLong { len: 43 })?;
     let refused = [Word::Text(b"refused")];
     push_answer_refusal(&mut out, &refused, AnswerError::Ahead { next: 6 })?;

@@ -26,7 +26,11 @@ fn words_are_joined_by_single_spaces(rt: HostRuntime) -> Result<(), Fail> {
     push_line(&mut out, &[])?;
     push_line_behind(&mut out, &Word::Text(b"nothing"), &[])?;
     push_line_behind(&mut out, &Word::Text(b"sent"), &[Word::Number(0)])?;
-    push_line_with(&mut out, &[Word::Text(b"sent"), Word::Number(0)], &[Word::Number(1)])?;
+    push_line_with(
+        &mut out,
+        &[Word::Text(b"sent"), Word::Number(0)],
+        &[Word::Number(1)],
+    )?;
     let text = b"delivered 7 18446744073709551616 0aff - 41\n\nnothing\nsent 0\nsent 0 1\n";
     assert_eq!(rt; out.as_slice(), text.as_slice());
     Ok(())
