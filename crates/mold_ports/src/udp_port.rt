@@ -12,14 +12,13 @@ use std::io::ErrorKind;
 use std::marker::Model;
 use std::net::{Net, SocketAddr, SocketAddrV4, UdpSocket};
 use std::os::fd::{AsRawFd, RawFd};
-use std::time::Duration;
 
 /// How many milliseconds a receive or a send waits at most.
-const WAIT: u16 = 100;
+const WAIT: i32 = 100;
 
 /// How many of them a receive behind a send waits for the answer alone: it is mostly here by then, and to ask
 /// anew before it is lets answers pile up.
-const ANSWER_WAIT: u16 = 2;
+const ANSWER_WAIT: i32 = 2;
 
 /// How many receives that find nothing don't wait, after one whose wait a port beside it ended: that port is
 /// busy, and to ask again costs a call of the system.
@@ -42,9 +41,9 @@ enum Patience {
     Unanswered,
 }
 
-/// A UDP socket over IPv4 as a port. A receive waits at most 100 milliseconds; a port that stands beside others
-/// ends its wait early, with none, where one of them has a datagram. Where one had, the next few receives that
-/// find nothing don't wait at all. Behind a send such a port first gives the answer two milliseconds, unless
+/// A UDP socket over IPv4 as a port. A receive waits at most 100 milliseconds, and it ends its wait early,
+/// with none, where a port that it stands beside has a datagram. Where one had, the next few receives that
+/// find nothing don't wait at all. Behind a send a receive first gives the answer two milliseconds, unless
 /// the last answer did not come in them. The socket is closed where the port is dropped.
 #[derive(Drop)]
 pub struct UdpPort {
@@ -95,17 +94,10 @@ impl UdpPort {
     pub fn stand_beside(&mut self, other: &UdpPort)
         ensures { self.new ≡ self.old }
     {
-        // From now on it waits by `poll`. Should the system refuse that, each call waits for itself alone.
-        let _ = self.socket.set_nonblocking(true);
         self.beside = [other.socket.as_raw_fd(), self.beside[0]];
     }
 
-    // Whether no other port ends its waits: then each call waits by itself.
-    fn is_alone(&self) -> bool {
-        self.beside[0] == NONE
-    }
-
-    // Takes a datagram: one that is here or, alone, comes in its time; none where none does.
+    // Takes a datagram that is here; none where none is.
     fn take(&mut self, place: &mut [u8]) -> io::Result<Option<(usize, SocketAddr)>>
         ensures count { IfOk result (λ answer. IfSome answer (λ found. found.0 ≤ length place.new)) }
         ensures failures { self.new ≡ self.old }
@@ -129,7 +121,7 @@ impl UdpPort {
         if self.patience == Patience::Asking {
             self.patience = Patience::Unanswered;
             let mut asked = [watched(self.socket.as_raw_fd(), POLLIN)];
-            if poll(&mut asked, i32::from(ANSWER_WAIT)) != 0 {
+            if poll(&mut asked, ANSWER_WAIT) != 0 {
                 return true;
             }
         }
@@ -139,7 +131,7 @@ impl UdpPort {
             watched(one, POLLIN),
             watched(other, POLLIN),
         ];
-        let found = poll(&mut asked, i32::from(WAIT - ANSWER_WAIT));
+        let found = poll(&mut asked, WAIT - ANSWER_WAIT);
         if found < 0 || asked[0].revents != 0 {
             return true;
         }
@@ -156,9 +148,6 @@ impl UdpPort {
     {
         if let Some(found) = self.take(place)? {
             return Ok(Some(found));
-        }
-        if self.is_alone() {
-            return Ok(None);
         }
         if self.passes > 0 {
             self.passes -= 1;
@@ -200,12 +189,10 @@ impl Datagrams for UdpPort {
 
     fn send(&mut self, to: SocketAddr, bytes: &[u8]) -> Result<(), DeviceFault> {
         let mut sent = self.socket.send_to(bytes, to);
-        if !self.is_alone()
-            && matches!(&sent, Err(error) if error.kind() == ErrorKind::WouldBlock)
-        {
+        if matches!(&sent, Err(error) if error.kind() == ErrorKind::WouldBlock) {
             // The system has no room for it yet.
             let mut asked = [watched(self.socket.as_raw_fd(), POLLOUT)];
-            let _ = poll(&mut asked, i32::from(WAIT));
+            let _ = poll(&mut asked, WAIT);
             sent = self.socket.send_to(bytes, to);
         }
         match sent {
@@ -229,12 +216,10 @@ impl Datagrams for UdpPort {
     }
 }
 
-// A socket at the address, of which each call waits its time, and the address and port that it got.
+// A socket at the address, of which no call waits, and the address and port that it got.
 fn open<R: Net>(rt: &R, address: SocketAddrV4) -> io::Result<(UdpSocket, SocketAddr)> {
     let socket = UdpSocket::bind(rt, SocketAddr::V4(address))?;
-    let time = Duration::from_millis(u64::from(WAIT));
-    socket.set_read_timeout(Some(time))?;
-    socket.set_write_timeout(Some(time))?;
+    socket.set_nonblocking(true)?;
     let mut size = [0u8; 16];
     size[..4].copy_from_slice(&KEPT.to_ne_bytes());
     // Where the system refuses it, fewer datagrams wait and more are lost, as may happen anyway.
