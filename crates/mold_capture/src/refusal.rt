@@ -37,7 +37,8 @@ fn refuse_past(top: u64, ended: Option<u64>) -> Option<Reason>
 
 // The refusal of a packet by what is known of the session's end.
 fn refuse_by_end(packet: &Packet<'_>, top: u64, known: u64, ended: Option<u64>) -> Option<Reason>
-    ensures { result ≡ first_some (end_conflict packet.now.body packet.now.sequence ended ∷ end_below packet.now.body packet.now.sequence known ∷ past_end ended top ∷ []) }
+    ensures { result ≡ first_some (end_conflict packet.now.body packet.now.sequence ended
+        ∷ end_below packet.now.body packet.now.sequence known ∷ past_end ended top ∷ []) }
 {
     match packet.body {
         Body::End => match refuse_end(packet.sequence, known, ended) {

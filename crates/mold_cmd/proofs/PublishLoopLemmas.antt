@@ -22,7 +22,7 @@ use Rattle.mold_turns.proofs.RunLemmas.{begins_more, begins_trans, begins_whole,
 use Rattle.mold_cmd.specs.Pack.{all_but_last, packed_status, packets_behind}
 use Rattle.mold_cmd.specs.PublishLoop.{Outbox, PublishRun, Saves, Sends, SendsLines, all_datagrams, behind_data, both, close_datagrams}
 use Rattle.mold_cmd.specs.PublishLoop.{data_behind, last_line, offer, outbox_of, packets_to_send, published_text}
-use Rattle.mold_cmd.specs.PublishLoop.{saved_bytes, spelled_some}
+use Rattle.mold_cmd.specs.PublishLoop.{closed_unless, left_journal, saved_bytes, spelled_some}
 use Rattle.mold_cmd.specs.Publishing.{PublishedLines, lines_published, published_from, line_outcome, refused_text, HasRoom, IsJustFull, Fills}
 use Rattle.mold_cmd.specs.declared.line_refusal.LineRefusal.{LineRefusal}
 use Rattle.mold_cmd.specs.declared.filling.Filled.TheVariants.{Full, End, Refused}
@@ -489,7 +489,8 @@ pub run_refused : {P E : Type 0} (a b : P) (beats ends : ℕ) (start now : Publi
     IfOk result (λ status. Appends text_old text_new items × (status ≡ 2)) →
     IfSome known (λ input. PublishRun a b beats ends start.limit (lines_published start.journal (lines_of input)) result
     before after text_old text_new file file)
-run_refused {P} {E} a b beats ends start now known why result before none failed count after text_old text_new file number items zeroed unsent unclosed sent numbered is text told =
+run_refused {P} {E} a b beats ends start now known why result before none failed count after text_old text_new file
+    number items zeroed unsent unclosed sent numbered is text told =
     let same : items ≡ refused_text (length now.journal.messages + 1) why =
     is ∙ ap (λ (n : ℕ). refused_text n why) numbered in
     run_from a b beats ends start known now.journal (Some why) sent.front result before after text_old text_new file
@@ -519,7 +520,8 @@ pub run_closed : {P E : Type 0} (a b : P) (beats ends : ℕ) (start now : Publis
     AppendsFront file_old file_new (saved_bytes now.journal None) →
     IfSome known (λ input. PublishRun a b beats ends start.limit (lines_published start.journal (lines_of input)) result
     before after text_old text_new file_old file_new)
-run_closed {P} {E} a b beats ends start now known result before none failed count mid after lost text_old text_new file_old file_new zeroed unsent unclosed sent closes told saved text file =
+run_closed {P} {E} a b beats ends start now known result before none failed count mid after lost text_old text_new
+    file_old file_new zeroed unsent unclosed sent closes told saved text file =
     run_from a b beats ends start known now.journal None sent.front result before after text_old text_new file_old
     file_new unsent unclosed sent.whole
     (λ whole_data shut.
@@ -534,6 +536,15 @@ run_closed {P} {E} a b beats ends start now known result before none failed coun
     saved
     (subst (λ (n : ℕ). AppendsFront text_old text_new (last_line (length now.journal.messages) n lost)) same text)
     file)
+
+-- the journal that is left
+pub left_behind : {P E : Type 0} (a b : P) (start now : PublisherState) (known : Option (List ℕ))
+    (refused : Option LineRefusal) (old new : Outbox P) (count : ℕ) (journal : JournalState) →
+    SendsLines {E = E} a b start now known (Ok refused) old new count → journal ≡ closed_unless refused now.journal →
+    IfSome known (λ input. journal ≡ left_journal (lines_published start.journal (lines_of input)))
+left_behind a b start now None refused old new count journal sent is = tt
+left_behind a b start now (Some input) refused old new count journal sent is =
+    is ∙ sym (ap (λ (p : PublishedLines). left_journal p) sent.whole.1)
 
 -- an empty publisher
 pub none_sent : (p : PublisherState) → p.sent ≤ length p.journal.messages → p.journal.messages ≡ [] → p.sent ≡ 0

@@ -105,6 +105,14 @@ abbrev pub saved_bytes : JournalState → Option LineRefusal → List ℕ
 saved_bytes journal None = head_2 journal.session.0 true (length journal.messages) ++ blocks journal.messages
 saved_bytes journal (Some why) = []
 
+-- the journal that is left: closed, unless a line is refused
+abbrev pub closed_unless : Option LineRefusal → JournalState → JournalState
+closed_unless None journal = record journal { closed = true }
+closed_unless (Some why) journal = journal
+
+abbrev pub left_journal : PublishedLines → JournalState
+left_journal published = closed_unless published.refused published.journal
+
 -- known bytes grew by that file, and stay where a line is refused
 abbrev pub Saves : JournalState → Option LineRefusal → Option (List ℕ) → Option (List ℕ) → Type 0
 Saves journal None old new = AppendsFile old new journal.session journal.messages true

@@ -5,22 +5,15 @@ use Rattle.hex.specs.Hex.{decode_of}
 use Rattle.hex.specs.declared.error.FromHexError.{FromHexError}
 use Rattle.mold_wire.specs.Packing.{Fits}
 use Rattle.mold_devices.specs.Lines.{lines_of}
+use Rattle.mold_refusals.specs.Words.{append_words}
 use Rattle.mold_text.specs.Text.{refused_line}
 use Rattle.mold_session.specs.Journal.{JournalState, append_refusal, appended}
 use Rattle.mold_session.specs.Publisher.{PublisherState, unsent_of, published}
 use Rattle.mold_session.specs.declared.error.AppendError.{AppendError}
-use Rattle.mold_session.specs.declared.error.AppendError.TheVariants as append
 use Rattle.mold_cmd.specs.declared.line_refusal.LineRefusal.{LineRefusal}
 use Rattle.mold_cmd.specs.declared.line_refusal.LineRefusal.TheVariants.{NotHex, NotTaken}
 use Rattle.mold_cmd.specs.declared.filling.Filled.{Filled}
 use Rattle.mold_cmd.specs.declared.filling.Filled.TheVariants.{Full, End, Refused}
-
--- why a journal doesn't take a message: a name and its number
-abbrev pub append_words : AppendError → List (List ℕ)
-append_words append.Closed = codes "Closed" ∷ []
-append_words (append.TooLong len) = codes "TooLong" ∷ decimal len ∷ []
-append_words append.Full = codes "Full" ∷ []
-append_words append.Memory = codes "Memory" ∷ []
 
 -- why a line is refused
 abbrev pub refusal_words : LineRefusal → List (List ℕ)

@@ -3,8 +3,9 @@
 ghost use Rattle.std.specs.Prelude.{◌≡◌, ◌++◌, length, take, OnErr, OnOk};
 ghost use Rattle.mold_cmd.specs.Publishing.{refused_text};
 
+use mold_refusals::push_append_refusal;
 use mold_session::AppendError;
-use mold_text::{Word, push_refused};
+use mold_text::{Word, push_line_with};
 use std::alloc::AllocError;
 
 /// Why a line is not published as a message.
@@ -22,27 +23,13 @@ pub fn push_line_refused(out: &mut Vec<u8>, number: u64, why: LineRefusal) -> Re
     ensures text { OnOk result (out.new.items ≡ out.old.items ++ refused_text number why) }
     ensures kept { OnErr result (take (length out.old.items) out.new.items ≡ out.old.items) }
 {
-    let line = Word::Text(b"line");
-    let number = Word::Number(number);
+    let before = [
+        Word::Text(b"refused"),
+        Word::Text(b"line"),
+        Word::Number(number),
+    ];
     match why {
-        LineRefusal::NotHex => push_refused(out, &[line, number, Word::Text(b"NotHex")]),
-        LineRefusal::NotTaken(AppendError::Closed) => {
-            push_refused(out, &[line, number, Word::Text(b"Closed")])
-        }
-        LineRefusal::NotTaken(AppendError::TooLong { len }) => push_refused(
-            out,
-            &[
-                line,
-                number,
-                Word::Text(b"TooLong"),
-                Word::Number(len as u64),
-            ],
-        ),
-        LineRefusal::NotTaken(AppendError::Full) => {
-            push_refused(out, &[line, number, Word::Text(b"Full")])
-        }
-        LineRefusal::NotTaken(AppendError::Memory) => {
-            push_refused(out, &[line, number, Word::Text(b"Memory")])
-        }
+        LineRefusal::NotHex => push_line_with(out, &before, &[Word::Text(b"NotHex")]),
+        LineRefusal::NotTaken(why) => push_append_refusal(out, &before, why),
     }
 }

@@ -2,7 +2,7 @@
 
 ghost use Rattle.std.specs.Prelude.{◌≡◌, ◌+◌, ◌≤◌, ◌++◌, [], true, false, None, length, IfErr, IfOk, IfSome, OnErr, OnOk};
 ghost use Rattle.std.specs.Io.KnownBytes.{prepend_known};
-ghost use Rattle.mold_cmd.specs.PublishLoop.{CountsPublish, PublishRun, SendsLines, last_line, outbox_of, saved_bytes};
+ghost use Rattle.mold_cmd.specs.PublishLoop.{CountsPublish, PublishRun, SendsLines, last_line, left_journal, outbox_of, saved_bytes};
 ghost use Rattle.mold_cmd.specs.Publishing.{HasRoom, lines_published};
 ghost use Rattle.mold_devices.specs.Devices.{AppendsFront, Counts};
 ghost use Rattle.mold_devices.specs.Faults.{CountsRead};
@@ -115,6 +115,8 @@ pub fn publish_loop<D: Datagrams, S: Source, K: Sink, J: Sink>(
     ensures run { D.tells ≡ true → IfSome (S.left source.old) (λ input. PublishRun a b beats ends publisher.old.limit
         (lines_published publisher.old.journal (lines_of input)) result (D.port port.old) (D.port port.new)
         (K.held sink.old) (K.held sink.new) (J.held journal_sink.old) (J.held journal_sink.new)) }
+    ensures journal { IfOk result (λ _. D.tells ≡ true → IfSome (S.left source.old) (λ input.
+        publisher.new.journal ≡ left_journal (lines_published publisher.old.journal (lines_of input)))) }
     ensures failures { CountsPublish (S.failed source.old) (S.failed source.new) (K.failed sink.old)
         (K.failed sink.new) (J.failed journal_sink.old) (J.failed journal_sink.new) result }
 {

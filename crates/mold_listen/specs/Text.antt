@@ -1,24 +1,11 @@
 -- How a listener prints what comes.
 use Rattle.std.specs.Prelude.{ℕ, ◌+◌, List, [], ◌∷◌, ◌++◌, codes, decimal, Result, Ok, Err}
 use Rattle.mold_text.specs.Line.{line_of, message_digits}
-use Rattle.mold_text.specs.Text.{fault_words, refused_line}
+use Rattle.mold_text.specs.Text.{refused_line}
+use Rattle.mold_refusals.specs.Words.{receiver_words}
 use Rattle.mold_receiver.specs.Receive.{Reception}
 use Rattle.mold_receiver.specs.Store.{Message}
 use Rattle.mold_receiver.specs.declared.refused.Refused.{Refused}
-use Rattle.mold_receiver.specs.declared.refused.Refused.TheVariants.{Malformed, WrongSession, SequenceZero, PastLast}
-use Rattle.mold_receiver.specs.declared.refused.Refused.TheVariants.{EndConflict, EndBelow, PastEnd, Conflict, Memory}
-
--- why a datagram is refused: a name, and the numbers that go with it
-abbrev pub refusal_words : Refused → List (List ℕ)
-refusal_words (Malformed fault) = codes "Malformed" ∷ fault_words fault
-refusal_words WrongSession = codes "WrongSession" ∷ []
-refusal_words SequenceZero = codes "SequenceZero" ∷ []
-refusal_words PastLast = codes "PastLast" ∷ []
-refusal_words (EndConflict end) = codes "EndConflict" ∷ decimal end ∷ []
-refusal_words (EndBelow known) = codes "EndBelow" ∷ decimal known ∷ []
-refusal_words (PastEnd end) = codes "PastEnd" ∷ decimal end ∷ []
-refusal_words (Conflict number) = codes "Conflict" ∷ decimal number ∷ []
-refusal_words Memory = codes "Memory" ∷ []
 
 -- the line of a message that is handed on: its number and its bytes
 abbrev pub handed_line : ℕ → Message → List ℕ
@@ -33,7 +20,7 @@ handed_text number (message ∷ messages) = handed_line number message ++ handed
 -- from `next` on, or why it is refused
 abbrev pub taking_text : ℕ → Result Reception Refused → List ℕ
 taking_text next (Ok reception) = handed_text next reception.handed
-taking_text next (Err refused) = refused_line (refusal_words refused)
+taking_text next (Err refused) = refused_line (receiver_words refused)
 
 -- the last line: where all was handed on to the session's end, and where it was not
 abbrev pub finished_line : ℕ → ℕ → List ℕ

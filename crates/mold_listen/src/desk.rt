@@ -1,6 +1,6 @@
 //! What a listener has told, and is still to tell.
 
-ghost use Rattle.std.specs.Prelude.{◌≡◌, ◌⊎◌, ◌++◌, [], Err, IfOk, IfErr, OnOk};
+ghost use Rattle.std.specs.Prelude.{◌≡◌, ◌⊎◌, ◌<◌, ◌≤◌, ◌++◌, [], Err, length, IfOk, IfErr, IsOk, OnOk};
 ghost use Rattle.std.specs.Io.KnownBytes.{Appends};
 ghost use Rattle.mold_devices.specs.Devices.{AppendsFront, Counts, one_more};
 ghost use Rattle.mold_listen.specs.Listening.{ear, taken};
@@ -139,6 +139,8 @@ impl Desk {
     /// written.
     pub fn send_large<K: Sink>(&mut self, sink: &mut K) -> Result<(), CommandFault>
         ensures moved { OnOk result (Moves (K.held sink.old) (K.held sink.new) self.old.text self.new.text) }
+        ensures large { OnOk result (65536 ≤ length self.old.text → self.new.text ≡ []) }
+        ensures small { length self.old.text < 65536 → IsOk result × (self.new ≡ self.old) }
         ensures failures { self.new.failures ≡ self.old.failures }
         ensures front { AppendsFront (K.held sink.old) (K.held sink.new) self.old.text }
         ensures fault { IfErr result (λ fault. fault ≡ CommandFault.Write) }

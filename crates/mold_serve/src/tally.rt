@@ -1,6 +1,6 @@
 //! What a serving has printed and counted.
 
-ghost use Rattle.std.specs.Prelude.{◌≡◌, OnOk};
+ghost use Rattle.std.specs.Prelude.{◌≡◌, ◌<◌, ◌≤◌, length, IsOk, OnOk};
 ghost use Rattle.std.specs.Io.KnownBytes.{Appends};
 ghost use Rattle.mold_devices.specs.Devices.{AppendsFront, Counts, one_more};
 ghost use Rattle.mold_turns.specs.Runs.{Moves};
@@ -110,6 +110,8 @@ impl Tally {
     // Writes the text where much of it came together.
     pub(crate) fn write_large<K: Sink>(&mut self, sink: &mut K) -> Result<(), CommandFault>
         ensures moved { OnOk result (Moves (K.held sink.old) (K.held sink.new) self.old.text self.new.text) }
+        ensures large { OnOk result (65536 ≤ length self.old.text → self.new.text ≡ []) }
+        ensures small { length self.old.text < 65536 → IsOk result × (self.new ≡ self.old) }
         ensures same { OnOk result (self.new ≡ with_text self.new.text self.old) }
         ensures front { AppendsFront (K.held sink.old) (K.held sink.new) self.old.text }
         ensures fault { IfErr result (λ fault. fault ≡ CommandFault.Write) }

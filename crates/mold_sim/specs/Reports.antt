@@ -1,13 +1,7 @@
 -- What is printed of an event: what it did, or why it is refused; and of a receiver at the end.
 use Rattle.std.specs.Prelude.{ℕ, ◌+◌, ◌-◌, List, [], ◌∷◌, ◌++◌, length, codes, decimal, Bool, nat_lt, if◌then◌else◌, Option, None, Some}
-use Rattle.mold_receiver.specs.declared.refused.Refused.{Refused}
-use Rattle.mold_receiver.specs.declared.refused.Refused.TheVariants as refused
-use Rattle.mold_session.specs.declared.error.AnswerError.{AnswerError}
-use Rattle.mold_session.specs.declared.error.AnswerError.TheVariants as answer
-use Rattle.mold_session.specs.declared.error.AppendError.{AppendError}
-use Rattle.mold_session.specs.declared.error.AppendError.TheVariants as append
+use Rattle.mold_refusals.specs.Words.{answer_words, append_words, receiver_words}
 use Rattle.mold_text.specs.Line.{line_of}
-use Rattle.mold_text.specs.Text.{fault_words}
 use Rattle.mold_world.specs.Steps.{is_finished}
 use Rattle.mold_world.specs.World.{PlaceState}
 use Rattle.mold_world.specs.declared.report.Report.{Report}
@@ -16,21 +10,6 @@ use Rattle.mold_world.specs.declared.report.SessionRefusal.{SessionRefusal}
 use Rattle.mold_world.specs.declared.report.SessionRefusal.TheVariants as session
 use Rattle.mold_world.specs.declared.report.WorldError.{WorldError}
 use Rattle.mold_world.specs.declared.report.WorldError.TheVariants as error
-
--- why a message is not published: a name and its number
-abbrev pub append_words : AppendError → List (List ℕ)
-append_words append.Closed = codes "Closed" ∷ []
-append_words (append.TooLong len) = codes "TooLong" ∷ decimal len ∷ []
-append_words append.Full = codes "Full" ∷ []
-append_words append.Memory = codes "Memory" ∷ []
-
--- why a request is not answered
-abbrev pub answer_words : AnswerError → List (List ℕ)
-answer_words (answer.RequestLength len) = codes "RequestLength" ∷ decimal len ∷ []
-answer_words answer.WrongSession = codes "WrongSession" ∷ []
-answer_words answer.SequenceZero = codes "SequenceZero" ∷ []
-answer_words answer.EmptyRequest = codes "EmptyRequest" ∷ []
-answer_words (answer.Ahead next) = codes "Ahead" ∷ decimal next ∷ []
 
 -- why publisher or server refuse
 abbrev pub session_words : SessionRefusal → List (List ℕ)
@@ -51,18 +30,6 @@ error_words error.BadLimit = codes "BadLimit" ∷ []
 error_words (error.BadWindow r) = codes "BadWindow" ∷ decimal r ∷ []
 error_words error.BadBurst = codes "BadBurst" ∷ []
 
--- why a receiver refuses a datagram; `Malformed` is followed by why the bytes spell no packet
-abbrev pub noise_words : Refused → List (List ℕ)
-noise_words (refused.Malformed fault) = codes "Malformed" ∷ fault_words fault
-noise_words refused.WrongSession = codes "WrongSession" ∷ []
-noise_words refused.SequenceZero = codes "SequenceZero" ∷ []
-noise_words refused.PastLast = codes "PastLast" ∷ []
-noise_words (refused.EndConflict end) = codes "EndConflict" ∷ decimal end ∷ []
-noise_words (refused.EndBelow known) = codes "EndBelow" ∷ decimal known ∷ []
-noise_words (refused.PastEnd end) = codes "PastEnd" ∷ decimal end ∷ []
-noise_words (refused.Conflict number) = codes "Conflict" ∷ decimal number ∷ []
-noise_words refused.Memory = codes "Memory" ∷ []
-
 -- the places of the datagrams of an answer: the first, and the last too where there are several
 abbrev pub burst_words : ℕ → ℕ → List (List ℕ)
 burst_words first count =
@@ -79,7 +46,7 @@ report_words report.Nothing = codes "nothing" ∷ []
 report_words report.Closed = codes "closed" ∷ []
 report_words (report.Delivered taken) =
     codes "delivered" ∷ decimal taken.handed ∷ decimal taken.kept ∷ decimal taken.beyond ∷ []
-report_words (report.NoiseRefused why) = codes "noise" ∷ noise_words why
+report_words (report.NoiseRefused why) = codes "noise" ∷ receiver_words why
 report_words (report.Restarted next) = codes "restarted" ∷ decimal next ∷ []
 
 -- whether a receiver has the whole session

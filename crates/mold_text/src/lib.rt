@@ -10,7 +10,7 @@ mod request;
 mod tests;
 mod word;
 
-pub use line::{push_line, push_line_behind};
+pub use line::{push_line, push_line_behind, push_line_with};
 pub use packet::push_packet;
 pub use refusal::{packet_fault_words, push_refused, request_fault_words};
 pub use request::push_request;

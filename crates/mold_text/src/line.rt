@@ -51,3 +51,23 @@ pub fn push_line(out: &mut Vec<u8>, words: &[Word<'_>]) -> Result<(), AllocError
         None => out.extend_from_slice(b"\n"),
     }
 }
+
+/// Writes a line of some words and others, as `push_line` does.
+pub fn push_line_with(
+    out: &mut Vec<u8>,
+    first: &[Word<'_>],
+    others: &[Word<'_>],
+) -> Result<(), AllocError>
+    ensures line { OnOk result (out.new.items ≡
+        out.old.items ++ line_of (map word_text first.now ++ map word_text others.now)) }
+    ensures kept { OnErr result (take (length out.old.items) out.new.items ≡ out.old.items) }
+{
+    let Some((word, words)) = first.split_first() else {
+        return push_line(out, others);
+    };
+    push_word(out, word)?;
+    push_spaced(out, words)?;
+    push_spaced(out, others)?;
+    out.extend_from_slice(b"\n")?;
+    Ok(())
+}

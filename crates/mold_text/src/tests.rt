@@ -1,8 +1,8 @@
 //! Each public call on its happy path, with the text that it writes.
 
 use crate::{
-    Word, packet_fault_words, push_line, push_line_behind, push_packet, push_refused, push_request,
-    request_fault_words,
+    Word, packet_fault_words, push_line, push_line_behind, push_line_with, push_packet,
+    push_refused, push_request, request_fault_words,
 };
 use mold_wire::{DecodeError, Request, RequestError, Session, decode};
 use std::test::Fail;
@@ -26,7 +26,12 @@ fn words_are_joined_by_single_spaces(rt: HostRuntime) -> Result<(), Fail> {
     push_line(&mut out, &[])?;
     push_line_behind(&mut out, &Word::Text(b"nothing"), &[])?;
     push_line_behind(&mut out, &Word::Text(b"sent"), &[Word::Number(0)])?;
-    let text = b"delivered 7 18446744073709551616 0aff - 41\n\nnothing\nsent 0\n";
+    push_line_with(
+        &mut out,
+        &[Word::Text(b"sent"), Word::Number(0)],
+        &[Word::Number(1)],
+    )?;
+    let text = b"delivered 7 18446744073709551616 0aff - 41\n\nnothing\nsent 0\nsent 0 1\n";
     assert_eq!(rt; out.as_slice(), text.as_slice());
     Ok(())
 }

@@ -7,7 +7,7 @@ use Rattle.mold_session.specs.Publisher.{PublisherState}
 use Rattle.mold_turns.proofs.RunLemmas.{none_answered, none_ok}
 use Rattle.mold_cmd.specs.PublishLoop.{last_line, saved_bytes}
 use Rattle.mold_cmd.specs.Publishing.{refused_text}
-use Rattle.mold_cmd.proofs.PublishLoopLemmas.{empty_room, no_front, none_sent, run_closed, run_refused, run_unread}
+use Rattle.mold_cmd.proofs.PublishLoopLemmas.{empty_room, left_behind, no_front, none_sent, run_closed, run_refused, run_unread}
 use Rattle.mold_cmd.proofs.publish_loop.publish_loop.Goals as goal
 
 pub send_lines-requires-clause-room : goal.send_lines-requires-clause-room
@@ -165,3 +165,14 @@ returns-clause-run g c tells =
     AppendsFront (g.J.Sink.held c.args.journal_sink.now) (g.J.Sink.held c.save_journal.new.sink) (saved_bytes j None))
     shut
     (c.save_journal.ensures.front (ap (λ (j : JournalState). j.closed) shut)))
+
+pub returns-in-Some-clause-journal : goal.returns-in-Some-clause-journal
+returns-in-Some-clause-journal g c tells =
+    left_behind c.args.a c.args.b c.args.publisher.now c.send_lines.new.publisher _ _ _ _ _ _
+    (rw c.in-Some.is at (c.in_ok-refused.ensures.sends tells)) refl
+
+pub returns-clause-journal : goal.returns-clause-journal
+returns-clause-journal g c tells =
+    left_behind c.args.a c.args.b c.args.publisher.now c.send_lines.new.publisher _ _ _ _ _ _
+    (rw c.in_default.is at (c.in_ok-refused.ensures.sends tells))
+    (ap (λ (p : PublisherState). p.journal) c.send_close.ensures.closed)

@@ -1,0 +1,32 @@
+//! Why a message is not published.
+
+ghost use Rattle.std.specs.Prelude.{◌≡◌, ◌++◌, length, map, take, OnErr, OnOk};
+ghost use Rattle.mold_refusals.specs.Words.{append_words};
+ghost use Rattle.mold_text.specs.Line.{line_of, word_text};
+
+use mold_session::AppendError;
+use mold_text::{Word, push_line_with};
+use std::alloc::AllocError;
+
+/// Writes a line of the words before, and why a journal doesn't take a message. After an error, which is want
+/// of memory, a part of it stands behind what was there.
+pub fn push_append_refusal(
+    out: &mut Vec<u8>,
+    before: &[Word<'_>],
+    why: AppendError,
+) -> Result<(), AllocError>
+    ensures text { OnOk result (out.new.items ≡
+        out.old.items ++ line_of (map word_text before.now ++ append_words why)) }
+    ensures kept { OnErr result (take (length out.old.items) out.new.items ≡ out.old.items) }
+{
+    match why {
+        AppendError::Closed => push_line_with(out, before, &[Word::Text(b"Closed")]),
+        AppendError::TooLong { len } => push_line_with(
+            out,
+            before,
+            &[Word::Text(b"TooLong"), Word::Number(len as u64)],
+        ),
+        AppendError::Full => push_line_with(out, before, &[Word::Text(b"Full")]),
+        AppendError::Memory => push_line_with(out, before, &[Word::Text(b"Memory")]),
+    }
+}
