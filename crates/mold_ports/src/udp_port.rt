@@ -146,12 +146,12 @@ impl UdpPort {
         ensures count { IfOk result (λ answer. IfSome answer (λ found. found.0 ≤ length place.new)) }
         ensures failures { self.new ≡ self.old }
     {
-        if let Some(found) = self.take(place)? {
-            return Ok(Some(found));
-        }
         if self.passes > 0 {
             self.passes -= 1;
             return Ok(None);
+        }
+        if let Some(found) = self.take(place)? {
+            return Ok(Some(found));
         }
         // A datagram that ended the wait may be gone, as by a wrong checksum.
         if self.wait() {
