@@ -18,7 +18,7 @@ use mold_wire::laws::packet_length_law;
 use mold_words::{Address, ListenOrder, LoopOrder, PublishOrder, ServeOrder};
 use std::fs::File;
 use std::io::Write;
-use std::net::{Ipv4Addr, Net, SocketAddr, SocketAddrV4};
+use std::net::{Ipv4Addr, SocketAddr, SocketAddrV4};
 
 /// A port that the system gives, on every address of the machine, and on this machine alone.
 const ANY: Address = Address {
@@ -36,8 +36,8 @@ fn socket_address(address: Address) -> SocketAddrV4 {
     SocketAddrV4::new(Ipv4Addr::new(first, second, third, fourth), address.port)
 }
 
-fn open_port<R: Net>(rt: &R, address: Address) -> Result<UdpPort, ProgramFault> {
-    match UdpPort::bind(rt, socket_address(address)) {
+fn open_port(rt: &HostRuntime, address: Address) -> Result<UdpPort, ProgramFault> {
+    match UdpPort::bind(rt.alloc(), rt, socket_address(address)) {
         Ok(port) => Ok(port),
         Err(_) => Err(ProgramFault::Socket),
     }
@@ -158,7 +158,7 @@ pub fn run_publish(rt: &HostRuntime, order: &PublishOrder) -> Result<u8, Program
 }
 
 // The five ports of a loop.
-fn open_wires<R: Net>(rt: &R) -> Result<Wires, ProgramFault> {
+fn open_wires(rt: &HostRuntime) -> Result<Wires, ProgramFault> {
     Ok(Wires {
         publisher: open_port(rt, OWN)?,
         server: open_port(rt, OWN)?,

@@ -3,6 +3,7 @@
 
 mod datagrams;
 mod memory_port;
+mod passes;
 mod step;
 #[cfg(test)]
 mod tests;

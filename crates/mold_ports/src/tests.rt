@@ -68,8 +68,8 @@ fn memory_port_keeps_what_it_sends(rt: HostRuntime) {
 #[test]
 fn datagrams_go_by_sockets(rt: HostRuntime) -> Result<(), Fail> {
     let mut place = [0u8; 65507];
-    let mut one = UdpPort::bind(&rt, loopback(0))?;
-    let mut other = UdpPort::bind(&rt, loopback(0))?;
+    let mut one = UdpPort::bind(rt.alloc(), &rt, loopback(0))?;
+    let mut other = UdpPort::bind(rt.alloc(), &rt, loopback(0))?;
     let (from, to) = (one.address(), other.address());
     assert!(rt; from != to);
     assert_eq!(rt; one.send(to, b"abc"), Ok(()));
@@ -85,10 +85,10 @@ fn datagrams_go_by_sockets(rt: HostRuntime) -> Result<(), Fail> {
 
 #[test]
 fn a_taken_port_is_not_bound_again(rt: HostRuntime) -> Result<(), Fail> {
-    let port = UdpPort::bind(&rt, loopback(0))?;
+    let port = UdpPort::bind(rt.alloc(), &rt, loopback(0))?;
     let taken = loopback(port.address().port());
     assert_eq!(rt; port.address(), SocketAddr::V4(taken));
-    assert!(rt; UdpPort::bind(&rt, taken).is_err());
+    assert!(rt; UdpPort::bind(rt.alloc(), &rt, taken).is_err());
     Ok(())
 }
 
@@ -108,8 +108,8 @@ fn least_wait(rt: &HostRuntime, port: &mut UdpPort, receives: u8) -> Result<u128
 #[test]
 fn a_wait_ends_where_a_port_beside_has_a_datagram(rt: HostRuntime) -> Result<(), Fail> {
     let mut place = [0u8; 16];
-    let mut silent = UdpPort::bind(&rt, loopback(0))?;
-    let mut busy = UdpPort::bind(&rt, loopback(0))?;
+    let mut silent = UdpPort::bind(rt.alloc(), &rt, loopback(0))?;
+    let mut busy = UdpPort::bind(rt.alloc(), &rt, loopback(0))?;
     assert!(rt; least_wait(&rt, &mut silent, 1)? >= 90);
     silent.stand_beside(&busy);
     assert_eq!(rt; busy.send(busy.address(), b"abc"), Ok(()));
@@ -122,9 +122,9 @@ fn a_wait_ends_where_a_port_beside_has_a_datagram(rt: HostRuntime) -> Result<(),
 #[test]
 fn a_receive_behind_a_send_waits(rt: HostRuntime) -> Result<(), Fail> {
     let mut place = [0u8; 16];
-    let mut asking = UdpPort::bind(&rt, loopback(0))?;
-    let server = UdpPort::bind(&rt, loopback(0))?;
-    let mut busy = UdpPort::bind(&rt, loopback(0))?;
+    let mut asking = UdpPort::bind(rt.alloc(), &rt, loopback(0))?;
+    let server = UdpPort::bind(rt.alloc(), &rt, loopback(0))?;
+    let mut busy = UdpPort::bind(rt.alloc(), &rt, loopback(0))?;
     asking.stand_beside(&busy);
     assert_eq!(rt; busy.send(busy.address(), b"abc"), Ok(()));
     assert_eq!(rt; asking.receive(&mut place), Ok(None));
@@ -132,5 +132,29 @@ fn a_receive_behind_a_send_waits(rt: HostRuntime) -> Result<(), Fail> {
     assert!(rt; least_wait(&rt, &mut asking, 2)? < 90);
     assert_eq!(rt; asking.send(server.address(), b"ask"), Ok(()));
     assert!(rt; least_wait(&rt, &mut asking, 1)? >= 90);
+    Ok(())
+}
+
+// Behind a wait that another port ended three receives give nothing without a look; a wait beside it that finds
+// something there ends that.
+#[test]
+fn a_port_passes_beside_a_busy_one(rt: HostRuntime) -> Result<(), Fail> {
+    let mut place = [0u8; 16];
+    let mut quiet = UdpPort::bind(rt.alloc(), &rt, loopback(0))?;
+    let mut busy = UdpPort::bind(rt.alloc(), &rt, loopback(0))?;
+    quiet.stand_beside(&busy);
+    busy.stand_beside(&quiet);
+    assert_eq!(rt; busy.send(busy.address(), b"abc"), Ok(()));
+    assert_eq!(rt; quiet.receive(&mut place), Ok(None));
+    assert_eq!(rt; busy.send(quiet.address(), b"late"), Ok(()));
+    for _pass in 0..3 {
+        assert_eq!(rt; quiet.receive(&mut place), Ok(None));
+    }
+    assert_eq!(rt; quiet.receive(&mut place), Ok(Some((4, busy.address()))));
+    assert_eq!(rt; quiet.receive(&mut place), Ok(None));
+    assert_eq!(rt; busy.receive(&mut place), Ok(Some((3, busy.address()))));
+    assert_eq!(rt; busy.send(quiet.address(), b"more"), Ok(()));
+    assert_eq!(rt; busy.receive(&mut place), Ok(None));
+    assert_eq!(rt; quiet.receive(&mut place), Ok(Some((4, busy.address()))));
     Ok(())
 }

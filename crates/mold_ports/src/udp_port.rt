@@ -4,9 +4,11 @@ ghost use Rattle.std.specs.Prelude.{◌≡◌, ◌≤◌, false, [], length, IfO
 ghost use Rattle.mold_devices.specs.Devices.{one_more};
 
 use crate::datagrams::Datagrams;
+use crate::passes::Passes;
 use libc::net::{POLLIN, POLLOUT, SO_RCVBUF, SOL_SOCKET, poll, setsockopt};
 use libc::types::pollfd;
 use mold_devices::DeviceFault;
+use std::alloc::Global;
 use std::io;
 use std::io::ErrorKind;
 use std::marker::Model;
@@ -19,10 +21,6 @@ const WAIT: i32 = 100;
 /// How many of them a receive behind a send waits for the answer alone: it is mostly here by then, and to ask
 /// anew before it is lets answers pile up.
 const ANSWER_WAIT: i32 = 2;
-
-/// How many receives that find nothing don't wait, after one whose wait a port beside it ended: that port is
-/// busy, and to ask again costs a call of the system.
-const PASSES: u8 = 3;
 
 /// How many bytes the system is asked to keep of what was not received yet. It may keep fewer.
 const KEPT: i32 = 1 << 22;
@@ -41,18 +39,25 @@ enum Patience {
     Unanswered,
 }
 
+// A port that another one stands beside.
+#[derive(Drop)]
+struct Neighbour {
+    descriptor: RawFd,
+    passes: Passes,
+}
+
 /// A UDP socket over IPv4 as a port. A receive waits at most 100 milliseconds, and it ends its wait early,
-/// with none, where a port that it stands beside has a datagram. Where one had, the next few receives that
-/// find nothing don't wait at all. Behind a send a receive first gives the answer two milliseconds, unless
+/// with none, where a port that it stands beside has a datagram. Of ports that were waited for, those that had
+/// nothing where another had something give none at their next three receives, without a look; a wait that
+/// finds a datagram there ends that. Behind a send a receive first gives the answer two milliseconds, unless
 /// the last answer did not come in them. The socket is closed where the port is dropped.
 #[derive(Drop)]
 pub struct UdpPort {
     socket: UdpSocket,
     address: SocketAddr,
-    beside: [RawFd; 2],
+    beside: [Option<Neighbour>; 2],
     patience: Patience,
-    // How many receives from now on don't wait.
-    passes: u8,
+    passes: Passes,
     failures: u64,
 }
 
@@ -66,17 +71,21 @@ impl Model for UdpPort {
 
 impl UdpPort {
     /// A port at an address of this machine, at port 0 one that the system gives. It fails where the address
-    /// is not the machine's or is taken, and where a socket can't be had.
-    pub fn bind<R: Net>(rt: &R, address: SocketAddrV4) -> Result<UdpPort, DeviceFault>
+    /// is not the machine's or is taken, and where a socket can't be had, and not for want of memory.
+    pub fn bind<R: Net>(
+        alloc: Global,
+        rt: &R,
+        address: SocketAddrV4,
+    ) -> Result<UdpPort, DeviceFault>
         ensures { IfOk result (λ port. port.failures ≡ 0) }
     {
         match open(rt, address) {
             Ok((socket, address)) => Ok(UdpPort {
                 socket,
                 address,
-                beside: [NONE; 2],
+                beside: [None, None],
                 patience: Patience::Shared,
-                passes: 0,
+                passes: Passes::new(alloc),
                 failures: 0,
             }),
             Err(_) => Err(DeviceFault),
@@ -94,7 +103,11 @@ impl UdpPort {
     pub fn stand_beside(&mut self, other: &UdpPort)
         ensures { self.new ≡ self.old }
     {
-        self.beside = [other.socket.as_raw_fd(), self.beside[0]];
+        let neighbour = Neighbour {
+            descriptor: other.socket.as_raw_fd(),
+            passes: other.passes.share(),
+        };
+        self.beside = [Some(neighbour), self.beside[0].take()];
     }
 
     // Takes a datagram that is here; none where none is.
@@ -105,7 +118,6 @@ impl UdpPort {
         match self.socket.recv_from(place) {
             Ok(found) => {
                 self.patience = Patience::Shared;
-                self.passes = 0;
                 Ok(Some(found))
             }
             Err(error) if error.kind() == ErrorKind::WouldBlock => Ok(None),
@@ -125,20 +137,19 @@ impl UdpPort {
                 return true;
             }
         }
-        let [one, other] = self.beside;
+        let [one, other] = &self.beside;
         let mut asked = [
             watched(self.socket.as_raw_fd(), POLLIN),
-            watched(one, POLLIN),
-            watched(other, POLLIN),
+            watched(descriptor_of(one), POLLIN),
+            watched(descriptor_of(other), POLLIN),
         ];
         let found = poll(&mut asked, WAIT - ANSWER_WAIT);
-        if found < 0 || asked[0].revents != 0 {
-            return true;
-        }
         if found > 0 {
-            self.passes = PASSES;
+            self.passes.tell(asked[0].revents != 0);
+            tell(one, asked[1]);
+            tell(other, asked[2]);
         }
-        false
+        found < 0 || asked[0].revents != 0
     }
 
     // Takes a datagram that is here or comes in its time; none where none does.
@@ -146,8 +157,7 @@ impl UdpPort {
         ensures count { IfOk result (λ answer. IfSome answer (λ found. found.0 ≤ length place.new)) }
         ensures failures { self.new ≡ self.old }
     {
-        if self.passes > 0 {
-            self.passes -= 1;
+        if self.passes.pass() {
             return Ok(None);
         }
         if let Some(found) = self.take(place)? {
@@ -165,7 +175,7 @@ impl UdpPort {
     fn expect_answer(&mut self)
         ensures { self.new ≡ self.old }
     {
-        self.passes = 0;
+        self.passes.tell(true);
         if self.patience == Patience::Shared {
             self.patience = Patience::Asking;
         }
@@ -226,6 +236,21 @@ fn open<R: Net>(rt: &R, address: SocketAddrV4) -> io::Result<(UdpSocket, SocketA
     let _ = unsafe { setsockopt(socket.as_raw_fd(), SOL_SOCKET, SO_RCVBUF, &size, 4) };
     let address = socket.local_addr()?;
     Ok((socket, address))
+}
+
+// The descriptor of a port beside.
+fn descriptor_of(neighbour: &Option<Neighbour>) -> RawFd {
+    match neighbour {
+        Some(neighbour) => neighbour.descriptor,
+        None => NONE,
+    }
+}
+
+// Tells a port beside what `poll` found of it.
+fn tell(neighbour: &Option<Neighbour>, asked: pollfd) {
+    if let Some(neighbour) = neighbour {
+        neighbour.passes.tell(asked.revents != 0);
+    }
 }
 
 // A descriptor of which `poll` is to tell whether it is ready for the events; none never is.
