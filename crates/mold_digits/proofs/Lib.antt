@@ -5,3 +5,4 @@ pub mod LaneLemmas
 pub mod ReadingLemmas
 pub mod BlockLemmas
 pub mod EncodingLemmas
+pub mod DecimalLemmas
