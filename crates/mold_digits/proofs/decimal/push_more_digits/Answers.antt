@@ -24,8 +24,12 @@ returns-then-front-lt100-clause-full c =
 pub returns-then-front-lt1000-clause-ok : goal.returns-then-front-lt1000-clause-ok
 returns-then-front-lt1000-clause-ok c =
     rw (seven_digits c.args.number c.requires.most c.if-front-lt100.false c.if-front-lt1000.true)
-    (rw (c.digit-then-front-lt1000.ensures, c.digit-then-front-lt1000-2.ensures, c.digit-then-front-lt1000-3.ensures,
-    c.last_four_digits.ensures) at c.append-then-front-lt1000.ensures.ok)
+    (rw (
+      c.digit-then-front-lt1000.ensures,
+      c.digit-then-front-lt1000-2.ensures,
+      c.digit-then-front-lt1000-3.ensures,
+      c.last_four_digits.ensures,
+    ) at c.append-then-front-lt1000.ensures.ok)
 
 pub returns-then-front-lt1000-clause-full : goal.returns-then-front-lt1000-clause-full
 returns-then-front-lt1000-clause-full c =
