@@ -7,7 +7,8 @@ use Rattle.std.proofs.lemmas.Option.{none-some}
 use Rattle.mold_wire.specs.Packet.{Spells}
 use Rattle.mold_wire.specs.declared.packet.Packet.{Packet}
 use Rattle.mold_capture.specs.declared.reason.Reason.{Reason}
-use Rattle.mold_capture.specs.declared.reason.Reason.TheVariants.{Malformed, WrongSession, SequenceZero, PastLast, EndConflict, EndBelow, PastEnd, Conflict, Memory}
+use Rattle.mold_capture.specs.declared.reason.Reason.TheVariants.{Malformed, WrongSession, SequenceZero, PastLast}
+use Rattle.mold_capture.specs.declared.reason.Reason.TheVariants.{EndConflict, EndBelow, PastEnd, Conflict, Memory}
 use Rattle.mold_capture.specs.declared.verdict.Verdict.{Verdict}
 use Rattle.mold_capture.specs.declared.verdict.Verdict.TheVariants.{Whole as IsWhole, Incomplete}
 use Rattle.mold_capture.specs.Check.{IsRefusedAt}

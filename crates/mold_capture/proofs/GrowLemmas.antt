@@ -15,7 +15,8 @@ use Rattle.mold_wire.specs.Truth.{message_at}
 use Rattle.mold_capture.specs.declared.run.Run.{Run}
 use Rattle.mold_capture.specs.Runs.{Runs, pairs_of, HasRun, AreRuns, Covers, AreFree, IsGrown, IsPut, IsSince}
 use Rattle.mold_capture.specs.Seen.{pairs_with}
-use Rattle.mold_capture.proofs.PairLemmas.{option_cases, option_or_cases, option_or_first, option_or_second, message_within, message_bounds, get-with, same_pairs}
+use Rattle.mold_capture.proofs.PairLemmas.{option_cases, option_or_cases, option_or_first, option_or_second}
+use Rattle.mold_capture.proofs.PairLemmas.{message_within, message_bounds, get-with, same_pairs}
 use Rattle.mold_capture.proofs.RunLemmas.{RunAt, at_pairs, pairs_at}
 
 pub same_option : {X : Type 0} (a b : Option X) → ((x : X) → a ≡ Some x → b ≡ Some x) →

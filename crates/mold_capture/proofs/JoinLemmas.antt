@@ -11,7 +11,8 @@ use Rattle.mold_wire.specs.declared.packet.Body.{Body}
 use Rattle.mold_wire.specs.declared.packet.Body.TheVariants.{Data, Heartbeat, End}
 use Rattle.mold_wire.specs.declared.session.Session.{Session}
 use Rattle.mold_capture.specs.Seen.{Pairs, Seen, end_in, joined, IsSound}
-use Rattle.mold_capture.proofs.PairLemmas.{option_cases, option_or_cases, option_or_first, option_or_second, message_bounds, message_there, message_none, message_within, get-with}
+use Rattle.mold_capture.proofs.PairLemmas.{option_cases, option_or_cases, option_or_first, option_or_second}
+use Rattle.mold_capture.proofs.PairLemmas.{message_bounds, message_there, message_none, message_within, get-with}
 
 -- a session of this name and these messages may have said this
 pub record Allows (seen : Seen) (session : List ℕ) (P : List (List ℕ)) : Type 0 where

@@ -18,7 +18,9 @@ use Rattle.mold_capture.specs.Runs.{Runs, pairs_of, HasRun, AreRuns, AreFree}
 use Rattle.mold_capture.specs.Seen.{Pairs, BringNew, pairs_with}
 use Rattle.mold_capture.proofs.RefusalLemmas.{agrees_from}
 use Rattle.mold_capture.proofs.GrowLemmas.{free_pairs}
-use Rattle.mold_capture.proofs.PairLemmas.{option_or_first, option_or_second, message_bounds, message_below, message_past, message_first, message_next, message_none, get-with, same_pairs}
+use Rattle.mold_capture.proofs.PairLemmas.{option_or_first, option_or_second, message_bounds, message_below}
+use Rattle.mold_capture.proofs.PairLemmas.{message_past, message_first, message_next, message_none, get-with}
+use Rattle.mold_capture.proofs.PairLemmas.{same_pairs}
 
 -- runs with the same entries
 pub are_same : (runs now : Runs) (kept count : ℕ) → now.entries ≡ runs.entries → count ≡ kept → AreRuns runs kept →

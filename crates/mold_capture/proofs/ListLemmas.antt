@@ -19,7 +19,8 @@ use Rattle.mold_wire.specs.declared.packet.Body.TheVariants.{End}
 use Rattle.mold_wire.specs.declared.error.DecodeError.{DecodeError}
 use Rattle.mold_capture.specs.Consistent.{IsSaidBy, IsCarried, HasEnd}
 use Rattle.mold_capture.specs.Seen.{read_before, packets_of, session_of, known_of, end_in, end_of, pairs_in, seen_in, seen_of, joined, pairs_with}
-use Rattle.mold_capture.proofs.PairLemmas.{option_cases, option_or_cases, option_or_first, option_or_second, lookup-numbered, lookup-append, get_made, get-with, same_pairs}
+use Rattle.mold_capture.proofs.PairLemmas.{option_cases, option_or_cases, option_or_first, option_or_second}
+use Rattle.mold_capture.proofs.PairLemmas.{lookup-numbered, lookup-append, get_made, get-with, same_pairs}
 use Rattle.mold_capture.proofs.JoinLemmas.{end_is}
 
 read_append : (r : Result Packet DecodeError) (us vs ws : List Packet) → us ≡ vs ++ ws →

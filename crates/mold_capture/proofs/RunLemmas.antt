@@ -20,7 +20,9 @@ use Rattle.mold_wire.specs.Truth.{message_at}
 use Rattle.mold_capture.specs.declared.run.Run.{Run}
 use Rattle.mold_capture.specs.Runs.{Runs, messages_in, run_pairs, pairs_of, HasRun, AreRuns, Covers}
 use Rattle.mold_capture.specs.Seen.{numbered}
-use Rattle.mold_capture.proofs.PairLemmas.{option_cases, option_or_cases, option_or_first, option_or_second, lookup-numbered, lookup-append, get_made, message_below, message_within, message_past, message_bounds}
+use Rattle.mold_capture.proofs.PairLemmas.{option_cases, option_or_cases, option_or_first, option_or_second}
+use Rattle.mold_capture.proofs.PairLemmas.{lookup-numbered, lookup-append, get_made, message_below, message_within}
+use Rattle.mold_capture.proofs.PairLemmas.{message_past, message_bounds}
 
 pub le-gt : (a b : ℕ) → a ≤ b → is_gt (nat_cmp a b) ≡ false
 le-gt a b low =

@@ -19,7 +19,8 @@ use Rattle.mold_capture.specs.Seen.{Seen, seen_of, joined, joined_read, after, I
 use Rattle.mold_capture.specs.Refusal.{refusal_read, reason}
 use Rattle.mold_capture.specs.Verdict.{IsWholeSeen}
 use Rattle.mold_capture.proofs.PairLemmas.{option_or_cases, published_in}
-use Rattle.mold_capture.proofs.JoinLemmas.{Allows, MayJoin, may_join, still_allowed, was_allowed, was_named, was_true, still_sound, true_carried, filled, some_allowed}
+use Rattle.mold_capture.proofs.JoinLemmas.{Allows, MayJoin, may_join, still_allowed, was_allowed, was_named, was_true}
+use Rattle.mold_capture.proofs.JoinLemmas.{still_sound, true_carried, filled, some_allowed}
 use Rattle.mold_capture.proofs.RefusalLemmas.{joins_from, joins_to}
 use Rattle.mold_capture.proofs.ListLemmas.{ReadsBack, one_packet, seen-push, get_carried, carried_get, end_told, end_found}
 

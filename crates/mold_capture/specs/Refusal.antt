@@ -10,7 +10,8 @@ use Rattle.mold_wire.specs.declared.packet.Body.TheVariants.{Data, Heartbeat, En
 use Rattle.mold_wire.specs.declared.error.DecodeError.{DecodeError}
 use Rattle.mold_capture.specs.Seen.{Pairs, Seen, seen_of}
 use Rattle.mold_capture.specs.declared.reason.Reason.{Reason}
-use Rattle.mold_capture.specs.declared.reason.Reason.TheVariants.{Malformed, WrongSession, SequenceZero, PastLast, EndConflict, EndBelow, PastEnd, Conflict, Memory}
+use Rattle.mold_capture.specs.declared.reason.Reason.TheVariants.{Malformed, WrongSession, SequenceZero, PastLast}
+use Rattle.mold_capture.specs.declared.reason.Reason.TheVariants.{EndConflict, EndBelow, PastEnd, Conflict, Memory}
 
 -- the reason, where the test says so
 abbrev pub refuse_if : Bool → Reason → Option Reason

@@ -6,7 +6,8 @@ use Rattle.mold_text.specs.Line.{line_of}
 use Rattle.mold_text.specs.Text.{fault_words, refused_line}
 use Rattle.mold_capture.specs.Outcome.{Outcome, whole, incomplete, refused, IsOutcome}
 use Rattle.mold_capture.specs.declared.reason.Reason.{Reason}
-use Rattle.mold_capture.specs.declared.reason.Reason.TheVariants.{Malformed, WrongSession, SequenceZero, PastLast, EndConflict, EndBelow, PastEnd, Conflict, Memory}
+use Rattle.mold_capture.specs.declared.reason.Reason.TheVariants.{Malformed, WrongSession, SequenceZero, PastLast}
+use Rattle.mold_capture.specs.declared.reason.Reason.TheVariants.{EndConflict, EndBelow, PastEnd, Conflict, Memory}
 use Rattle.mold_devices.specs.Devices.{one_more}
 use Rattle.mold_devices.specs.declared.fault.CommandFault.{CommandFault}
 use Rattle.mold_devices.specs.declared.fault.CommandFault.TheVariants as fault

@@ -1,5 +1,6 @@
 -- Digits that are read in two parts, one behind the other.
-use Rattle.std.proofs.Common.{add-zero, ◌≡◌, ℕ, suc, ◌+◌, ◌%◌, ◌≤◌, true, List, [], ◌∷◌, ◌++◌, length, take, drop, Result, Ok, Err, is_err, refl, sym, ap, ◌∙◌, arith}
+use Rattle.std.proofs.Common.{add-zero, ◌≡◌, ℕ, suc, ◌+◌, ◌%◌, ◌≤◌, true, List, [], ◌∷◌, ◌++◌, length, take, drop}
+use Rattle.std.proofs.Common.{Result, Ok, Err, is_err, refl, sym, ap, ◌∙◌, arith}
 use Rattle.std.proofs.lemmas.List.{drop-drop, drop-take, length-take-le, take-append-drop, take-take}
 use Rattle.std.proofs.lemmas.Simd.{chunk-drop, length-chunk}
 use Rattle.std.specs.Simd.Lanes.{chunk}

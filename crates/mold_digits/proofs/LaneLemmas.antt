@@ -1,5 +1,7 @@
 -- What selects and shuffles leave, lane by lane.
-use Rattle.std.proofs.Common.{◌≡◌, ℕ, zero, suc, ◌+◌, ◌*◌, ◌-◌, ◌%◌, ◌^◌, ◌<◌, ◌≤◌, Bool, true, false, not, cond, nat_eq, ◌||◌, inl, inr, List, [], ◌∷◌, ◌++◌, length, map, replicate, get_or, bit_or, refl, sym, ap, ◌∙◌, arith}
+use Rattle.std.proofs.Common.{◌≡◌, ℕ, zero, suc, ◌+◌, ◌*◌, ◌-◌, ◌%◌, ◌^◌, ◌<◌, ◌≤◌, Bool, true, false, not, cond}
+use Rattle.std.proofs.Common.{nat_eq, ◌||◌, inl, inr, List, [], ◌∷◌, ◌++◌, length, map, replicate, get_or, bit_or, refl}
+use Rattle.std.proofs.Common.{sym, ap, ◌∙◌, arith}
 use Rattle.std.proofs.Math.Dec.{ltb}
 use Rattle.std.proofs.lemmas.Bool.{cases_eq, ne_eqb}
 use Rattle.std.proofs.lemmas.List.{drop_more, get_or-append_right, get_or_append_left, length-map}

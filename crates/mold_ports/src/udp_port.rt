@@ -14,13 +14,14 @@ use std::io::ErrorKind;
 use std::marker::Model;
 use std::net::{Net, SocketAddr, SocketAddrV4, UdpSocket};
 use std::os::fd::{AsRawFd, RawFd};
+use std::time::Duration;
 
 /// How many milliseconds a receive or a send waits at most.
-const WAIT: i32 = 100;
+const WAIT: u16 = 100;
 
 /// How many of them a receive behind a send waits for the answer alone: it is mostly here by then, and to ask
 /// anew before it is lets answers pile up.
-const ANSWER_WAIT: i32 = 2;
+const ANSWER_WAIT: u16 = 2;
 
 /// How many bytes the system is asked to keep of what was not received yet. It may keep fewer.
 const KEPT: i32 = 1 << 22;
@@ -46,11 +47,11 @@ struct Neighbour {
     passes: Passes,
 }
 
-/// A UDP socket over IPv4 as a port. A receive waits at most 100 milliseconds, and it ends its wait early,
-/// with none, where a port that it stands beside has a datagram. Of ports that were waited for, those that had
-/// nothing where another had something give none at their next three receives, without a look; a wait that
-/// finds a datagram there ends that. Behind a send a receive first gives the answer two milliseconds, unless
-/// the last answer did not come in them. The socket is closed where the port is dropped.
+/// A UDP socket over IPv4 as a port. A receive waits at most 100 milliseconds; that of a port that stands
+/// beside others ends its wait early, with none, where one of them has a datagram. Of ports that were waited
+/// for, those that had nothing where another had something give none at their next three receives, without a
+/// look; a wait that finds a datagram there ends that. Behind a send such a port first gives the answer two
+/// milliseconds, unless the last answer did not come in them. The socket is closed where the port is dropped.
 #[derive(Drop)]
 pub struct UdpPort {
     socket: UdpSocket,
@@ -103,6 +104,8 @@ impl UdpPort {
     pub fn stand_beside(&mut self, other: &UdpPort)
         ensures { self.new ≡ self.old }
     {
+        // From now on it waits by `poll`. Should the system refuse that, each call waits for itself alone.
+        let _ = self.socket.set_nonblocking(true);
         let neighbour = Neighbour {
             descriptor: other.socket.as_raw_fd(),
             passes: other.passes.share(),
@@ -110,7 +113,12 @@ impl UdpPort {
         self.beside = [Some(neighbour), self.beside[0].take()];
     }
 
-    // Takes a datagram that is here; none where none is.
+    // Whether no other port ends its waits: then each call waits by itself.
+    fn is_alone(&self) -> bool {
+        self.beside[0].is_none()
+    }
+
+    // Takes a datagram: one that is here or, alone, comes in its time; none where none does.
     fn take(&mut self, place: &mut [u8]) -> io::Result<Option<(usize, SocketAddr)>>
         ensures count { IfOk result (λ answer. IfSome answer (λ found. found.0 ≤ length place.new)) }
         ensures failures { self.new ≡ self.old }
@@ -133,7 +141,7 @@ impl UdpPort {
         if self.patience == Patience::Asking {
             self.patience = Patience::Unanswered;
             let mut asked = [watched(self.socket.as_raw_fd(), POLLIN)];
-            if poll(&mut asked, ANSWER_WAIT) != 0 {
+            if poll(&mut asked, i32::from(ANSWER_WAIT)) != 0 {
                 return true;
             }
         }
@@ -143,7 +151,7 @@ impl UdpPort {
             watched(descriptor_of(one), POLLIN),
             watched(descriptor_of(other), POLLIN),
         ];
-        let found = poll(&mut asked, WAIT - ANSWER_WAIT);
+        let found = poll(&mut asked, i32::from(WAIT - ANSWER_WAIT));
         if found > 0 {
             self.passes.tell(asked[0].revents != 0);
             tell(one, asked[1]);
@@ -162,6 +170,9 @@ impl UdpPort {
         }
         if let Some(found) = self.take(place)? {
             return Ok(Some(found));
+        }
+        if self.is_alone() {
+            return Ok(None);
         }
         // A datagram that ended the wait may be gone, as by a wrong checksum.
         if self.wait() {
@@ -199,10 +210,12 @@ impl Datagrams for UdpPort {
 
     fn send(&mut self, to: SocketAddr, bytes: &[u8]) -> Result<(), DeviceFault> {
         let mut sent = self.socket.send_to(bytes, to);
-        if matches!(&sent, Err(error) if error.kind() == ErrorKind::WouldBlock) {
+        if !self.is_alone()
+            && matches!(&sent, Err(error) if error.kind() == ErrorKind::WouldBlock)
+        {
             // The system has no room for it yet.
             let mut asked = [watched(self.socket.as_raw_fd(), POLLOUT)];
-            let _ = poll(&mut asked, WAIT);
+            let _ = poll(&mut asked, i32::from(WAIT));
             sent = self.socket.send_to(bytes, to);
         }
         match sent {
@@ -226,10 +239,12 @@ impl Datagrams for UdpPort {
     }
 }
 
-// A socket at the address, of which no call waits, and the address and port that it got.
+// A socket at the address, of which each call waits its time, and the address and port that it got.
 fn open<R: Net>(rt: &R, address: SocketAddrV4) -> io::Result<(UdpSocket, SocketAddr)> {
     let socket = UdpSocket::bind(rt, SocketAddr::V4(address))?;
-    socket.set_nonblocking(true)?;
+    let time = Duration::from_millis(u64::from(WAIT));
+    socket.set_read_timeout(Some(time))?;
+    socket.set_write_timeout(Some(time))?;
     let mut size = [0u8; 16];
     size[..4].copy_from_slice(&KEPT.to_ne_bytes());
     // Where the system refuses it, fewer datagrams wait and more are lost, as may happen anyway.

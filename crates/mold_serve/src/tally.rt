@@ -122,7 +122,8 @@ impl Tally {
 
     // Prints the last line.
     pub(crate) fn push_last(&mut self) -> Result<(), AllocError>
-        ensures { OnOk result (self.new.text ≡ self.old.text ++ last_line self.old) }
+        ensures text { OnOk result (self.new.text ≡ self.old.text ++ last_line self.old) }
+        ensures same { OnOk result (self.new ≡ with_text self.new.text self.old) }
     {
         let words = [
             Word::Text(b"answered"),
@@ -140,6 +141,7 @@ impl Tally {
     // Writes all text.
     pub(crate) fn write<K: Sink>(&mut self, sink: &mut K) -> Result<(), CommandFault>
         ensures whole { OnOk result (Appends (K.held sink.old) (K.held sink.new) self.old.text) }
+        ensures empty { OnOk result (self.new ≡ with_text [] self.old) }
         ensures front { AppendsFront (K.held sink.old) (K.held sink.new) self.old.text }
         ensures fault { IfErr result (λ fault. fault ≡ CommandFault.Write) }
         ensures failures { Counts (K.failed sink.old) (K.failed sink.new) result }

@@ -9,7 +9,8 @@ use Rattle.mold_wire.specs.declared.packet.Packet.{Packet}
 use Rattle.mold_wire.specs.Packing.{IsFront, front}
 use Rattle.mold_session.proofs.DatagramLemmas.{packing_none, packing_first}
 use Rattle.mold_session.proofs.FrontLemmas.{FrontIs, OnlyFront, SomeFront, Alone, each_drop, each_take, some_front, first_of_taken}
-use Rattle.mold_session.specs.Answer.{from_number, between, answer, PlanState, IsPlan, plan_for, IsSpent, next_part, next_packet, moved, planned, FitAlone, HasFirst, SendsNext}
+use Rattle.mold_session.specs.Answer.{from_number, between, answer, PlanState, IsPlan, plan_for, IsSpent, next_part}
+use Rattle.mold_session.specs.Answer.{next_packet, moved, planned, FitAlone, HasFirst, SendsNext}
 use Rattle.mold_session.specs.Datagrams.{first_part, packing}
 use Rattle.mold_session.specs.Journal.{JournalState}
 

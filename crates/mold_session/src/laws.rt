@@ -15,7 +15,8 @@ ghost use Rattle.mold_session.specs.Journal.{IsJournal, IsWithin, JournalState, 
 ghost use Rattle.mold_session.specs.File.{SpellsJournal, SpellsJournal2};
 ghost use Rattle.mold_session.specs.FileFault.{JournalFault};
 ghost use Rattle.mold_session.specs.declared.error.FileError.{FileError};
-ghost use Rattle.mold_session.specs.Publisher.{IsPublisher, MayPublish, PublisherState, after_datagram, closed, next_datagram, next_end, next_heartbeat, published};
+ghost use Rattle.mold_session.specs.Publisher.{IsPublisher, MayPublish, PublisherState, after_datagram, closed};
+ghost use Rattle.mold_session.specs.Publisher.{next_datagram, next_end, next_heartbeat, published};
 ghost use Rattle.mold_session.specs.Truthful.{MayAnswer, TellsTruth};
 ghost use Rattle.mold_session.specs.Server.{ServerState, IsServer, IsAnswerable, asking, planning};
 

@@ -1,6 +1,7 @@
 //! The publisher of a session.
 
-ghost use Rattle.std.specs.Prelude.{◌≡◌, ◌↔◌, ◌+◌, ◌-◌, ◌≤◌, [], true, false, None, Err, length, unwrap_or, not, IfOk, IfErr, IfSome, IsOk, OnOk, OnErr, IsTrue};
+ghost use Rattle.std.specs.Prelude.{◌≡◌, ◌↔◌, ◌+◌, ◌-◌, ◌≤◌, [], true, false, None, Err, length, unwrap_or, not, IfOk};
+ghost use Rattle.std.specs.Prelude.{IfErr, IfSome, IsOk, OnOk, OnErr, IsTrue};
 ghost use Rattle.std.specs.Option.{option_copied};
 ghost use Rattle.mold_wire.specs.Packer.{IsLimit};
 ghost use Rattle.mold_wire.specs.Packing.{Fits};

@@ -215,7 +215,8 @@ pub static COMMANDS: [CommandRow; 9] = [
             OptionRow {
                 name: "turns",
                 kind: Kind::Optional,
-                help: "The most turns that are made, each of a receive on A, one on B and one request, of 100 ms a receive at most, 1 to 1000000 [default: 1000]",
+                help: "The most turns that are made, each of a receive on A, one on B and one request, \
+                    of 100 ms a receive at most, 1 to 1000000 [default: 1000]",
             },
         ],
     },

@@ -28,7 +28,8 @@ use Rattle.mold_receiver.specs.Arbiter.{arbitrated}
 use Rattle.std.specs.FinMap as finite
 use Rattle.mold_world.specs.Effect.{Happening, Outcome, answered, book_after, asked, asked_for, delivered, effect, given, is_own, noised}
 use Rattle.mold_world.specs.Effect.{publishing, renewed, requested, restarted, sending, unsent_count, with_place}
-use Rattle.mold_world.specs.Effect.Happening.{Publish as PublishEvent, Datagram, Heartbeat, Close as CloseEvent, End, Request, Ask, Deliver as DeliverEvent, Noise, Restart as RestartEvent}
+use Rattle.mold_world.specs.Effect.Happening.{Publish as PublishEvent, Datagram, Heartbeat, Close as CloseEvent, End}
+use Rattle.mold_world.specs.Effect.Happening.{Request, Ask, Deliver as DeliverEvent, Noise, Restart as RestartEvent}
 use Rattle.mold_world.specs.Kept.{IsPlaceKept, IsWorld}
 use Rattle.mold_world.specs.Machine.{AreAllowed, IsEndSent, IsSaid, IsSentAs, Machine, Standing, after, run, standing_at, start}
 use Rattle.mold_world.specs.Machine.Step.{Publish, Close, Send, Deliver, Restart}

@@ -6,7 +6,8 @@ use Rattle.mold_check.specs.Entries.{bytes_of, name_of}
 use Rattle.mold_check.specs.Report.{outcome_text, reason_words}
 use Rattle.mold_check.specs.declared.entry.Entry.{Entry}
 use Rattle.mold_check.proofs.OrderLemmas.{lent, order_few}
-use Rattle.mold_check.proofs.CheckedLemmas.{verdict_outcome, verdict_text, refused_outcome, checked_of, bytes_lent, length-lent, name_at, within_order, report_text, told_whole, told_front}
+use Rattle.mold_check.proofs.CheckedLemmas.{verdict_outcome, verdict_text, refused_outcome, checked_of, bytes_lent}
+use Rattle.mold_check.proofs.CheckedLemmas.{length-lent, name_at, within_order, report_text, told_whole, told_front}
 use Rattle.mold_check.proofs.report.check_entries.Goals as goal
 
 pub overflow_sub-entries : goal.overflow_sub-entries

@@ -33,7 +33,8 @@ returns-in_ok-add_answered-in-Ok-clause-offered g c tells =
 
 pub returns-in-Err-clause-offered : goal.returns-in-Err-clause-offered
 returns-in-Err-clause-offered g c tells =
-    offered_in_vain c.args.to _ (service_of c.args.journal.now c.args.server.now) c.args.plan.now c.datagram.new.plan c.in-Some.datagram.now _ _ c.args.tally.now _
+    offered_in_vain c.args.to _ (service_of c.args.journal.now c.args.server.now) c.args.plan.now
+    c.datagram.new.plan c.in-Some.datagram.now _ _ c.args.tally.now _
     c.args.server.now _
     (next g (goal.at.returns-in-Err-clause-offered g c).In-Some)
     c.in-Some.ensures.moved

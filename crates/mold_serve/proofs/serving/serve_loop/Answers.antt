@@ -56,7 +56,7 @@ returns-in_err-write-clause-run g c tells =
     (c.in_ok-take_turns.ensures.rests tells))
     c.from_residual-in_err-write.result
     c.push_last.new.self.text
-    c.in_ok-push_last.ensures
+    c.in_ok-push_last.ensures.text
     c.in_err-write.ensures.front
     c.from_residual-in_err-write.ensures.0
 
@@ -73,7 +73,7 @@ returns-clause-run g c tells =
     (c.in_ok-take_turns.ensures.rests tells))
     0
     c.push_last.new.self.text
-    c.in_ok-push_last.ensures
+    c.in_ok-push_last.ensures.text
     c.in_ok-write.ensures.whole
     refl
     (refl, c.in_ok-take_turns.ensures.server)
