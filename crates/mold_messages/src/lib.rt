@@ -4,10 +4,8 @@
 mod iterator;
 mod list;
 mod part;
-mod parts;
 #[cfg(test)]
 mod tests;
 
 pub use iterator::MessageIterator;
 pub use list::MessageList;
-pub use parts::PartList;

@@ -12,4 +12,3 @@ pub mod HonestLemmas
 pub mod MissingLemmas
 pub mod GapLemmas
 pub mod ArbiterLemmas
-pub mod MarkLemmas
