@@ -1,14 +1,17 @@
 -- What selects and shuffles leave, lane by lane.
 use Rattle.std.proofs.Common.{◌≡◌, ℕ, zero, suc, ◌+◌, ◌*◌, ◌-◌, ◌%◌, ◌^◌, ◌<◌, ◌≤◌, Bool, true, false, not, cond}
-use Rattle.std.proofs.Common.{nat_eq, ◌||◌, inl, inr, List, [], ◌∷◌, ◌++◌, length, map, replicate, get_or, bit_or, refl}
+use Rattle.std.proofs.Common.{◌/◌, bit_and, nat_eq, ◌||◌, inl, inr, List, [], ◌∷◌, ◌++◌, length, map, replicate, get_or, bit_or, refl}
 use Rattle.std.proofs.Common.{sym, ap, ◌∙◌, arith}
 use Rattle.std.proofs.Math.Dec.{ltb}
 use Rattle.std.proofs.lemmas.Bool.{cases_eq, ne_eqb}
-use Rattle.std.proofs.lemmas.List.{drop_more, get_or-append_right, get_or_append_left, length-map}
-use Rattle.std.proofs.lemmas.Simd.{length-zip2, map-map, mask_l-mod, tops_compared, zip2_splat, zip2_splat_left}
-use Rattle.std.specs.Simd.Lanes.{chunk, mask_l, sel_l, top, zip2}
+use Rattle.std.proofs.lemmas.List.{drop_more, ext_get_or, get_or-append_right, get_or-map, get_or_append_left, length-map}
+use Rattle.std.proofs.lemmas.Nat.{and_mask}
+use Rattle.std.proofs.lemmas.Simd.{Each1-get_or, get_or-swz_l_below, length-swz_l, length-zip2, map-map, mask_l-mod}
+use Rattle.std.proofs.lemmas.Simd.{swz_l, tops_compared, zip2_splat, zip2_splat_left}
+use Rattle.std.specs.Simd.Lanes.{Each1, chunk, mask_l, sel_l, top, zip2}
 use mir.Syntax.{w8}
-use Rattle.mold_digits.specs.Lanes.{any_large, evens, larger_of, odds, pair_byte, smaller_of, woven}
+use Rattle.mold_digits.specs.Lanes.{any_large, digit_of, evens, larger_of, odds, pair_byte, smaller_of, woven}
+use Rattle.mold_digits.proofs.TableLemmas.{agree_at, agree_below}
 
 -- the mask of a comparison
 abbrev mask_of : List ℕ → List ℕ → List Bool
@@ -26,11 +29,6 @@ sel_l-larger t [] ys = refl
 sel_l-larger t (x ∷ xs) [] = refl
 sel_l-larger t (x ∷ xs) (y ∷ ys) = ap (λ (l : List ℕ). cond (t x y) y x ∷ l) (sel_l-larger t xs ys)
 
-sel_l-maps : (t : ℕ → Bool) (f g : ℕ → ℕ) (xs : List ℕ)
-    → sel_l (map t xs) (map f xs) (map g xs) ≡ map (λ x. cond (t x) (f x) (g x)) xs
-sel_l-maps t f g [] = refl
-sel_l-maps t f g (x ∷ xs) = ap (λ (l : List ℕ). cond (t x) (f x) (g x) ∷ l) (sel_l-maps t f g xs)
-
 pub smaller_lanes : (xs ys : List ℕ) → sel_l (mask_of xs ys) xs ys ≡ zip2 smaller_of xs ys
 smaller_lanes xs ys = ap (λ (m : List Bool). sel_l m xs ys) (tops_compared w8 ltb xs ys) ∙ sel_l-smaller ltb xs ys
 
@@ -44,13 +42,6 @@ raised_lanes xs floor len =
     ap (λ (m : List Bool). sel_l m (replicate 16 floor) xs) (tops_compared w8 ltb xs (replicate 16 floor))
     ∙ sel_l-larger ltb xs (replicate 16 floor)
     ∙ zip2_splat larger_of xs 16 floor len
-
-pub chosen_lanes : (xs : List ℕ) (bound : ℕ) (f g : ℕ → ℕ) → length xs ≡ 16
-    → sel_l (mask_of xs (replicate 16 bound)) (map f xs) (map g xs) ≡ map (λ x. cond (ltb x bound) (f x) (g x)) xs
-chosen_lanes xs bound f g len =
-    ap (λ (m : List Bool). sel_l m (map f xs) (map g xs))
-    (tops_compared w8 ltb xs (replicate 16 bound) ∙ zip2_splat ltb xs 16 bound len)
-    ∙ sel_l-maps (λ x. ltb x bound) f g xs
 
 -- ---- shuffles
 
@@ -138,3 +129,31 @@ pub paired_lanes : (high low : List ℕ) → length high ≡ 16
 paired_lanes high low h =
     ap (λ (t : List ℕ). zip2 (λ a b. (a + b) % 256) t low) (zip2_splat (λ (a : ℕ) (b : ℕ). a * b % 256) high 16 16 h)
     ∙ zip2-map_left (λ a b. (a + b) % 256) (λ a. a * 16 % 256) high low
+
+-- ---- digits in a table
+
+abbrev pub digit_table : List ℕ
+digit_table = 48 ∷ 49 ∷ 50 ∷ 51 ∷ 52 ∷ 53 ∷ 54 ∷ 55 ∷ 56 ∷ 57 ∷ 97 ∷ 98 ∷ 99 ∷ 100 ∷ 101 ∷ 102 ∷ []
+
+pub looked_up : (values : List ℕ) → length values ≡ 16 → Each1 (λ x. x < 16) values
+    → swz_l w8 16 digit_table 0 values ≡ map digit_of values
+unfolding agree_below digit_of
+looked_up values len small =
+    ext_get_or 0 (swz_l w8 16 digit_table 0 values) (map digit_of values)
+    (length-swz_l w8 16 digit_table 0 values ∙ sym (length-map values digit_of))
+    (λ i below.
+    let within : i < length values = omega (arith, below, length-swz_l w8 16 digit_table 0 values) in
+    let value : get_or values i 0 < 16 = Each1-get_or (λ x. x < 16) values i 0 within small in
+    let first : 16 * ((0 + i) / 16) + get_or values i 0 ≡ get_or values i 0 = omega (arith, within, len) in
+    get_or-swz_l_below w8 16 digit_table 0 values i within value
+    ∙ ap (λ (k : ℕ). get_or digit_table k 0) first
+    ∙ agree_at (λ (k : ℕ). get_or digit_table k 0) digit_of 16 refl (get_or values i 0) value
+    ∙ sym (get_or-map digit_of values i 0 0 within))
+
+pub halves_small : (bytes : List ℕ) → Each1 (λ x. x < 256) bytes → Each1 (λ x. x < 16) (map (λ x. x / 16) bytes)
+halves_small [] small = tt
+halves_small (b ∷ bytes) small = (omega (arith, small.0), halves_small bytes small.1)
+
+pub rests_small : (bytes : List ℕ) → Each1 (λ x. x < 16) (map (λ x. bit_and x 15) bytes)
+rests_small [] = tt
+rests_small (b ∷ bytes) = (omega (arith, and_mask b 4), rests_small bytes)

@@ -25,7 +25,7 @@ pub fn push_bytes(out: &mut Vec<u8>, bytes: &[u8]) -> Result<(), AllocError>
 
 // Fills `out` with the digits of half as many bytes.
 #[inline(always)]
-fn encode_into(bytes: &[u8], out: &mut [u8])
+pub fn encode_into(bytes: &[u8], out: &mut [u8])
     requires { length out.old ≡ 2 * length bytes.now }
     ensures { out.new ≡ encode_lower bytes.now }
 {

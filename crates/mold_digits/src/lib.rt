@@ -9,7 +9,9 @@ mod lanes;
 mod table;
 #[cfg(test)]
 mod tests;
+mod writing;
 
 pub use decimal::{push_long_number, push_number};
 pub use decoding::decode;
 pub use encoding::push_bytes;
+pub use writing::{MOST_DIGITS, write_bytes, write_number};

@@ -1,7 +1,7 @@
 //! Each public call on its happy path. Digits are compared with what the crate `hex` makes of them: at every
 //! length that fills whole vectors and leaves a rest, and with every byte at every place.
 
-use crate::{decode, push_bytes, push_long_number, push_number};
+use crate::{decode, push_bytes, push_long_number, push_number, write_bytes, write_number};
 use std::alloc::Global;
 use std::process::Abort;
 use std::test::Fail;
@@ -93,5 +93,35 @@ fn numbers_are_written(rt: HostRuntime) -> Result<(), Fail> {
 340282366920938463463374607431768211455 "
             .as_slice()
     );
+    Ok(())
+}
+
+// Numbers of every count of digits up to nine, and the greatest one.
+#[test]
+fn numbers_and_bytes_are_written_into_a_slice(rt: HostRuntime) -> Result<(), Fail> {
+    let mut place = [b'.'; 32];
+    let mut text = Vec::new(rt.alloc());
+    for number in [
+        0,
+        10,
+        123,
+        1234,
+        12345,
+        123456,
+        1234567,
+        12345678,
+        123456789,
+        u64::MAX,
+    ] {
+        let end = write_number(&mut place, 1, number);
+        text.extend_from_slice(&place[1..end])?;
+        text.push(b' ')?;
+    }
+    assert_eq!(rt;
+        text.as_slice(),
+        b"0 10 123 1234 12345 123456 1234567 12345678 123456789 18446744073709551615 ".as_slice()
+    );
+    assert_eq!(rt; write_bytes(&mut place, 2, b"\x0a\xff"), 6);
+    assert_eq!(rt; place[..6], b".10aff"[..]);
     Ok(())
 }

@@ -1,3 +1,4 @@
 pub mod HandedLemmas
 pub mod ListenLemmas
 pub mod TurnLemmas
+pub mod WritingLemmas

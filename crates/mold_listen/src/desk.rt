@@ -77,8 +77,8 @@ impl Desk {
     }
 
     /// Lets the arbiter take a datagram that came on a line, or as an answer where there is none, and writes
-    /// what it hands on or why it is refused. After an error, which is want of memory, a part of that
-    /// stands behind what was there.
+    /// what it hands on or why it is refused. After an error, which is want of memory, what stands behind what
+    /// was there is of no use.
     pub(crate) fn take(
         &mut self,
         arbiter: &mut Arbiter,

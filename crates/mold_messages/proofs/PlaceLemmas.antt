@@ -100,7 +100,7 @@ piece_at start (end ∷ ends) bytes zero within = ap (λ (n : ℕ). Some (take (
 piece_at start (end ∷ ends) bytes (suc i) within = piece_at end ends bytes i (omega arith)
 
 -- a part of the bytes is the same where more bytes follow
-part_of_front :
+pub part_of_front :
     (start end : ℕ) (bytes more : List ℕ) → start ≤ end → end ≤ length bytes →
     take (end - start) (drop start (bytes ++ more)) ≡ take (end - start) (drop start bytes)
 part_of_front start end bytes more ordered within =

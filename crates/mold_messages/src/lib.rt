@@ -4,8 +4,10 @@
 mod iterator;
 mod list;
 mod part;
+mod parts;
 #[cfg(test)]
 mod tests;
 
 pub use iterator::MessageIterator;
 pub use list::MessageList;
+pub use parts::PartList;

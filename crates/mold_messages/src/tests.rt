@@ -1,6 +1,6 @@
 //! Each public call on its happy path, with its answer.
 
-use crate::MessageList;
+use crate::{MessageList, PartList};
 use std::alloc::Global;
 use std::process::Abort;
 use std::test::Fail;
@@ -105,5 +105,34 @@ fn a_message_comes_in_parts(rt: HostRuntime) -> Result<(), Fail> {
     list.extend_last(b"F")?;
     expect_at(&rt, &list, 2, b"CDE");
     expect_at(&rt, &list, 3, b"F");
+    Ok(())
+}
+
+fn expect_part(rt: &impl Abort, list: &PartList, i: usize, want: &[u8]) {
+    match list.get(i) {
+        Some(message) => assert_eq!(rt; message, want),
+        None => assert!(rt; false, "no message at {i}"),
+    }
+}
+
+/// `AB` and `C` behind their lengths, and an empty message.
+#[test]
+fn parts_lie_in_copied_bytes(rt: HostRuntime) -> Result<(), Fail> {
+    let mut list = PartList::new(rt.alloc());
+    assert!(rt; list.is_empty());
+    assert_eq!(rt; list.append(b"\0\x02AB\0\x01C")?, 0);
+    list.mark(2, 4)?;
+    list.mark(6, 7)?;
+    list.push(b"")?;
+    assert_eq!(rt; list.len(), 3);
+    expect_part(&rt, &list, 0, b"AB");
+    expect_part(&rt, &list, 1, b"C");
+    expect_part(&rt, &list, 2, b"");
+    assert!(rt; list.get(3).is_none());
+    list.truncate(1);
+    assert_eq!(rt; list.len(), 1);
+    expect_part(&rt, &list, 0, b"AB");
+    list.clear();
+    assert!(rt; list.is_empty());
     Ok(())
 }

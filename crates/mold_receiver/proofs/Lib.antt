@@ -12,3 +12,4 @@ pub mod HonestLemmas
 pub mod MissingLemmas
 pub mod GapLemmas
 pub mod ArbiterLemmas
+pub mod MarkLemmas

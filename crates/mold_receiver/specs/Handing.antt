@@ -16,3 +16,10 @@ run_of slots next first top messages = drop (next - first) messages ++ run_in sl
 pub record Grew (old new : Handed) (next : ℕ) : Type 0 where
   pub handed : List Message
   pub batch : new ≡ followed_by old next handed
+
+-- behind some messages stand the first few of others
+pub record HasMore (old new others : List Message) : Type 0 where
+  pub more : List Message
+  pub left : List Message
+  pub messages : new ≡ old ++ more
+  pub parts : more ++ left ≡ others

@@ -1,11 +1,14 @@
 //! A batch of messages that were handed on.
 
-ghost use Rattle.std.specs.Prelude.{◌≡◌, ◌==◌, ◌+◌, ◌↔◌, ◌<◌, ◌^◌, ◌∷◌, [], length, take, slice_get, IsTrue, OnOk};
+ghost use Rattle.std.specs.Prelude.{◌≡◌, ◌==◌, ◌+◌, ◌↔◌, ◌<◌, ◌≤◌, ◌^◌, ◌++◌, ◌∷◌, [], length, take, drop, slice_get, IsTrue, OnOk};
 ghost use Rattle.std.specs.Prelude.{OnErr};
 ghost use Rattle.std.specs.Option.{option_copied};
 ghost use Rattle.mold_receiver.specs.Batch.{Handed, handed_from, first_of, after_of, Follows, followed_by};
+ghost use Rattle.mold_receiver.specs.Handing.{Grew, HasMore};
+ghost use Rattle.mold_wire.specs.Block.{blocks as packed};
 
-use mold_messages::MessageList;
+use mold_messages::PartList;
+use mold_wire::Blocks;
 use std::alloc::{AllocError, Global};
 use std::marker::Model;
 
@@ -15,7 +18,7 @@ use std::marker::Model;
 pub struct Batch {
     // The number of the first message, where there is one.
     first: u64,
-    list: MessageList,
+    list: PartList,
 }
 
 impl Model for Batch {
@@ -36,7 +39,7 @@ impl Batch {
     {
         Batch {
             first: 0,
-            list: MessageList::new(alloc),
+            list: PartList::new(alloc),
         }
     }
 
@@ -121,4 +124,39 @@ impl Batch {
         }
         self.list.push(message)
     }
+
+    /// Adds the messages of a packet, the first of which has the number `next`; their bytes are copied at
+    /// once. An error comes where a growth is refused; the batch then ends with some of them.
+    pub(crate) fn push_blocks(&mut self, next: u64, blocks: &Blocks<'_>) -> Result<(), AllocError>
+        requires follows { Follows self.old next }
+        requires counted { next + length blocks.now < 2 ^ 64 }
+        ensures added { OnOk result (self.new ≡ followed_by self.old next blocks.now) }
+        ensures grew { OnErr result (Grew self.old self.new next) }
+    {
+        let begin = self.list.append(blocks.bytes())?;
+        if self.list.is_empty() {
+            self.first = next;
+        }
+        mark_blocks(&mut self.list, begin, blocks)
+    }
+}
+
+/// How many bytes stand before each message of a packet, which tell its length.
+const LENGTH_BYTES: usize = 2;
+
+// Makes the blocks that stand from `begin` on messages.
+fn mark_blocks(list: &mut PartList, begin: usize, blocks: &Blocks<'_>) -> Result<(), AllocError>
+    requires behind { list.old.end ≤ begin }
+    requires fits { length list.old.bytes < 2 ^ 64 }
+    requires there { drop begin list.old.bytes ≡ packed blocks.now }
+    ensures added { OnOk result (list.new.messages ≡ list.old.messages ++ blocks.now) }
+    ensures grew { OnErr result (HasMore list.old.messages list.new.messages blocks.now) }
+{
+    let mut at = begin;
+    for message in blocks.iter() {
+        let start = at + LENGTH_BYTES;
+        at = start + message.len();
+        list.mark(start, at)?;
+    }
+    Ok(())
 }

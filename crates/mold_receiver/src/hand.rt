@@ -39,6 +39,9 @@ fn push_messages(
     ensures handed { OnOk result (batch.new ≡ followed_by batch.old next (drop (next - first) blocks.now)) }
     ensures grew { OnErr result (Grew batch.old batch.new next) }
 {
+    if first == next {
+        return batch.push_blocks(next, blocks);
+    }
     let mut number = first;
     for message in blocks.iter() {
         push_from(batch, next, number, message)?;

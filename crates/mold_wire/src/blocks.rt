@@ -27,7 +27,7 @@ impl<'a> Model for Blocks<'a> {
 }
 
 impl<'a> Blocks<'a> {
-    ghost use Rattle.mold_wire.specs.Block.{messages_at, AreBlocks};
+    ghost use Rattle.mold_wire.specs.Block.{messages_at, AreBlocks, blocks};
 
     pub(crate) fn new(count: u16, bytes: &'a [u8]) -> Blocks<'a>
         requires some { 0 < count }
@@ -44,6 +44,13 @@ impl<'a> Blocks<'a> {
         ensures range { (0 < length self.now) × (length self.now < 65535) }
     {
         self.count
+    }
+
+    /// The message blocks as they lie in the datagram, each message behind the two bytes of its length.
+    pub fn bytes(&self) -> &'a [u8]
+        ensures { result.now ≡ blocks self.now }
+    {
+        self.bytes
     }
 
     /// The messages in order, from the first.

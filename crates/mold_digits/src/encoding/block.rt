@@ -1,7 +1,7 @@
 //! Sixteen bytes at a time.
 
-ghost use Rattle.std.specs.Prelude.{◌≡◌, ◌++◌, ◌+◌, ◌*◌, ◌≤◌, length, map, take};
-ghost use Rattle.std.specs.Simd.Lanes.{chunk};
+ghost use Rattle.std.specs.Prelude.{◌≡◌, ◌++◌, ◌+◌, ◌*◌, ◌<◌, ◌≤◌, length, map, take};
+ghost use Rattle.std.specs.Simd.Lanes.{Each1, chunk};
 ghost use Rattle.hex.specs.Hex.{encode_lower};
 ghost use Rattle.mold_digits.specs.Lanes.{digit_of};
 
@@ -35,12 +35,11 @@ fn encode_block(bytes: &[u8], place: usize, out: &mut [u8])
     woven_back(high, low).copy_to_slice(&mut out[2 * place + LANES..]);
 }
 
+// The digits of values below sixteen.
 #[inline(always)]
 fn lower_digits(values: u8x16) -> u8x16
+    requires { Each1 (λ x. x < 16) values }
     ensures { result ≡ map digit_of values }
 {
-    let tens = u8x16::splat(10);
-    values
-        .simd_lt(tens)
-        .select(plus(values, b'0'), plus(values, b'a' - 10))
+    u8x16::from_array(*b"0123456789abcdef").swizzle_dyn(values)
 }

@@ -1,0 +1,141 @@
+//! Numbers and bytes written into a slice.
+
+ghost use Rattle.std.specs.Prelude.{◌≡◌, ◌+◌, ◌*◌, ◌<◌, ◌≤◌, length, decimal};
+ghost use Rattle.hex.specs.Hex.{encode_lower};
+ghost use Rattle.mold_digits.specs.Decimals.{last_four};
+ghost use Rattle.mold_digits.specs.Writing.{IsWritten};
+
+use crate::encoding::encode_into;
+use itoa::Buffer;
+
+/// The most digits of a number of 64 bits.
+pub const MOST_DIGITS: usize = 20;
+
+fn digit(value: u64) -> u8
+    requires { value < 10 }
+    ensures { result ≡ 48 + value }
+{
+    b'0' + value as u8
+}
+
+#[inline(always)]
+fn last_four_digits(number: u64) -> [u8; 4]
+    ensures { result ≡ last_four number }
+{
+    [
+        digit(number / 1000 % 10),
+        digit(number / 100 % 10),
+        digit(number / 10 % 10),
+        digit(number % 10),
+    ]
+}
+
+// Writes digits from `at` on, and answers the place behind them.
+#[inline(always)]
+fn put(out: &mut [u8], at: usize, digits: &[u8]) -> usize
+    requires { at + length digits.now ≤ length out.old }
+    ensures { IsWritten out.old out.new at result digits.now }
+{
+    let end = at + digits.len();
+    out[at..end].copy_from_slice(digits);
+    end
+}
+
+/// Writes the number in decimal from the place `at` on, for which and behind which there are 20 bytes, and
+/// answers the place behind its last digit. What is behind that may change.
+#[inline(always)]
+pub fn write_number(out: &mut [u8], at: usize, number: u64) -> usize
+    requires { at + 20 ≤ length out.old }
+    ensures written { IsWritten out.old out.new at result (decimal number) }
+    ensures most { result ≤ at + 20 }
+{
+    if number < 10_000 {
+        write_few_digits(out, at, number)
+    } else if number < 100_000_000 {
+        write_more_digits(out, at, number)
+    } else {
+        write_any_number(out, at, number)
+    }
+}
+
+// One to four digits.
+fn write_few_digits(out: &mut [u8], at: usize, number: u64) -> usize
+    requires room { at + 4 ≤ length out.old }
+    requires most { number < 10000 }
+    ensures { IsWritten out.old out.new at result (decimal number) }
+{
+    if number < 10 {
+        return put(out, at, &[digit(number)]);
+    }
+    if number < 100 {
+        return put(out, at, &[digit(number / 10), digit(number % 10)]);
+    }
+    if number < 1000 {
+        return put(
+            out,
+            at,
+            &[
+                digit(number / 100),
+                digit(number / 10 % 10),
+                digit(number % 10),
+            ],
+        );
+    }
+    put(out, at, &last_four_digits(number))
+}
+
+// Five to eight digits.
+fn write_more_digits(out: &mut [u8], at: usize, number: u64) -> usize
+    requires room { at + 8 ≤ length out.old }
+    requires least { 10000 ≤ number }
+    requires most { number < 100000000 }
+    ensures { IsWritten out.old out.new at result (decimal number) }
+{
+    let front = number / 10_000;
+    let [e, f, g, h] = last_four_digits(number);
+    if front < 10 {
+        return put(out, at, &[digit(front), e, f, g, h]);
+    }
+    if front < 100 {
+        return put(out, at, &[digit(front / 10), digit(front % 10), e, f, g, h]);
+    }
+    if front < 1000 {
+        return put(
+            out,
+            at,
+            &[
+                digit(front / 100),
+                digit(front / 10 % 10),
+                digit(front % 10),
+                e,
+                f,
+                g,
+                h,
+            ],
+        );
+    }
+    let [a, b, c, d] = last_four_digits(front);
+    put(out, at, &[a, b, c, d, e, f, g, h])
+}
+
+#[inline(never)]
+fn write_any_number(out: &mut [u8], at: usize, number: u64) -> usize
+    requires { at + 20 ≤ length out.old }
+    ensures { IsWritten out.old out.new at result (decimal number) }
+{
+    let mut buffer = Buffer::new();
+    put(out, at, buffer.format(number).as_bytes())
+}
+
+/// Writes two lower-case hexadecimal digits for each byte from the place `at` on, for which there is room,
+/// and answers the place behind them. What else there is stays.
+#[inline(always)]
+pub fn write_bytes(out: &mut [u8], at: usize, bytes: &[u8]) -> usize
+    requires { at + 2 * length bytes.now ≤ length out.old }
+    ensures written { IsWritten out.old out.new at result (encode_lower bytes.now) }
+    ensures end { result ≡ at + 2 * length bytes.now }
+{
+    let end = at + 2 * bytes.len();
+    encode_into(bytes, &mut out[at..end]);
+    end
+}

@@ -1,0 +1,76 @@
+-- Message blocks in bytes that were copied, and the messages that are marked there.
+use Rattle.std.proofs.Common.{◌≡◌, ℕ, ◌+◌, ◌≤◌, List, [], ◌∷◌, ◌++◌, length, length-append, take, drop}
+use Rattle.std.proofs.Common.{append_assoc, refl, sym, ap, ◌∙◌, arith}
+use Rattle.std.proofs.lemmas.List.{append-nil, drop-drop, drop_at, length-drop, take_at}
+use Rattle.mold_wire.specs.Block.{be16, block, blocks}
+use Rattle.mold_receiver.specs.Handing.{HasMore}
+use Rattle.mold_receiver.specs.Store.{Message}
+
+two_long : (n : ℕ) → length (be16 n) ≡ 2
+two_long n = refl
+
+-- where a message lies whose block stands at a place in some bytes, and what stands behind it
+pub record IsThere (bytes : List ℕ) (at : ℕ) (message : Message) (messages : List Message) : Type 0 where
+  pub within : at + 2 + length message ≤ length bytes
+  pub lies : take (length message) (drop (at + 2) bytes) ≡ message
+  pub behind : drop (at + 2 + length message) bytes ≡ blocks messages
+
+pub is_there :
+    (bytes : List ℕ) (at : ℕ) (message : Message) (messages : List Message) →
+    drop at bytes ≡ blocks (message ∷ messages) → IsThere bytes at message messages
+is_there bytes at message messages there =
+    let long = two_long (length message) in
+    let parts : blocks (message ∷ messages) ≡ be16 (length message) ++ message ++ blocks messages =
+    append_assoc (be16 (length message)) message (blocks messages) in
+    let total : at + 2 + length message ≤ length bytes =
+    omega (
+      arith,
+      ap (λ (t : List ℕ). length t) there,
+      length-drop at bytes,
+      length-append (block message) (blocks messages),
+      length-append (be16 (length message)) message,
+      long,
+    ) in
+    let from : drop (at + 2) bytes ≡ message ++ blocks messages =
+    sym (drop-drop 2 at bytes)
+    ∙ ap (drop 2) (there ∙ parts)
+    ∙ drop_at (be16 (length message)) (message ++ blocks messages) 2 long in
+    record {
+      within = total;
+      lies = ap (take (length message)) from ∙ take_at message (blocks messages) (length message) refl;
+      behind = sym (drop-drop (length message) (at + 2) bytes)
+          ∙ ap (drop (length message)) from
+          ∙ drop_at message (blocks messages) (length message) refl;
+    }
+
+-- while messages are marked: those that were, and those that are left
+pub record IsMarking (old new left whole : List Message) : Type 0 where
+  pub more : List Message
+  pub messages : new ≡ old ++ more
+  pub parts : more ++ left ≡ whole
+
+pub marking_none : (old whole : List Message) → IsMarking old old whole whole
+marking_none old whole = record { more = []; messages = sym (append-nil old); parts = refl }
+
+pub marking_one :
+    (old new newer : List Message) (message : Message) (left whole : List Message) →
+    IsMarking old new (message ∷ left) whole → newer ≡ new ++ message ∷ [] → IsMarking old newer left whole
+marking_one old new newer message left whole is pushed = record {
+  more = is.more ++ message ∷ [];
+  messages = pushed
+      ∙ ap (λ (t : List Message). t ++ message ∷ []) is.messages
+      ∙ append_assoc old is.more (message ∷ []);
+  parts = append_assoc is.more (message ∷ []) left ∙ is.parts;
+}
+
+pub marking_done : (old new whole : List Message) → IsMarking old new [] whole → new ≡ old ++ whole
+marking_done old new whole is =
+    is.messages ∙ ap (λ (t : List Message). old ++ t) (sym (append-nil is.more) ∙ is.parts)
+
+pub marking_more : (old new left whole : List Message) → IsMarking old new left whole → HasMore old new whole
+marking_more old new left whole is = record {
+  more = is.more;
+  left = left;
+  messages = is.messages;
+  parts = is.parts;
+}
