@@ -8,7 +8,7 @@ ghost use Rattle.mold_receiver.specs.Handing.{Grew, HasMore};
 ghost use Rattle.mold_wire.specs.Block.{blocks as packed};
 
 use mold_messages::PartList;
-use mold_wire::Blocks;
+use mold_wire::{Blocks, LENGTH_BYTES};
 use std::alloc::{AllocError, Global};
 use std::marker::Model;
 
@@ -140,9 +140,6 @@ impl Batch {
         mark_blocks(&mut self.list, begin, blocks)
     }
 }
-
-/// How many bytes stand before each message of a packet, which tell its length.
-const LENGTH_BYTES: usize = 2;
 
 // Makes the blocks that stand from `begin` on messages.
 fn mark_blocks(list: &mut PartList, begin: usize, blocks: &Blocks<'_>) -> Result<(), AllocError>

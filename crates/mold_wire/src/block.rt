@@ -5,8 +5,8 @@ ghost use Rattle.mold_wire.specs.Block.{block, IsBlockAndRest, AreBlocksAndRest,
 
 use byteorder::{BigEndian, ByteOrder};
 
-/// The bytes that say a block's length, and don't count themselves.
-pub(crate) const LENGTH_BYTES: usize = 2;
+/// How many bytes say a block's length; they stand before its data and don't count themselves.
+pub const LENGTH_BYTES: usize = 2;
 
 // The data of the block at the front and what follows it, or none where no whole block stands there.
 pub(crate) fn split_block(bytes: &[u8]) -> Option<(&[u8], &[u8])>

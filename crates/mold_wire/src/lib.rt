@@ -16,6 +16,7 @@ mod session;
 #[cfg(test)]
 mod tests;
 
+pub use block::LENGTH_BYTES;
 pub use blocks::Blocks;
 pub use error::{DecodeError, PackerError, RequestError};
 pub use messages::Messages;
