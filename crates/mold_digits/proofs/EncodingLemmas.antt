@@ -11,6 +11,12 @@ use Rattle.mold_digits.specs.Lanes.{digit_of, woven}
 use Rattle.mold_digits.proofs.JoiningLemmas.{chunk-append, take-chunk}
 use Rattle.mold_digits.proofs.TableLemmas.{agree_at, agree_below}
 
+-- a byte has two digits
+pub length_digits : (bytes : List ℕ) → length (encode_lower bytes) ≡ 2 * length bytes
+unfolding encode_with
+length_digits [] = refl
+length_digits (byte ∷ bytes) = omega (arith, length_digits bytes)
+
 -- ---- one block
 
 digit_is : (v : ℕ) → v < 16 → digit_of v ≡ slice_index lower_digits v

@@ -1,6 +1,6 @@
 //! Numbers and bytes written into a slice.
 
-ghost use Rattle.std.specs.Prelude.{◌≡◌, ◌+◌, ◌*◌, ◌<◌, ◌≤◌, length, decimal};
+ghost use Rattle.std.specs.Prelude.{◌≡◌, ◌+◌, ◌*◌, ◌<◌, ◌≤◌, length, drop, decimal};
 ghost use Rattle.hex.specs.Hex.{encode_lower};
 ghost use Rattle.mold_digits.specs.Decimals.{last_four};
 ghost use Rattle.mold_digits.specs.Writing.{IsWritten};
@@ -134,6 +134,7 @@ pub fn write_bytes(out: &mut [u8], at: usize, bytes: &[u8]) -> usize
     requires { at + 2 * length bytes.now ≤ length out.old }
     ensures written { IsWritten out.old out.new at result (encode_lower bytes.now) }
     ensures end { result ≡ at + 2 * length bytes.now }
+    ensures behind { drop result out.new ≡ drop result out.old }
 {
     let end = at + 2 * bytes.len();
     encode_into(bytes, &mut out[at..end]);

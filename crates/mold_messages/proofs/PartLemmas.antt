@@ -1,7 +1,9 @@
 -- Messages as parts of bytes.
 use Rattle.std.proofs.Common.{◌≡◌, ℕ, zero, suc, ◌-◌, ◌≤◌, List, [], ◌∷◌, ◌++◌, length}
 use Rattle.std.proofs.Common.{take, drop, refl, sym, ap, subst, ◌∙◌, None, Some, arith, slice_get}
+use Rattle.std.proofs.Common.{Result, Ok, Err, OnErr, is_err, true}
 use Rattle.std.proofs.lemmas.List.{length-take-le, take-append-drop}
+use Rattle.std.proofs.Math.Seq.{take-append_seam}
 use Rattle.std.proofs.lemmas.Option.{get_or_from_slice_get, slice_get-get_or, slice_get-map, slice_get_within}
 use Rattle.std.specs.Option.{option_map}
 use Rattle.mold_messages.specs.Parts.{AreWithin, Marked, end_of, marked_by, part_of, parts}
@@ -171,6 +173,42 @@ marked_append spans bytes more new_bytes old seen within joined =
     (ap (marked_by spans) joined
     ∙ ap (λ (t : List (List ℕ)). record (marked_by spans (bytes ++ more)) { messages = t })
     (parts_front 0 spans bytes more within))
+
+-- what is said of an error, where there is one
+pub said_of_error : {T E P : Type 0} → (result : Result T E) → is_err result ≡ true → OnErr result P → P
+said_of_error (Ok value) some said = absurd (cc some)
+said_of_error (Err error) some said = said
+
+-- the bytes behind the parts taken away again
+pub record IsBack (old : Marked) (spans : List (ℕ × ℕ)) (new_bytes : List ℕ) : Type 0 where
+  pub within : AreWithin 0 spans (length new_bytes)
+  pub marked : marked_by spans new_bytes ≡ old
+
+pub back_parts :
+    (spans : List (ℕ × ℕ)) (bytes more new_bytes : List ℕ) (old : Marked) →
+    marked_by spans bytes ≡ record old { bytes = old.bytes ++ more } → AreWithin 0 spans (length bytes) →
+    old.end ≤ length old.bytes → new_bytes ≡ take (length old.bytes) bytes → IsBack old spans new_bytes
+back_parts spans bytes more new_bytes old seen within fits shorter =
+    let ends : end_of 0 spans ≡ old.end = ap (λ (m : Marked). m.end) seen in
+    let joined : bytes ≡ old.bytes ++ more = ap (λ (m : Marked). m.bytes) seen in
+    let short : new_bytes ≡ old.bytes =
+    shorter ∙ ap (λ (t : List ℕ). take (length old.bytes) t) joined ∙ take-append_seam old.bytes more
+    in
+    let still : AreWithin 0 spans (length old.bytes) =
+    within_more 0 spans (end_of 0 spans) (length old.bytes) (within_tight 0 spans (length bytes) within)
+    (omega (arith, ends, fits))
+    in
+    let messages : parts spans old.bytes ≡ old.messages =
+    sym (parts_front 0 spans old.bytes more still)
+    ∙ ap (parts spans) (sym joined)
+    ∙ ap (λ (m : Marked). m.messages) seen
+    in
+    record {
+      within = subst (λ (t : List ℕ). AreWithin 0 spans (length t)) (sym short) still;
+      marked = ap (marked_by spans) short
+          ∙ ap (λ (t : List (List ℕ)). record (marked_by spans old.bytes) { messages = t }) messages
+          ∙ ap (λ (n : ℕ). record { messages = old.messages; end = n; bytes = old.bytes }) ends;
+    }
 
 -- one part more
 pub marked_push :

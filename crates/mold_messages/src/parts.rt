@@ -107,19 +107,22 @@ impl PartList {
         Ok(())
     }
 
-    /// Adds a message behind the last one. An error comes where a growth is refused; the messages are then as
-    /// before.
+    /// Adds a message behind the last one. An error comes where a growth is refused; all is then as before.
     pub fn push(&mut self, message: &[u8]) -> Result<(), AllocError>
         ensures added { OnOk result (self.new ≡ record {
           messages = self.old.messages ++ message.now ∷ [];
           end = length self.old.bytes + length message.now;
           bytes = self.old.bytes ++ message.now;
         }) }
-        ensures same { OnErr result (self.new.messages ≡ self.old.messages) }
+        ensures same { OnErr result (self.new ≡ self.old) }
     {
         let start = self.append(message)?;
         let end = self.bytes.len();
-        self.mark(start, end)
+        let marked = self.mark(start, end);
+        if marked.is_err() {
+            self.bytes.truncate(start);
+        }
+        marked
     }
 
     /// Keeps the first `keep` messages, all where there are no more, and the room of all. What stands behind
