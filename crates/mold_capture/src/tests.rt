@@ -1,62 +1,51 @@
 //! The lists of the examples by their names, which reason comes first, and what is left after a growth was
-//! refused.
+//! refused. Each kind of comparison stands once, and what is owned is lent: the proof of a test grows with both.
 
 use crate::{Checker, Memory, Range, Reason, Verdict, check};
-use mold_wire::{DecodeError, Packer, Session};
+use mold_wire::DecodeError;
 use std::alloc::{AllocError, Global};
 use std::process::Abort;
 use std::test::Fail;
 
-const SESSION: Session = Session(*b"SESSION001");
-
-const OTHER: Session = Session(*b"SESSION002");
-
 const MAX: u64 = 18446744073709551615;
 
-/// A packer, made once more where memory was refused.
-fn packer(alloc: Global) -> Result<Packer, Fail> {
-    match Packer::new(alloc, 65507) {
-        Ok(packer) => Ok(packer),
-        Err(_) => Ok(Packer::new(alloc, 65507)?),
-    }
-}
+/// Datagrams: heartbeats, messages by their numbers, message 1 being `A`, and ends.
+const BEAT_1: &[u8] = b"SESSION001\0\0\0\0\0\0\0\x01\0\0";
 
-/// A packet of messages from a number on, a heartbeat where there are none.
-fn packet_of<'w, 'm>(
-    alloc: Global,
-    session: Session,
-    first: u64,
-    messages: &'w [&'m [u8]],
-) -> Result<Packer, Fail> {
-    let mut packer = packer(alloc)?;
-    packer.start(session, first);
-    for message in messages {
-        packer.add(message);
-    }
-    Ok(packer)
-}
+const BEAT_5: &[u8] = b"SESSION001\0\0\0\0\0\0\0\x05\0\0";
 
-fn end_of(alloc: Global, session: Session, number: u64) -> Result<Packer, Fail> {
-    let mut packer = packer(alloc)?;
-    packer.end(session, number);
-    Ok(packer)
-}
+const DATA_1: &[u8] = b"SESSION001\0\0\0\0\0\0\0\x01\0\x01\0\x01A";
 
-fn data<'w, 'm>(alloc: Global, first: u64, messages: &'w [&'m [u8]]) -> Result<Packer, Fail> {
-    packet_of(alloc, SESSION, first, messages)
-}
+const DATA_2: &[u8] = b"SESSION001\0\0\0\0\0\0\0\x02\0\x01\0\x01B";
 
-fn end(alloc: Global, number: u64) -> Result<Packer, Fail> {
-    end_of(alloc, SESSION, number)
-}
+const DATA_5: &[u8] = b"SESSION001\0\0\0\0\0\0\0\x05\0\x01\0\x01E";
 
-fn foreign<'w, 'm>(alloc: Global, first: u64, messages: &'w [&'m [u8]]) -> Result<Packer, Fail> {
-    packet_of(alloc, OTHER, first, messages)
-}
+const DATA_1_TO_2: &[u8] = b"SESSION001\0\0\0\0\0\0\0\x01\0\x02\0\x01A\0\x01B";
 
-fn foreign_end(alloc: Global, number: u64) -> Result<Packer, Fail> {
-    end_of(alloc, OTHER, number)
-}
+const DATA_2_TO_3: &[u8] = b"SESSION001\0\0\0\0\0\0\0\x02\0\x02\0\x01B\0\x01C";
+
+const DATA_3_TO_4: &[u8] = b"SESSION001\0\0\0\0\0\0\0\x03\0\x02\0\x01C\0\x01D";
+
+const DATA_4_TO_5: &[u8] = b"SESSION001\0\0\0\0\0\0\0\x04\0\x02\0\x01D\0\x01E";
+
+const DATA_1_TO_4: &[u8] = b"SESSION001\0\0\0\0\0\0\0\x01\0\x04\0\x01A\0\x01B\0\x01C\0\x01D";
+
+const DATA_1_TO_6: &[u8] =
+    b"SESSION001\0\0\0\0\0\0\0\x01\0\x06\0\x01A\0\x01B\0\x01C\0\x01D\0\x01E\0\x01F";
+
+const END_1: &[u8] = b"SESSION001\0\0\0\0\0\0\0\x01\xff\xff";
+
+const END_2: &[u8] = b"SESSION001\0\0\0\0\0\0\0\x02\xff\xff";
+
+const END_3: &[u8] = b"SESSION001\0\0\0\0\0\0\0\x03\xff\xff";
+
+const END_4: &[u8] = b"SESSION001\0\0\0\0\0\0\0\x04\xff\xff";
+
+const END_5: &[u8] = b"SESSION001\0\0\0\0\0\0\0\x05\xff\xff";
+
+const END_7: &[u8] = b"SESSION001\0\0\0\0\0\0\0\x07\xff\xff";
+
+const PAST_LAST: &[u8] = b"SESSION001\xff\xff\xff\xff\xff\xff\xff\xff\0\x01\0\x01x";
 
 fn ranges_of(alloc: Global, ranges: &[(u64, u64)]) -> Result<Vec<Range>, AllocError> {
     let mut made = Vec::new(alloc);
@@ -78,6 +67,15 @@ fn incomplete(alloc: Global, ranges: &[(u64, u64)], end: Option<u64>) -> Result<
     Ok(Verdict::Incomplete { missing, end })
 }
 
+fn expect<'w, 'd>(
+    rt: &impl Abort,
+    alloc: Global,
+    list: &'w [&'d [u8]],
+    wanted: Result<Verdict, (usize, Reason)>,
+) {
+    assert_eq!(rt; check(alloc, list), wanted);
+}
+
 fn expect_incomplete<'w, 'd>(
     rt: &impl Abort,
     alloc: Global,
@@ -86,38 +84,28 @@ fn expect_incomplete<'w, 'd>(
     end: Option<u64>,
 ) -> Result<(), Fail> {
     let wanted = incomplete(alloc, ranges, end)?;
-    assert_eq!(rt; check(alloc, list), Ok(wanted));
+    expect(rt, alloc, list, Ok(wanted));
     Ok(())
 }
 
 fn expect_whole<'w, 'd>(rt: &impl Abort, alloc: Global, list: &'w [&'d [u8]], messages: u64) {
-    assert_eq!(rt; check(alloc, list), Ok(Verdict::Whole { messages }));
+    expect(rt, alloc, list, Ok(Verdict::Whole { messages }));
 }
 
 /// The last datagram of the list is refused.
 fn expect_refused<'w, 'd>(rt: &impl Abort, alloc: Global, list: &'w [&'d [u8]], reason: Reason) {
-    assert_eq!(rt;
-        check(alloc, list),
-        Err((list.len().saturating_sub(1), reason))
-    );
+    let index = list.len().saturating_sub(1);
+    expect(rt, alloc, list, Err((index, reason)));
 }
 
 #[test]
 fn lists_and_their_answers(rt: HostRuntime) -> Result<(), Fail> {
     let alloc = rt.alloc();
-    let (two, four) = (data(alloc, 1, &[b"A", b"B"])?, end(alloc, 4)?);
-    expect_incomplete(&rt, alloc, &[two.bytes(), four.bytes()], &[(3, 3)], Some(4))?;
-    let greatest = data(alloc, MAX, &[])?;
-    expect_incomplete(&rt, alloc, &[greatest.bytes()], &[(1, MAX - 1)], None)?;
-    let (five, three) = (data(alloc, 5, &[])?, end(alloc, 3)?);
-    expect_refused(
-        &rt,
-        alloc,
-        &[five.bytes(), three.bytes()],
-        Reason::EndBelow { known: 5 },
-    );
-    let one = end(alloc, 1)?;
-    expect_whole(&rt, alloc, &[one.bytes(), one.bytes()], 0);
+    expect_incomplete(&rt, alloc, &[DATA_1_TO_2, END_4], &[(3, 3)], Some(4))?;
+    let greatest = b"SESSION001\xff\xff\xff\xff\xff\xff\xff\xff\0\0";
+    expect_incomplete(&rt, alloc, &[greatest], &[(1, MAX - 1)], None)?;
+    expect_refused(&rt, alloc, &[BEAT_5, END_3], Reason::EndBelow { known: 5 });
+    expect_whole(&rt, alloc, &[END_1, END_1], 0);
     Ok(())
 }
 
@@ -126,23 +114,11 @@ fn lists_and_their_answers(rt: HostRuntime) -> Result<(), Fail> {
 fn check_folders(rt: HostRuntime) -> Result<(), Fail> {
     let alloc = rt.alloc();
     expect_incomplete(&rt, alloc, &[], &[], None)?;
-    let (beat, closed) = (data(alloc, 1, &[])?, end(alloc, 1)?);
-    expect_whole(&rt, alloc, &[beat.bytes(), closed.bytes()], 0);
-    let (one, three) = (data(alloc, 1, &[b"A"])?, end(alloc, 3)?);
-    expect_incomplete(
-        &rt,
-        alloc,
-        &[one.bytes(), three.bytes()],
-        &[(2, 2)],
-        Some(3),
-    )?;
-    let (x, y) = (data(alloc, 2, &[b"X"])?, data(alloc, 2, &[b"Y"])?);
-    expect_refused(
-        &rt,
-        alloc,
-        &[x.bytes(), y.bytes()],
-        Reason::Conflict { number: 2 },
-    );
+    expect_whole(&rt, alloc, &[BEAT_1, END_1], 0);
+    expect_incomplete(&rt, alloc, &[DATA_1, END_3], &[(2, 2)], Some(3))?;
+    let x = b"SESSION001\0\0\0\0\0\0\0\x02\0\x01\0\x01X";
+    let y = b"SESSION001\0\0\0\0\0\0\0\x02\0\x01\0\x01Y";
+    expect_refused(&rt, alloc, &[x, y], Reason::Conflict { number: 2 });
     Ok(())
 }
 
@@ -150,40 +126,21 @@ fn check_folders(rt: HostRuntime) -> Result<(), Fail> {
 #[test]
 fn holes_are_told(rt: HostRuntime) -> Result<(), Fail> {
     let alloc = rt.alloc();
-    let (late, seven) = (data(alloc, 2, &[b"B"])?, end(alloc, 7)?);
-    let above = data(alloc, 4, &[b"D", b"E"])?;
-    expect_incomplete(
-        &rt,
-        alloc,
-        &[late.bytes(), seven.bytes(), above.bytes()],
-        &[(1, 1), (3, 3), (6, 6)],
-        Some(7),
-    )?;
-    let all = data(alloc, 1, &[b"A", b"B", b"C", b"D", b"E", b"F"])?;
-    let list = [
-        above.bytes(),
-        seven.bytes(),
-        late.bytes(),
-        all.bytes(),
-        above.bytes(),
-    ];
+    let list = [DATA_2, END_7, DATA_4_TO_5];
+    expect_incomplete(&rt, alloc, &list, &[(1, 1), (3, 3), (6, 6)], Some(7))?;
+    let list = [DATA_4_TO_5, END_7, DATA_2, DATA_1_TO_6, DATA_4_TO_5];
     expect_whole(&rt, alloc, &list, 6);
-    let other = data(alloc, 3, &[b"C", b"x", b"E"])?;
-    expect_refused(
-        &rt,
-        alloc,
-        &[late.bytes(), all.bytes(), other.bytes()],
-        Reason::Conflict { number: 4 },
-    );
+    let other = b"SESSION001\0\0\0\0\0\0\0\x03\0\x03\0\x01C\0\x01x\0\x01E".as_slice();
+    let list = [DATA_2, DATA_1_TO_6, other];
+    expect_refused(&rt, alloc, &list, Reason::Conflict { number: 4 });
     Ok(())
 }
 
 #[test]
 fn bytes_that_spell_no_packet(rt: HostRuntime) -> Result<(), Fail> {
-    let beat = data(rt.alloc(), 1, &[])?;
     let cut = b"SESSION001\0\0\0\0\0\0\0\0\0";
     let reason = Reason::Malformed(DecodeError::Short { len: 19 });
-    expect_refused(&rt, rt.alloc(), &[beat.bytes(), cut.as_slice()], reason);
+    expect_refused(&rt, rt.alloc(), &[BEAT_1, cut.as_slice()], reason);
     Ok(())
 }
 
@@ -191,27 +148,19 @@ fn bytes_that_spell_no_packet(rt: HostRuntime) -> Result<(), Fail> {
 #[test]
 fn another_session_comes_first(rt: HostRuntime) -> Result<(), Fail> {
     let alloc = rt.alloc();
-    let (one, three) = (data(alloc, 1, &[b"A"])?, end(alloc, 3)?);
-    let zero = foreign(alloc, 0, &[])?;
-    let past = foreign(alloc, MAX, &[b"x"])?;
-    let (other, below) = (foreign_end(alloc, 4)?, foreign_end(alloc, 1)?);
-    let (behind, differs) = (foreign(alloc, 4, &[])?, foreign(alloc, 1, &[b"x"])?);
-    let list = [one.bytes(), three.bytes(), zero.bytes()];
-    expect_refused(&rt, alloc, &list, Reason::WrongSession);
-    let list = [one.bytes(), three.bytes(), past.bytes()];
-    expect_refused(&rt, alloc, &list, Reason::WrongSession);
-    let list = [one.bytes(), three.bytes(), other.bytes()];
-    expect_refused(&rt, alloc, &list, Reason::WrongSession);
-    let list = [one.bytes(), three.bytes(), behind.bytes()];
-    expect_refused(&rt, alloc, &list, Reason::WrongSession);
-    let list = [one.bytes(), three.bytes(), differs.bytes()];
-    expect_refused(&rt, alloc, &list, Reason::WrongSession);
-    expect_refused(
-        &rt,
-        alloc,
-        &[one.bytes(), below.bytes()],
-        Reason::WrongSession,
-    );
+    let others: [&[u8]; 5] = [
+        b"SESSION002\0\0\0\0\0\0\0\0\0\0",
+        b"SESSION002\xff\xff\xff\xff\xff\xff\xff\xff\0\x01\0\x01x",
+        b"SESSION002\0\0\0\0\0\0\0\x04\xff\xff",
+        b"SESSION002\0\0\0\0\0\0\0\x04\0\0",
+        b"SESSION002\0\0\0\0\0\0\0\x01\0\x01\0\x01x",
+    ];
+    for other in others {
+        let list = [DATA_1, END_3, other];
+        expect_refused(&rt, alloc, &list, Reason::WrongSession);
+    }
+    let below = b"SESSION002\0\0\0\0\0\0\0\x01\xff\xff".as_slice();
+    expect_refused(&rt, alloc, &[DATA_1, below], Reason::WrongSession);
     Ok(())
 }
 
@@ -219,25 +168,15 @@ fn another_session_comes_first(rt: HostRuntime) -> Result<(), Fail> {
 #[test]
 fn number_zero_comes_second(rt: HostRuntime) -> Result<(), Fail> {
     let alloc = rt.alloc();
-    let (one, two) = (data(alloc, 1, &[b"A"])?, end(alloc, 2)?);
-    let (other, behind) = (end(alloc, 0)?, data(alloc, 0, &[b"", b"A", b"B"])?);
-    let list = [one.bytes(), two.bytes(), other.bytes()];
-    expect_refused(&rt, alloc, &list, Reason::SequenceZero);
-    let list = [one.bytes(), two.bytes(), behind.bytes()];
-    expect_refused(&rt, alloc, &list, Reason::SequenceZero);
-    let differs = data(alloc, 0, &[b"", b"x"])?;
-    expect_refused(
-        &rt,
-        alloc,
-        &[one.bytes(), other.bytes()],
-        Reason::SequenceZero,
-    );
-    expect_refused(
-        &rt,
-        alloc,
-        &[one.bytes(), differs.bytes()],
-        Reason::SequenceZero,
-    );
+    let other = b"SESSION001\0\0\0\0\0\0\0\0\xff\xff".as_slice();
+    let behind = b"SESSION001\0\0\0\0\0\0\0\0\0\x03\0\0\0\x01A\0\x01B".as_slice();
+    let differs = b"SESSION001\0\0\0\0\0\0\0\0\0\x02\0\0\0\x01x".as_slice();
+    for last in [other, behind] {
+        expect_refused(&rt, alloc, &[DATA_1, END_2, last], Reason::SequenceZero);
+    }
+    for last in [other, differs] {
+        expect_refused(&rt, alloc, &[DATA_1, last], Reason::SequenceZero);
+    }
     Ok(())
 }
 
@@ -245,24 +184,10 @@ fn number_zero_comes_second(rt: HostRuntime) -> Result<(), Fail> {
 #[test]
 fn past_the_last_number_comes_third(rt: HostRuntime) -> Result<(), Fail> {
     let alloc = rt.alloc();
-    let (one, two) = (data(alloc, 1, &[b"A"])?, end(alloc, 2)?);
-    let past = data(alloc, MAX, &[b"x"])?;
-    expect_refused(
-        &rt,
-        alloc,
-        &[one.bytes(), two.bytes(), past.bytes()],
-        Reason::PastLast,
-    );
-    let (last, differs) = (
-        data(alloc, MAX - 1, &[b"A"])?,
-        data(alloc, MAX - 1, &[b"x", b"B"])?,
-    );
-    expect_refused(
-        &rt,
-        alloc,
-        &[last.bytes(), differs.bytes()],
-        Reason::PastLast,
-    );
+    expect_refused(&rt, alloc, &[DATA_1, END_2, PAST_LAST], Reason::PastLast);
+    let last = b"SESSION001\xff\xff\xff\xff\xff\xff\xff\xfe\0\x01\0\x01A";
+    let differs = b"SESSION001\xff\xff\xff\xff\xff\xff\xff\xfe\0\x02\0\x01x\0\x01B";
+    expect_refused(&rt, alloc, &[last, differs], Reason::PastLast);
     Ok(())
 }
 
@@ -270,68 +195,77 @@ fn past_the_last_number_comes_third(rt: HostRuntime) -> Result<(), Fail> {
 #[test]
 fn ends_come_in_order(rt: HostRuntime) -> Result<(), Fail> {
     let alloc = rt.alloc();
-    let (one, three) = (data(alloc, 1, &[b"A"])?, end(alloc, 3)?);
-    for number in [1, 4] {
-        let other = end(alloc, number)?;
-        expect_refused(
-            &rt,
-            alloc,
-            &[one.bytes(), three.bytes(), other.bytes()],
-            Reason::EndConflict { end: 3 },
-        );
+    for other in [END_1, END_4] {
+        let list = [DATA_1, END_3, other];
+        expect_refused(&rt, alloc, &list, Reason::EndConflict { end: 3 });
     }
-    let behind = data(alloc, 1, &[b"x", b"B", b"C"])?;
-    expect_refused(
-        &rt,
-        alloc,
-        &[one.bytes(), three.bytes(), behind.bytes()],
-        Reason::PastEnd { end: 3 },
-    );
+    let behind = b"SESSION001\0\0\0\0\0\0\0\x01\0\x03\0\x01x\0\x01B\0\x01C".as_slice();
+    let list = [DATA_1, END_3, behind];
+    expect_refused(&rt, alloc, &list, Reason::PastEnd { end: 3 });
     Ok(())
+}
+
+fn same_verdict(rt: &impl Abort, found: &Verdict, wanted: &Verdict) {
+    assert!(rt; *found == *wanted);
+}
+
+fn expect_verdict(rt: &impl Abort, checker: &Checker, wanted: &Verdict) {
+    match checker.verdict() {
+        Ok(verdict) => same_verdict(rt, &verdict, wanted),
+        Err(Memory) => assert!(rt; false, "no verdict"),
+    }
 }
 
 /// A verdict, made once more where memory was refused.
 fn verdict_again(rt: &impl Abort, checker: &Checker, wanted: &Verdict) {
     match checker.verdict() {
-        Ok(verdict) => assert!(rt; verdict == *wanted),
-        Err(Memory) => match checker.verdict() {
-            Ok(verdict) => assert!(rt; verdict == *wanted),
-            Err(Memory) => assert!(rt; false, "no verdict"),
-        },
+        Ok(verdict) => same_verdict(rt, &verdict, wanted),
+        Err(Memory) => expect_verdict(rt, checker, wanted),
     }
+}
+
+fn same_answer(rt: &impl Abort, found: Result<(), Reason>, wanted: Result<(), Reason>) {
+    assert_eq!(rt; found, wanted);
+}
+
+/// Adds a datagram, with this answer.
+fn add(rt: &impl Abort, checker: &mut Checker, bytes: &[u8], wanted: Result<(), Reason>) {
+    let answer = checker.add(bytes);
+    same_answer(rt, answer, wanted);
 }
 
 /// Adds a datagram, once more where memory was refused: the verdict was then as before.
 fn add_again(rt: &impl Abort, checker: &mut Checker, bytes: &[u8], before: &Verdict) {
-    if checker.add(bytes) == Err(Reason::Memory) {
-        verdict_again(rt, checker, before);
-        assert_eq!(rt; checker.add(bytes), Ok(()));
+    let answer = checker.add(bytes);
+    if !matches!(answer, Err(Reason::Memory)) {
+        same_answer(rt, answer, Ok(()));
+        return;
     }
+    verdict_again(rt, checker, before);
+    add(rt, checker, bytes, Ok(()));
+}
+
+/// Messages 1, 2 and 5, then all six and the end; `hole` lacks messages 3 and 4.
+fn expect_growth(rt: &impl Abort, checker: &mut Checker, nothing: &Verdict, hole: &Verdict) {
+    add_again(rt, checker, DATA_1, nothing);
+    verdict_again(rt, checker, nothing);
+    add_again(rt, checker, DATA_2, nothing);
+    verdict_again(rt, checker, nothing);
+    add_again(rt, checker, DATA_5, nothing);
+    verdict_again(rt, checker, hole);
+    add_again(rt, checker, DATA_1_TO_6, hole);
+    verdict_again(rt, checker, nothing);
+    add_again(rt, checker, END_7, nothing);
+    verdict_again(rt, checker, &Verdict::Whole { messages: 6 });
 }
 
 /// To be run with each allocation refused in turn.
 #[test]
 fn a_refused_growth_changes_nothing(rt: HostRuntime) -> Result<(), Fail> {
-    let alloc = rt.alloc();
-    let (one, two) = (data(alloc, 1, &[b"A"])?, data(alloc, 2, &[b"B"])?);
-    let (five, all) = (
-        data(alloc, 5, &[b"E"])?,
-        data(alloc, 1, &[b"A", b"B", b"C", b"D", b"E", b"F"])?,
-    );
-    let nothing = incomplete(alloc, &[], None)?;
-    let hole = incomplete(alloc, &[(3, 4)], None)?;
-    let mut checker = Checker::new(alloc);
-    add_again(&rt, &mut checker, one.bytes(), &nothing);
-    verdict_again(&rt, &checker, &nothing);
-    add_again(&rt, &mut checker, two.bytes(), &nothing);
-    verdict_again(&rt, &checker, &nothing);
-    add_again(&rt, &mut checker, five.bytes(), &nothing);
-    verdict_again(&rt, &checker, &hole);
-    add_again(&rt, &mut checker, all.bytes(), &hole);
-    verdict_again(&rt, &checker, &nothing);
-    let closed = end(alloc, 7)?;
-    add_again(&rt, &mut checker, closed.bytes(), &nothing);
-    verdict_again(&rt, &checker, &Verdict::Whole { messages: 6 });
+    let nothing = incomplete(rt.alloc(), &[], None)?;
+    let hole = incomplete(rt.alloc(), &[(3, 4)], None)?;
+    let mut checker = Checker::new(rt.alloc());
+    expect_growth(&rt, &mut checker, &nothing, &hole);
     Ok(())
 }
 
@@ -339,49 +273,47 @@ fn a_refused_growth_changes_nothing(rt: HostRuntime) -> Result<(), Fail> {
 /// new, or behind the last one.
 #[test]
 fn a_check_tells_where_memory_was_refused(rt: HostRuntime) -> Result<(), Fail> {
-    let alloc = rt.alloc();
-    let (five, two) = (data(alloc, 5, &[])?, data(alloc, 2, &[b"B"])?);
-    let list = [five.bytes(), two.bytes(), two.bytes()];
-    let wanted = incomplete(alloc, &[(1, 1), (3, 4)], None)?;
-    match check(alloc, &list) {
-        Ok(verdict) => assert!(rt; verdict == wanted),
+    let list = [BEAT_5, DATA_2, DATA_2];
+    let wanted = incomplete(rt.alloc(), &[(1, 1), (3, 4)], None)?;
+    match check(rt.alloc(), &list) {
+        Ok(verdict) => same_verdict(&rt, &verdict, &wanted),
         Err((index, reason)) => {
-            assert_eq!(rt; reason, Reason::Memory);
+            same_answer(&rt, Err(reason), Err(Reason::Memory));
             assert!(rt; index == 1 || index == list.len(), "refused at {index}");
-            assert_eq!(rt; check(alloc, &list), Ok(wanted));
+            expect(&rt, rt.alloc(), &list, Ok(wanted));
         }
     }
     Ok(())
+}
+
+/// Messages 1 to 4 and the end, and then nothing new.
+fn expect_nothing_new(rt: &impl Abort, checker: &mut Checker, empty: &Verdict) {
+    add_again(rt, checker, DATA_1_TO_2, empty);
+    add_again(rt, checker, DATA_3_TO_4, empty);
+    let known: [&[u8]; 7] = [
+        DATA_1_TO_2,
+        DATA_3_TO_4,
+        DATA_2_TO_3,
+        DATA_1_TO_4,
+        BEAT_5,
+        END_5,
+        END_5,
+    ];
+    for datagram in known {
+        add(rt, checker, datagram, Ok(()));
+    }
+    let differs = b"SESSION001\0\0\0\0\0\0\0\x03\0\x02\0\x01C\0\x01x";
+    add(rt, checker, differs, Err(Reason::Conflict { number: 4 }));
+    add(rt, checker, DATA_5, Err(Reason::PastEnd { end: 5 }));
+    verdict_again(rt, checker, &Verdict::Whole { messages: 4 });
 }
 
 /// To be run with each allocation refused in turn: a datagram that brings nothing new takes no memory, so it
 /// is never refused for want of it, nor is one that is refused for another reason.
 #[test]
 fn what_brings_nothing_new_takes_no_memory(rt: HostRuntime) -> Result<(), Fail> {
-    let alloc = rt.alloc();
-    let (low, high) = (
-        data(alloc, 1, &[b"A", b"B"])?,
-        data(alloc, 3, &[b"C", b"D"])?,
-    );
-    let (middle, all) = (
-        data(alloc, 2, &[b"B", b"C"])?,
-        data(alloc, 1, &[b"A", b"B", b"C", b"D"])?,
-    );
-    let (beat, closed) = (data(alloc, 5, &[])?, end(alloc, 5)?);
-    let (differs, behind) = (data(alloc, 3, &[b"C", b"x"])?, data(alloc, 5, &[b"E"])?);
-    let empty = incomplete(alloc, &[], None)?;
-    let mut checker = Checker::new(alloc);
-    add_again(&rt, &mut checker, low.bytes(), &empty);
-    add_again(&rt, &mut checker, high.bytes(), &empty);
-    for datagram in [&low, &high, &middle, &all, &beat, &closed, &closed] {
-        assert_eq!(rt; checker.add(datagram.bytes()), Ok(()));
-    }
-    let conflict = Err(Reason::Conflict { number: 4 });
-    assert_eq!(rt; checker.add(differs.bytes()), conflict);
-    assert_eq!(rt;
-        checker.add(behind.bytes()),
-        Err(Reason::PastEnd { end: 5 })
-    );
-    verdict_again(&rt, &checker, &Verdict::Whole { messages: 4 });
+    let empty = incomplete(rt.alloc(), &[], None)?;
+    let mut checker = Checker::new(rt.alloc());
+    expect_nothing_new(&rt, &mut checker, &empty);
     Ok(())
 }

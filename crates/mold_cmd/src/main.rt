@@ -2,6 +2,8 @@
 #![tactic(auto)]
 
 mod command;
+#[cfg(test)]
+mod comparisons;
 mod filling;
 mod folder;
 #[cfg(test)]

@@ -3,6 +3,7 @@
 
 ghost use Rattle.std.specs.Prelude.{◌≡◌, [], false, IfOk};
 
+use crate::comparisons::{same_bytes, same_number, same_outcome};
 use crate::publish_loop::publish_loop;
 use mold_devices::{CommandFault, MemorySink, MemorySource};
 use mold_ports::MemoryPort;
@@ -30,36 +31,109 @@ fn empty(alloc: Global) -> Result<Publisher, Fail>
     Ok(Publisher::new(alloc, Session(*b"SESSION001"), 64)?)
 }
 
+/// What publishing reads and writes, in memory.
+#[derive(Drop)]
+struct Devices<'a> {
+    port: MemoryPort,
+    source: MemorySource<'a>,
+    sink: MemorySink,
+    journal: MemorySink,
+}
+
+// Devices that don't fail, for these lines.
+fn devices_for(alloc: Global, lines: &[u8]) -> Devices<'_> {
+    Devices {
+        port: MemoryPort::new(alloc, Vec::new(alloc)),
+        source: MemorySource::new(lines),
+        sink: MemorySink::new(alloc),
+        journal: MemorySink::new(alloc),
+    }
+}
+
+/// What fails: nothing, the send or the read of a number, the journal's first write or the text's.
+#[derive(Clone, Copy)]
+enum Failure {
+    Nothing,
+    Send(u64),
+    Read(u64),
+    Save,
+    Tell,
+}
+
+// Lets a device fail.
+fn plan(devices: &mut Devices<'_>, failure: Failure) {
+    match failure {
+        Failure::Nothing => {}
+        Failure::Send(k) => devices.port.fail_send(k),
+        Failure::Read(k) => devices.source.fail_at(k),
+        Failure::Save => devices.journal.fail_at(1),
+        Failure::Tell => devices.sink.fail_at(1),
+    }
+}
+
 // What publishing on lines 1 and 2 with one heartbeat and one end packet comes to.
-fn publish(
-    alloc: Global,
-    port: &mut MemoryPort,
-    source: &mut MemorySource<'_>,
-    sink: &mut MemorySink,
-    journal: &mut MemorySink,
-) -> Result<Result<u8, CommandFault>, Fail> {
+fn publish(alloc: Global, devices: &mut Devices<'_>) -> Result<Result<u8, CommandFault>, Fail> {
     let mut publisher = empty(alloc)?;
     Ok(publish_loop(
         alloc,
-        port,
+        &mut devices.port,
         1,
         2,
         &mut publisher,
         1,
         1,
-        source,
-        sink,
-        journal,
+        &mut devices.source,
+        &mut devices.sink,
+        &mut devices.journal,
     ))
 }
 
+/// What publishing comes to: the outcome, what is told, the journal that is saved, and what is sent, each
+/// datagram with its peer.
+#[derive(Clone, Copy)]
+struct Wanted<'a> {
+    outcome: Result<u8, CommandFault>,
+    text: &'a [u8],
+    journal: &'a [u8],
+    letters: &'a [(u32, &'a [u8])],
+}
+
 // These were sent, each to its peer.
-fn expect_sent(rt: &impl Abort, port: &MemoryPort, letters: &[(u32, &[u8])]) {
-    assert_eq!(rt; port.sent().len(), letters.len());
+fn expect_sent(rt: &impl Abort, port: &MemoryPort, letters: &[(u32, &[u8])], at: u64) {
+    same_number(rt, port.sent().len() as u64, letters.len() as u64, at);
     for (sent, letter) in port.sent().iter().zip(letters) {
-        assert_eq!(rt; sent.0, letter.0);
-        assert_eq!(rt; sent.1.as_slice(), letter.1);
+        same_number(rt, u64::from(sent.0), u64::from(letter.0), at);
+        same_bytes(rt, sent.1.as_slice(), letter.1, at);
     }
+}
+
+// This came of publishing with these devices.
+fn expect_devices(
+    rt: &impl Abort,
+    devices: &Devices<'_>,
+    outcome: Result<u8, CommandFault>,
+    wanted: &Wanted<'_>,
+    at: u64,
+) {
+    same_outcome(rt, outcome, wanted.outcome, at);
+    same_bytes(rt, devices.sink.bytes(), wanted.text, at);
+    same_bytes(rt, devices.journal.bytes(), wanted.journal, at);
+    expect_sent(rt, &devices.port, wanted.letters, at);
+}
+
+// Publishes the lines with a failure. `at` tells apart the cases of a test.
+fn expect_published(
+    rt: &(impl Abort + AllocGlobal),
+    lines: &[u8],
+    failure: Failure,
+    wanted: &Wanted<'_>,
+    at: u64,
+) -> Result<(), Fail> {
+    let mut devices = devices_for(rt.alloc(), lines);
+    plan(&mut devices, failure);
+    let outcome = publish(rt.alloc(), &mut devices)?;
+    expect_devices(rt, &devices, outcome, wanted, at);
+    Ok(())
 }
 
 const ALL: [(u32, &[u8]); 6] = [
@@ -73,84 +147,73 @@ const ALL: [(u32, &[u8]); 6] = [
 
 #[test]
 fn two_lines_are_published_on_both(rt: HostRuntime) -> Result<(), Fail> {
-    let alloc = rt.alloc();
-    let mut port = MemoryPort::new(alloc, Vec::new(alloc));
-    let mut source = MemorySource::new(LINES);
-    let (mut sink, mut journal) = (MemorySink::new(alloc), MemorySink::new(alloc));
-    let status = publish(alloc, &mut port, &mut source, &mut sink, &mut journal)?;
-    assert_eq!(rt; status, Ok(0));
-    expect_sent(&rt, &port, &ALL);
-    assert_eq!(rt;
-        sink.bytes(),
-        b"published 2 datagrams 1 failed 0\n".as_slice()
-    );
-    assert_eq!(rt; journal.bytes(), JOURNAL);
-    Ok(())
+    let wanted = Wanted {
+        outcome: Ok(0),
+        text: b"published 2 datagrams 1 failed 0\n",
+        journal: JOURNAL,
+        letters: &ALL,
+    };
+    expect_published(&rt, LINES, Failure::Nothing, &wanted, 0)
 }
+
+/// For each send all but the one that fails.
+const ALL_BUT: [(u64, &[(u32, &[u8])]); 6] = [
+    (1, &[(2, DATA), (1, BEAT), (2, BEAT), (1, END), (2, END)]),
+    (2, &[(1, DATA), (1, BEAT), (2, BEAT), (1, END), (2, END)]),
+    (3, &[(1, DATA), (2, DATA), (2, BEAT), (1, END), (2, END)]),
+    (4, &[(1, DATA), (2, DATA), (1, BEAT), (1, END), (2, END)]),
+    (5, &[(1, DATA), (2, DATA), (1, BEAT), (2, BEAT), (2, END)]),
+    (6, &[(1, DATA), (2, DATA), (1, BEAT), (2, BEAT), (1, END)]),
+];
 
 #[test]
 fn each_send_fails_in_turn(rt: HostRuntime) -> Result<(), Fail> {
-    let alloc = rt.alloc();
-    for k in 1..=6 {
-        let mut port = MemoryPort::new(alloc, Vec::new(alloc));
-        port.fail_send(k);
-        let mut source = MemorySource::new(LINES);
-        let (mut sink, mut journal) = (MemorySink::new(alloc), MemorySink::new(alloc));
-        let status = publish(alloc, &mut port, &mut source, &mut sink, &mut journal)?;
-        assert_eq!(rt; status, Ok(0));
-        let mut letters = ALL.to_vec(alloc)?;
-        letters.remove(k as usize - 1);
-        expect_sent(&rt, &port, letters.as_slice());
-        assert_eq!(rt;
-            sink.bytes(),
-            b"published 2 datagrams 1 failed 1\n".as_slice()
-        );
-        assert_eq!(rt; journal.bytes(), JOURNAL);
+    for (k, letters) in ALL_BUT {
+        let wanted = Wanted {
+            outcome: Ok(0),
+            text: b"published 2 datagrams 1 failed 1\n",
+            journal: JOURNAL,
+            letters,
+        };
+        expect_published(&rt, LINES, Failure::Send(k), &wanted, k)?;
     }
     Ok(())
 }
 
 #[test]
 fn a_refused_line_ends_it(rt: HostRuntime) -> Result<(), Fail> {
-    let alloc = rt.alloc();
-    let mut port = MemoryPort::new(alloc, Vec::new(alloc));
-    let mut source = MemorySource::new(b"4142\nx\n");
-    let (mut sink, mut journal) = (MemorySink::new(alloc), MemorySink::new(alloc));
-    let status = publish(alloc, &mut port, &mut source, &mut sink, &mut journal)?;
-    assert_eq!(rt; status, Ok(2));
-    assert_eq!(rt; port.sent().len(), 0);
-    assert_eq!(rt; sink.bytes(), b"refused line 2 NotHex\n".as_slice());
-    assert_eq!(rt; journal.bytes().len(), 0);
-    Ok(())
+    let wanted = Wanted {
+        outcome: Ok(2),
+        text: b"refused line 2 NotHex\n",
+        journal: b"",
+        letters: &[],
+    };
+    expect_published(&rt, b"4142\nx\n", Failure::Nothing, &wanted, 0)
+}
+
+// Publishes the lines with a failure of a read or a write. Nothing is told.
+fn expect_fault(
+    rt: &(impl Abort + AllocGlobal),
+    failure: Failure,
+    fault: CommandFault,
+    journal: &[u8],
+    letters: &[(u32, &[u8])],
+    at: u64,
+) -> Result<(), Fail> {
+    let wanted = Wanted {
+        outcome: Err(fault),
+        text: b"",
+        journal,
+        letters,
+    };
+    expect_published(rt, LINES, failure, &wanted, at)
 }
 
 #[test]
 fn each_read_and_write_fails_in_turn(rt: HostRuntime) -> Result<(), Fail> {
-    let alloc = rt.alloc();
     for k in 1..=2 {
-        let mut port = MemoryPort::new(alloc, Vec::new(alloc));
-        let mut source = MemorySource::new(LINES);
-        source.fail_at(k);
-        let (mut sink, mut journal) = (MemorySink::new(alloc), MemorySink::new(alloc));
-        let status = publish(alloc, &mut port, &mut source, &mut sink, &mut journal)?;
-        assert_eq!(rt; status, Err(CommandFault::Read));
-        assert_eq!(rt; port.sent().len(), 0);
-        assert_eq!(rt; sink.bytes().len() + journal.bytes().len(), 0);
+        expect_fault(&rt, Failure::Read(k), CommandFault::Read, b"", &[], k)?;
     }
-    for first in [true, false] {
-        let mut port = MemoryPort::new(alloc, Vec::new(alloc));
-        let mut source = MemorySource::new(LINES);
-        let (mut sink, mut journal) = (MemorySink::new(alloc), MemorySink::new(alloc));
-        if first {
-            journal.fail_at(1);
-        } else {
-            sink.fail_at(1);
-        }
-        let status = publish(alloc, &mut port, &mut source, &mut sink, &mut journal)?;
-        assert_eq!(rt; status, Err(CommandFault::Write));
-        expect_sent(&rt, &port, &ALL);
-        assert_eq!(rt; sink.bytes().len(), 0);
-        assert_eq!(rt; journal.bytes().len(), if first { 0 } else { 33 });
-    }
-    Ok(())
+    expect_fault(&rt, Failure::Save, CommandFault::Write, b"", &ALL, 3)?;
+    expect_fault(&rt, Failure::Tell, CommandFault::Write, JOURNAL, &ALL, 4)
 }

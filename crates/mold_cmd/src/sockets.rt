@@ -1,6 +1,7 @@
 //! The commands whose ports are UDP sockets.
 
 ghost use Rattle.std.specs.Prelude.{◌≡◌, IfOk};
+ghost use Rattle.mold_cmd.specs.Publishing.{HasRoom};
 
 use crate::flushed;
 use crate::looping::{Drops, Ear, Wires, run_over};
@@ -182,18 +183,54 @@ fn open_ear(rt: &HostRuntime, order: &LoopOrder) -> Result<Ear, CommandFault> {
 
 /// Publishes, serves and listens in one process, over five ports of this machine that the system gives.
 pub fn run_loop(rt: &HostRuntime, order: &LoopOrder) -> Result<u8, ProgramFault> {
-    packet_length_law();
     let mut wires = open_wires(rt)?;
-    let limits = order.limits;
+    Ok(publish_over(rt, order, &mut wires)?)
+}
+
+/// Makes the publisher of a loop, and runs the loop with it.
+fn publish_over(
+    rt: &HostRuntime,
+    order: &LoopOrder,
+    wires: &mut Wires,
+) -> Result<u8, CommandFault> {
+    packet_length_law();
     // The limits of an order are in their ranges, so only memory can be wanting.
-    let Ok(mut publisher) = Publisher::new(rt.alloc(), Session(order.session), limits.limit) else {
-        return Err(ProgramFault::Command(CommandFault::Memory));
+    let Ok(mut publisher) = Publisher::new(rt.alloc(), Session(order.session), order.limits.limit)
+    else {
+        return Err(CommandFault::Memory);
     };
+    serve_over(rt, order, wires, &mut publisher)
+}
+
+/// Makes the server of a loop, and runs the loop with it.
+fn serve_over(
+    rt: &HostRuntime,
+    order: &LoopOrder,
+    wires: &mut Wires,
+    publisher: &mut Publisher,
+) -> Result<u8, CommandFault>
+    requires { HasRoom publisher.old }
+{
+    let limits = order.limits;
     let max_message = (limits.limit - 22) as u16;
+    // The limits of an order are in their ranges, so only memory can be wanting.
     let Ok(mut server) = Server::new(rt.alloc(), limits.server_limit, max_message, order.burst)
     else {
-        return Err(ProgramFault::Command(CommandFault::Memory));
+        return Err(CommandFault::Memory);
     };
+    listen_over(rt, order, wires, publisher, &mut server)
+}
+
+/// Makes what a loop listens with, and runs the loop from standard input to standard output.
+fn listen_over(
+    rt: &HostRuntime,
+    order: &LoopOrder,
+    wires: &mut Wires,
+    publisher: &mut Publisher,
+    server: &mut Server,
+) -> Result<u8, CommandFault>
+    requires { HasRoom publisher.old }
+{
     let mut ear = open_ear(rt, order)?;
     let drops = Drops {
         a: order.drop_a,
@@ -203,14 +240,14 @@ pub fn run_loop(rt: &HostRuntime, order: &LoopOrder) -> Result<u8, ProgramFault>
     let mut sink = IntoWrite::new(rt.stdout());
     let outcome = run_over(
         rt.alloc(),
-        &mut wires,
-        &mut publisher,
-        &mut server,
+        wires,
+        publisher,
+        server,
         drops,
         order.turns,
         &mut ear,
         &mut source,
         &mut sink,
     );
-    Ok(flushed(outcome, sink.into_inner().flush())?)
+    flushed(outcome, sink.into_inner().flush())
 }

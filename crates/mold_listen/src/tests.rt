@@ -1,4 +1,7 @@
-//! Listening over ports in memory, with the text that is printed.
+//! Listening over ports in memory, with the text that is printed. Each kind of comparison stands once, and what
+//! is owned is lent: the proof of a test grows with both.
+
+ghost use Rattle.std.specs.Prelude.{◌≡◌, length};
 
 use crate::{Desk, LONGEST, hear_port, listen_loop, push_last};
 use mold_devices::{CommandFault, MemorySink, Sink};
@@ -6,6 +9,7 @@ use mold_ports::{Datagrams, MemoryPort, Step};
 use mold_receiver::{Arbiter, Line, Receiver};
 use mold_wire::Session;
 use std::alloc::{AllocError, Global};
+use std::process::Abort;
 use std::test::Fail;
 
 const SESSION: Session = Session(*b"SESSION001");
@@ -34,7 +38,28 @@ const REQUEST: &[u8] = b"SESSION001\0\0\0\0\0\0\0\x02\0\x01";
 /// Nothing came.
 const QUIET: &[u8] = b"";
 
-fn come(alloc: Global, bytes: &[u8]) -> Result<Step, AllocError> {
+/// The receive fails.
+const FAILS: &[u8] = b"fails";
+
+fn same_answer(rt: &impl Abort, found: Result<u8, CommandFault>, wanted: Result<u8, CommandFault>) {
+    assert_eq!(rt; found, wanted);
+}
+
+fn same_bytes(rt: &impl Abort, found: &[u8], wanted: &[u8]) {
+    assert_eq!(rt; found, wanted);
+}
+
+fn same_size(rt: &impl Abort, found: usize, wanted: usize) {
+    assert_eq!(rt; found, wanted);
+}
+
+fn step(alloc: Global, bytes: &[u8]) -> Result<Step, AllocError> {
+    if bytes.is_empty() {
+        return Ok(Step::Quiet);
+    }
+    if bytes == FAILS {
+        return Ok(Step::Fail);
+    }
     let mut copy = Vec::new(alloc);
     copy.extend_from_slice(bytes)?;
     Ok(Step::Come {
@@ -43,7 +68,7 @@ fn come(alloc: Global, bytes: &[u8]) -> Result<Step, AllocError> {
     })
 }
 
-/// A port whose receives give these datagrams, nothing for one of no bytes, and a failure before the one at
+/// A port whose receives give these datagrams, `QUIET` and `FAILS` among them, and a failure before the one at
 /// this place.
 fn port(
     alloc: Global,
@@ -55,11 +80,7 @@ fn port(
         if failure == Some(place) {
             script.push(Step::Fail)?;
         }
-        if datagram.is_empty() {
-            script.push(Step::Quiet)?;
-        } else {
-            script.push(come(alloc, datagram)?)?;
-        }
+        script.push(step(alloc, datagram)?)?;
     }
     Ok(MemoryPort::new(alloc, script))
 }
@@ -67,6 +88,7 @@ fn port(
 /// A listener at message 1 with a window of 4, and where it prints.
 #[derive(Drop)]
 struct Listener {
+    alloc: Global,
     a: MemoryPort,
     b: MemoryPort,
     requests: MemoryPort,
@@ -82,6 +104,7 @@ impl Listener {
         requests: MemoryPort,
     ) -> Result<Self, Fail> {
         Ok(Listener {
+            alloc,
             a,
             b,
             requests,
@@ -90,9 +113,9 @@ impl Listener {
         })
     }
 
-    fn listen(&mut self, alloc: Global, burst: u16, turns: u64) -> Result<u8, CommandFault> {
+    fn listen(&mut self, burst: u16, turns: u64) -> Result<u8, CommandFault> {
         listen_loop(
-            alloc,
+            self.alloc,
             &mut self.a,
             &mut self.b,
             &mut self.requests,
@@ -103,74 +126,128 @@ impl Listener {
             &mut self.sink,
         )
     }
+
+    /// Listens, with this answer and this text.
+    fn expect(
+        &mut self,
+        rt: &impl Abort,
+        burst: u16,
+        turns: u64,
+        answer: Result<u8, CommandFault>,
+        text: &[u8],
+    ) {
+        let found = self.listen(burst, turns);
+        same_answer(rt, found, answer);
+        same_bytes(rt, self.sink.bytes(), text);
+    }
+
+    fn expect_requests(&self, rt: &impl Abort, requests: usize) {
+        same_size(rt, self.requests.sent().len(), requests);
+    }
+
+    /// The answer and the text where message 2 comes as an answer: all of it, or a beginning where a growth was
+    /// refused.
+    fn expect_beginning(&self, rt: &impl Abort, outcome: Result<u8, CommandFault>) {
+        // A letter that the port has no memory for is a failed send.
+        let text = if self.requests.failures() > 0 {
+            b"1 41\n2 42\n3 43\nfinished next 4 failed 1\n"
+        } else {
+            b"1 41\n2 42\n3 43\nfinished next 4 failed 0\n"
+        };
+        if outcome.is_ok() {
+            same_answer(rt, outcome, Ok(0));
+            same_bytes(rt, self.sink.bytes(), text.as_slice());
+            return;
+        }
+        let refused = if self.sink.failures() > 0 {
+            CommandFault::Write
+        } else {
+            CommandFault::Memory
+        };
+        same_answer(rt, outcome, Err(refused));
+        assert!(rt; text.starts_with(self.sink.bytes()));
+    }
+}
+
+/// The listener to whom these datagrams come on line A alone, and these as answers.
+fn on_line_a(
+    alloc: Global,
+    a: &[&[u8]],
+    answers: &[&[u8]],
+    failure: Option<usize>,
+) -> Result<Listener, Fail> {
+    let line = port(alloc, a, None)?;
+    let requests = port(alloc, answers, failure)?;
+    Listener::new(
+        alloc,
+        line,
+        MemoryPort::new(alloc, Vec::new(alloc)),
+        requests,
+    )
 }
 
 /// The listener of messages 1 and 2, a failure and an end on line A.
 fn over_memory(alloc: Global, a: Option<usize>, b: Option<usize>) -> Result<Listener, Fail> {
-    let mut script = Vec::new(alloc);
-    for (place, step) in [
-        come(alloc, DATA_1)?,
-        come(alloc, DATA_2)?,
-        Step::Fail,
-        come(alloc, END_3)?,
-    ]
-    .into_iter()
-    .enumerate()
-    {
-        if a == Some(place) {
-            script.push(Step::Fail)?;
-        }
-        script.push(step)?;
-    }
-    Listener::new(
-        alloc,
-        MemoryPort::new(alloc, script),
-        port(alloc, &[QUIET; 5], b)?,
-        port(alloc, &[], None)?,
-    )
+    let line = port(alloc, &[DATA_1, DATA_2, FAILS, END_3], a)?;
+    let quiet = port(alloc, &[QUIET; 5], b)?;
+    Listener::new(alloc, line, quiet, MemoryPort::new(alloc, Vec::new(alloc)))
 }
 
 #[test]
 fn listen_over_memory(rt: HostRuntime) -> Result<(), Fail> {
     let mut listener = over_memory(rt.alloc(), None, None)?;
-    assert_eq!(rt; listener.listen(rt.alloc(), 1, 5), Ok(0));
-    assert_eq!(rt;
-        listener.sink.bytes(),
-        b"1 41\n2 42\nfinished next 3 failed 1\n".as_slice()
-    );
+    listener.expect(&rt, 1, 5, Ok(0), b"1 41\n2 42\nfinished next 3 failed 1\n");
     // It ends after turn 4, and asks for nothing.
-    assert_eq!(rt; (listener.a.left(), listener.b.left()), (0, 1));
-    assert_eq!(rt; listener.requests.sent().len(), 0);
+    same_size(&rt, listener.a.left(), 0);
+    same_size(&rt, listener.b.left(), 1);
+    listener.expect_requests(&rt, 0);
+    Ok(())
+}
+
+/// Everything is handed on, with a failure more at one of the receives.
+fn expect_failure_counted(
+    rt: &impl Abort,
+    alloc: Global,
+    a: Option<usize>,
+    b: Option<usize>,
+) -> Result<(), Fail> {
+    let mut listener = over_memory(alloc, a, b)?;
+    listener.expect(rt, 1, 5, Ok(0), b"1 41\n2 42\nfinished next 3 failed 2\n");
     Ok(())
 }
 
 #[test]
 fn failure_at_each_receive(rt: HostRuntime) -> Result<(), Fail> {
     for place in 0..4 {
-        let mut on_a = over_memory(rt.alloc(), Some(place), None)?;
-        assert_eq!(rt; on_a.listen(rt.alloc(), 1, 5), Ok(0));
-        assert_eq!(rt;
-            on_a.sink.bytes(),
-            b"1 41\n2 42\nfinished next 3 failed 2\n".as_slice()
-        );
-        let mut on_b = over_memory(rt.alloc(), None, Some(place))?;
-        assert_eq!(rt; on_b.listen(rt.alloc(), 1, 5), Ok(0));
-        assert_eq!(rt;
-            on_b.sink.bytes(),
-            b"1 41\n2 42\nfinished next 3 failed 2\n".as_slice()
-        );
+        expect_failure_counted(&rt, rt.alloc(), Some(place), None)?;
+        expect_failure_counted(&rt, rt.alloc(), None, Some(place))?;
     }
     Ok(())
 }
 
 /// The listener to whom message 2 comes only as an answer, to the second request.
 fn with_gap(alloc: Global, failure: Option<usize>) -> Result<Listener, Fail> {
-    Listener::new(
+    on_line_a(
         alloc,
-        port(alloc, &[DATA_1, DATA_3, QUIET, END_4], None)?,
-        port(alloc, &[], None)?,
-        port(alloc, &[QUIET, DATA_2], failure)?,
+        &[DATA_1, DATA_3, QUIET, END_4],
+        &[QUIET, DATA_2],
+        failure,
     )
+}
+
+/// All messages are handed on, with a failure at this receive of an answer, after so many requests.
+fn expect_filled(
+    rt: &impl Abort,
+    alloc: Global,
+    failure: Option<usize>,
+    turns: u64,
+    text: &[u8],
+    requests: usize,
+) -> Result<(), Fail> {
+    let mut listener = with_gap(alloc, failure)?;
+    listener.expect(rt, 1, turns, Ok(0), text);
+    listener.expect_requests(rt, requests);
+    Ok(())
 }
 
 fn is_request(letter: &(u32, Vec<u8>)) -> bool {
@@ -178,33 +255,39 @@ fn is_request(letter: &(u32, Vec<u8>)) -> bool {
     *to == SERVER && bytes.as_slice() == REQUEST
 }
 
+/// Both requests leave, though this send fails.
+fn expect_sent_again(rt: &impl Abort, alloc: Global, send: u64) -> Result<(), Fail> {
+    let mut listener = with_gap(alloc, None)?;
+    listener.requests.fail_send(send);
+    let text = b"1 41\n2 42\n3 43\nfinished next 4 failed 1\n";
+    listener.expect(rt, 1, 4, Ok(0), text);
+    listener.expect_requests(rt, 2);
+    assert!(rt; listener.requests.sent().iter().all(is_request));
+    Ok(())
+}
+
+/// After a failed send its turn makes no receive, so that so many are left.
+fn expect_cut(
+    rt: &impl Abort,
+    alloc: Global,
+    send: u64,
+    turns: u64,
+    left: usize,
+) -> Result<(), Fail> {
+    let mut cut = with_gap(alloc, None)?;
+    cut.requests.fail_send(send);
+    cut.expect(rt, 1, turns, Ok(1), b"1 41\nopen next 2 known 4 failed 1\n");
+    same_size(rt, cut.requests.left(), left);
+    Ok(())
+}
+
 #[test]
 fn failure_at_each_send(rt: HostRuntime) -> Result<(), Fail> {
-    let mut whole = with_gap(rt.alloc(), None)?;
-    assert_eq!(rt; whole.listen(rt.alloc(), 1, 4), Ok(0));
-    assert_eq!(rt;
-        whole.sink.bytes(),
-        b"1 41\n2 42\n3 43\nfinished next 4 failed 0\n".as_slice()
-    );
-    for k in 1..3 {
-        let mut listener = with_gap(rt.alloc(), None)?;
-        listener.requests.fail_send(k);
-        assert_eq!(rt; listener.listen(rt.alloc(), 1, 4), Ok(0));
-        assert_eq!(rt;
-            listener.sink.bytes(),
-            b"1 41\n2 42\n3 43\nfinished next 4 failed 1\n".as_slice()
-        );
-        assert_eq!(rt; listener.requests.sent().len(), 2);
-        assert!(rt; listener.requests.sent().iter().all(is_request));
-        // After a failed send its turn makes no receive.
-        let mut cut = with_gap(rt.alloc(), None)?;
-        cut.requests.fail_send(k);
-        assert_eq!(rt; cut.listen(rt.alloc(), 1, k + 1), Ok(1));
-        assert_eq!(rt; cut.requests.left() as u64, 3 - k);
-        assert_eq!(rt;
-            cut.sink.bytes(),
-            b"1 41\nopen next 2 known 4 failed 1\n".as_slice()
-        );
+    let text = b"1 41\n2 42\n3 43\nfinished next 4 failed 0\n";
+    expect_filled(&rt, rt.alloc(), None, 4, text, 2)?;
+    for (send, turns, left) in [(1, 2, 2), (2, 3, 1)] {
+        expect_sent_again(&rt, rt.alloc(), send)?;
+        expect_cut(&rt, rt.alloc(), send, turns, left)?;
     }
     Ok(())
 }
@@ -212,13 +295,8 @@ fn failure_at_each_send(rt: HostRuntime) -> Result<(), Fail> {
 #[test]
 fn failure_at_each_receive_of_an_answer(rt: HostRuntime) -> Result<(), Fail> {
     for place in 0..2 {
-        let mut listener = with_gap(rt.alloc(), Some(place))?;
-        assert_eq!(rt; listener.listen(rt.alloc(), 1, 5), Ok(0));
-        assert_eq!(rt;
-            listener.sink.bytes(),
-            b"1 41\n2 42\n3 43\nfinished next 4 failed 1\n".as_slice()
-        );
-        assert_eq!(rt; listener.requests.sent().len(), 3);
+        let text = b"1 41\n2 42\n3 43\nfinished next 4 failed 1\n";
+        expect_filled(&rt, rt.alloc(), Some(place), 5, text, 3)?;
     }
     Ok(())
 }
@@ -227,80 +305,48 @@ fn failure_at_each_receive_of_an_answer(rt: HostRuntime) -> Result<(), Fail> {
 #[test]
 fn a_refused_growth_leaves_a_beginning(rt: HostRuntime) -> Result<(), Fail> {
     let mut listener = with_gap(rt.alloc(), None)?;
-    let outcome = listener.listen(rt.alloc(), 1, 4);
-    // A letter that the port has no memory for is a failed send.
-    let text = if listener.requests.failures() > 0 {
-        b"1 41\n2 42\n3 43\nfinished next 4 failed 1\n"
-    } else {
-        b"1 41\n2 42\n3 43\nfinished next 4 failed 0\n"
-    };
-    match outcome {
-        Ok(status) => {
-            assert_eq!(rt; status, 0);
-            assert_eq!(rt; listener.sink.bytes(), text.as_slice());
-        }
-        Err(fault) => {
-            let refused = if listener.sink.failures() > 0 {
-                CommandFault::Write
-            } else {
-                CommandFault::Memory
-            };
-            assert_eq!(rt; fault, refused);
-            assert!(rt; text.starts_with(listener.sink.bytes()));
-        }
-    }
+    let outcome = listener.listen(1, 4);
+    listener.expect_beginning(&rt, outcome);
     Ok(())
 }
 
-/// The listener to whom message 4 comes alone, and the others one by one as answers.
-fn with_answers(alloc: Global, answers: &[&[u8]]) -> Result<Listener, Fail> {
-    Listener::new(
-        alloc,
-        port(alloc, &[DATA_4], None)?,
-        port(alloc, &[], None)?,
-        port(alloc, answers, None)?,
-    )
+/// Message 4 comes alone, and the others one by one as answers, in one turn, after which so many are left.
+fn expect_answered(
+    rt: &impl Abort,
+    alloc: Global,
+    answers: &[&[u8]],
+    burst: u16,
+    text: &[u8],
+    left: usize,
+) -> Result<(), Fail> {
+    let mut listener = on_line_a(alloc, &[DATA_4], answers, None)?;
+    listener.expect(rt, burst, 1, Ok(1), text);
+    same_size(rt, listener.requests.left(), left);
+    Ok(())
 }
 
 #[test]
 fn answers_in_bursts(rt: HostRuntime) -> Result<(), Fail> {
-    let mut two = with_answers(rt.alloc(), &[DATA_1, DATA_2, DATA_3])?;
-    assert_eq!(rt; two.listen(rt.alloc(), 2, 1), Ok(1));
-    assert_eq!(rt;
-        two.sink.bytes(),
-        b"1 41\n2 42\nopen next 3 known 5 failed 0\n".as_slice()
-    );
-    let mut three = with_answers(rt.alloc(), &[DATA_1, DATA_2, DATA_3])?;
-    assert_eq!(rt; three.listen(rt.alloc(), 3, 1), Ok(1));
-    assert_eq!(rt;
-        three.sink.bytes(),
-        b"1 41\n2 42\n3 43\n4 44\nopen next 5 known 5 failed 0\n".as_slice()
-    );
+    let (alloc, three) = (rt.alloc(), [DATA_1, DATA_2, DATA_3]);
+    let text = b"1 41\n2 42\nopen next 3 known 5 failed 0\n";
+    expect_answered(&rt, alloc, &three, 2, text, 1)?;
+    let text = b"1 41\n2 42\n3 43\n4 44\nopen next 5 known 5 failed 0\n";
+    expect_answered(&rt, alloc, &three, 3, text, 0)?;
     // A receive that gives none ends the turn's answers.
-    let mut quiet = with_answers(rt.alloc(), &[DATA_1, QUIET, DATA_2])?;
-    assert_eq!(rt; quiet.listen(rt.alloc(), 3, 1), Ok(1));
-    assert_eq!(rt;
-        quiet.sink.bytes(),
-        b"1 41\nopen next 2 known 5 failed 0\n".as_slice()
-    );
-    assert_eq!(rt; quiet.requests.left(), 1);
-    Ok(())
+    let text = b"1 41\nopen next 2 known 5 failed 0\n";
+    expect_answered(&rt, alloc, &[DATA_1, QUIET, DATA_2], 3, text, 1)
 }
 
 #[test]
 fn no_turn_and_one(rt: HostRuntime) -> Result<(), Fail> {
-    let mut none = over_memory(rt.alloc(), None, None)?;
-    assert_eq!(rt; none.listen(rt.alloc(), 1, 0), Ok(1));
-    assert_eq!(rt;
-        none.sink.bytes(),
-        b"open next 1 known 1 failed 0\n".as_slice()
-    );
-    let mut one = over_memory(rt.alloc(), None, None)?;
-    assert_eq!(rt; one.listen(rt.alloc(), 1, 1), Ok(1));
-    assert_eq!(rt;
-        one.sink.bytes(),
-        b"1 41\nopen next 2 known 2 failed 0\n".as_slice()
-    );
+    let texts: [&[u8]; 2] = [
+        b"open next 1 known 1 failed 0\n",
+        b"1 41\nopen next 2 known 2 failed 0\n",
+    ];
+    for (turns, text) in texts.iter().enumerate() {
+        let mut listener = over_memory(rt.alloc(), None, None)?;
+        listener.expect(&rt, 1, turns as u64, Ok(1), text);
+    }
     Ok(())
 }
 
@@ -311,33 +357,25 @@ fn each_write_failing_in_turn(rt: HostRuntime) -> Result<(), Fail> {
         let mut listener = over_memory(rt.alloc(), None, None)?;
         listener.sink.at_most(1);
         listener.sink.fail_at(k as u64);
-        assert_eq!(rt; listener.listen(rt.alloc(), 1, 5), Err(CommandFault::Write));
-        assert_eq!(rt; listener.sink.bytes(), &text[..k - 1]);
+        listener.expect(&rt, 1, 5, Err(CommandFault::Write), &text[..k - 1]);
     }
     Ok(())
 }
 
 #[test]
 fn refused_datagrams_are_printed(rt: HostRuntime) -> Result<(), Fail> {
-    let a = port(
-        rt.alloc(),
-        &[
-            b"\0",
-            b"SESSION002\0\0\0\0\0\0\0\x01\0\0",
-            b"SESSION001\0\0\0\0\0\0\0\0\0\0",
-            b"SESSION001\xff\xff\xff\xff\xff\xff\xff\xff\0\x01\0\x01A",
-            b"SESSION001\0\0\0\0\0\0\0\x03\0\x01\0\x01X",
-            b"SESSION001\0\0\0\0\0\0\0\x03\0\x01\0\x01Y",
-            b"SESSION001\0\0\0\0\0\0\0\x02\xff\xff",
-            b"SESSION001\0\0\0\0\0\0\0\x05\xff\xff",
-            b"SESSION001\0\0\0\0\0\0\0\x06\xff\xff",
-            b"SESSION001\0\0\0\0\0\0\0\x06\0\0",
-        ],
-        None,
-    )?;
-    let (b, requests) = (port(rt.alloc(), &[], None)?, port(rt.alloc(), &[], None)?);
-    let mut listener = Listener::new(rt.alloc(), a, b, requests)?;
-    assert_eq!(rt; listener.listen(rt.alloc(), 1, 10), Ok(1));
+    let datagrams: [&[u8]; 10] = [
+        b"\0",
+        b"SESSION002\0\0\0\0\0\0\0\x01\0\0",
+        b"SESSION001\0\0\0\0\0\0\0\0\0\0",
+        b"SESSION001\xff\xff\xff\xff\xff\xff\xff\xff\0\x01\0\x01A",
+        b"SESSION001\0\0\0\0\0\0\0\x03\0\x01\0\x01X",
+        b"SESSION001\0\0\0\0\0\0\0\x03\0\x01\0\x01Y",
+        b"SESSION001\0\0\0\0\0\0\0\x02\xff\xff",
+        b"SESSION001\0\0\0\0\0\0\0\x05\xff\xff",
+        b"SESSION001\0\0\0\0\0\0\0\x06\xff\xff",
+        b"SESSION001\0\0\0\0\0\0\0\x06\0\0",
+    ];
     let text = b"refused Malformed Short 1
 refused WrongSession
 refused SequenceZero
@@ -348,39 +386,65 @@ refused EndConflict 5
 refused PastEnd 5
 open next 1 known 5 failed 0
 ";
-    assert_eq!(rt; listener.sink.bytes(), text.as_slice());
+    let mut listener = on_line_a(rt.alloc(), &datagrams, &[], None)?;
+    listener.expect(&rt, 1, 10, Ok(1), text);
     Ok(())
+}
+
+/// One line's port and the port of answers, with what hears them and what is told.
+#[derive(Drop)]
+struct Ear {
+    line: MemoryPort,
+    answers: MemoryPort,
+    arbiter: Arbiter,
+    desk: Desk,
+    sink: MemorySink,
+}
+
+impl Ear {
+    fn new(alloc: Global) -> Result<Self, Fail> {
+        let line = port(alloc, &[DATA_2, QUIET], Some(1))?;
+        let answers = port(alloc, &[DATA_1], None)?;
+        Ok(Ear {
+            line,
+            answers,
+            arbiter: Arbiter::new(Receiver::new(alloc, SESSION, 1, 4)?),
+            desk: Desk::new(alloc),
+            sink: MemorySink::new(alloc),
+        })
+    }
+
+    /// Hears line B, or the answers where there is no line: whether a datagram came.
+    fn expect_heard(&mut self, rt: &impl Abort, line: Option<Line>, place: &mut [u8], came: bool)
+        requires { length place.old ≡ 65507 }
+    {
+        let (arbiter, desk) = (&mut self.arbiter, &mut self.desk);
+        let heard = match line {
+            Some(_) => hear_port(&mut self.line, line, place, arbiter, desk),
+            None => hear_port(&mut self.answers, line, place, arbiter, desk),
+        };
+        assert_eq!(rt; heard, Ok(came));
+    }
+
+    /// Prints the last line behind the text.
+    fn expect_printed(&mut self, rt: &impl Abort, text: &[u8]) {
+        assert!(rt; self.desk.send_large(&mut self.sink).is_ok());
+        assert_eq!(rt; push_last(&self.arbiter, &mut self.desk), Ok(1));
+        assert!(rt; self.desk.send(&mut self.sink).is_ok());
+        same_bytes(rt, self.sink.bytes(), text);
+    }
 }
 
 #[test]
 fn ports_are_heard_one_by_one(rt: HostRuntime) -> Result<(), Fail> {
     let mut place = vec![in rt.alloc(); 0; LONGEST]?;
-    let mut arbiter = Arbiter::new(Receiver::new(rt.alloc(), SESSION, 1, 4)?);
-    let mut desk = Desk::new(rt.alloc());
-    let mut line = port(rt.alloc(), &[DATA_2, QUIET], Some(1))?;
-    let mut answers = port(rt.alloc(), &[DATA_1], None)?;
-    let mut sink = MemorySink::new(rt.alloc());
+    let mut ear = Ear::new(rt.alloc())?;
     let place = place.as_mut_slice();
-    assert_eq!(rt;
-        hear_port(&mut line, Some(Line::B), place, &mut arbiter, &mut desk),
-        Ok(true)
-    );
-    assert_eq!(rt;
-        hear_port(&mut line, Some(Line::B), place, &mut arbiter, &mut desk),
-        Ok(false)
-    );
-    assert_eq!(rt;
-        hear_port(&mut answers, None, place, &mut arbiter, &mut desk),
-        Ok(true)
-    );
-    assert_eq!(rt; arbiter.report(Line::B).datagrams, 1);
-    desk.count_failure();
-    assert!(rt; desk.send_large(&mut sink).is_ok());
-    assert_eq!(rt; push_last(&arbiter, &mut desk), Ok(1));
-    assert!(rt; desk.send(&mut sink).is_ok());
-    assert_eq!(rt;
-        sink.bytes(),
-        b"1 41\n2 42\nopen next 3 known 3 failed 2\n".as_slice()
-    );
+    ear.expect_heard(&rt, Some(Line::B), place, true);
+    ear.expect_heard(&rt, Some(Line::B), place, false);
+    ear.expect_heard(&rt, None, place, true);
+    assert_eq!(rt; ear.arbiter.report(Line::B).datagrams, 1);
+    ear.desk.count_failure();
+    ear.expect_printed(&rt, b"1 41\n2 42\nopen next 3 known 3 failed 2\n");
     Ok(())
 }

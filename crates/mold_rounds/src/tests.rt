@@ -1,9 +1,11 @@
 //! The worked examples by their names, and what is left after a growth was refused.
 
+ghost use Rattle.std.specs.Prelude.{IsTrue};
+
 use crate::{Memory, catch_up};
 use mold_receiver::{Batch, Receiver};
 use mold_session::{AppendError, Journal, Server};
-use mold_wire::{Packer, Session};
+use mold_wire::Session;
 use std::alloc::Global;
 use std::process::Abort;
 use std::test::Fail;
@@ -13,51 +15,93 @@ const SESSION: Session = Session(*b"SESSION001");
 // The five messages, the k-th of which is twenty bytes of the value k.
 const FIVE: [[u8; 20]; 5] = [[1; 20], [2; 20], [3; 20], [4; 20], [5; 20]];
 
+// Packets of the messages 2, 3 and 4 alone.
+const SECOND: &[u8] = b"SESSION001\0\0\0\0\0\0\0\x02\0\x01\
+    \0\x14\x02\x02\x02\x02\x02\x02\x02\x02\x02\x02\x02\x02\x02\x02\x02\x02\x02\x02\x02\x02";
+
+const THIRD: &[u8] = b"SESSION001\0\0\0\0\0\0\0\x03\0\x01\
+    \0\x14\x03\x03\x03\x03\x03\x03\x03\x03\x03\x03\x03\x03\x03\x03\x03\x03\x03\x03\x03\x03";
+
+const FOURTH: &[u8] = b"SESSION001\0\0\0\0\0\0\0\x04\0\x01\
+    \0\x14\x04\x04\x04\x04\x04\x04\x04\x04\x04\x04\x04\x04\x04\x04\x04\x04\x04\x04\x04\x04";
+
+// A heartbeat that tells of messages up to 5.
+const HEARTBEAT: &[u8] = b"SESSION001\0\0\0\0\0\0\0\x06\0\0";
+
 // A journal of the five messages.
 fn journal_of_five(alloc: Global) -> Result<Journal, AppendError> {
     let mut journal = Journal::new(alloc, SESSION, 42);
-    for message in FIVE {
-        journal.append(&message)?;
+    for message in &FIVE {
+        journal.append(message)?;
     }
     Ok(journal)
 }
 
-// The receiver takes the message of this number from a packet of its own.
-fn hear(
-    rt: &impl Abort,
-    packer: &mut Packer,
-    receiver: &mut Receiver,
-    batch: &mut Batch,
-    number: u8,
-) {
-    packer.start(SESSION, u64::from(number));
-    packer.add(&[number; 20]);
-    assert!(rt; batch.follows(receiver.next()));
-    if receiver.take(packer.bytes(), batch).is_err() {
-        // Where memory was refused, once more.
-        assert!(rt; receiver.take(packer.bytes(), batch).is_ok());
+// A receiver at 1, what it handed on, and the journal and the server of its session.
+#[derive(Drop)]
+struct Parts {
+    journal: Journal,
+    server: Server,
+    receiver: Receiver,
+    batch: Batch,
+}
+
+// Datagrams of the server have room for two messages.
+fn make_parts(alloc: Global, window: u32, burst: u16) -> Result<Parts, Memory> {
+    let Ok(journal) = journal_of_five(alloc) else {
+        return Err(Memory);
+    };
+    let Ok(server) = Server::new(alloc, 64, 42, burst) else {
+        return Err(Memory);
+    };
+    let Ok(receiver) = Receiver::new(alloc, SESSION, 1, window) else {
+        return Err(Memory);
+    };
+    Ok(Parts {
+        journal,
+        server,
+        receiver,
+        batch: Batch::new(alloc),
+    })
+}
+
+fn holds(rt: &impl Abort, fact: bool)
+    ensures { IsTrue fact }
+{
+    assert!(rt; fact);
+}
+
+// The receiver takes a packet, where memory was refused once more.
+fn hear(rt: &impl Abort, parts: &mut Parts, packet: &[u8]) {
+    holds(rt, parts.batch.follows(parts.receiver.next()));
+    if parts.receiver.take(packet, &mut parts.batch).is_err() {
+        holds(rt, parts.receiver.take(packet, &mut parts.batch).is_ok());
     }
 }
 
-// The receiver takes a heartbeat that tells of messages up to 5.
-fn hear_of_five(rt: &impl Abort, packer: &mut Packer, receiver: &mut Receiver, batch: &mut Batch) {
-    packer.start(SESSION, 6);
-    assert!(rt; batch.follows(receiver.next()));
-    assert!(rt; receiver.take(packer.bytes(), batch).is_ok());
+// The receiver takes these packets, and hears of messages up to 5.
+fn hear_all(rt: &impl Abort, parts: &mut Parts, packets: &[&[u8]]) {
+    for packet in packets {
+        hear(rt, parts, packet);
+    }
+    holds(rt, parts.batch.follows(parts.receiver.next()));
+    holds(rt, parts.receiver.take(HEARTBEAT, &mut parts.batch).is_ok());
 }
 
-fn catch_up_checked(
-    rt: &impl Abort,
-    receiver: &mut Receiver,
-    server: &mut Server,
-    journal: &Journal,
-    batch: &mut Batch,
-) -> Result<u64, Memory> {
-    assert!(rt; receiver.session() == journal.session());
-    assert!(rt; receiver.known() <= journal.next());
-    assert!(rt; journal.max_message() <= server.max_message());
-    assert!(rt; batch.follows(receiver.next()));
-    catch_up(receiver, server, journal, batch)
+fn catch_up_checked(rt: &impl Abort, parts: &mut Parts) -> Result<u64, Memory> {
+    holds(rt, parts.receiver.session() == parts.journal.session());
+    holds(rt, parts.receiver.known() <= parts.journal.next());
+    holds(
+        rt,
+        parts.journal.max_message() <= parts.server.max_message(),
+    );
+    holds(rt, parts.batch.follows(parts.receiver.next()));
+    catch_up(
+        &mut parts.receiver,
+        &mut parts.server,
+        &parts.journal,
+        &mut parts.batch,
+    )
 }
 
 fn missing(receiver: &Receiver) -> u64 {
@@ -67,117 +111,115 @@ fn missing(receiver: &Receiver) -> u64 {
         .saturating_sub(u64::from(receiver.stored()))
 }
 
+fn same_number(rt: &impl Abort, found: u64, wanted: u64) {
+    assert_eq!(rt; found, wanted);
+}
+
+fn expect_view(rt: &impl Abort, receiver: &Receiver, next: u64) {
+    assert_eq!(rt; (receiver.next(), receiver.known()), (next, 6));
+}
+
 // The batch has the first `count` of the five messages, from number 1 on.
 fn expect_first(rt: &impl Abort, batch: &Batch, count: usize) {
-    assert_eq!(rt; batch.len(), count);
+    holds(rt, batch.len() == count);
     if count > 0 {
-        assert_eq!(rt; batch.first(), Some(1));
+        holds(rt, batch.first() == Some(1));
     }
-    let mut i = 0usize;
-    for message in FIVE {
-        if i < count {
-            assert_eq!(rt; batch.get(i), Some(message.as_slice()));
-        }
-        i = i.saturating_add(1);
+    for (i, message) in FIVE.iter().take(count).enumerate() {
+        holds(rt, batch.get(i) == Some(message.as_slice()));
     }
 }
 
-// A receiver at 1 that took messages of these numbers, none of which is 1, and heard of 5 is caught up in so
-// many rounds.
-fn expect_rounds(
-    rt: &impl Abort,
-    alloc: Global,
+// Catching up takes so many rounds.
+fn expect_rounds(rt: &impl Abort, parts: &mut Parts, rounds: u64) {
+    assert!(rt;
+        catch_up_checked(rt, parts) == Ok(rounds),
+        "not {rounds} rounds"
+    );
+}
+
+// The receiver has all five messages, after so many rounds in all.
+fn expect_end(rt: &impl Abort, parts: &Parts, answered: u64) {
+    expect_view(rt, &parts.receiver, 6);
+    expect_first(rt, &parts.batch, 5);
+    same_number(rt, parts.server.answered(), answered);
+}
+
+// A receiver at 1 that took packets, in none of which is message 1, and heard of 5 is caught up in so many
+// rounds.
+fn expect_caught_up(
+    rt: &(impl Abort + AllocGlobal),
     window: u32,
-    heard: &[u8],
+    packets: &[&[u8]],
     burst: u16,
     lacking: u64,
     rounds: u64,
-) -> Result<(), Fail> {
-    let journal = journal_of_five(alloc)?;
-    let mut server = Server::new(alloc, 64, 42, burst)?;
-    let mut packer = Packer::new(alloc, 64)?;
-    let mut receiver = Receiver::new(alloc, SESSION, 1, window)?;
-    let mut batch = Batch::new(alloc);
-    for number in heard {
-        hear(rt, &mut packer, &mut receiver, &mut batch, *number);
-    }
-    hear_of_five(rt, &mut packer, &mut receiver, &mut batch);
-    assert_eq!(rt;
-        (receiver.next(), receiver.known(), missing(&receiver)),
-        (1, 6, lacking)
-    );
-    assert_eq!(rt;
-        catch_up_checked(rt, &mut receiver, &mut server, &journal, &mut batch),
-        Ok(rounds)
-    );
-    assert_eq!(rt;
-        (receiver.next(), receiver.known(), receiver.stored()),
-        (6, 6, 0)
-    );
-    assert_eq!(rt; receiver.ended(), None);
-    assert_eq!(rt; server.answered(), rounds);
-    expect_first(rt, &batch, 5);
-    assert_eq!(rt;
-        catch_up_checked(rt, &mut receiver, &mut server, &journal, &mut batch),
-        Ok(0)
-    );
-    assert_eq!(rt; server.answered(), rounds);
+) -> Result<(), Memory> {
+    let mut parts = make_parts(rt.alloc(), window, burst)?;
+    hear_all(rt, &mut parts, packets);
+    expect_catching_up(rt, &mut parts, lacking, rounds);
     Ok(())
+}
+
+fn expect_catching_up(rt: &impl Abort, parts: &mut Parts, lacking: u64, rounds: u64) {
+    expect_view(rt, &parts.receiver, 1);
+    same_number(rt, missing(&parts.receiver), lacking);
+    expect_rounds(rt, parts, rounds);
+    expect_end(rt, parts, rounds);
+    same_number(rt, u64::from(parts.receiver.stored()), 0);
+    holds(rt, parts.receiver.ended().is_none());
+    expect_rounds(rt, parts, 0);
+    same_number(rt, parts.server.answered(), rounds);
 }
 
 #[test]
 fn catch_up_two_rounds(rt: HostRuntime) -> Result<(), Fail> {
-    expect_rounds(&rt, rt.alloc(), 8, &[3], 1, 4, 2)
+    expect_caught_up(&rt, 8, &[THIRD], 1, 4, 2)?;
+    Ok(())
 }
 
 /// The other rows of the table: one gap of five messages with bursts of 1, 2 and 3 datagrams, each of which
 /// has room for two, and three gaps of one.
 #[test]
 fn catching_up_follows_gaps_limit_and_burst(rt: HostRuntime) -> Result<(), Fail> {
-    expect_rounds(&rt, rt.alloc(), 1, &[], 1, 5, 3)?;
-    expect_rounds(&rt, rt.alloc(), 1, &[], 2, 5, 2)?;
-    expect_rounds(&rt, rt.alloc(), 1, &[], 3, 5, 1)?;
-    expect_rounds(&rt, rt.alloc(), 8, &[2, 4], 1, 3, 3)
+    expect_caught_up(&rt, 1, &[], 1, 5, 3)?;
+    expect_caught_up(&rt, 1, &[], 2, 5, 2)?;
+    expect_caught_up(&rt, 1, &[], 3, 5, 1)?;
+    expect_caught_up(&rt, 8, &[SECOND, FOURTH], 1, 3, 3)?;
+    Ok(())
+}
+
+// Catching up takes two rounds, or stops in a round where memory is refused and then goes on.
+fn expect_going_on(rt: &impl Abort, parts: &mut Parts) {
+    match catch_up_checked(rt, parts) {
+        Ok(rounds) => {
+            same_number(rt, rounds, 2);
+            expect_end(rt, parts, 2);
+        }
+        Err(Memory) => {
+            let (next, count, left) = if parts.batch.is_empty() {
+                (1, 0, 2)
+            } else {
+                (4, 3, 1)
+            };
+            expect_view(rt, &parts.receiver, next);
+            expect_first(rt, &parts.batch, count);
+            same_number(rt, parts.server.answered(), 3u64.saturating_sub(left));
+            expect_rounds(rt, parts, left);
+            expect_end(rt, parts, 3);
+        }
+    }
 }
 
 /// It passes whichever growth is refused: `rt try mold_rounds --test --fail-alloc N -- a_refused_growth` refuses
 /// the Nth one.
 #[test]
 fn a_refused_growth_stops_in_a_round(rt: HostRuntime) -> Result<(), Fail> {
-    let journal = match journal_of_five(rt.alloc()) {
-        Ok(journal) => journal,
-        Err(_) => journal_of_five(rt.alloc())?,
+    let mut parts = match make_parts(rt.alloc(), 8, 1) {
+        Ok(parts) => parts,
+        Err(Memory) => make_parts(rt.alloc(), 8, 1)?,
     };
-    let mut server = match Server::new(rt.alloc(), 64, 42, 1) {
-        Ok(server) => server,
-        Err(_) => Server::new(rt.alloc(), 64, 42, 1)?,
-    };
-    let mut packer = match Packer::new(rt.alloc(), 64) {
-        Ok(packer) => packer,
-        Err(_) => Packer::new(rt.alloc(), 64)?,
-    };
-    let mut receiver = match Receiver::new(rt.alloc(), SESSION, 1, 8) {
-        Ok(receiver) => receiver,
-        Err(_) => Receiver::new(rt.alloc(), SESSION, 1, 8)?,
-    };
-    let mut batch = Batch::new(rt.alloc());
-    hear(&rt, &mut packer, &mut receiver, &mut batch, 3);
-    hear_of_five(&rt, &mut packer, &mut receiver, &mut batch);
-    match catch_up_checked(&rt, &mut receiver, &mut server, &journal, &mut batch) {
-        Ok(rounds) => assert_eq!(rt; (rounds, server.answered()), (2, 2)),
-        Err(Memory) => {
-            let (next, left) = if batch.is_empty() { (1, 2) } else { (4, 1) };
-            assert_eq!(rt; (receiver.next(), receiver.known()), (next, 6));
-            expect_first(&rt, &batch, if batch.is_empty() { 0 } else { 3 });
-            assert_eq!(rt; server.answered(), 3u64.saturating_sub(left));
-            assert_eq!(rt;
-                catch_up_checked(&rt, &mut receiver, &mut server, &journal, &mut batch),
-                Ok(left)
-            );
-            assert_eq!(rt; server.answered(), 3);
-        }
-    }
-    assert_eq!(rt; (receiver.next(), receiver.known()), (6, 6));
-    expect_first(&rt, &batch, 5);
+    hear_all(&rt, &mut parts, &[THIRD]);
+    expect_going_on(&rt, &mut parts);
     Ok(())
 }

@@ -1,162 +1,270 @@
 //! The loop over ports in memory: the worked example, answers in bursts, and each send, receive and write
 //! that fails.
 
-ghost use Rattle.std.specs.Prelude.{◌≡◌, IfOk};
-
 use crate::{Tally, answer_request, serve_loop};
 use mold_devices::{CommandFault, MemorySink, Sink};
 use mold_ports::{Datagrams, MemoryPort, Step};
 use mold_session::{AppendError, Journal, Server};
-use mold_wire::{Request, Session};
+use mold_wire::Session;
 use std::alloc::{AllocError, Global};
+use std::process::Abort;
 use std::test::Fail;
 
 const SESSION: Session = Session(*b"SESSION001");
+
+// Requests for 65,535 messages from 1 on and from 2 on, and for message 6.
+const ALL: &[u8] = b"SESSION001\0\0\0\0\0\0\0\x01\xff\xff";
+
+const FROM_TWO: &[u8] = b"SESSION001\0\0\0\0\0\0\0\x02\xff\xff";
+
+const SIXTH: &[u8] = b"SESSION001\0\0\0\0\0\0\0\x06\0\x01";
+
+// Requests for no messages from 1 on and from 0 on, and one of another session.
+const NOTHING: &[u8] = b"SESSION001\0\0\0\0\0\0\0\x01\0\0";
+
+const NOTHING_FROM_ZERO: &[u8] = b"SESSION001\0\0\0\0\0\0\0\0\0\0";
+
+const OF_ANOTHER: &[u8] = b"SESSION002\0\0\0\0\0\0\0\0\0\x01";
 
 // The datagram of messages 2 and 3 of the five.
 const TWO_AND_THREE: &[u8] = b"SESSION001\0\0\0\0\0\0\0\x02\0\x02\
     \0\x14\x02\x02\x02\x02\x02\x02\x02\x02\x02\x02\x02\x02\x02\x02\x02\x02\x02\x02\x02\x02\
     \0\x14\x03\x03\x03\x03\x03\x03\x03\x03\x03\x03\x03\x03\x03\x03\x03\x03\x03\x03\x03\x03";
 
+// What a receive gives: bytes from peer 7, nothing, or a failure.
+#[derive(Clone, Copy)]
+enum Given {
+    Bytes(&'static [u8]),
+    Quiet,
+    Fail,
+}
+
+// The four steps of the example.
+const EXAMPLE: [Given; 4] = [
+    Given::Bytes(FROM_TWO),
+    Given::Quiet,
+    Given::Fail,
+    Given::Bytes(SIXTH),
+];
+
+// And with one more failure in front of each of them.
+const FAILING: [[Given; 5]; 4] = [
+    [
+        Given::Fail,
+        Given::Bytes(FROM_TWO),
+        Given::Quiet,
+        Given::Fail,
+        Given::Bytes(SIXTH),
+    ],
+    [
+        Given::Bytes(FROM_TWO),
+        Given::Fail,
+        Given::Quiet,
+        Given::Fail,
+        Given::Bytes(SIXTH),
+    ],
+    [
+        Given::Bytes(FROM_TWO),
+        Given::Quiet,
+        Given::Fail,
+        Given::Fail,
+        Given::Bytes(SIXTH),
+    ],
+    [
+        Given::Bytes(FROM_TWO),
+        Given::Quiet,
+        Given::Fail,
+        Given::Fail,
+        Given::Bytes(SIXTH),
+    ],
+];
+
+const REFUSED: [Given; 4] = [
+    Given::Bytes(NOTHING),
+    Given::Bytes(NOTHING_FROM_ZERO),
+    Given::Bytes(OF_ANOTHER),
+    Given::Bytes(TWO_AND_THREE),
+];
+
+// The text of the example.
+const TEXT: &[u8] = b"answered 2 2\nrefused Ahead 6\nanswered 1 refused 1 quiet 1 failed 1\n";
+
 // Five messages, the k-th of which is twenty bytes of the value k.
-fn journal_of_five(alloc: Global) -> Result<Journal, AppendError>
-    ensures { IfOk result (λ journal. journal.max_message ≡ 42) }
-{
+fn journal_of_five(alloc: Global) -> Result<Journal, AppendError> {
     let mut journal = Journal::new(alloc, SESSION, 42);
-    journal.append(&[1; 20])?;
-    journal.append(&[2; 20])?;
-    journal.append(&[3; 20])?;
-    journal.append(&[4; 20])?;
-    journal.append(&[5; 20])?;
+    for message in &[[1; 20], [2; 20], [3; 20], [4; 20], [5; 20]] {
+        journal.append(message)?;
+    }
     Ok(journal)
 }
 
-fn asks(alloc: Global, sequence: u64, count: u16) -> Result<Step, AllocError> {
-    let request = Request {
-        session: SESSION,
-        sequence,
-        count,
-    };
-    Ok(Step::Come {
-        from: 7,
-        bytes: request.encode().to_vec(alloc)?,
-    })
+fn step(alloc: Global, given: Given) -> Result<Step, AllocError> {
+    match given {
+        Given::Bytes(bytes) => Ok(Step::Come {
+            from: 7,
+            bytes: bytes.to_vec(alloc)?,
+        }),
+        Given::Quiet => Ok(Step::Quiet),
+        Given::Fail => Ok(Step::Fail),
+    }
 }
 
-// The four steps of the example: a request for 2 and what follows, nothing, a failure, a request for 6.
-// One more failure stands in front of the step of this number, the first one's being 0.
-fn script(alloc: Global, fails: usize) -> Result<Vec<Step>, AllocError> {
+fn script(alloc: Global, given: &[Given]) -> Result<Vec<Step>, AllocError> {
     let mut steps = Vec::new(alloc);
-    for number in 0..4usize {
-        if number == fails {
-            steps.push(Step::Fail)?;
-        }
-        match number {
-            0 => steps.push(asks(alloc, 2, 65535)?)?,
-            1 => steps.push(Step::Quiet)?,
-            2 => steps.push(Step::Fail)?,
-            _ => steps.push(asks(alloc, 6, 1)?)?,
-        }
+    for one in given {
+        steps.push(step(alloc, *one)?)?;
     }
     Ok(steps)
 }
 
-// Serves the five messages in datagrams of at most 64 bytes, so many at most for each request.
-fn serve(
-    alloc: Global,
-    port: &mut MemoryPort,
-    burst: u16,
-    turns: u64,
-    sink: &mut MemorySink,
-) -> Result<Result<u8, CommandFault>, Fail> {
+// A server of five messages, its port, and where its lines go.
+#[derive(Drop)]
+struct Desk {
+    journal: Journal,
+    server: Server,
+    port: MemoryPort,
+    sink: MemorySink,
+}
+
+// Datagrams have at most 64 bytes, and so many at most answer a request.
+fn make_desk(alloc: Global, burst: u16, given: &[Given]) -> Result<Desk, Fail> {
     let journal = journal_of_five(alloc)?;
-    let mut server = Server::new(alloc, 64, 42, burst)?;
-    Ok(serve_loop(alloc, port, &mut server, &journal, turns, sink))
+    let server = Server::new(alloc, 64, 42, burst)?;
+    let steps = script(alloc, given)?;
+    Ok(Desk {
+        journal,
+        server,
+        port: MemoryPort::new(alloc, steps),
+        sink: MemorySink::new(alloc),
+    })
+}
+
+fn serve(rt: &(impl Abort + AllocGlobal), desk: &mut Desk, turns: u64) -> Result<u8, CommandFault> {
+    assert!(rt; desk.journal.max_message() <= desk.server.max_message());
+    serve_loop(
+        rt.alloc(),
+        &mut desk.port,
+        &mut desk.server,
+        &desk.journal,
+        turns,
+        &mut desk.sink,
+    )
+}
+
+fn same_outcome(
+    rt: &impl Abort,
+    found: Result<u8, CommandFault>,
+    wanted: Result<u8, CommandFault>,
+) {
+    assert_eq!(rt; found, wanted);
+}
+
+fn same_bytes(rt: &impl Abort, found: &[u8], wanted: &[u8]) {
+    assert!(rt; found == wanted, "other bytes");
+}
+
+fn same_size(rt: &impl Abort, found: usize, wanted: usize) {
+    assert_eq!(rt; found, wanted);
+}
+
+fn same_number(rt: &impl Abort, found: u64, wanted: u64) {
+    assert_eq!(rt; found, wanted);
+}
+
+// So many turns print this text, and send so many datagrams.
+fn expect_served(
+    rt: &(impl Abort + AllocGlobal),
+    desk: &mut Desk,
+    turns: u64,
+    text: &[u8],
+    sent: usize,
+) {
+    same_outcome(rt, serve(rt, desk, turns), Ok(0));
+    same_bytes(rt, desk.sink.bytes(), text);
+    same_size(rt, desk.port.sent().len(), sent);
+}
+
+// The letter of this number is to peer 7.
+fn expect_letter<'a>(rt: &impl Abort, port: &'a MemoryPort, i: usize) -> &'a [u8] {
+    match port.sent().get(i) {
+        Some((to, bytes)) => {
+            assert!(rt; *to == 7, "to another");
+            bytes.as_slice()
+        }
+        None => {
+            assert!(rt; false, "no letter");
+            &[]
+        }
+    }
+}
+
+fn expect_example(rt: &(impl Abort + AllocGlobal), desk: &mut Desk) {
+    expect_served(rt, desk, 4, TEXT, 1);
+    same_size(rt, desk.port.left(), 0);
+    same_number(rt, desk.port.failures(), 1);
+    same_bytes(rt, expect_letter(rt, &desk.port, 0), TWO_AND_THREE);
 }
 
 #[test]
 fn serve_over_memory(rt: HostRuntime) -> Result<(), Fail> {
-    let mut port = MemoryPort::new(rt.alloc(), script(rt.alloc(), 4)?);
-    let mut sink = MemorySink::new(rt.alloc());
-    assert_eq!(rt; serve(rt.alloc(), &mut port, 1, 4, &mut sink)?, Ok(0));
-    let text = b"answered 2 2\nrefused Ahead 6\nanswered 1 refused 1 quiet 1 failed 1\n";
-    assert_eq!(rt; sink.bytes(), text.as_slice());
-    assert_eq!(rt; (port.left(), port.failures()), (0, 1));
-    assert_eq!(rt; port.sent().len(), 1);
-    assert_eq!(rt; port.sent()[0].0, 7);
-    assert_eq!(rt; port.sent()[0].1.as_slice(), TWO_AND_THREE);
+    let mut desk = make_desk(rt.alloc(), 1, &EXAMPLE)?;
+    expect_example(&rt, &mut desk);
+    Ok(())
+}
+
+fn expect_failing(rt: &(impl Abort + AllocGlobal), given: &[Given]) -> Result<(), Fail> {
+    let text = b"answered 2 2\nrefused Ahead 6\nanswered 1 refused 1 quiet 1 failed 2\n";
+    let mut desk = make_desk(rt.alloc(), 1, given)?;
+    expect_served(rt, &mut desk, 5, text, 1);
+    same_number(rt, desk.port.failures(), 2);
     Ok(())
 }
 
 #[test]
 fn a_failed_receive_loses_no_request(rt: HostRuntime) -> Result<(), Fail> {
-    for fails in 0..4 {
-        let mut port = MemoryPort::new(rt.alloc(), script(rt.alloc(), fails)?);
-        let mut sink = MemorySink::new(rt.alloc());
-        assert_eq!(rt; serve(rt.alloc(), &mut port, 1, 5, &mut sink)?, Ok(0));
-        let text = b"answered 2 2\nrefused Ahead 6\nanswered 1 refused 1 quiet 1 failed 2\n";
-        assert_eq!(rt; sink.bytes(), text.as_slice());
-        assert_eq!(rt; (port.sent().len(), port.failures()), (1, 2));
+    for given in &FAILING {
+        expect_failing(&rt, given)?;
     }
     Ok(())
 }
 
 #[test]
 fn refusals_are_printed_with_their_numbers(rt: HostRuntime) -> Result<(), Fail> {
-    let mut steps = Vec::new(rt.alloc());
-    steps.push(asks(rt.alloc(), 1, 0)?)?;
-    steps.push(asks(rt.alloc(), 0, 0)?)?;
-    steps.push(Step::Come {
-        from: 7,
-        bytes: b"SESSION002\0\0\0\0\0\0\0\0\0\x01".to_vec(rt.alloc())?,
-    })?;
-    steps.push(Step::Come {
-        from: 7,
-        bytes: TWO_AND_THREE.to_vec(rt.alloc())?,
-    })?;
-    let mut port = MemoryPort::new(rt.alloc(), steps);
-    let mut sink = MemorySink::new(rt.alloc());
-    assert_eq!(rt; serve(rt.alloc(), &mut port, 1, 4, &mut sink)?, Ok(0));
     let text =
         b"refused EmptyRequest\nrefused SequenceZero\nrefused WrongSession\nrefused RequestLength 64\n\
         answered 0 refused 4 quiet 0 failed 0\n";
-    assert_eq!(rt; sink.bytes(), text.as_slice());
-    assert_eq!(rt; port.sent().len(), 0);
+    let mut desk = make_desk(rt.alloc(), 1, &REFUSED)?;
+    expect_served(&rt, &mut desk, 4, text, 0);
     Ok(())
 }
 
-// A request for all messages, answered by at most so many datagrams, of which the send of this number
+// A request for all messages is answered by at most so many datagrams, of which the send of this number
 // fails, the first one's being 1.
 fn all_asked(
-    alloc: Global,
+    rt: &(impl Abort + AllocGlobal),
     burst: u16,
     fails: u64,
-    sink: &mut MemorySink,
-) -> Result<MemoryPort, Fail> {
-    let mut steps = Vec::new(alloc);
-    steps.push(asks(alloc, 1, 65535)?)?;
-    let mut port = MemoryPort::new(alloc, steps);
-    port.fail_send(fails);
-    if serve(alloc, &mut port, burst, 1, sink)? != Ok(0) {
-        return Err(Fail::new("a fault"));
-    }
-    Ok(port)
+    text: &[u8],
+    sent: usize,
+) -> Result<Desk, Fail> {
+    let mut desk = make_desk(rt.alloc(), burst, &[Given::Bytes(ALL)])?;
+    desk.port.fail_send(fails);
+    expect_served(rt, &mut desk, 1, text, sent);
+    Ok(desk)
+}
+
+fn expect_two_letters(rt: &impl Abort, port: &MemoryPort) {
+    expect_letter(rt, port, 0);
+    let second = expect_letter(rt, port, 1);
+    assert!(rt; second.get(17) == Some(&3), "another number");
 }
 
 #[test]
 fn a_burst_goes_to_who_asked(rt: HostRuntime) -> Result<(), Fail> {
-    let mut sink = MemorySink::new(rt.alloc());
-    let port = all_asked(rt.alloc(), 2, 0, &mut sink)?;
-    let text = b"answered 1 2\nanswered 3 2\nanswered 2 refused 0 quiet 0 failed 0\n";
-    assert_eq!(rt; sink.bytes(), text.as_slice());
-    assert_eq!(rt; port.sent().len(), 2);
-    assert_eq!(rt; (port.sent()[0].0, port.sent()[1].0), (7, 7));
-    assert_eq!(rt; port.sent()[1].1.get(17), Some(&3));
-    let mut sink = MemorySink::new(rt.alloc());
-    let port = all_asked(rt.alloc(), 64, 0, &mut sink)?;
-    let text = b"answered 1 2\nanswered 3 2\nanswered 5 1\nanswered 3 refused 0 quiet 0 failed 0\n";
-    assert_eq!(rt; sink.bytes(), text.as_slice());
-    assert_eq!(rt; port.sent().len(), 3);
+    let two = b"answered 1 2\nanswered 3 2\nanswered 2 refused 0 quiet 0 failed 0\n";
+    let all = b"answered 1 2\nanswered 3 2\nanswered 5 1\nanswered 3 refused 0 quiet 0 failed 0\n";
+    expect_two_letters(&rt, &all_asked(&rt, 2, 0, two, 2)?.port);
+    all_asked(&rt, 64, 0, all, 3)?;
     Ok(())
 }
 
@@ -166,87 +274,103 @@ fn a_failed_send_leaves_the_others_of_its_burst(rt: HostRuntime) -> Result<(), F
     let second = b"answered 1 2\nanswered 5 1\nanswered 2 refused 0 quiet 0 failed 1\n";
     let third = b"answered 1 2\nanswered 3 2\nanswered 2 refused 0 quiet 0 failed 1\n";
     for (fails, text) in [(1, first), (2, second), (3, third)] {
-        let mut sink = MemorySink::new(rt.alloc());
-        let port = all_asked(rt.alloc(), 3, fails, &mut sink)?;
-        assert_eq!(rt; sink.bytes(), text.as_slice());
-        assert_eq!(rt; (port.sent().len(), port.failures()), (2, 1));
+        let desk = all_asked(&rt, 3, fails, text, 2)?;
+        same_number(&rt, desk.port.failures(), 1);
     }
     Ok(())
 }
 
+// The write of this number fails, and what was written before are pieces of ten bytes.
+fn expect_broken_off(rt: &(impl Abort + AllocGlobal), desk: &mut Desk, writes: u64) {
+    desk.sink.at_most(10);
+    desk.sink.fail_at(writes);
+    same_outcome(rt, serve(rt, desk, 4), Err(CommandFault::Write));
+    let written = desk.sink.bytes();
+    same_number(
+        rt,
+        written.len() as u64,
+        writes.saturating_sub(1).saturating_mul(10),
+    );
+    assert!(rt; TEXT.starts_with(written), "another beginning");
+    same_size(rt, desk.port.sent().len(), 1);
+}
+
 #[test]
 fn after_a_failed_write_a_beginning_is_written(rt: HostRuntime) -> Result<(), Fail> {
-    let text = b"answered 2 2\nrefused Ahead 6\nanswered 1 refused 1 quiet 1 failed 1\n";
     for writes in 1..8u64 {
-        let mut port = MemoryPort::new(rt.alloc(), script(rt.alloc(), 4)?);
-        let mut sink = MemorySink::new(rt.alloc());
-        sink.at_most(10);
-        sink.fail_at(writes);
-        assert_eq!(rt;
-            serve(rt.alloc(), &mut port, 1, 4, &mut sink)?,
-            Err(CommandFault::Write)
-        );
-        assert_eq!(rt; sink.bytes().len() as u64, 10 * (writes - 1));
-        assert!(rt; text.starts_with(sink.bytes()));
-        assert_eq!(rt; port.sent().len(), 1);
+        let mut desk = make_desk(rt.alloc(), 1, &EXAMPLE)?;
+        expect_broken_off(&rt, &mut desk, writes);
     }
     Ok(())
 }
 
 #[test]
 fn no_turns_print_the_last_line(rt: HostRuntime) -> Result<(), Fail> {
-    let mut port = MemoryPort::new(rt.alloc(), script(rt.alloc(), 4)?);
-    let mut sink = MemorySink::new(rt.alloc());
-    assert_eq!(rt; serve(rt.alloc(), &mut port, 1, 0, &mut sink)?, Ok(0));
     let text = b"answered 0 refused 0 quiet 0 failed 0\n";
-    assert_eq!(rt; sink.bytes(), text.as_slice());
-    assert_eq!(rt; port.left(), 4);
+    let mut desk = make_desk(rt.alloc(), 1, &EXAMPLE)?;
+    expect_served(&rt, &mut desk, 0, text, 0);
+    same_size(&rt, desk.port.left(), 4);
+    Ok(())
+}
+
+fn expect_counted(rt: &(impl Abort + AllocGlobal), desk: &mut Desk) -> Result<(), AllocError> {
+    let mut tally = Tally::new(rt.alloc());
+    assert!(rt; desk.journal.max_message() <= desk.server.max_message());
+    answer_request(
+        &mut desk.port,
+        &mut desk.server,
+        &desk.journal,
+        7,
+        ALL,
+        &mut tally,
+    )?;
+    same_number(rt, tally.answered(), 2);
+    same_number(rt, tally.failed(), 1);
+    same_number(rt, desk.server.answered(), 1);
     Ok(())
 }
 
 #[test]
 fn one_request_is_answered_and_counted(rt: HostRuntime) -> Result<(), Fail> {
-    let journal = journal_of_five(rt.alloc())?;
-    let mut server = Server::new(rt.alloc(), 64, 42, 3)?;
-    let mut port = MemoryPort::new(rt.alloc(), Vec::new(rt.alloc()));
-    port.fail_send(2);
-    let mut tally = Tally::new(rt.alloc());
-    let request = b"SESSION001\0\0\0\0\0\0\0\x01\xff\xff";
-    answer_request(&mut port, &mut server, &journal, 7, request, &mut tally)?;
-    assert_eq!(rt; (tally.answered(), tally.failed()), (2, 1));
-    assert_eq!(rt; server.answered(), 1);
+    let mut desk = make_desk(rt.alloc(), 3, &[])?;
+    desk.port.fail_send(2);
+    expect_counted(&rt, &mut desk)?;
     Ok(())
+}
+
+// All is written, or after a fault a beginning.
+fn expect_beginning(rt: &(impl Abort + AllocGlobal), desk: &mut Desk) {
+    let outcome = serve(rt, desk, 4);
+    // A letter that the port has no memory for is a failed send.
+    let wanted = if desk.port.failures() > 1 {
+        b"refused Ahead 6\nanswered 0 refused 1 quiet 1 failed 2\n".as_slice()
+    } else {
+        TEXT
+    };
+    if outcome.is_err() {
+        let failed = desk.sink.failures() > 0;
+        same_outcome(rt, outcome, Err(fault_of(failed)));
+        assert!(rt; wanted.starts_with(desk.sink.bytes()), "another beginning");
+        assert!(rt; desk.port.sent().len() <= 1, "more letters");
+    } else {
+        same_outcome(rt, outcome, Ok(0));
+        same_bytes(rt, desk.sink.bytes(), wanted);
+    }
+}
+
+// The fault where the sink failed, and where it did not.
+fn fault_of(failed: bool) -> CommandFault {
+    if failed {
+        CommandFault::Write
+    } else {
+        CommandFault::Memory
+    }
 }
 
 /// To be run with each allocation refused in turn.
 #[test]
 fn a_refused_growth_leaves_a_beginning(rt: HostRuntime) -> Result<(), Fail> {
-    let text = b"answered 2 2\nrefused Ahead 6\nanswered 1 refused 1 quiet 1 failed 1\n";
-    let unsent = b"refused Ahead 6\nanswered 0 refused 1 quiet 1 failed 2\n";
-    let mut port = MemoryPort::new(rt.alloc(), script(rt.alloc(), 4)?);
-    let mut sink = MemorySink::new(rt.alloc());
-    let outcome = serve(rt.alloc(), &mut port, 1, 4, &mut sink)?;
-    // A letter that the port has no memory for is a failed send.
-    let wanted = if port.failures() > 1 {
-        unsent.as_slice()
-    } else {
-        text.as_slice()
-    };
-    match outcome {
-        Ok(status) => {
-            assert_eq!(rt; status, 0);
-            assert_eq!(rt; sink.bytes(), wanted);
-        }
-        Err(fault) => {
-            let refused = if sink.failures() > 0 {
-                CommandFault::Write
-            } else {
-                CommandFault::Memory
-            };
-            assert_eq!(rt; fault, refused);
-            assert!(rt; wanted.starts_with(sink.bytes()));
-            assert!(rt; port.sent().len() <= 1);
-        }
-    }
+    let mut desk = make_desk(rt.alloc(), 1, &EXAMPLE)?;
+    expect_beginning(&rt, &mut desk);
     Ok(())
 }

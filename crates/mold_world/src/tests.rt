@@ -5,7 +5,7 @@
 use crate::{Event, Report, SessionRefusal, Stopped, Way, World, WorldError};
 use mold_receiver::{Line, LineReport, Refused, Taken};
 use mold_session::{AppendError, Unsent};
-use mold_wire::{Body, DecodeError, Session, decode};
+use mold_wire::{DecodeError, Session};
 use std::alloc::Global;
 use std::process::Abort;
 use std::test::Fail;
@@ -19,14 +19,56 @@ const B: Way = Way::Line(Line::B);
 // Asks for 65,535 messages from 2 on.
 const FROM_TWO: &[u8] = b"SESSION001\0\0\0\0\0\0\0\x02\xff\xff";
 
+// The datagrams that answer it: messages 2 and 3, and messages 4 and 5.
+const TWO_AND_THREE: &[u8] = b"SESSION001\0\0\0\0\0\0\0\x02\0\x02\
+    \0\x14\x02\x02\x02\x02\x02\x02\x02\x02\x02\x02\x02\x02\x02\x02\x02\x02\x02\x02\x02\x02\
+    \0\x14\x03\x03\x03\x03\x03\x03\x03\x03\x03\x03\x03\x03\x03\x03\x03\x03\x03\x03\x03\x03";
+
+const FOUR_AND_FIVE: &[u8] = b"SESSION001\0\0\0\0\0\0\0\x04\0\x02\
+    \0\x14\x04\x04\x04\x04\x04\x04\x04\x04\x04\x04\x04\x04\x04\x04\x04\x04\x04\x04\x04\x04\
+    \0\x14\x05\x05\x05\x05\x05\x05\x05\x05\x05\x05\x05\x05\x05\x05\x05\x05\x05\x05\x05\x05";
+
 // The heartbeat of a session without messages, as bytes that would be none of its packets.
 const OWN: &[u8] = b"SESSION001\0\0\0\0\0\0\0\x01\0\0";
 
-const OWN_AS_NOISE: Event<'static> = Event::Noise {
-    r: 0,
-    way: A,
-    bytes: b"SESSION001\0\0\0\0\0\0\0\x01\0\0",
-};
+// What an event is answered.
+type Answer = Result<Report, WorldError>;
+
+const NONE_HANDED: Answer = Ok(Report::Delivered(Taken {
+    handed: 0,
+    kept: 0,
+    beyond: 0,
+}));
+
+const ONE_HANDED: Answer = Ok(Report::Delivered(Taken {
+    handed: 1,
+    kept: 0,
+    beyond: 0,
+}));
+
+const TWO_HANDED: Answer = Ok(Report::Delivered(Taken {
+    handed: 2,
+    kept: 0,
+    beyond: 0,
+}));
+
+const FOUR_HANDED: Answer = Ok(Report::Delivered(Taken {
+    handed: 4,
+    kept: 0,
+    beyond: 0,
+}));
+
+const TWO_KEPT: Answer = Ok(Report::Delivered(Taken {
+    handed: 0,
+    kept: 2,
+    beyond: 0,
+}));
+
+const ONE_BEYOND: Answer = Ok(Report::Delivered(Taken {
+    handed: 0,
+    kept: 0,
+    beyond: 1,
+}));
 
 // The events of `sim-two-receivers`.
 const TWO_RECEIVERS: [Event<'static>; 16] = [
@@ -68,8 +110,68 @@ const TWO_RECEIVERS: [Event<'static>; 16] = [
     },
 ];
 
-// Five messages, the k-th of which is twenty bytes of the value k, in three datagrams, and the session's end.
-const FIVE: [Event<'static>; 10] = [
+// And what they are answered.
+const TWO_ANSWERS: [Answer; 16] = [
+    Ok(Report::Published { number: 1 }),
+    Ok(Report::Sent { place: 0 }),
+    Ok(Report::Published { number: 2 }),
+    Err(WorldError::Session(SessionRefusal::Close(Unsent { count: 1 }))),
+    Ok(Report::Sent { place: 1 }),
+    Ok(Report::Closed),
+    Err(WorldError::Session(SessionRefusal::Append(AppendError::Closed))),
+    Ok(Report::Sent { place: 2 }),
+    ONE_HANDED,
+    NONE_HANDED,
+    Err(WorldError::NotReached { next: 2 }),
+    Ok(Report::Restarted { next: 2 }),
+    Ok(Report::Burst { first: 3, count: 1 }),
+    ONE_HANDED,
+    NONE_HANDED,
+    Ok(Report::NoiseRefused(Refused::Malformed(DecodeError::Short { len: 1 }))),
+];
+
+// Events of a world of one receiver without messages.
+const LACKING: [Event<'static>; 8] = [
+    Event::Deliver {
+        r: 1,
+        way: A,
+        sent: 0,
+    },
+    Event::Deliver {
+        r: 0,
+        way: A,
+        sent: 0,
+    },
+    Event::Noise {
+        r: 0,
+        way: A,
+        bytes: OWN,
+    },
+    Event::Ask(1),
+    Event::Ask(0),
+    Event::Datagram,
+    Event::End,
+    Event::Heartbeat,
+];
+
+// And what they are answered.
+const LACKING_ANSWERS: [Answer; 8] = [
+    Err(WorldError::NoReceiver),
+    Err(WorldError::NoSuchDatagram),
+    Err(WorldError::NotNoise),
+    Err(WorldError::NoReceiver),
+    Ok(Report::Nothing),
+    Ok(Report::Nothing),
+    Ok(Report::Nothing),
+    Ok(Report::Sent { place: 0 }),
+];
+
+// How many of the next events are the session.
+const SESSION_LENGTH: usize = 10;
+
+// Five messages, the k-th of which is twenty bytes of the value k, in three datagrams, and the session's end;
+// then their deliveries to two receivers.
+const FIVE: [Event<'static>; 22] = [
     Event::Publish(&[1; 20]),
     Event::Publish(&[2; 20]),
     Event::Publish(&[3; 20]),
@@ -80,10 +182,6 @@ const FIVE: [Event<'static>; 10] = [
     Event::Datagram,
     Event::Close,
     Event::End,
-];
-
-// Their deliveries to two receivers.
-const DELIVERIES: [Event<'static>; 12] = [
     Event::Deliver {
         r: 0,
         way: A,
@@ -142,17 +240,40 @@ const DELIVERIES: [Event<'static>; 12] = [
     },
 ];
 
-fn deliver(r: usize, way: Way, sent: usize) -> Event<'static> {
-    Event::Deliver { r, way, sent }
-}
+// `next`, `known`, how many are stored, how many the book has, and whether the receiver is finished.
+type Standing = (u64, u64, u32, usize, bool);
 
-fn delivered(handed: u32, kept: u32, beyond: u32) -> Result<Report, WorldError> {
-    Ok(Report::Delivered(Taken {
-        handed,
-        kept,
-        beyond,
-    }))
-}
+// What each delivery is answered, to which receiver it comes, and how that stands then.
+const DELIVERED: [(Answer, usize, Standing); 12] = [
+    (NONE_HANDED, 0, (1, 6, 0, 0, false)),
+    (ONE_BEYOND, 0, (1, 6, 0, 0, false)),
+    (TWO_KEPT, 0, (1, 6, 2, 0, false)),
+    (FOUR_HANDED, 0, (5, 6, 0, 4, false)),
+    (ONE_HANDED, 0, (6, 6, 0, 5, true)),
+    (TWO_HANDED, 1, (3, 3, 0, 2, false)),
+    (NONE_HANDED, 1, (3, 3, 0, 2, false)),
+    (ONE_BEYOND, 1, (3, 6, 0, 2, false)),
+    (
+        Ok(Report::Burst { first: 4, count: 1 }),
+        1,
+        (3, 6, 0, 2, false),
+    ),
+    (TWO_HANDED, 1, (5, 6, 0, 4, false)),
+    (NONE_HANDED, 1, (5, 6, 0, 4, false)),
+    (ONE_HANDED, 1, (6, 6, 0, 5, true)),
+];
+
+// A limit, the server's, a burst, the window of receiver 1, and why there is no such world.
+const REFUSED: [(usize, usize, u16, u32, WorldError); 8] = [
+    (63, 64, 0, 0, WorldError::BadLimit),
+    (65508, 65508, 1, 4, WorldError::BadLimit),
+    (64, 65508, 1, 4, WorldError::BadLimit),
+    (65, 64, 1, 4, WorldError::BadLimit),
+    (64, 64, 0, 0, WorldError::BadBurst),
+    (64, 64, 65, 4, WorldError::BadBurst),
+    (64, 64, 64, 0, WorldError::BadWindow { r: 1 }),
+    (64, 64, 1, 65537, WorldError::BadWindow { r: 1 }),
+];
 
 /// A world, made once more where memory was refused.
 fn world(alloc: Global, burst: u16, windows: &[u32]) -> Result<World, WorldError> {
@@ -162,32 +283,48 @@ fn world(alloc: Global, burst: u16, windows: &[u32]) -> Result<World, WorldError
     }
 }
 
-/// What can be counted of a receiver, of its book and of what came to it.
-#[derive(Debug, Drop, PartialEq)]
-struct Standing {
-    receiver: (u64, u64, u32),
-    book: usize,
-    finished: bool,
-    lines: (LineReport, LineReport),
-}
-
 fn standing_of(world: &World, r: usize) -> Option<Standing> {
     let receiver = world.receiver(r)?;
-    Some(Standing {
-        receiver: (receiver.next(), receiver.known(), receiver.stored()),
-        book: world.book(r)?.len(),
-        finished: world.finished(r)?,
-        lines: (world.report(r, Line::A)?, world.report(r, Line::B)?),
-    })
+    let book = world.book(r)?.len();
+    let finished = world.finished(r)?;
+    Some((
+        receiver.next(),
+        receiver.known(),
+        receiver.stored(),
+        book,
+        finished,
+    ))
 }
 
-/// What can be counted of a world of up to two receivers.
-#[derive(Debug, Drop, PartialEq)]
+fn reports_of(world: &World, r: usize) -> Option<(LineReport, LineReport)> {
+    Some((world.report(r, Line::A)?, world.report(r, Line::B)?))
+}
+
+fn counts_of(world: &World, r: usize, line: Line) -> Option<(u64, u64, u64)> {
+    let report = world.report(r, line)?;
+    Some((report.datagrams, report.refused, report.front))
+}
+
+fn first_of(world: &World, r: usize) -> Option<u64> {
+    world.book(r)?.first()
+}
+
+fn message_of(world: &World, r: usize, i: usize) -> Option<&[u8]> {
+    world.book(r)?.get(i)
+}
+
+/// What can be counted of a world of up to two receivers: what is published, whether it is closed, what was
+/// sent, what of the receivers and of their books, and what came to them.
+#[derive(Clone, Copy, PartialEq)]
 struct Counts {
     published: u64,
     closed: bool,
     sent: usize,
-    receivers: (Option<Standing>, Option<Standing>),
+    standings: (Option<Standing>, Option<Standing>),
+    reports: (
+        Option<(LineReport, LineReport)>,
+        Option<(LineReport, LineReport)>,
+    ),
 }
 
 fn count(world: &World) -> Counts {
@@ -195,292 +332,253 @@ fn count(world: &World) -> Counts {
         published: world.published().next(),
         closed: world.is_closed(),
         sent: world.sent_len(),
-        receivers: (standing_of(world, 0), standing_of(world, 1)),
+        standings: (standing_of(world, 0), standing_of(world, 1)),
+        reports: (reports_of(world, 0), reports_of(world, 1)),
     }
 }
 
+fn same_counts(rt: &impl Abort, found: Counts, wanted: Counts) {
+    assert!(rt; found == wanted, "other counts");
+}
+
+fn holds(rt: &impl Abort, fact: bool) {
+    assert!(rt; fact);
+}
+
+fn same_size(rt: &impl Abort, found: usize, wanted: usize) {
+    assert_eq!(rt; found, wanted);
+}
+
+fn same_bytes(rt: &impl Abort, found: Option<&[u8]>, wanted: Option<&[u8]>) {
+    assert!(rt; found == wanted, "other bytes");
+}
+
+fn same_refusal(rt: &impl Abort, found: Option<WorldError>, wanted: WorldError) {
+    assert_eq!(rt; found, Some(wanted));
+}
+
 /// An event, once more where memory was refused: the world was then as before.
-fn apply_again(
-    rt: &impl Abort,
-    world: &mut World,
-    event: &Event<'_>,
-) -> Result<Report, WorldError> {
+fn apply_again(rt: &impl Abort, world: &mut World, event: &Event<'_>) -> Answer {
     let before = count(world);
     match world.apply(event) {
         Err(WorldError::Memory) => {
-            assert_eq!(rt; count(world), before);
+            same_counts(rt, count(world), before);
             world.apply(event)
         }
         answer => answer,
     }
 }
 
-/// A world with bursts of one datagram after a run, which where memory was refused goes on from the event at
-/// which it stopped: the world was then as after the events before that one.
-fn run_again(
-    rt: &(impl Abort + AllocGlobal),
-    windows: &[u32],
-    events: &[Event<'_>],
-) -> Result<World, Fail> {
-    let mut world = world(rt.alloc(), 1, windows)?;
-    if let Err(Stopped { at }) = world.run(events) {
-        let mut twin = World::new(rt.alloc(), SESSION, 64, 64, 1, windows)?;
-        assert_eq!(rt; twin.run(&events[..at]), Ok(()));
-        assert_eq!(rt; count(&world), count(&twin));
-        assert_eq!(rt; world.run(&events[at..]), Ok(()));
-    }
-    Ok(world)
-}
-
-fn expect(rt: &impl Abort, world: &mut World, event: &Event<'_>, want: Result<Report, WorldError>) {
+fn expect(rt: &impl Abort, world: &mut World, event: &Event<'_>, want: Answer) {
     assert_eq!(rt; apply_again(rt, world, event), want);
 }
 
-/// `next`, `known`, how many are stored, how many the book has, and whether the receiver is finished.
-fn expect_receiver(rt: &impl Abort, world: &World, r: usize, want: (u64, u64, u32, usize, bool)) {
-    match (world.receiver(r), world.book(r), world.finished(r)) {
-        (Some(receiver), Some(book), Some(finished)) => assert_eq!(rt;
-            (
-                receiver.next(),
-                receiver.known(),
-                receiver.stored(),
-                book.len(),
-                finished
-            ),
-            want
-        ),
-        _ => assert!(rt; false, "no receiver"),
+fn expect_all(rt: &impl Abort, world: &mut World, events: &[Event<'_>], answers: &[Answer]) {
+    for (event, want) in events.iter().zip(answers) {
+        expect(rt, world, event, *want);
     }
+}
+
+/// No event of the session of five messages is refused.
+fn expect_session(rt: &impl Abort, world: &mut World) {
+    for event in &FIVE[..SESSION_LENGTH] {
+        holds(rt, apply_again(rt, world, event).is_ok());
+    }
+}
+
+fn run_whole(rt: &impl Abort, world: &mut World, events: &[Event<'_>]) {
+    holds(rt, world.run(events).is_ok());
+}
+
+/// What can be counted of a world with bursts of one datagram after these events.
+fn counts_after(
+    rt: &(impl Abort + AllocGlobal),
+    windows: &[u32],
+    events: &[Event<'_>],
+) -> Result<Counts, WorldError> {
+    let mut twin = World::new(rt.alloc(), SESSION, 64, 64, 1, windows)?;
+    run_whole(rt, &mut twin, events);
+    Ok(count(&twin))
+}
+
+/// A run in a world with bursts of one datagram, which where memory was refused goes on from the event at
+/// which it stopped: the world was then as after the events before that one.
+fn run_again(
+    rt: &(impl Abort + AllocGlobal),
+    world: &mut World,
+    windows: &[u32],
+    events: &[Event<'_>],
+) -> Result<(), WorldError> {
+    if let Err(Stopped { at }) = world.run(events) {
+        let (before, rest) = events.split_at(at);
+        same_counts(rt, count(world), counts_after(rt, windows, before)?);
+        run_whole(rt, world, rest);
+    }
+    Ok(())
+}
+
+fn expect_receiver(rt: &impl Abort, world: &World, r: usize, want: Standing) {
+    assert_eq!(rt; standing_of(world, r), Some(want));
+}
+
+/// How many datagrams were taken on a line, how many were refused, and its front.
+fn expect_report(rt: &impl Abort, world: &World, r: usize, line: Line, want: (u64, u64, u64)) {
+    assert_eq!(rt; counts_of(world, r, line), Some(want));
 }
 
 /// The book has the five messages from number 1 on.
 fn expect_five(rt: &impl Abort, world: &World, r: usize) {
-    match world.book(r) {
-        Some(book) => {
-            assert_eq!(rt; book.first(), Some(1));
-            for (i, message) in [[1; 20], [2; 20], [3; 20], [4; 20], [5; 20]]
-                .iter()
-                .enumerate()
-            {
-                assert_eq!(rt; book.get(i), Some(message.as_slice()));
-            }
-        }
-        None => assert!(rt; false, "no book"),
-    }
-}
-
-fn expect_report(rt: &impl Abort, world: &World, r: usize, line: Line, want: (u64, u64, u64)) {
-    match world.report(r, line) {
-        Some(report) => assert_eq!(rt; (report.datagrams, report.refused, report.front), want),
-        None => assert!(rt; false, "no report"),
+    holds(rt, first_of(world, r) == Some(1));
+    for (i, message) in [[1; 20], [2; 20], [3; 20], [4; 20], [5; 20]]
+        .iter()
+        .enumerate()
+    {
+        same_bytes(rt, message_of(world, r, i), Some(message.as_slice()));
     }
 }
 
 /// Both receivers have the whole session.
 fn expect_end(rt: &impl Abort, world: &World) {
-    assert!(rt; world.is_closed());
-    assert_eq!(rt; world.published().next(), 6);
-    assert_eq!(rt; world.sent_len(), 5);
-    assert_eq!(rt; world.receivers(), 2);
-    expect_receiver(rt, world, 0, (6, 6, 0, 5, true));
-    expect_receiver(rt, world, 1, (6, 6, 0, 5, true));
-    expect_five(rt, world, 0);
-    expect_five(rt, world, 1);
-    expect_report(rt, world, 0, Line::A, (3, 0, 6));
-    expect_report(rt, world, 0, Line::B, (2, 0, 6));
-    expect_report(rt, world, 1, Line::A, (3, 0, 6));
-    expect_report(rt, world, 1, Line::B, (2, 0, 6));
+    holds(rt, world.is_closed());
+    holds(rt, world.published().next() == 6);
+    same_size(rt, world.sent_len(), 5);
+    same_size(rt, world.receivers(), 2);
+    for r in 0..2 {
+        expect_receiver(rt, world, r, (6, 6, 0, 5, true));
+        expect_five(rt, world, r);
+        expect_report(rt, world, r, Line::A, (3, 0, 6));
+        expect_report(rt, world, r, Line::B, (2, 0, 6));
+    }
+}
+
+/// How the receivers stand after the events of `sim-two-receivers`.
+fn expect_two_standings(rt: &impl Abort, world: &World) {
+    expect_receiver(rt, world, 0, (3, 3, 0, 2, true));
+    expect_receiver(rt, world, 1, (1, 1, 0, 0, false));
+}
+
+fn expect_two_receivers(rt: &impl Abort, world: &mut World) {
+    expect_all(rt, world, &TWO_RECEIVERS, &TWO_ANSWERS);
+    expect_two_standings(rt, world);
+    expect_report(rt, world, 1, Line::A, (0, 1, 1));
 }
 
 /// `sim-two-receivers`
 #[test]
 fn two_receivers(rt: HostRuntime) -> Result<(), Fail> {
-    let unsent = Err(WorldError::Session(SessionRefusal::Close(Unsent { count: 1 })));
-    let closed = Err(WorldError::Session(SessionRefusal::Append(AppendError::Closed)));
-    let malformed = Refused::Malformed(DecodeError::Short { len: 1 });
     let mut world = world(rt.alloc(), 1, &[4, 4])?;
-    for (event, want) in TWO_RECEIVERS.iter().zip([
-        Ok(Report::Published { number: 1 }),
-        Ok(Report::Sent { place: 0 }),
-        Ok(Report::Published { number: 2 }),
-        unsent,
-        Ok(Report::Sent { place: 1 }),
-        Ok(Report::Closed),
-        closed,
-        Ok(Report::Sent { place: 2 }),
-        delivered(1, 0, 0),
-        delivered(0, 0, 0),
-        Err(WorldError::NotReached { next: 2 }),
-        Ok(Report::Restarted { next: 2 }),
-        Ok(Report::Burst { first: 3, count: 1 }),
-        delivered(1, 0, 0),
-        delivered(0, 0, 0),
-        Ok(Report::NoiseRefused(malformed)),
-    ]) {
-        expect(&rt, &mut world, event, want);
-    }
-    expect_receiver(&rt, &world, 0, (3, 3, 0, 2, true));
-    expect_receiver(&rt, &world, 1, (1, 1, 0, 0, false));
-    expect_report(&rt, &world, 1, Line::A, (0, 1, 1));
+    expect_two_receivers(&rt, &mut world);
     Ok(())
+}
+
+/// There is no receiver of number 1.
+fn expect_one_receiver(rt: &impl Abort, world: &World) {
+    holds(rt, world.receiver(1).is_none());
+    holds(rt, world.book(1).is_none());
+    holds(rt, world.finished(1).is_none());
+    holds(rt, world.report(1, Line::A).is_none());
+}
+
+fn expect_lacking(rt: &impl Abort, world: &mut World) {
+    expect_all(rt, world, &LACKING, &LACKING_ANSWERS);
+    same_bytes(rt, world.sent_at(0), Some(OWN));
+    same_bytes(rt, world.sent_at(1), None);
+    expect_one_receiver(rt, world);
 }
 
 /// Refusals of events, and what is not there.
 #[test]
 fn what_is_not_there(rt: HostRuntime) -> Result<(), Fail> {
     let mut world = world(rt.alloc(), 1, &[4])?;
-    expect(
-        &rt,
-        &mut world,
-        &deliver(1, A, 0),
-        Err(WorldError::NoReceiver),
-    );
-    expect(
-        &rt,
-        &mut world,
-        &deliver(0, A, 0),
-        Err(WorldError::NoSuchDatagram),
-    );
-    expect(&rt, &mut world, &OWN_AS_NOISE, Err(WorldError::NotNoise));
-    expect(&rt, &mut world, &Event::Ask(1), Err(WorldError::NoReceiver));
-    expect(&rt, &mut world, &Event::Ask(0), Ok(Report::Nothing));
-    expect(&rt, &mut world, &Event::Datagram, Ok(Report::Nothing));
-    expect(&rt, &mut world, &Event::End, Ok(Report::Nothing));
-    expect(
-        &rt,
-        &mut world,
-        &Event::Heartbeat,
-        Ok(Report::Sent { place: 0 }),
-    );
-    assert_eq!(rt; world.sent_at(0), Some(OWN));
-    assert_eq!(rt; world.sent_at(1), None);
-    assert!(rt; world.receiver(1).is_none());
-    assert!(rt; world.book(1).is_none());
-    assert!(rt; world.finished(1).is_none());
-    assert!(rt; world.report(1, Line::A).is_none());
+    expect_lacking(&rt, &mut world);
     Ok(())
+}
+
+/// The session's deliveries, and how the receivers stand after each.
+fn expect_deliveries(rt: &impl Abort, world: &mut World) {
+    let deliveries = &FIVE[SESSION_LENGTH..];
+    for (event, (want, r, stands)) in deliveries.iter().zip(&DELIVERED) {
+        expect(rt, world, event, *want);
+        expect_receiver(rt, world, *r, *stands);
+    }
+}
+
+fn expect_event_by_event(rt: &impl Abort, world: &mut World) {
+    expect_session(rt, world);
+    same_size(rt, world.sent_len(), 4);
+    expect_deliveries(rt, world);
+    expect_end(rt, world);
 }
 
 /// Five messages come to two receivers, one event at a time.
 #[test]
 fn five_messages_event_by_event(rt: HostRuntime) -> Result<(), Fail> {
     let mut world = world(rt.alloc(), 1, &[4, 1])?;
-    for event in &FIVE {
-        assert!(rt; apply_again(&rt, &mut world, event).is_ok());
-    }
-    assert_eq!(rt; world.sent_len(), 4);
-    for (event, (want, r, stands)) in DELIVERIES.iter().zip([
-        (delivered(0, 0, 0), 0, (1, 6, 0, 0, false)),
-        (delivered(0, 0, 1), 0, (1, 6, 0, 0, false)),
-        (delivered(0, 2, 0), 0, (1, 6, 2, 0, false)),
-        (delivered(4, 0, 0), 0, (5, 6, 0, 4, false)),
-        (delivered(1, 0, 0), 0, (6, 6, 0, 5, true)),
-        (delivered(2, 0, 0), 1, (3, 3, 0, 2, false)),
-        (delivered(0, 0, 0), 1, (3, 3, 0, 2, false)),
-        (delivered(0, 0, 1), 1, (3, 6, 0, 2, false)),
-        (
-            Ok(Report::Burst { first: 4, count: 1 }),
-            1,
-            (3, 6, 0, 2, false),
-        ),
-        (delivered(2, 0, 0), 1, (5, 6, 0, 4, false)),
-        (delivered(0, 0, 0), 1, (5, 6, 0, 4, false)),
-        (delivered(1, 0, 0), 1, (6, 6, 0, 5, true)),
-    ]) {
-        expect(&rt, &mut world, event, want);
-        expect_receiver(&rt, &world, r, stands);
-    }
-    expect_end(&rt, &world);
+    expect_event_by_event(&rt, &mut world);
+    Ok(())
+}
+
+fn expect_run(rt: &(impl Abort + AllocGlobal), world: &mut World) -> Result<(), WorldError> {
+    run_again(rt, world, &[4, 1], &FIVE)?;
+    expect_end(rt, world);
     Ok(())
 }
 
 /// And by one run: books, views and reports are the same.
 #[test]
 fn five_messages_in_one_run(rt: HostRuntime) -> Result<(), Fail> {
-    let mut events = Vec::new(rt.alloc());
-    for event in FIVE.iter().chain(&DELIVERIES) {
-        if events.push(*event).is_err() {
-            events.push(*event)?;
-        }
-    }
-    let world = run_again(&rt, &[4, 1], &events)?;
-    expect_end(&rt, &world);
+    let mut world = world(rt.alloc(), 1, &[4, 1])?;
+    expect_run(&rt, &mut world)?;
     Ok(())
 }
 
-/// The datagram at a place has so many messages from a number on.
-fn expect_data(rt: &impl Abort, world: &World, place: usize, first: u64, count: u16) {
-    match world.sent_at(place) {
-        Some(bytes) => match decode(bytes) {
-            Ok(packet) => {
-                assert_eq!(rt; packet.session, SESSION);
-                assert_eq!(rt; packet.sequence, first);
-                match packet.body {
-                    Body::Data(blocks) => assert_eq!(rt; blocks.len(), count),
-                    _ => assert!(rt; false, "no data packet"),
-                }
-            }
-            Err(_) => assert!(rt; false, "no packet"),
-        },
-        None => assert!(rt; false, "no datagram"),
-    }
+fn expect_burst(rt: &impl Abort, world: &mut World) {
+    expect_session(rt, world);
+    let want = Ok(Report::Burst { first: 4, count: 2 });
+    expect(rt, world, &Event::Request(FROM_TWO), want);
+    same_size(rt, world.sent_len(), 6);
+    same_bytes(rt, world.sent_at(4), Some(TWO_AND_THREE));
+    same_bytes(rt, world.sent_at(5), Some(FOUR_AND_FIVE));
 }
 
 /// A burst of three has the two datagrams that there are.
 #[test]
 fn a_burst_is_sent_whole_or_not_at_all(rt: HostRuntime) -> Result<(), Fail> {
     let mut world = world(rt.alloc(), 3, &[4])?;
-    for event in &FIVE {
-        assert!(rt; apply_again(&rt, &mut world, event).is_ok());
-    }
-    assert_eq!(rt;
-        apply_again(&rt, &mut world, &Event::Request(FROM_TWO)),
-        Ok(Report::Burst { first: 4, count: 2 })
-    );
-    assert_eq!(rt; world.sent_len(), 6);
-    expect_data(&rt, &world, 4, 2, 2);
-    expect_data(&rt, &world, 5, 4, 2);
+    expect_burst(&rt, &mut world);
+    Ok(())
+}
+
+fn expect_skipped(rt: &(impl Abort + AllocGlobal), world: &mut World) -> Result<(), WorldError> {
+    run_again(rt, world, &[4, 4], &TWO_RECEIVERS)?;
+    same_size(rt, world.sent_len(), 4);
+    expect_two_standings(rt, world);
     Ok(())
 }
 
 /// A run skips the events that are refused for another cause than want of memory.
 #[test]
 fn a_run_skips_what_is_refused(rt: HostRuntime) -> Result<(), Fail> {
-    let world = run_again(&rt, &[4, 4], &TWO_RECEIVERS)?;
-    assert_eq!(rt; world.sent_len(), 4);
-    expect_receiver(&rt, &world, 0, (3, 3, 0, 2, true));
-    expect_receiver(&rt, &world, 1, (1, 1, 0, 0, false));
+    let mut world = world(rt.alloc(), 1, &[4, 4])?;
+    expect_skipped(&rt, &mut world)?;
     Ok(())
+}
+
+/// How many receivers there are with the greatest limits and burst and without a window.
+fn receivers_without_windows(alloc: Global) -> Result<usize, WorldError> {
+    Ok(World::new(alloc, SESSION, 65507, 65507, 64, &[])?.receivers())
 }
 
 /// Of several refusals the first is answered: a limit before the burst before the first bad window.
 #[test]
-fn worlds_are_refused_in_order(rt: HostRuntime) -> Result<(), Fail> {
-    for (limit, server_limit, burst, window, want) in [
-        (63, 64, 0, 0, WorldError::BadLimit),
-        (65508, 65508, 1, 4, WorldError::BadLimit),
-        (64, 65508, 1, 4, WorldError::BadLimit),
-        (65, 64, 1, 4, WorldError::BadLimit),
-        (64, 64, 0, 0, WorldError::BadBurst),
-        (64, 64, 65, 4, WorldError::BadBurst),
-        (64, 64, 64, 0, WorldError::BadWindow { r: 1 }),
-        (64, 64, 1, 65537, WorldError::BadWindow { r: 1 }),
-    ] {
-        match World::new(
-            rt.alloc(),
-            SESSION,
-            limit,
-            server_limit,
-            burst,
-            &[1, window, 0],
-        ) {
-            Ok(_) => assert!(rt; false, "made"),
-            Err(why) => assert_eq!(rt; why, want),
-        }
+fn worlds_are_refused_in_order(rt: HostRuntime) {
+    for (limit, server_limit, burst, window, want) in &REFUSED {
+        let windows = [1, *window, 0];
+        let made = World::new(rt.alloc(), SESSION, *limit, *server_limit, *burst, &windows);
+        same_refusal(&rt, made.err(), *want);
     }
-    match World::new(rt.alloc(), SESSION, 65507, 65507, 64, &[]) {
-        Ok(world) => assert_eq!(rt; world.receivers(), 0),
-        Err(why) => assert_eq!(rt; why, WorldError::Memory),
+    match receivers_without_windows(rt.alloc()) {
+        Ok(count) => same_size(&rt, count, 0),
+        Err(why) => same_refusal(&rt, Some(why), WorldError::Memory),
     }
-    Ok(())
 }
