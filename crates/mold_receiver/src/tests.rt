@@ -9,235 +9,241 @@ use std::test::Fail;
 
 const SESSION: Session = Session(*b"SESSION001");
 
-/// A packet of messages from a number on.
-fn data<'w, 'm>(alloc: Global, first: u64, messages: &'w [&'m [u8]]) -> Result<Packer, Fail> {
-    Ok(filled(Packer::new(alloc, 65507)?, first, messages))
+/// Packets of messages by their numbers: message 1 is `A`, 2 is `B` and so on.
+const DATA_1: &[u8] = b"SESSION001\0\0\0\0\0\0\0\x01\0\x01\0\x01A";
+
+const DATA_2: &[u8] = b"SESSION001\0\0\0\0\0\0\0\x02\0\x01\0\x01B";
+
+const DATA_3: &[u8] = b"SESSION001\0\0\0\0\0\0\0\x03\0\x01\0\x01C";
+
+const DATA_1_2: &[u8] = b"SESSION001\0\0\0\0\0\0\0\x01\0\x02\0\x01A\0\x01B";
+
+const DATA_2_3: &[u8] = b"SESSION001\0\0\0\0\0\0\0\x02\0\x02\0\x01B\0\x01C";
+
+const DATA_3_4: &[u8] = b"SESSION001\0\0\0\0\0\0\0\x03\0\x02\0\x01C\0\x01D";
+
+const DATA_1_3: &[u8] = b"SESSION001\0\0\0\0\0\0\0\x01\0\x03\0\x01A\0\x01B\0\x01C";
+
+/// Ends after 2 and 3 messages.
+const END_3: &[u8] = b"SESSION001\0\0\0\0\0\0\0\x03\xff\xff";
+
+const END_4: &[u8] = b"SESSION001\0\0\0\0\0\0\0\x04\xff\xff";
+
+fn same_number(rt: &impl Abort, found: u64, wanted: u64) {
+    assert_eq!(rt; found, wanted);
 }
 
-fn filled<'w, 'm>(packer: Packer, first: u64, messages: &'w [&'m [u8]]) -> Packer {
-    let mut packer = packer;
-    packer.start(SESSION, first);
-    for message in messages {
-        packer.add(message);
-    }
-    packer
+fn same_maybe(rt: &impl Abort, found: Option<u64>, wanted: Option<u64>) {
+    assert_eq!(rt; found, wanted);
 }
 
-fn end(alloc: Global, number: u64) -> Result<Packer, Fail> {
-    let mut packer = Packer::new(alloc, 64)?;
-    packer.end(SESSION, number);
-    Ok(packer)
+fn same_truth(rt: &impl Abort, found: bool, wanted: bool) {
+    assert_eq!(rt; found, wanted);
 }
 
-fn take(
-    rt: &impl Abort,
-    receiver: &mut Receiver,
-    packet: &Packer,
-    batch: &mut Batch,
-) -> Result<Taken, Refused> {
-    assert!(rt; batch.follows(receiver.next()));
-    receiver.take(packet.bytes(), batch)
+fn same_message(rt: &impl Abort, found: Option<&[u8]>, wanted: Option<&[u8]>) {
+    assert_eq!(rt; found, wanted);
 }
 
-fn expect_taken(
-    rt: &impl Abort,
-    receiver: &mut Receiver,
-    packet: &Packer,
-    batch: &mut Batch,
-    counts: (u32, u32, u32),
-) {
+fn same_outcome(rt: &impl Abort, found: Result<Taken, Refused>, wanted: Result<Taken, Refused>) {
+    assert_eq!(rt; found, wanted);
+}
+
+fn same_error(rt: &impl Abort, found: ReceiverError, wanted: ReceiverError) {
+    assert_eq!(rt; found, wanted);
+}
+
+fn same_report(rt: &impl Abort, found: LineReport, wanted: LineReport) {
+    assert_eq!(rt; found, wanted);
+}
+
+fn handed_kept_beyond(counts: (u32, u32, u32)) -> Result<Taken, Refused> {
     let (handed, kept, beyond) = counts;
-    assert_eq!(rt;
-        take(rt, receiver, packet, batch),
-        Ok(Taken {
-            handed,
-            kept,
-            beyond
-        })
-    );
-}
-
-fn expect_refused(
-    rt: &impl Abort,
-    receiver: &mut Receiver,
-    packet: &Packer,
-    batch: &mut Batch,
-    refused: Refused,
-) {
-    let (next, known, stored, len) = (
-        receiver.next(),
-        receiver.known(),
-        receiver.stored(),
-        batch.len(),
-    );
-    assert_eq!(rt; take(rt, receiver, packet, batch), Err(refused));
-    assert_eq!(rt;
-        (
-            receiver.next(),
-            receiver.known(),
-            receiver.stored(),
-            batch.len()
-        ),
-        (next, known, stored, len)
-    );
-}
-
-fn expect_wanted(rt: &impl Abort, receiver: &Receiver, wanted: Option<(u64, u16)>) {
-    let request = receiver
-        .wanted()
-        .map(|request| (request.sequence, request.count));
-    assert_eq!(rt; request, wanted);
+    Ok(Taken {
+        handed,
+        kept,
+        beyond,
+    })
 }
 
 fn expect_batch<'w, 'm>(rt: &impl Abort, batch: &Batch, first: u64, messages: &'w [&'m [u8]]) {
-    assert_eq!(rt; batch.len(), messages.len());
-    assert_eq!(rt; batch.first(), Some(first));
-    assert_eq!(rt; batch.after(), first.checked_add(messages.len() as u64));
+    same_number(rt, batch.len() as u64, messages.len() as u64);
+    same_maybe(rt, batch.first(), Some(first));
+    same_maybe(rt, batch.after(), first.checked_add(messages.len() as u64));
     let mut i = 0usize;
     for message in messages {
-        assert_eq!(rt; batch.get(i), Some(*message));
+        same_message(rt, batch.get(i), Some(*message));
         i = i.saturating_add(1);
     }
-    assert_eq!(rt; batch.get(i), None);
+    same_message(rt, batch.get(i), None);
+}
+
+/// A receiver of the session, and the batch that it hands on to.
+#[derive(Drop)]
+struct Reception {
+    receiver: Receiver,
+    batch: Batch,
+}
+
+/// What a refusal leaves: `next`, `known`, how many are stored, the batch's length and first number.
+type State = (u64, u64, u32, usize, Option<u64>);
+
+impl Reception {
+    fn new(alloc: Global, next: u64, window: u32) -> Result<Reception, Fail> {
+        let receiver = Receiver::new(alloc, SESSION, next, window)?;
+        Ok(Reception::of(alloc, receiver))
+    }
+
+    fn of(alloc: Global, receiver: Receiver) -> Reception {
+        Reception {
+            receiver,
+            batch: Batch::new(alloc),
+        }
+    }
+
+    fn state(&self) -> State {
+        (
+            self.receiver.next(),
+            self.receiver.known(),
+            self.receiver.stored(),
+            self.batch.len(),
+            self.batch.first(),
+        )
+    }
+
+    fn expect_state(&self, rt: &impl Abort, wanted: State) {
+        assert_eq!(rt; self.state(), wanted);
+    }
+
+    fn take(&mut self, rt: &impl Abort, packet: &[u8]) -> Result<Taken, Refused> {
+        assert!(rt; self.batch.follows(self.receiver.next()));
+        self.receiver.take(packet, &mut self.batch)
+    }
+
+    fn expect_taken(&mut self, rt: &impl Abort, packet: &[u8], counts: (u32, u32, u32)) {
+        same_outcome(rt, self.take(rt, packet), handed_kept_beyond(counts));
+    }
+
+    fn expect_refused(&mut self, rt: &impl Abort, packet: &[u8], refused: Refused) {
+        let before = self.state();
+        same_outcome(rt, self.take(rt, packet), Err(refused));
+        self.expect_state(rt, before);
+    }
+
+    /// Takes a packet, once more where memory was refused: receiver and batch were then as before.
+    fn take_again(&mut self, rt: &impl Abort, packet: &[u8]) {
+        let before = self.state();
+        if self.take(rt, packet) == Err(Refused::Memory) {
+            self.expect_state(rt, before);
+            assert!(rt; self.take(rt, packet).is_ok());
+        }
+    }
+
+    fn expect_next(&self, rt: &impl Abort, wanted: u64) {
+        same_number(rt, self.receiver.next(), wanted);
+    }
+
+    fn expect_known(&self, rt: &impl Abort, wanted: u64) {
+        same_number(rt, self.receiver.known(), wanted);
+    }
+
+    fn expect_stored(&self, rt: &impl Abort, wanted: u32) {
+        same_number(rt, u64::from(self.receiver.stored()), u64::from(wanted));
+    }
+
+    fn expect_numbers(&self, rt: &impl Abort, next: u64, known: u64, stored: u32) {
+        self.expect_next(rt, next);
+        self.expect_known(rt, known);
+        self.expect_stored(rt, stored);
+    }
+
+    fn expect_wanted(&self, rt: &impl Abort, wanted: Option<(u64, u16)>) {
+        let request = self
+            .receiver
+            .wanted()
+            .map(|request| (request.sequence, request.count));
+        assert_eq!(rt; request, wanted);
+    }
+
+    fn expect_batch<'w, 'm>(&self, rt: &impl Abort, first: u64, messages: &'w [&'m [u8]]) {
+        expect_batch(rt, &self.batch, first, messages);
+    }
+}
+
+fn expect_session_and_window(rt: &impl Abort, receiver: &Receiver, window: u32) {
+    assert!(rt; receiver.session() == SESSION);
+    same_number(rt, u64::from(receiver.window()), u64::from(window));
 }
 
 #[test]
 fn receiver_backwards(rt: HostRuntime) -> Result<(), Fail> {
-    let mut receiver = Receiver::new(rt.alloc(), SESSION, 1, 4)?;
-    let mut batch = Batch::new(rt.alloc());
-    assert_eq!(rt; receiver.session(), SESSION);
-    assert_eq!(rt; receiver.window(), 4);
-    expect_wanted(&rt, &receiver, None);
-    expect_taken(
-        &rt,
-        &mut receiver,
-        &data(rt.alloc(), 3, &[b"C"])?,
-        &mut batch,
-        (0, 1, 0),
-    );
-    assert_eq!(rt; receiver.known(), 4);
-    expect_wanted(&rt, &receiver, Some((1, 2)));
-    expect_taken(
-        &rt,
-        &mut receiver,
-        &data(rt.alloc(), 2, &[b"B"])?,
-        &mut batch,
-        (0, 1, 0),
-    );
-    expect_wanted(&rt, &receiver, Some((1, 1)));
-    assert_eq!(rt; receiver.stored(), 2);
-    expect_taken(
-        &rt,
-        &mut receiver,
-        &data(rt.alloc(), 1, &[b"A"])?,
-        &mut batch,
-        (3, 0, 0),
-    );
-    expect_batch(&rt, &batch, 1, &[b"A", b"B", b"C"]);
-    assert_eq!(rt;
-        (receiver.next(), receiver.known(), receiver.stored()),
-        (4, 4, 0)
-    );
-    expect_wanted(&rt, &receiver, None);
+    let mut reception = Reception::new(rt.alloc(), 1, 4)?;
+    expect_session_and_window(&rt, &reception.receiver, 4);
+    reception.expect_wanted(&rt, None);
+    reception.expect_taken(&rt, DATA_3, (0, 1, 0));
+    reception.expect_known(&rt, 4);
+    reception.expect_wanted(&rt, Some((1, 2)));
+    reception.expect_taken(&rt, DATA_2, (0, 1, 0));
+    reception.expect_wanted(&rt, Some((1, 1)));
+    reception.expect_stored(&rt, 2);
+    reception.expect_taken(&rt, DATA_1, (3, 0, 0));
+    reception.expect_batch(&rt, 1, &[b"A", b"B", b"C"]);
+    reception.expect_numbers(&rt, 4, 4, 0);
+    reception.expect_wanted(&rt, None);
     Ok(())
 }
 
 #[test]
 fn beyond_the_window(rt: HostRuntime) -> Result<(), Fail> {
-    let mut receiver = Receiver::new(rt.alloc(), SESSION, 1, 4)?;
-    let mut batch = Batch::new(rt.alloc());
-    let eight = data(
-        rt.alloc(),
-        2,
-        &[b"2", b"3", b"4", b"5", b"6", b"7", b"8", b"9"],
-    )?;
-    expect_taken(&rt, &mut receiver, &eight, &mut batch, (0, 3, 5));
-    assert_eq!(rt; receiver.known(), 10);
-    expect_wanted(&rt, &receiver, Some((1, 1)));
-    expect_taken(
-        &rt,
-        &mut receiver,
-        &data(rt.alloc(), 1, &[b"1"])?,
-        &mut batch,
-        (4, 0, 0),
-    );
-    assert_eq!(rt; receiver.next(), 5);
-    expect_batch(&rt, &batch, 1, &[b"1", b"2", b"3", b"4"]);
-    expect_wanted(&rt, &receiver, Some((5, 5)));
+    let mut reception = Reception::new(rt.alloc(), 1, 4)?;
+    let eight = b"SESSION001\0\0\0\0\0\0\0\x02\0\x08\
+        \0\x012\0\x013\0\x014\0\x015\0\x016\0\x017\0\x018\0\x019";
+    reception.expect_taken(&rt, eight, (0, 3, 5));
+    reception.expect_known(&rt, 10);
+    reception.expect_wanted(&rt, Some((1, 1)));
+    let one = b"SESSION001\0\0\0\0\0\0\0\x01\0\x01\0\x011";
+    reception.expect_taken(&rt, one, (4, 0, 0));
+    reception.expect_next(&rt, 5);
+    reception.expect_batch(&rt, 1, &[b"1", b"2", b"3", b"4"]);
+    reception.expect_wanted(&rt, Some((5, 5)));
     Ok(())
 }
 
 #[test]
 fn packet_longer_than_window(rt: HostRuntime) -> Result<(), Fail> {
-    let mut receiver = Receiver::new(rt.alloc(), SESSION, 1, 1)?;
-    let mut batch = Batch::new(rt.alloc());
-    let nine = data(
-        rt.alloc(),
-        1,
-        &[b"1", b"2", b"3", b"4", b"5", b"6", b"7", b"8", b"9"],
-    )?;
-    expect_taken(&rt, &mut receiver, &nine, &mut batch, (9, 0, 0));
-    assert_eq!(rt; receiver.next(), 10);
-    assert_eq!(rt; batch.len(), 9);
+    let mut reception = Reception::new(rt.alloc(), 1, 1)?;
+    let nine = b"SESSION001\0\0\0\0\0\0\0\x01\0\x09\
+        \0\x011\0\x012\0\x013\0\x014\0\x015\0\x016\0\x017\0\x018\0\x019";
+    reception.expect_taken(&rt, nine, (9, 0, 0));
+    reception.expect_next(&rt, 10);
+    same_number(&rt, reception.batch.len() as u64, 9);
     Ok(())
 }
 
 #[test]
 fn top_of_numbers(rt: HostRuntime) -> Result<(), Fail> {
-    let mut receiver = Receiver::new(rt.alloc(), SESSION, 1, 4)?;
-    let mut batch = Batch::new(rt.alloc());
-    expect_refused(
-        &rt,
-        &mut receiver,
-        &data(rt.alloc(), 18446744073709551615, &[b"A"])?,
-        &mut batch,
-        Refused::PastLast,
-    );
-    expect_taken(
-        &rt,
-        &mut receiver,
-        &data(rt.alloc(), 18446744073709551615, &[])?,
-        &mut batch,
-        (0, 0, 0),
-    );
-    assert_eq!(rt; receiver.known(), 18446744073709551615);
-    expect_wanted(&rt, &receiver, Some((1, 65534)));
+    let mut reception = Reception::new(rt.alloc(), 1, 4)?;
+    let past = b"SESSION001\xff\xff\xff\xff\xff\xff\xff\xff\0\x01\0\x01A";
+    reception.expect_refused(&rt, past, Refused::PastLast);
+    let heartbeat = b"SESSION001\xff\xff\xff\xff\xff\xff\xff\xff\0\0";
+    reception.expect_taken(&rt, heartbeat, (0, 0, 0));
+    reception.expect_known(&rt, 18446744073709551615);
+    reception.expect_wanted(&rt, Some((1, 65534)));
     Ok(())
 }
 
 #[test]
 fn conflict(rt: HostRuntime) -> Result<(), Fail> {
-    let mut receiver = Receiver::new(rt.alloc(), SESSION, 1, 4)?;
-    let mut batch = Batch::new(rt.alloc());
-    expect_taken(
-        &rt,
-        &mut receiver,
-        &data(rt.alloc(), 3, &[b"X"])?,
-        &mut batch,
-        (0, 1, 0),
-    );
-    expect_refused(
-        &rt,
-        &mut receiver,
-        &data(rt.alloc(), 3, &[b"Y"])?,
-        &mut batch,
-        Refused::Conflict { number: 3 },
-    );
-    expect_refused(
-        &rt,
-        &mut receiver,
-        &data(rt.alloc(), 1, &[b"A", b"B", b"Y"])?,
-        &mut batch,
-        Refused::Conflict { number: 3 },
-    );
-    expect_taken(
-        &rt,
-        &mut receiver,
-        &data(rt.alloc(), 1, &[b"A", b"B"])?,
-        &mut batch,
-        (3, 0, 0),
-    );
-    expect_batch(&rt, &batch, 1, &[b"A", b"B", b"X"]);
+    let mut reception = Reception::new(rt.alloc(), 1, 4)?;
+    let refused = Refused::Conflict { number: 3 };
+    let stored = b"SESSION001\0\0\0\0\0\0\0\x03\0\x01\0\x01X";
+    reception.expect_taken(&rt, stored, (0, 1, 0));
+    let other = b"SESSION001\0\0\0\0\0\0\0\x03\0\x01\0\x01Y";
+    reception.expect_refused(&rt, other, refused);
+    let three = b"SESSION001\0\0\0\0\0\0\0\x01\0\x03\0\x01A\0\x01B\0\x01Y";
+    reception.expect_refused(&rt, three, refused);
+    reception.expect_taken(&rt, DATA_1_2, (3, 0, 0));
+    reception.expect_batch(&rt, 1, &[b"A", b"B", b"X"]);
     Ok(())
 }
 
@@ -250,7 +256,7 @@ fn receivers_are_refused_in_order(rt: HostRuntime) -> Result<(), Fail> {
     ] {
         match Receiver::new(rt.alloc(), SESSION, next, window) {
             Ok(_) => assert!(rt; false, "made at {next}"),
-            Err(error) => assert_eq!(rt; error, want),
+            Err(error) => same_error(&rt, error, want),
         }
     }
     Ok(())
@@ -258,240 +264,193 @@ fn receivers_are_refused_in_order(rt: HostRuntime) -> Result<(), Fail> {
 
 #[test]
 fn the_end_bounds_what_comes(rt: HostRuntime) -> Result<(), Fail> {
-    let mut receiver = Receiver::new(rt.alloc(), SESSION, 1, 4)?;
-    let mut batch = Batch::new(rt.alloc());
-    expect_taken(
-        &rt,
-        &mut receiver,
-        &end(rt.alloc(), 3)?,
-        &mut batch,
-        (0, 0, 0),
-    );
-    assert_eq!(rt;
-        (receiver.known(), receiver.ended(), receiver.finished()),
-        (3, Some(3), false)
-    );
-    expect_wanted(&rt, &receiver, Some((1, 2)));
-    expect_refused(
-        &rt,
-        &mut receiver,
-        &end(rt.alloc(), 4)?,
-        &mut batch,
-        Refused::EndConflict { end: 3 },
-    );
-    expect_refused(
-        &rt,
-        &mut receiver,
-        &data(rt.alloc(), 4, &[])?,
-        &mut batch,
-        Refused::PastEnd { end: 3 },
-    );
-    expect_refused(
-        &rt,
-        &mut receiver,
-        &data(rt.alloc(), 2, &[b"B", b"C"])?,
-        &mut batch,
-        Refused::PastEnd { end: 3 },
-    );
-    expect_taken(
-        &rt,
-        &mut receiver,
-        &data(rt.alloc(), 1, &[b"A", b"B"])?,
-        &mut batch,
-        (2, 0, 0),
-    );
-    assert_eq!(rt; (receiver.next(), receiver.finished()), (3, true));
+    let mut reception = Reception::new(rt.alloc(), 1, 4)?;
+    reception.expect_taken(&rt, END_3, (0, 0, 0));
+    reception.expect_known(&rt, 3);
+    same_maybe(&rt, reception.receiver.ended(), Some(3));
+    same_truth(&rt, reception.receiver.finished(), false);
+    reception.expect_wanted(&rt, Some((1, 2)));
+    reception.expect_refused(&rt, END_4, Refused::EndConflict { end: 3 });
+    let past_end = Refused::PastEnd { end: 3 };
+    let heartbeat = b"SESSION001\0\0\0\0\0\0\0\x04\0\0";
+    reception.expect_refused(&rt, heartbeat, past_end);
+    reception.expect_refused(&rt, DATA_2_3, past_end);
+    reception.expect_taken(&rt, DATA_1_2, (2, 0, 0));
+    reception.expect_next(&rt, 3);
+    same_truth(&rt, reception.receiver.finished(), true);
     Ok(())
 }
 
 #[test]
 fn refusals_come_in_order(rt: HostRuntime) -> Result<(), Fail> {
-    let mut receiver = Receiver::new(rt.alloc(), SESSION, 5, 4)?;
-    let mut batch = Batch::new(rt.alloc());
-    expect_refused(
-        &rt,
-        &mut receiver,
-        &end(rt.alloc(), 3)?,
-        &mut batch,
-        Refused::EndBelow { known: 5 },
-    );
-    expect_refused(
-        &rt,
-        &mut receiver,
-        &data(rt.alloc(), 0, &[b"A"])?,
-        &mut batch,
-        Refused::SequenceZero,
-    );
-    let mut other = Packer::new(rt.alloc(), 64)?;
-    expect_refused(
-        &rt,
-        &mut receiver,
-        &other,
-        &mut batch,
-        Refused::Malformed(DecodeError::Short { len: 0 }),
-    );
-    other.start(Session(*b"SESSION002"), 0);
-    expect_refused(
-        &rt,
-        &mut receiver,
-        &other,
-        &mut batch,
-        Refused::WrongSession,
-    );
+    let mut reception = Reception::new(rt.alloc(), 5, 4)?;
+    reception.expect_refused(&rt, END_3, Refused::EndBelow { known: 5 });
+    let zero = b"SESSION001\0\0\0\0\0\0\0\0\0\x01\0\x01A";
+    reception.expect_refused(&rt, zero, Refused::SequenceZero);
+    let short = Refused::Malformed(DecodeError::Short { len: 0 });
+    reception.expect_refused(&rt, b"", short);
+    let other = b"SESSION002\0\0\0\0\0\0\0\0\0\0";
+    reception.expect_refused(&rt, other, Refused::WrongSession);
     Ok(())
+}
+
+fn expect_empty(rt: &impl Abort, batch: &Batch) {
+    same_maybe(rt, batch.first(), None);
+    same_maybe(rt, batch.after(), None);
+    same_truth(rt, batch.is_empty(), true);
 }
 
 #[test]
 fn a_batch_begins_at_next_and_is_cut(rt: HostRuntime) -> Result<(), Fail> {
-    let mut receiver = Receiver::new(rt.alloc(), SESSION, 2, 4)?;
-    let mut batch = Batch::new(rt.alloc());
-    assert_eq!(rt;
-        (batch.first(), batch.after(), batch.is_empty()),
-        (None, None, true)
-    );
-    expect_taken(
-        &rt,
-        &mut receiver,
-        &data(rt.alloc(), 1, &[b"A", b"B", b"C"])?,
-        &mut batch,
-        (2, 0, 0),
-    );
-    expect_batch(&rt, &batch, 2, &[b"B", b"C"]);
-    assert_eq!(rt; (batch.follows(4), batch.follows(2)), (true, false));
-    batch.truncate(1);
-    expect_batch(&rt, &batch, 2, &[b"B"]);
-    batch.clear();
-    assert_eq!(rt; (batch.len(), batch.follows(7)), (0, true));
+    let mut reception = Reception::new(rt.alloc(), 2, 4)?;
+    expect_empty(&rt, &reception.batch);
+    reception.expect_taken(&rt, DATA_1_3, (2, 0, 0));
+    reception.expect_batch(&rt, 2, &[b"B", b"C"]);
+    same_truth(&rt, reception.batch.follows(4), true);
+    same_truth(&rt, reception.batch.follows(2), false);
+    reception.batch.truncate(1);
+    reception.expect_batch(&rt, 2, &[b"B"]);
+    reception.batch.clear();
+    same_number(&rt, reception.batch.len() as u64, 0);
+    same_truth(&rt, reception.batch.follows(7), true);
     Ok(())
 }
 
-fn expect_lines(rt: &impl Abort, arbiter: &Arbiter, a: (u64, u64, u64), b: (u64, u64, u64)) {
-    for (line, want) in [(Line::A, a), (Line::B, b)] {
-        let (datagrams, refused, front) = want;
-        assert_eq!(rt;
-            arbiter.report(line),
-            LineReport {
-                datagrams,
-                refused,
-                front
-            }
-        );
+/// An arbiter at message 1 with a window of 4, and the batch that it hands on to.
+#[derive(Drop)]
+struct Arbitration {
+    arbiter: Arbiter,
+    batch: Batch,
+}
+
+impl Arbitration {
+    fn new(alloc: Global) -> Result<Arbitration, Fail> {
+        let receiver = Receiver::new(alloc, SESSION, 1, 4)?;
+        Ok(Arbitration {
+            arbiter: Arbiter::new(receiver),
+            batch: Batch::new(alloc),
+        })
+    }
+
+    /// Takes a packet of a line, or an answer, which is on none.
+    fn take(
+        &mut self,
+        rt: &impl Abort,
+        line: Option<Line>,
+        packet: &[u8],
+    ) -> Result<Taken, Refused> {
+        assert!(rt; self.batch.follows(self.arbiter.receiver().next()));
+        match line {
+            Some(line) => self.arbiter.take(line, packet, &mut self.batch),
+            None => self.arbiter.take_answer(packet, &mut self.batch),
+        }
+    }
+
+    fn expect_taken(
+        &mut self,
+        rt: &impl Abort,
+        line: Option<Line>,
+        packet: &[u8],
+        counts: (u32, u32, u32),
+    ) {
+        let found = self.take(rt, line, packet);
+        same_outcome(rt, found, handed_kept_beyond(counts));
+    }
+
+    fn expect_line(&self, rt: &impl Abort, line: Line, wanted: (u64, u64, u64)) {
+        let (datagrams, refused, front) = wanted;
+        let report = LineReport {
+            datagrams,
+            refused,
+            front,
+        };
+        same_report(rt, self.arbiter.report(line), report);
+    }
+
+    fn expect_lines(&self, rt: &impl Abort, a: (u64, u64, u64), b: (u64, u64, u64)) {
+        self.expect_line(rt, Line::A, a);
+        self.expect_line(rt, Line::B, b);
+    }
+
+    fn expect_lag(&self, rt: &impl Abort, line: Line, wanted: u64) {
+        same_number(rt, self.arbiter.lag(line), wanted);
     }
 }
 
 #[test]
 fn two_lines(rt: HostRuntime) -> Result<(), Fail> {
-    let mut arbiter = Arbiter::new(Receiver::new(rt.alloc(), SESSION, 1, 4)?);
-    let mut batch = Batch::new(rt.alloc());
-    let three = data(rt.alloc(), 1, &[b"A", b"B", b"C"])?;
-    let taken = arbiter.take(Line::A, three.bytes(), &mut batch)?;
-    assert_eq!(rt; (taken.handed, taken.kept, taken.beyond), (3, 0, 0));
-    expect_lines(&rt, &arbiter, (1, 0, 4), (0, 0, 1));
-    assert_eq!(rt; (arbiter.lag(Line::A), arbiter.lag(Line::B)), (0, 3));
-    assert!(rt; batch.follows(arbiter.receiver().next()));
-    let taken = arbiter.take(Line::B, three.bytes(), &mut batch)?;
-    assert_eq!(rt; (taken.handed, taken.kept, taken.beyond), (0, 0, 0));
-    expect_lines(&rt, &arbiter, (1, 0, 4), (1, 0, 4));
-    assert_eq!(rt; arbiter.lag(Line::B), 0);
-    expect_batch(&rt, &batch, 1, &[b"A", b"B", b"C"]);
+    let mut arbitration = Arbitration::new(rt.alloc())?;
+    arbitration.expect_taken(&rt, Some(Line::A), DATA_1_3, (3, 0, 0));
+    arbitration.expect_lines(&rt, (1, 0, 4), (0, 0, 1));
+    arbitration.expect_lag(&rt, Line::A, 0);
+    arbitration.expect_lag(&rt, Line::B, 3);
+    arbitration.expect_taken(&rt, Some(Line::B), DATA_1_3, (0, 0, 0));
+    arbitration.expect_lines(&rt, (1, 0, 4), (1, 0, 4));
+    arbitration.expect_lag(&rt, Line::B, 0);
+    expect_batch(&rt, &arbitration.batch, 1, &[b"A", b"B", b"C"]);
     Ok(())
 }
 
 #[test]
 fn answers_are_on_no_line(rt: HostRuntime) -> Result<(), Fail> {
-    let mut arbiter = Arbiter::new(Receiver::new(rt.alloc(), SESSION, 1, 4)?);
-    let mut batch = Batch::new(rt.alloc());
-    let three = data(rt.alloc(), 1, &[b"A", b"B", b"C"])?;
-    let taken = arbiter.take_answer(three.bytes(), &mut batch)?;
-    assert_eq!(rt; (taken.handed, taken.kept, taken.beyond), (3, 0, 0));
-    expect_lines(&rt, &arbiter, (0, 0, 1), (0, 0, 1));
-    assert_eq!(rt; (arbiter.lag(Line::A), arbiter.lag(Line::B)), (3, 3));
-    assert!(rt; batch.follows(arbiter.receiver().next()));
-    assert_eq!(rt;
-        arbiter.take(Line::A, b"\0", &mut batch),
-        Err(Refused::Malformed(DecodeError::Short { len: 1 }))
-    );
-    expect_lines(&rt, &arbiter, (0, 1, 1), (0, 0, 1));
+    let mut arbitration = Arbitration::new(rt.alloc())?;
+    arbitration.expect_taken(&rt, None, DATA_1_3, (3, 0, 0));
+    arbitration.expect_lines(&rt, (0, 0, 1), (0, 0, 1));
+    arbitration.expect_lag(&rt, Line::A, 3);
+    arbitration.expect_lag(&rt, Line::B, 3);
+    let found = arbitration.take(&rt, Some(Line::A), b"\0");
+    let short = Refused::Malformed(DecodeError::Short { len: 1 });
+    same_outcome(&rt, found, Err(short));
+    arbitration.expect_lines(&rt, (0, 1, 1), (0, 0, 1));
+    Ok(())
+}
+
+/// Makes a packet of 13,107 messages `x`.
+fn fill(packer: &mut Packer, first: u64) {
+    packer.start(SESSION, first);
+    for _ in 0..13107u16 {
+        packer.add(b"x");
+    }
+}
+
+/// Takes the messages 2 to 65,536, in five packets.
+fn take_five(rt: &impl Abort, alloc: Global, reception: &mut Reception) -> Result<(), Fail> {
+    let mut packer = Packer::new(alloc, 65507)?;
+    let mut first = 2u64;
+    for _ in 0..5u8 {
+        fill(&mut packer, first);
+        reception.take(rt, packer.bytes())?;
+        first = first.saturating_add(13107);
+    }
     Ok(())
 }
 
 /// The greatest window takes its last number first.
 #[test]
 fn a_full_window_is_handed_on_at_once(rt: HostRuntime) -> Result<(), Fail> {
-    let mut receiver = Receiver::new(rt.alloc(), SESSION, 1, 65536)?;
-    let mut batch = Batch::new(rt.alloc());
-    expect_taken(
-        &rt,
-        &mut receiver,
-        &data(rt.alloc(), 65536, &[b"x"])?,
-        &mut batch,
-        (0, 1, 0),
-    );
-    expect_wanted(&rt, &receiver, Some((1, 65534)));
-    expect_taken(
-        &rt,
-        &mut receiver,
-        &data(rt.alloc(), 65537, &[b"!"])?,
-        &mut batch,
-        (0, 0, 1),
-    );
-    let mut packer = Packer::new(rt.alloc(), 65507)?;
-    let mut first = 2u64;
-    for _ in 0..5u8 {
-        packer.start(SESSION, first);
-        for _ in 0..13107u16 {
-            packer.add(b"x");
-        }
-        assert!(rt; batch.follows(receiver.next()));
-        receiver.take(packer.bytes(), &mut batch)?;
-        first = first.saturating_add(13107);
-    }
-    assert_eq!(rt; receiver.stored(), 65535);
-    expect_wanted(&rt, &receiver, Some((1, 1)));
-    expect_taken(
-        &rt,
-        &mut receiver,
-        &data(rt.alloc(), 1, &[b"A"])?,
-        &mut batch,
-        (65536, 0, 0),
-    );
-    assert_eq!(rt;
-        (receiver.next(), receiver.known(), receiver.stored()),
-        (65537, 65538, 0)
-    );
-    assert_eq!(rt; batch.get(65535), Some(b"x".as_slice()));
+    let mut reception = Reception::new(rt.alloc(), 1, 65536)?;
+    let last = b"SESSION001\0\0\0\0\0\x01\0\0\0\x01\0\x01x";
+    reception.expect_taken(&rt, last, (0, 1, 0));
+    reception.expect_wanted(&rt, Some((1, 65534)));
+    let beyond = b"SESSION001\0\0\0\0\0\x01\0\x01\0\x01\0\x01!";
+    reception.expect_taken(&rt, beyond, (0, 0, 1));
+    take_five(&rt, rt.alloc(), &mut reception)?;
+    reception.expect_stored(&rt, 65535);
+    reception.expect_wanted(&rt, Some((1, 1)));
+    reception.expect_taken(&rt, DATA_1, (65536, 0, 0));
+    reception.expect_numbers(&rt, 65537, 65538, 0);
+    same_message(&rt, reception.batch.get(65535), Some(b"x".as_slice()));
     Ok(())
 }
 
-/// Takes a packet, once more where memory was refused: receiver and batch were then as before.
-fn take_again(rt: &impl Abort, receiver: &mut Receiver, packet: &Packer, batch: &mut Batch) {
-    let before = (
-        receiver.next(),
-        receiver.known(),
-        receiver.stored(),
-        batch.len(),
-        batch.first(),
-    );
-    if take(rt, receiver, packet, batch) == Err(Refused::Memory) {
-        assert_eq!(rt;
-            (
-                receiver.next(),
-                receiver.known(),
-                receiver.stored(),
-                batch.len(),
-                batch.first()
-            ),
-            before
-        );
-        assert!(rt; take(rt, receiver, packet, batch).is_ok());
-    }
-}
-
-/// A packer, made once more where memory was refused.
-fn packer_again(alloc: Global) -> Result<Packer, Fail> {
-    match Packer::new(alloc, 65507) {
-        Ok(packer) => Ok(packer),
-        Err(_) => Ok(Packer::new(alloc, 65507)?),
+/// A receiver at message 1 with a window of 8, made once more where memory was refused.
+fn receiver_again(rt: &impl Abort, alloc: Global) -> Result<Receiver, Fail> {
+    match Receiver::new(alloc, SESSION, 1, 8) {
+        Ok(receiver) => Ok(receiver),
+        Err(error) => {
+            same_error(rt, error, ReceiverError::Memory);
+            Ok(Receiver::new(alloc, SESSION, 1, 8)?)
+        }
     }
 }
 
@@ -499,21 +458,11 @@ fn packer_again(alloc: Global) -> Result<Packer, Fail> {
 /// refuses the Nth one.
 #[test]
 fn a_refused_growth_changes_nothing(rt: HostRuntime) -> Result<(), Fail> {
-    let (above, first) = (
-        filled(packer_again(rt.alloc())?, 3, &[b"C", b"D"]),
-        filled(packer_again(rt.alloc())?, 1, &[b"A", b"B"]),
-    );
-    let mut receiver = match Receiver::new(rt.alloc(), SESSION, 1, 8) {
-        Ok(receiver) => receiver,
-        Err(error) => {
-            assert_eq!(rt; error, ReceiverError::Memory);
-            Receiver::new(rt.alloc(), SESSION, 1, 8)?
-        }
-    };
-    let mut batch = Batch::new(rt.alloc());
-    take_again(&rt, &mut receiver, &above, &mut batch);
-    assert_eq!(rt; receiver.stored(), 2);
-    take_again(&rt, &mut receiver, &first, &mut batch);
-    expect_batch(&rt, &batch, 1, &[b"A", b"B", b"C", b"D"]);
+    let receiver = receiver_again(&rt, rt.alloc())?;
+    let mut reception = Reception::of(rt.alloc(), receiver);
+    reception.take_again(&rt, DATA_3_4);
+    reception.expect_stored(&rt, 2);
+    reception.take_again(&rt, DATA_1_2);
+    reception.expect_batch(&rt, 1, &[b"A", b"B", b"C", b"D"]);
     Ok(())
 }

@@ -1,5 +1,6 @@
 //! The file of a journal: worked examples, and devices that give and take one byte a call and fail.
 
+use crate::tests::{same_bytes, same_number};
 use crate::{FileError, Journal, Upgraded, upgrade};
 use mold_devices::{MemorySink, MemorySource};
 use mold_wire::Session;
@@ -16,6 +17,32 @@ const OPEN: [u8; 33] = *b"MOLDJNL2SESSION001\x00\x00\x00\x00\x00\x00\x00\x00\x02
 const CLOSED: [u8; 33] =
     *b"MOLDJNL2SESSION001\x01\x00\x00\x00\x00\x00\x00\x00\x02\x00\x02AB\x00\x00";
 
+/// The same, with two bytes behind it.
+const LONGER: [u8; 35] =
+    *b"MOLDJNL2SESSION001\x01\x00\x00\x00\x00\x00\x00\x00\x02\x00\x02AB\x00\x00\x00\x00";
+
+/// The same as the closed one, but for the byte that says whether it is closed.
+const BAD_FLAG: [u8; 33] =
+    *b"MOLDJNL2SESSION001\x02\x00\x00\x00\x00\x00\x00\x00\x02\x00\x02AB\x00\x00";
+
+/// The file of version 1 of `AB` and an empty message.
+const FIRST: [u8; 24] = *b"MOLDJNL1SESSION001\x00\x02AB\x00\x00";
+
+fn same_message(rt: &impl Abort, found: Option<&[u8]>, wanted: Option<&[u8]>) {
+    assert_eq!(rt; found, wanted);
+}
+
+fn same_saved(rt: &impl Abort, found: Result<(), FileError>, wanted: Result<(), FileError>) {
+    assert_eq!(rt; found, wanted);
+}
+
+/// How many messages a journal has that was loaded, and whether it is closed.
+type Loaded = Result<(u64, bool), FileError>;
+
+fn same_loaded(rt: &impl Abort, found: Loaded, wanted: Loaded) {
+    assert_eq!(rt; found, wanted);
+}
+
 fn two_messages(alloc: Global) -> Result<Journal, Fail> {
     let mut journal = Journal::new(alloc, SESSION, 42);
     journal.append(b"AB")?;
@@ -23,19 +50,31 @@ fn two_messages(alloc: Global) -> Result<Journal, Fail> {
     Ok(journal)
 }
 
+/// The journal is saved as these bytes, by fewer writes than the one that fails; 0 is none.
+fn expect_saved(rt: &impl Abort, alloc: Global, journal: &Journal, fails_at: u64, want: &[u8]) {
+    let mut sink = MemorySink::new(alloc);
+    sink.fail_at(fails_at);
+    same_saved(rt, journal.save(&mut sink), Ok(()));
+    same_bytes(rt, sink.bytes(), want);
+}
+
 /// `journal-cuts`: what is saved, in one write.
 #[test]
 fn two_messages_are_saved_in_33_bytes(rt: HostRuntime) -> Result<(), Fail> {
     let mut journal = two_messages(rt.alloc())?;
-    let mut sink = MemorySink::new(rt.alloc());
-    sink.fail_at(2);
-    assert_eq!(rt; journal.save(&mut sink), Ok(()));
-    assert_eq!(rt; sink.bytes(), &OPEN[..]);
+    expect_saved(&rt, rt.alloc(), &journal, 2, &OPEN);
     journal.close();
-    let mut sink = MemorySink::new(rt.alloc());
-    assert_eq!(rt; journal.save(&mut sink), Ok(()));
-    assert_eq!(rt; sink.bytes(), &CLOSED[..]);
+    expect_saved(&rt, rt.alloc(), &journal, 0, &CLOSED);
     Ok(())
+}
+
+/// The journal is saved by writes of a byte, the `fails_at`th of which fails: these bytes were written.
+fn expect_begun(rt: &impl Abort, alloc: Global, journal: &Journal, fails_at: u64, want: &[u8]) {
+    let mut sink = MemorySink::new(alloc);
+    sink.at_most(1);
+    sink.fail_at(fails_at);
+    same_saved(rt, journal.save(&mut sink), Err(FileError::Write));
+    same_bytes(rt, sink.bytes(), want);
 }
 
 /// A sink that takes one byte a call and fails at a call has taken the bytes before it.
@@ -44,13 +83,15 @@ fn a_failed_save_has_written_a_beginning(rt: HostRuntime) -> Result<(), Fail> {
     let mut journal = two_messages(rt.alloc())?;
     journal.close();
     for k in 1..=33usize {
-        let mut sink = MemorySink::new(rt.alloc());
-        sink.at_most(1);
-        sink.fail_at(k as u64);
-        assert_eq!(rt; journal.save(&mut sink), Err(FileError::Write));
-        assert_eq!(rt; sink.bytes(), &CLOSED[..k - 1]);
+        expect_begun(&rt, rt.alloc(), &journal, k as u64, &CLOSED[..k - 1]);
     }
     Ok(())
+}
+
+fn expect_long(rt: &impl Abort, bytes: &[u8]) {
+    assert!(rt; bytes.len() == 5029);
+    same_bytes(rt, &bytes[27..29], &[0x13, 0x88]);
+    same_number(rt, u64::from(bytes[5028]), u64::from(b'x'));
 }
 
 /// Messages longer than what is gathered go out at once.
@@ -60,195 +101,176 @@ fn long_messages_are_saved_in_few_writes(rt: HostRuntime) -> Result<(), Fail> {
     journal.append(&[b'x'; 5000])?;
     let mut sink = MemorySink::new(rt.alloc());
     sink.fail_at(3);
-    assert_eq!(rt; journal.save(&mut sink), Ok(()));
-    assert_eq!(rt; sink.bytes().len(), 5029);
-    assert_eq!(rt; sink.bytes()[27..29], [0x13, 0x88][..]);
-    assert_eq!(rt; sink.bytes()[5028], b'x');
+    same_saved(&rt, journal.save(&mut sink), Ok(()));
+    expect_long(&rt, sink.bytes());
     Ok(())
 }
 
-/// The file of version 1 of `AB` and an empty message.
-const FIRST: [u8; 24] = *b"MOLDJNL1SESSION001\x00\x02AB\x00\x00";
+fn load(alloc: Global, max_message: u16, source: &mut MemorySource<'_>) -> Loaded {
+    let journal = Journal::load(alloc, max_message, source)?;
+    Ok((journal.next() - 1, journal.is_closed()))
+}
 
-/// Loads the bytes, and answers how many messages there are and whether the journal is closed. They are
-/// read at once and byte by byte, which answers the same.
-fn loaded(
-    rt: &impl Abort,
-    alloc: Global,
-    max_message: u16,
-    bytes: &[u8],
-) -> Result<(u64, bool), FileError> {
+/// The bytes are loaded at once and byte by byte, which answers the same.
+fn expect_loaded(rt: &impl Abort, alloc: Global, max_message: u16, bytes: &[u8], wanted: Loaded) {
     let mut source = MemorySource::new(bytes);
-    let at_once = Journal::load(alloc, max_message, &mut source).map(|journal| (
-        journal.next() - 1,
-        journal.is_closed(),
-    ));
+    same_loaded(rt, load(alloc, max_message, &mut source), wanted);
     let mut source = MemorySource::new(bytes);
     source.at_most(1);
-    let byte_by_byte = Journal::load(alloc, max_message, &mut source).map(|journal| (
-        journal.next() - 1,
-        journal.is_closed(),
-    ));
-    assert_eq!(rt; at_once, byte_by_byte);
-    at_once
+    same_loaded(rt, load(alloc, max_message, &mut source), wanted);
+}
+
+/// The bytes are loaded into a journal of messages of at most 42 bytes.
+fn expect_42(rt: &impl Abort, alloc: Global, bytes: &[u8], wanted: Loaded) {
+    expect_loaded(rt, alloc, 42, bytes, wanted);
 }
 
 /// `journal-cuts`: the file of version 1 cut at each place.
 #[test]
 fn a_cut_file_of_version_1_is_told(rt: HostRuntime) {
+    let alloc = rt.alloc();
     for len in 0..18usize {
-        assert_eq!(rt;
-            loaded(&rt, rt.alloc(), 42, &FIRST[..len]),
-            Err(FileError::Short { len })
-        );
+        expect_42(&rt, alloc, &FIRST[..len], Err(FileError::Short { len }));
     }
-    assert_eq!(rt; loaded(&rt, rt.alloc(), 42, &FIRST[..18]), Ok((0, false)));
+    expect_42(&rt, alloc, &FIRST[..18], Ok((0, false)));
+    let cut = Err(FileError::BlockCut { number: 1 });
     for len in 19..22usize {
-        assert_eq!(rt;
-            loaded(&rt, rt.alloc(), 42, &FIRST[..len]),
-            Err(FileError::BlockCut { number: 1 })
-        );
+        expect_42(&rt, alloc, &FIRST[..len], cut);
     }
-    assert_eq!(rt; loaded(&rt, rt.alloc(), 42, &FIRST[..22]), Ok((1, false)));
-    assert_eq!(rt;
-        loaded(&rt, rt.alloc(), 42, &FIRST[..23]),
-        Err(FileError::BlockCut { number: 2 })
-    );
-    assert_eq!(rt; loaded(&rt, rt.alloc(), 42, &FIRST), Ok((2, false)));
-    assert_eq!(rt;
-        loaded(&rt, rt.alloc(), 1, &FIRST),
-        Err(FileError::TooLong { len: 2 })
-    );
-    assert_eq!(rt;
-        loaded(&rt, rt.alloc(), 42, b"MOLDJNL3SESSION001"),
-        Err(FileError::BadMagic)
-    );
+    expect_42(&rt, alloc, &FIRST[..22], Ok((1, false)));
+    let cut = Err(FileError::BlockCut { number: 2 });
+    expect_42(&rt, alloc, &FIRST[..23], cut);
+    expect_42(&rt, alloc, &FIRST, Ok((2, false)));
+    let too_long = Err(FileError::TooLong { len: 2 });
+    expect_loaded(&rt, alloc, 1, &FIRST, too_long);
+    let bad_magic = Err(FileError::BadMagic);
+    expect_42(&rt, alloc, b"MOLDJNL3SESSION001", bad_magic);
+}
+
+fn expect_found(rt: &impl Abort, alloc: Global, bytes: &[u8], found: u64) {
+    let count = 2;
+    let differs = Err(FileError::CountDiffers { count, found });
+    expect_42(rt, alloc, bytes, differs);
+}
+
+fn expect_block_cut(rt: &impl Abort, alloc: Global, bytes: &[u8], number: u64) {
+    expect_42(rt, alloc, bytes, Err(FileError::BlockCut { number }));
 }
 
 /// The file of version 2 cut at each place, and with bytes behind it.
 #[test]
 fn a_cut_file_of_version_2_is_told(rt: HostRuntime) {
+    let alloc = rt.alloc();
     for len in 0..27usize {
-        assert_eq!(rt;
-            loaded(&rt, rt.alloc(), 42, &CLOSED[..len]),
-            Err(FileError::Short { len })
-        );
+        expect_42(&rt, alloc, &CLOSED[..len], Err(FileError::Short { len }));
     }
-    assert_eq!(rt;
-        loaded(&rt, rt.alloc(), 42, &CLOSED[..27]),
-        Err(FileError::CountDiffers { count: 2, found: 0 })
-    );
+    expect_found(&rt, alloc, &CLOSED[..27], 0);
     for len in 28..31usize {
-        assert_eq!(rt;
-            loaded(&rt, rt.alloc(), 42, &CLOSED[..len]),
-            Err(FileError::BlockCut { number: 1 })
-        );
+        expect_block_cut(&rt, alloc, &CLOSED[..len], 1);
     }
-    assert_eq!(rt;
-        loaded(&rt, rt.alloc(), 42, &CLOSED[..31]),
-        Err(FileError::CountDiffers { count: 2, found: 1 })
-    );
-    assert_eq!(rt;
-        loaded(&rt, rt.alloc(), 42, &CLOSED[..32]),
-        Err(FileError::BlockCut { number: 2 })
-    );
-    assert_eq!(rt; loaded(&rt, rt.alloc(), 42, &CLOSED), Ok((2, true)));
-    assert_eq!(rt; loaded(&rt, rt.alloc(), 42, &OPEN), Ok((2, false)));
-    let mut longer = [0; 35];
-    longer[..33].copy_from_slice(&CLOSED);
-    assert_eq!(rt;
-        loaded(&rt, rt.alloc(), 42, &longer[..34]),
-        Err(FileError::BlockCut { number: 3 })
-    );
-    assert_eq!(rt;
-        loaded(&rt, rt.alloc(), 42, &longer),
-        Err(FileError::CountDiffers { count: 2, found: 3 })
-    );
-    longer[18] = 2;
-    assert_eq!(rt;
-        loaded(&rt, rt.alloc(), 42, &longer[..33]),
-        Err(FileError::BadFlag { byte: 2 })
-    );
-    assert_eq!(rt;
-        loaded(&rt, rt.alloc(), 1, &longer[..26]),
-        Err(FileError::Short { len: 26 })
-    );
+    expect_found(&rt, alloc, &CLOSED[..31], 1);
+    expect_block_cut(&rt, alloc, &CLOSED[..32], 2);
+    expect_42(&rt, alloc, &CLOSED, Ok((2, true)));
+    expect_42(&rt, alloc, &OPEN, Ok((2, false)));
+    expect_block_cut(&rt, alloc, &LONGER[..34], 3);
+    expect_found(&rt, alloc, &LONGER, 3);
+    let bad_flag = Err(FileError::BadFlag { byte: 2 });
+    expect_42(&rt, alloc, &BAD_FLAG, bad_flag);
+    let short = Err(FileError::Short { len: 26 });
+    expect_loaded(&rt, alloc, 1, &BAD_FLAG[..26], short);
+}
+
+fn expect_failed_read(rt: &impl Abort, alloc: Global, fails_at: u64) {
+    let mut source = MemorySource::new(&CLOSED);
+    source.at_most(1);
+    source.fail_at(fails_at);
+    same_loaded(rt, load(alloc, 42, &mut source), Err(FileError::Read));
 }
 
 /// A source that fails at a call is told as such, whichever call it is; a read of nothing ends the file.
 #[test]
 fn a_failed_read_is_told(rt: HostRuntime) {
     for k in 1..=34u64 {
-        let mut source = MemorySource::new(&CLOSED);
-        source.at_most(1);
-        source.fail_at(k);
-        match Journal::load(rt.alloc(), 42, &mut source) {
-            Ok(_) => assert!(rt; false, "loaded"),
-            Err(why) => assert_eq!(rt; why, FileError::Read),
-        }
+        expect_failed_read(&rt, rt.alloc(), k);
     }
+}
+
+fn long_messages(alloc: Global) -> Result<Journal, Fail> {
+    let mut journal = Journal::new(alloc, SESSION, 10000);
+    journal.append(&[b'x'; 10000])?;
+    journal.append(b"AB")?;
+    Ok(journal)
+}
+
+fn saved(rt: &impl Abort, alloc: Global, journal: &Journal) -> MemorySink {
+    let mut sink = MemorySink::new(alloc);
+    same_saved(rt, journal.save(&mut sink), Ok(()));
+    sink
+}
+
+fn loaded_again(alloc: Global, bytes: &[u8]) -> Result<Journal, FileError> {
+    let mut source = MemorySource::new(bytes);
+    source.at_most(100);
+    Journal::load(alloc, 10000, &mut source)
+}
+
+fn expect_same(rt: &impl Abort, again: &Journal, journal: &Journal) {
+    same_message(rt, again.get(1), journal.get(1));
+    same_message(rt, again.get(2), journal.get(2));
+    assert!(rt; again.session() == SESSION);
+    same_number(rt, again.next(), 3);
 }
 
 /// Messages longer than what is read at once come back as they were.
 #[test]
 fn long_messages_are_loaded(rt: HostRuntime) -> Result<(), Fail> {
-    let mut journal = Journal::new(rt.alloc(), SESSION, 10000);
-    journal.append(&[b'x'; 10000])?;
-    journal.append(b"AB")?;
-    let mut sink = MemorySink::new(rt.alloc());
-    assert_eq!(rt; journal.save(&mut sink), Ok(()));
-    let mut source = MemorySource::new(sink.bytes());
-    source.at_most(100);
-    let again = Journal::load(rt.alloc(), 10000, &mut source)?;
-    assert_eq!(rt; again.get(1), journal.get(1));
-    assert_eq!(rt; again.get(2), journal.get(2));
-    assert_eq!(rt; again.session(), SESSION);
-    assert_eq!(rt; again.next(), 3);
+    let journal = long_messages(rt.alloc())?;
+    let sink = saved(&rt, rt.alloc(), &journal);
+    let again = loaded_again(rt.alloc(), sink.bytes())?;
+    expect_same(&rt, &again, &journal);
     Ok(())
+}
+
+/// The file is upgraded, or refused, and these bytes are written.
+fn expect_upgrade(
+    rt: &impl Abort,
+    alloc: Global,
+    file: &[u8],
+    close: bool,
+    wanted: Result<Upgraded, FileError>,
+    written: &[u8],
+) {
+    let mut source = MemorySource::new(file);
+    let mut sink = MemorySink::new(alloc);
+    assert_eq!(rt; upgrade(alloc, &mut source, &mut sink, close), wanted);
+    same_bytes(rt, sink.bytes(), written);
 }
 
 /// `journal-cuts`: the file of version 1, upgraded.
 #[test]
 fn a_file_of_version_1_is_upgraded(rt: HostRuntime) {
-    let mut source = MemorySource::new(&FIRST);
-    let mut sink = MemorySink::new(rt.alloc());
     let upgraded = Upgraded {
         messages: 2,
         closed: true,
         from: 1,
     };
-    assert_eq!(rt;
-        upgrade(rt.alloc(), &mut source, &mut sink, true),
-        Ok(upgraded)
-    );
-    assert_eq!(rt; sink.bytes(), &CLOSED[..]);
+    expect_upgrade(&rt, rt.alloc(), &FIRST, true, Ok(upgraded), &CLOSED);
 }
 
 /// A closed file stays closed.
 #[test]
 fn a_closed_file_is_upgraded(rt: HostRuntime) {
-    let mut source = MemorySource::new(&CLOSED);
-    let mut sink = MemorySink::new(rt.alloc());
     let upgraded = Upgraded {
         messages: 2,
         closed: true,
         from: 2,
     };
-    assert_eq!(rt;
-        upgrade(rt.alloc(), &mut source, &mut sink, false),
-        Ok(upgraded)
-    );
-    assert_eq!(rt; sink.bytes(), &CLOSED[..]);
+    expect_upgrade(&rt, rt.alloc(), &CLOSED, false, Ok(upgraded), &CLOSED);
 }
 
 /// Nothing is written where the file is refused.
 #[test]
 fn a_refused_file_is_not_upgraded(rt: HostRuntime) {
-    let mut source = MemorySource::new(&CLOSED[..31]);
-    let mut sink = MemorySink::new(rt.alloc());
-    assert_eq!(rt;
-        upgrade(rt.alloc(), &mut source, &mut sink, true),
-        Err(FileError::CountDiffers { count: 2, found: 1 })
-    );
-    assert_eq!(rt; sink.bytes().len(), 0);
+    let refused = Err(FileError::CountDiffers { count: 2, found: 1 });
+    expect_upgrade(&rt, rt.alloc(), &CLOSED[..31], true, refused, b"");
 }

@@ -1,7 +1,6 @@
 //! The server: its examples, which refusal comes first, and answers in bursts.
 
-ghost use Rattle.std.specs.Prelude.{◌≡◌, ◌+◌, ◌≤◌, length, IfOk, IsOk};
-
+use crate::tests::{same_bytes, same_number};
 use crate::{AnswerError, AppendError, Journal, Plan, Server, ServerError};
 use mold_wire::{Body, Request, Session, decode};
 use std::alloc::Global;
@@ -18,16 +17,11 @@ const TWO_AND_THREE: &[u8] = b"SESSION001\0\0\0\0\0\0\0\x02\0\x02\
     \0\x14\x03\x03\x03\x03\x03\x03\x03\x03\x03\x03\x03\x03\x03\x03\x03\x03\x03\x03\x03\x03";
 
 // Five messages, the k-th of which is twenty bytes of the value k.
-fn journal_of_five(alloc: Global) -> Result<Journal, AppendError>
-    ensures session { IfOk result (λ journal. journal.session ≡ SESSION) }
-    ensures longest { IfOk result (λ journal. journal.max_message ≡ 42) }
-{
+fn journal_of_five(alloc: Global) -> Result<Journal, AppendError> {
     let mut journal = Journal::new(alloc, SESSION, 42);
-    journal.append(&[1; 20])?;
-    journal.append(&[2; 20])?;
-    journal.append(&[3; 20])?;
-    journal.append(&[4; 20])?;
-    journal.append(&[5; 20])?;
+    for byte in 1..6u8 {
+        journal.append(&[byte; 20])?;
+    }
     Ok(journal)
 }
 
@@ -40,13 +34,21 @@ fn request(session: Session, sequence: u64, count: u16) -> [u8; 20] {
     .encode()
 }
 
+fn same_session(rt: &impl Abort, found: Session) {
+    assert!(rt; found == SESSION);
+}
+
+fn same_refusal(rt: &impl Abort, found: AnswerError, wanted: AnswerError) {
+    assert_eq!(rt; found, wanted);
+}
+
 fn expect_data(rt: &impl Abort, bytes: &[u8], first: u64, count: u16) {
     match decode(bytes) {
         Ok(packet) => {
-            assert_eq!(rt; packet.session, SESSION);
-            assert_eq!(rt; packet.sequence, first);
+            same_session(rt, packet.session);
+            same_number(rt, packet.sequence, first);
             match packet.body {
-                Body::Data(blocks) => assert_eq!(rt; blocks.len(), count),
+                Body::Data(blocks) => same_number(rt, u64::from(blocks.len()), u64::from(count)),
                 _ => assert!(rt; false, "no data packet"),
             }
         }
@@ -54,25 +56,147 @@ fn expect_data(rt: &impl Abort, bytes: &[u8], first: u64, count: u16) {
     }
 }
 
-fn expect_next(
-    rt: &impl Abort,
-    server: &mut Server,
-    journal: &Journal,
-    plan: &mut Plan,
-    first: u64,
-    count: u16,
-)
-    requires longest { journal.now.max_message ≤ server.old.max_message }
-    requires session { plan.old.session ≡ journal.now.session }
-    requires to { plan.old.to ≤ length journal.now.messages + 1 }
-    ensures server { server.new ≡ server.old }
-    ensures session { plan.new.session ≡ plan.old.session }
-    ensures to { plan.new.to ≡ plan.old.to }
-{
-    match server.datagram(journal, plan) {
-        Some(bytes) => expect_data(rt, bytes, first, count),
-        None => assert!(rt; false, "nothing is lent"),
+fn expect_wanted(rt: &impl Abort, bytes: &[u8], wanted: Option<(u64, u16)>) {
+    match wanted {
+        Some((first, count)) => expect_data(rt, bytes, first, count),
+        None => assert!(rt; false, "a datagram too many"),
     }
+}
+
+// The journal of five, and a server of datagrams of 64 bytes.
+#[derive(Drop)]
+struct Service {
+    journal: Journal,
+    server: Server,
+}
+
+impl Service {
+    fn new(alloc: Global, burst: u16) -> Result<Service, Fail> {
+        Ok(Service {
+            journal: journal_of_five(alloc)?,
+            server: Server::new(alloc, 64, 42, burst)?,
+        })
+    }
+
+    fn plan(&mut self, rt: &impl Abort, asked: &[u8]) -> Result<Plan, AnswerError> {
+        assert!(rt; self.journal.max_message() <= self.server.max_message());
+        self.server.plan(&self.journal, asked)
+    }
+
+    fn expect_answer(&mut self, rt: &impl Abort, asked: &[u8], want: &[u8]) {
+        assert!(rt; self.journal.max_message() <= self.server.max_message());
+        match self.server.answer(&self.journal, asked) {
+            Ok(bytes) => same_bytes(rt, bytes, want),
+            Err(_) => assert!(rt; false, "refused"),
+        }
+    }
+
+    // The answer is a datagram of one message.
+    fn expect_one(&mut self, rt: &impl Abort, asked: &[u8], len: u64, first: u64) {
+        assert!(rt; self.journal.max_message() <= self.server.max_message());
+        match self.server.answer(&self.journal, asked) {
+            Ok(bytes) => {
+                same_number(rt, bytes.len() as u64, len);
+                expect_data(rt, bytes, first, 1);
+            }
+            Err(_) => assert!(rt; false, "refused"),
+        }
+    }
+
+    fn expect_refused_answer(&mut self, rt: &impl Abort, asked: &[u8], want: AnswerError) {
+        assert!(rt; self.journal.max_message() <= self.server.max_message());
+        match self.server.answer(&self.journal, asked) {
+            Ok(_) => assert!(rt; false, "answered"),
+            Err(why) => same_refusal(rt, why, want),
+        }
+    }
+
+    fn expect_refused_plan(&mut self, rt: &impl Abort, asked: &[u8], want: AnswerError) {
+        match self.plan(rt, asked) {
+            Ok(_) => assert!(rt; false, "planned"),
+            Err(why) => same_refusal(rt, why, want),
+        }
+    }
+
+    fn expect_answered(&self, rt: &impl Abort, count: u64) {
+        same_number(rt, self.server.answered(), count);
+    }
+}
+
+// A service and the plan of an answer.
+#[derive(Drop)]
+struct Answering {
+    service: Service,
+    plan: Plan,
+}
+
+impl Answering {
+    fn new(
+        rt: &impl Abort,
+        alloc: Global,
+        burst: u16,
+        sequence: u64,
+        count: u16,
+    ) -> Result<Answering, Fail> {
+        let mut service = Service::new(alloc, burst)?;
+        let plan = service.plan(rt, &request(SESSION, sequence, count))?;
+        Ok(Answering { service, plan })
+    }
+
+    // The next datagram has so many messages from `first` on; none comes where none is wanted.
+    fn expect_datagram(&mut self, rt: &impl Abort, wanted: Option<(u64, u16)>) {
+        let (journal, server) = (&self.service.journal, &mut self.service.server);
+        assert!(rt; journal.max_message() <= server.max_message());
+        assert!(rt; self.plan.session() == journal.session());
+        assert!(rt; self.plan.to() <= journal.next());
+        match server.datagram(journal, &mut self.plan) {
+            Some(bytes) => expect_wanted(rt, bytes, wanted),
+            None => assert!(rt; wanted.is_none(), "nothing is lent"),
+        }
+    }
+
+    fn expect_next(&mut self, rt: &impl Abort, first: u64, count: u16) {
+        self.expect_datagram(rt, Some((first, count)));
+    }
+
+    fn expect_no_more(&mut self, rt: &impl Abort) {
+        self.expect_datagram(rt, None);
+    }
+
+    fn expect_from(&self, rt: &impl Abort, from: u64) {
+        same_number(rt, self.plan.from(), from);
+    }
+
+    fn expect_left(&self, rt: &impl Abort, left: u16) {
+        same_number(rt, u64::from(self.plan.left()), u64::from(left));
+    }
+}
+
+fn expect_no_server(
+    rt: &impl Abort,
+    alloc: Global,
+    limit: usize,
+    max_message: u16,
+    burst: u16,
+    want: ServerError,
+) {
+    match Server::new(alloc, limit, max_message, burst) {
+        Ok(_) => assert!(rt; false, "made"),
+        Err(why) => assert_eq!(rt; why, want),
+    }
+}
+
+fn expect_server(
+    rt: &impl Abort,
+    alloc: Global,
+    limit: usize,
+    max_message: u16,
+    burst: u16,
+) -> Result<(), Fail> {
+    let server = Server::new(alloc, limit, max_message, burst)?;
+    same_number(rt, u64::from(server.max_message()), u64::from(max_message));
+    same_number(rt, server.answered(), 0);
+    Ok(())
 }
 
 #[test]
@@ -85,15 +209,10 @@ fn limits_bursts_and_messages_that_fit_are_taken(rt: HostRuntime) -> Result<(), 
         (64, 42, 65, ServerError::Burst),
         (63, 0, 0, ServerError::Limit),
     ] {
-        match Server::new(rt.alloc(), limit, max_message, burst) {
-            Ok(_) => assert!(rt; false, "made"),
-            Err(why) => assert_eq!(rt; why, want),
-        }
+        expect_no_server(&rt, rt.alloc(), limit, max_message, burst, want);
     }
     for (limit, max_message, burst) in [(64, 42, 1), (65507, 65485, 64)] {
-        let server = Server::new(rt.alloc(), limit, max_message, burst)?;
-        assert_eq!(rt; server.max_message(), max_message);
-        assert_eq!(rt; server.answered(), 0);
+        expect_server(&rt, rt.alloc(), limit, max_message, burst)?;
     }
     Ok(())
 }
@@ -102,20 +221,11 @@ fn limits_bursts_and_messages_that_fit_are_taken(rt: HostRuntime) -> Result<(), 
 /// bytes.
 #[test]
 fn the_longest_front_is_lent(rt: HostRuntime) -> Result<(), Fail> {
-    let journal = journal_of_five(rt.alloc())?;
-    let mut server = Server::new(rt.alloc(), 64, 42, 1)?;
-    match server.answer(&journal, b"SESSION001\0\0\0\0\0\0\0\x02\xff\xff") {
-        Ok(bytes) => assert_eq!(rt; bytes, TWO_AND_THREE),
-        Err(_) => assert!(rt; false, "refused"),
-    }
-    match server.answer(&journal, &request(SESSION, 5, 9)) {
-        Ok(bytes) => {
-            assert_eq!(rt; bytes.len(), 42);
-            expect_data(&rt, bytes, 5, 1);
-        }
-        Err(_) => assert!(rt; false, "refused"),
-    }
-    assert_eq!(rt; server.answered(), 2);
+    let mut service = Service::new(rt.alloc(), 1)?;
+    let from_two = b"SESSION001\0\0\0\0\0\0\0\x02\xff\xff";
+    service.expect_answer(&rt, from_two, TWO_AND_THREE);
+    service.expect_one(&rt, &request(SESSION, 5, 9), 42, 5);
+    service.expect_answered(&rt, 2);
     Ok(())
 }
 
@@ -126,17 +236,10 @@ fn expect_refused(
     asked: &[u8],
     want: AnswerError,
 ) -> Result<(), Fail> {
-    let journal = journal_of_five(alloc)?;
-    let mut server = Server::new(alloc, 64, 42, 1)?;
-    match server.answer(&journal, asked) {
-        Ok(_) => assert!(rt; false, "answered"),
-        Err(why) => assert_eq!(rt; why, want),
-    }
-    match server.plan(&journal, asked) {
-        Ok(_) => assert!(rt; false, "planned"),
-        Err(why) => assert_eq!(rt; why, want),
-    }
-    assert_eq!(rt; server.answered(), 0);
+    let mut service = Service::new(alloc, 1)?;
+    service.expect_refused_answer(rt, asked, want);
+    service.expect_refused_plan(rt, asked, want);
+    service.expect_answered(rt, 0);
     Ok(())
 }
 
@@ -166,52 +269,44 @@ fn refusals_come_in_their_order(rt: HostRuntime) -> Result<(), Fail> {
 /// Of 2 for 65,535 three datagrams could come, and two are enough; the plan is counted once.
 #[test]
 fn a_plan_ends_with_the_journal(rt: HostRuntime) -> Result<(), Fail> {
-    let journal = journal_of_five(rt.alloc())?;
-    let mut server = Server::new(rt.alloc(), 64, 42, 3)?;
-    let mut plan = server.plan(&journal, &request(SESSION, 2, 65535))?;
-    assert_eq!(rt; plan.session(), SESSION);
-    assert_eq!(rt; plan.from(), 2);
-    assert_eq!(rt; plan.to(), 6);
-    assert_eq!(rt; plan.left(), 3);
-    expect_next(&rt, &mut server, &journal, &mut plan, 2, 2);
-    assert_eq!(rt; plan.from(), 4);
-    assert_eq!(rt; plan.left(), 2);
-    expect_next(&rt, &mut server, &journal, &mut plan, 4, 2);
-    assert!(rt; server.datagram(&journal, &mut plan).is_none());
-    assert_eq!(rt; plan.left(), 1);
-    assert_eq!(rt; server.answered(), 1);
+    let mut answering = Answering::new(&rt, rt.alloc(), 3, 2, 65535)?;
+    same_session(&rt, answering.plan.session());
+    answering.expect_from(&rt, 2);
+    same_number(&rt, answering.plan.to(), 6);
+    answering.expect_left(&rt, 3);
+    answering.expect_next(&rt, 2, 2);
+    answering.expect_from(&rt, 4);
+    answering.expect_left(&rt, 2);
+    answering.expect_next(&rt, 4, 2);
+    answering.expect_no_more(&rt);
+    answering.expect_left(&rt, 1);
+    answering.service.expect_answered(&rt, 1);
     Ok(())
 }
 
 #[test]
 fn a_burst_of_one_is_the_longest_front(rt: HostRuntime) -> Result<(), Fail> {
-    let journal = journal_of_five(rt.alloc())?;
-    let mut server = Server::new(rt.alloc(), 64, 42, 1)?;
-    let mut plan = server.plan(&journal, &request(SESSION, 2, 65535))?;
-    expect_next(&rt, &mut server, &journal, &mut plan, 2, 2);
-    assert!(rt; server.datagram(&journal, &mut plan).is_none());
+    let mut answering = Answering::new(&rt, rt.alloc(), 1, 2, 65535)?;
+    answering.expect_next(&rt, 2, 2);
+    answering.expect_no_more(&rt);
     Ok(())
 }
 
 #[test]
 fn a_burst_of_two_leaves_the_rest(rt: HostRuntime) -> Result<(), Fail> {
-    let journal = journal_of_five(rt.alloc())?;
-    let mut server = Server::new(rt.alloc(), 64, 42, 2)?;
-    let mut plan = server.plan(&journal, &request(SESSION, 1, 65535))?;
-    expect_next(&rt, &mut server, &journal, &mut plan, 1, 2);
-    expect_next(&rt, &mut server, &journal, &mut plan, 3, 2);
-    assert!(rt; server.datagram(&journal, &mut plan).is_none());
-    assert_eq!(rt; plan.from(), 5);
+    let mut answering = Answering::new(&rt, rt.alloc(), 2, 1, 65535)?;
+    answering.expect_next(&rt, 1, 2);
+    answering.expect_next(&rt, 3, 2);
+    answering.expect_no_more(&rt);
+    answering.expect_from(&rt, 5);
     Ok(())
 }
 
 #[test]
 fn a_plan_ends_with_what_was_asked(rt: HostRuntime) -> Result<(), Fail> {
-    let journal = journal_of_five(rt.alloc())?;
-    let mut server = Server::new(rt.alloc(), 64, 42, 64)?;
-    let mut plan = server.plan(&journal, &request(SESSION, 1, 3))?;
-    expect_next(&rt, &mut server, &journal, &mut plan, 1, 2);
-    expect_next(&rt, &mut server, &journal, &mut plan, 3, 1);
-    assert!(rt; server.datagram(&journal, &mut plan).is_none());
+    let mut answering = Answering::new(&rt, rt.alloc(), 64, 1, 3)?;
+    answering.expect_next(&rt, 1, 2);
+    answering.expect_next(&rt, 3, 1);
+    answering.expect_no_more(&rt);
     Ok(())
 }

@@ -2,53 +2,73 @@
 
 use crate::{AppendError, Journal, Publisher, PublisherError, Unsent};
 use mold_wire::Session;
+use std::alloc::Global;
 use std::process::Abort;
 use std::test::Fail;
 
 const SESSION: Session = Session(*b"SESSION001");
 
-fn expect_message(rt: &impl Abort, journal: &Journal, number: u64, want: &[u8]) {
-    match journal.get(number) {
-        Some(message) => assert_eq!(rt; message, want),
-        None => assert!(rt; false, "no message {number}"),
-    }
+pub(crate) fn same_number(rt: &impl Abort, found: u64, wanted: u64) {
+    assert_eq!(rt; found, wanted);
+}
+
+pub(crate) fn same_bytes(rt: &impl Abort, found: &[u8], wanted: &[u8]) {
+    assert_eq!(rt; found, wanted);
+}
+
+fn same_truth(rt: &impl Abort, found: bool, wanted: bool) {
+    assert_eq!(rt; found, wanted);
+}
+
+fn same_added(rt: &impl Abort, found: Result<u64, AppendError>, wanted: Result<u64, AppendError>) {
+    assert_eq!(rt; found, wanted);
+}
+
+fn same_closed(rt: &impl Abort, found: Result<(), Unsent>, wanted: Result<(), Unsent>) {
+    assert_eq!(rt; found, wanted);
 }
 
 fn expect_bytes(rt: &impl Abort, lent: Option<&[u8]>, want: &[u8]) {
     match lent {
-        Some(bytes) => assert_eq!(rt; bytes, want),
+        Some(bytes) => same_bytes(rt, bytes, want),
         None => assert!(rt; false, "nothing is lent"),
     }
 }
 
-fn expect_length(rt: &impl Abort, lent: Option<&[u8]>, want: usize) {
+fn expect_length(rt: &impl Abort, lent: Option<&[u8]>, want: u64) {
     match lent {
-        Some(bytes) => assert_eq!(rt; bytes.len(), want),
+        Some(bytes) => same_number(rt, bytes.len() as u64, want),
         None => assert!(rt; false, "nothing is lent"),
     }
+}
+
+fn expect_none(rt: &impl Abort, lent: Option<&[u8]>) {
+    assert!(rt; lent.is_none());
+}
+
+fn expect_made(rt: &impl Abort, journal: &Journal, max_message: u16) {
+    assert!(rt; journal.session() == SESSION);
+    same_number(rt, u64::from(journal.max_message()), u64::from(max_message));
+    same_number(rt, journal.next(), 1);
 }
 
 #[test]
 fn messages_are_appended_and_got_by_number(rt: HostRuntime) -> Result<(), Fail> {
     let mut journal = Journal::new(rt.alloc(), SESSION, 2);
-    assert_eq!(rt; journal.session(), SESSION);
-    assert_eq!(rt; journal.max_message(), 2);
-    assert_eq!(rt; journal.next(), 1);
-    assert_eq!(rt; journal.append(b"AB"), Ok(1));
-    assert_eq!(rt; journal.append(b""), Ok(2));
-    assert_eq!(rt;
-        journal.append(b"ABC"),
-        Err(AppendError::TooLong { len: 3 })
-    );
-    assert_eq!(rt; journal.next(), 3);
-    assert_eq!(rt; journal.get(0), None);
-    expect_message(&rt, &journal, 1, b"AB");
-    expect_message(&rt, &journal, 2, b"");
-    assert_eq!(rt; journal.get(3), None);
-    assert!(rt; !journal.is_closed());
+    expect_made(&rt, &journal, 2);
+    same_added(&rt, journal.append(b"AB"), Ok(1));
+    same_added(&rt, journal.append(b""), Ok(2));
+    let too_long = Err(AppendError::TooLong { len: 3 });
+    same_added(&rt, journal.append(b"ABC"), too_long);
+    same_number(&rt, journal.next(), 3);
+    expect_none(&rt, journal.get(0));
+    expect_bytes(&rt, journal.get(1), b"AB");
+    expect_bytes(&rt, journal.get(2), b"");
+    expect_none(&rt, journal.get(3));
+    same_truth(&rt, journal.is_closed(), false);
     journal.close();
-    assert!(rt; journal.is_closed());
-    assert_eq!(rt; journal.append(b"ABC"), Err(AppendError::Closed));
+    same_truth(&rt, journal.is_closed(), true);
+    same_added(&rt, journal.append(b"ABC"), Err(AppendError::Closed));
     Ok(())
 }
 
@@ -59,56 +79,75 @@ fn a_thousand_messages_are_appended(rt: HostRuntime) -> Result<(), Fail> {
     for _ in 0..1000u16 {
         journal.append(b"x")?;
     }
-    assert_eq!(rt; journal.next(), 1001);
-    expect_message(&rt, &journal, 1000, b"x");
+    same_number(&rt, journal.next(), 1001);
+    expect_bytes(&rt, journal.get(1000), b"x");
+    Ok(())
+}
+
+fn expect_no_publisher(rt: &impl Abort, alloc: Global, limit: usize) {
+    match Publisher::new(alloc, SESSION, limit) {
+        Ok(_) => assert!(rt; false, "made"),
+        Err(why) => assert_eq!(rt; why, PublisherError::Limit),
+    }
+}
+
+fn expect_longest(rt: &impl Abort, alloc: Global, limit: usize, longest: u16) -> Result<(), Fail> {
+    let publisher = Publisher::new(alloc, SESSION, limit)?;
+    let max_message = publisher.journal().max_message();
+    same_number(rt, u64::from(max_message), u64::from(longest));
     Ok(())
 }
 
 #[test]
 fn limits_of_64_to_65507_bytes_are_taken(rt: HostRuntime) -> Result<(), Fail> {
     for limit in [63, 65508] {
-        match Publisher::new(rt.alloc(), SESSION, limit) {
-            Ok(_) => assert!(rt; false, "made"),
-            Err(why) => assert_eq!(rt; why, PublisherError::Limit),
-        }
+        expect_no_publisher(&rt, rt.alloc(), limit);
     }
     for (limit, longest) in [(64, 42), (65507, 65485)] {
-        let publisher = Publisher::new(rt.alloc(), SESSION, limit)?;
-        assert_eq!(rt; publisher.journal().max_message(), longest);
+        expect_longest(&rt, rt.alloc(), limit, longest)?;
     }
     Ok(())
+}
+
+fn expect_datagram(rt: &impl Abort, publisher: &mut Publisher, length: u64) {
+    expect_length(rt, publisher.datagram(), length);
+}
+
+fn expect_heartbeat(rt: &impl Abort, publisher: &mut Publisher, want: &[u8]) {
+    expect_bytes(rt, publisher.heartbeat(), want);
+}
+
+/// A publisher with a limit of 64 bytes, which published messages of 20 bytes and of so many as `second`.
+fn with_two(rt: &impl Abort, alloc: Global, second: &[u8]) -> Result<Publisher, Fail> {
+    let mut publisher = Publisher::new(alloc, SESSION, 64)?;
+    same_added(rt, publisher.publish(&[1; 20]), Ok(1));
+    same_added(rt, publisher.publish(second), Ok(2));
+    Ok(publisher)
 }
 
 /// `publisher-limit-64`: messages of 20 and 20 bytes go in one datagram of exactly 64.
 #[test]
 fn twenty_and_twenty_bytes_fill_a_datagram_of_64(rt: HostRuntime) -> Result<(), Fail> {
-    let mut publisher = Publisher::new(rt.alloc(), SESSION, 64)?;
-    assert_eq!(rt; publisher.publish(&[1; 20]), Ok(1));
-    assert_eq!(rt; publisher.publish(&[2; 20]), Ok(2));
-    assert!(rt; !publisher.is_full());
-    assert_eq!(rt; publisher.unsent(), 2);
-    expect_length(&rt, publisher.datagram(), 64);
-    assert_eq!(rt; publisher.unsent(), 0);
+    let mut publisher = with_two(&rt, rt.alloc(), &[2; 20])?;
+    same_truth(&rt, publisher.is_full(), false);
+    same_number(&rt, publisher.unsent(), 2);
+    expect_datagram(&rt, &mut publisher, 64);
+    same_number(&rt, publisher.unsent(), 0);
     Ok(())
 }
 
 /// `publisher-limit-64`: messages of 20 and 21 bytes take two datagrams.
 #[test]
 fn twenty_and_twenty_one_bytes_take_two_datagrams(rt: HostRuntime) -> Result<(), Fail> {
-    let mut publisher = Publisher::new(rt.alloc(), SESSION, 64)?;
-    assert_eq!(rt; publisher.publish(&[1; 20]), Ok(1));
-    assert_eq!(rt; publisher.publish(&[2; 21]), Ok(2));
-    assert!(rt; publisher.is_full());
-    expect_length(&rt, publisher.datagram(), 42);
-    assert!(rt; !publisher.is_full());
-    assert_eq!(rt; publisher.unsent(), 1);
-    expect_bytes(
-        &rt,
-        publisher.heartbeat(),
-        b"SESSION001\0\0\0\0\0\0\0\x02\0\0",
-    );
-    assert_eq!(rt; publisher.close(), Err(Unsent { count: 1 }));
-    expect_length(&rt, publisher.datagram(), 43);
+    let mut publisher = with_two(&rt, rt.alloc(), &[2; 21])?;
+    same_truth(&rt, publisher.is_full(), true);
+    expect_datagram(&rt, &mut publisher, 42);
+    same_truth(&rt, publisher.is_full(), false);
+    same_number(&rt, publisher.unsent(), 1);
+    let heartbeat = b"SESSION001\0\0\0\0\0\0\0\x02\0\0";
+    expect_heartbeat(&rt, &mut publisher, heartbeat);
+    same_closed(&rt, publisher.close(), Err(Unsent { count: 1 }));
+    expect_datagram(&rt, &mut publisher, 43);
     Ok(())
 }
 
@@ -116,35 +155,36 @@ fn twenty_and_twenty_one_bytes_take_two_datagrams(rt: HostRuntime) -> Result<(),
 #[test]
 fn forty_two_bytes_are_published(rt: HostRuntime) -> Result<(), Fail> {
     let mut publisher = Publisher::new(rt.alloc(), SESSION, 64)?;
-    assert_eq!(rt; publisher.publish(&[1; 42]), Ok(1));
-    assert_eq!(rt;
-        publisher.publish(&[1; 43]),
-        Err(AppendError::TooLong { len: 43 })
-    );
+    same_added(&rt, publisher.publish(&[1; 42]), Ok(1));
+    let too_long = Err(AppendError::TooLong { len: 43 });
+    same_added(&rt, publisher.publish(&[1; 43]), too_long);
     Ok(())
+}
+
+// Nothing is lent, as no message was published.
+fn expect_nothing_sent(rt: &impl Abort, publisher: &mut Publisher) {
+    expect_none(rt, publisher.datagram());
+    expect_none(rt, publisher.end());
+}
+
+fn expect_closed(rt: &impl Abort, publisher: &mut Publisher) {
+    same_truth(rt, publisher.is_closed(), true);
+    same_truth(rt, publisher.journal().is_closed(), true);
+    expect_none(rt, publisher.heartbeat());
+    same_added(rt, publisher.publish(&[1; 43]), Err(AppendError::Closed));
 }
 
 #[test]
 fn a_session_without_messages_is_closed(rt: HostRuntime) -> Result<(), Fail> {
     let mut publisher = Publisher::new(rt.alloc(), SESSION, 64)?;
-    assert!(rt; publisher.datagram().is_none());
-    assert!(rt; publisher.end().is_none());
-    expect_bytes(
-        &rt,
-        publisher.heartbeat(),
-        b"SESSION001\0\0\0\0\0\0\0\x01\0\0",
-    );
-    assert!(rt; !publisher.is_closed());
-    assert_eq!(rt; publisher.close(), Ok(()));
-    assert!(rt; publisher.is_closed());
-    assert!(rt; publisher.journal().is_closed());
-    assert!(rt; publisher.heartbeat().is_none());
-    assert_eq!(rt; publisher.publish(&[1; 43]), Err(AppendError::Closed));
-    assert_eq!(rt; publisher.close(), Ok(()));
-    expect_bytes(
-        &rt,
-        publisher.end(),
-        b"SESSION001\0\0\0\0\0\0\0\x01\xff\xff",
-    );
+    expect_nothing_sent(&rt, &mut publisher);
+    let heartbeat = b"SESSION001\0\0\0\0\0\0\0\x01\0\0";
+    expect_heartbeat(&rt, &mut publisher, heartbeat);
+    same_truth(&rt, publisher.is_closed(), false);
+    same_closed(&rt, publisher.close(), Ok(()));
+    expect_closed(&rt, &mut publisher);
+    same_closed(&rt, publisher.close(), Ok(()));
+    let end = b"SESSION001\0\0\0\0\0\0\0\x01\xff\xff";
+    expect_bytes(&rt, publisher.end(), end);
     Ok(())
 }
