@@ -1,6 +1,7 @@
 #!/usr/bin/env python3
 """Lines over UDP on this machine that lose datagrams: what comes at a port IN goes on to the port OUT, but half of
-it, the same half each time. It ends once nothing came for two seconds, and tells what each line lost.
+it, the same half each time. It ends once nothing came for two seconds, or nothing at all for thirty, and tells
+what each line lost.
 
     python3 examples/lossy-lines.py IN OUT [IN OUT]...
 """
@@ -32,7 +33,7 @@ class Line:
 
 ports = [int(word) for word in sys.argv[1:]]
 lines = [Line(port, out) for port, out in zip(ports[::2], ports[1::2])]
-wait = None
+wait = 30
 while ready := select.select(lines, [], [], wait)[0]:
     wait = 2
     for line in ready:

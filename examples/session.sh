@@ -13,7 +13,7 @@ python3 examples/lossy-lines.py 41001 41003 41002 41004 >"$work/lost" &
 ./mold listen --session DEMO --a 127.0.0.1:41003 --b 127.0.0.1:41004 --server 127.0.0.1:41005 --turns 100 \
     >"$work/heard" &
 listener=$!
-sleep 1
+sleep 3
 
 # The end of the session is sent five times, since that may be lost too. Then the journal is there to serve from.
 ./mold publish --session DEMO --limit 64 --a 127.0.0.1:41001 --b 127.0.0.1:41002 --ends 5 --journal "$work/journal" \
