@@ -12,8 +12,6 @@ mod missing;
 mod reason;
 mod refusal;
 mod run;
-#[cfg(test)]
-mod tests;
 mod verdict;
 
 pub use checker::Checker;

@@ -5,8 +5,6 @@
 mod datagrams;
 mod entry;
 mod report;
-#[cfg(test)]
-mod tests;
 
 pub use datagrams::names_datagram;
 pub use entry::Entry;

@@ -16,8 +16,6 @@ mod piece;
 mod plan;
 mod sink;
 mod source;
-#[cfg(test)]
-mod tests;
 mod turn;
 
 pub use device_fault::DeviceFault;

@@ -7,8 +7,6 @@ mod decoding;
 mod encoding;
 mod lanes;
 mod table;
-#[cfg(test)]
-mod tests;
 mod writing;
 
 pub use decimal::{push_long_number, push_number};

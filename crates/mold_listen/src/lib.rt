@@ -6,8 +6,6 @@ mod handed;
 mod hearing;
 mod listening;
 mod refusal;
-#[cfg(test)]
-mod tests;
 
 pub use desk::Desk;
 pub use hearing::{LONGEST, hear_port};

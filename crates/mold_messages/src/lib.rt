@@ -5,8 +5,6 @@ mod iterator;
 mod list;
 mod part;
 mod parts;
-#[cfg(test)]
-mod tests;
 
 pub use iterator::MessageIterator;
 pub use list::MessageList;

@@ -5,8 +5,6 @@ mod datagrams;
 mod memory_port;
 mod passes;
 mod step;
-#[cfg(test)]
-mod tests;
 mod udp_port;
 
 pub use datagrams::Datagrams;

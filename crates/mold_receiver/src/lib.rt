@@ -14,8 +14,6 @@ mod refusal;
 mod refused;
 mod slots;
 mod taken;
-#[cfg(test)]
-mod tests;
 
 pub use arbiter::Arbiter;
 pub use batch::Batch;

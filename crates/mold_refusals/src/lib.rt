@@ -4,8 +4,6 @@
 mod answering;
 mod appending;
 mod receiving;
-#[cfg(test)]
-mod tests;
 
 pub use answering::push_answer_refusal;
 pub use appending::push_append_refusal;

@@ -5,8 +5,6 @@ mod catching;
 pub mod laws;
 mod memory;
 mod rounding;
-#[cfg(test)]
-mod tests;
 
 pub use catching::catch_up;
 pub use memory::Memory;

@@ -5,8 +5,6 @@ mod answering;
 mod refusal;
 mod serving;
 mod tally;
-#[cfg(test)]
-mod tests;
 
 pub use answering::answer_request;
 pub use serving::serve_loop;

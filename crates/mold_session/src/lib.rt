@@ -3,8 +3,6 @@
 #![tactic(auto)]
 
 mod error;
-#[cfg(test)]
-mod file_tests;
 mod journal;
 pub mod laws;
 mod loading;
@@ -16,11 +14,7 @@ mod plan;
 mod publisher;
 mod saving;
 mod server;
-#[cfg(test)]
-mod server_tests;
 mod serving;
-#[cfg(test)]
-mod tests;
 mod upgrading;
 
 pub use error::{AnswerError, AppendError, FileError, PublisherError, ServerError, Unsent};

@@ -8,8 +8,6 @@ mod reading;
 mod refusal;
 mod report;
 mod sim;
-#[cfg(test)]
-mod tests;
 mod words;
 
 pub use sim::Sim;

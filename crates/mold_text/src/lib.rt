@@ -6,8 +6,6 @@ mod line;
 mod packet;
 mod refusal;
 mod request;
-#[cfg(test)]
-mod tests;
 mod word;
 
 pub use line::{push_line, push_line_behind, push_line_with};

@@ -3,7 +3,5 @@
 #![tactic(auto)]
 
 mod large;
-#[cfg(test)]
-mod tests;
 
 pub use large::send_large;

@@ -13,8 +13,6 @@ mod packet;
 mod reading;
 mod request;
 mod session;
-#[cfg(test)]
-mod tests;
 
 pub use block::LENGTH_BYTES;
 pub use blocks::Blocks;

@@ -18,8 +18,6 @@ mod reading;
 mod serve_order;
 mod sim_order;
 mod table;
-#[cfg(test)]
-mod tests;
 mod types;
 mod upgrade_order;
 mod values;

@@ -10,8 +10,6 @@ mod place;
 mod refusal;
 mod report;
 mod stopped;
-#[cfg(test)]
-mod tests;
 mod way;
 mod world;
 

@@ -2,8 +2,9 @@
 
 ghost use Rattle.std.specs.Prelude.{IsTrue};
 
-use crate::{Memory, catch_up};
+use crate::comparisons::same_number;
 use mold_receiver::{Batch, Receiver};
+use mold_rounds::{Memory, catch_up};
 use mold_session::{AppendError, Journal, Server};
 use mold_wire::Session;
 use std::alloc::Global;
@@ -109,10 +110,6 @@ fn missing(receiver: &Receiver) -> u64 {
         .known()
         .saturating_sub(receiver.next())
         .saturating_sub(u64::from(receiver.stored()))
-}
-
-fn same_number(rt: &impl Abort, found: u64, wanted: u64) {
-    assert_eq!(rt; found, wanted);
 }
 
 fn expect_view(rt: &impl Abort, receiver: &Receiver, next: u64) {

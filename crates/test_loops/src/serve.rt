@@ -1,9 +1,10 @@
 //! The loop over ports in memory: the worked example, answers in bursts, and each send, receive and write
 //! that fails.
 
-use crate::{Tally, answer_request, serve_loop};
+use crate::comparisons::{same_bytes, same_outcome, same_size};
 use mold_devices::{CommandFault, MemorySink, Sink};
 use mold_ports::{Datagrams, MemoryPort, Step};
+use mold_serve::{Tally, answer_request, serve_loop};
 use mold_session::{AppendError, Journal, Server};
 use mold_wire::Session;
 use std::alloc::{AllocError, Global};
@@ -149,22 +150,6 @@ fn serve(rt: &(impl Abort + AllocGlobal), desk: &mut Desk, turns: u64) -> Result
         turns,
         &mut desk.sink,
     )
-}
-
-fn same_outcome(
-    rt: &impl Abort,
-    found: Result<u8, CommandFault>,
-    wanted: Result<u8, CommandFault>,
-) {
-    assert_eq!(rt; found, wanted);
-}
-
-fn same_bytes(rt: &impl Abort, found: &[u8], wanted: &[u8]) {
-    assert!(rt; found == wanted, "other bytes");
-}
-
-fn same_size(rt: &impl Abort, found: usize, wanted: usize) {
-    assert_eq!(rt; found, wanted);
 }
 
 fn same_number(rt: &impl Abort, found: u64, wanted: u64) {

@@ -1,6 +1,6 @@
 //! Each public call on its happy path, with the text that it writes.
 
-use crate::{
+use mold_text::{
     Word, packet_fault_words, push_line, push_line_behind, push_line_with, push_packet,
     push_refused, push_request, request_fault_words,
 };

@@ -1,7 +1,8 @@
 //! The worked examples by their names, each public call on its happy path, and what is left after a growth
 //! was refused.
 
-use crate::{Arbiter, Batch, Line, LineReport, Receiver, ReceiverError, Refused, Taken};
+use crate::comparisons::{same_message, same_number, same_truth};
+use mold_receiver::{Arbiter, Batch, Line, LineReport, Receiver, ReceiverError, Refused, Taken};
 use mold_wire::{DecodeError, Packer, Session};
 use std::alloc::Global;
 use std::process::Abort;
@@ -29,19 +30,7 @@ const END_3: &[u8] = b"SESSION001\0\0\0\0\0\0\0\x03\xff\xff";
 
 const END_4: &[u8] = b"SESSION001\0\0\0\0\0\0\0\x04\xff\xff";
 
-fn same_number(rt: &impl Abort, found: u64, wanted: u64) {
-    assert_eq!(rt; found, wanted);
-}
-
 fn same_maybe(rt: &impl Abort, found: Option<u64>, wanted: Option<u64>) {
-    assert_eq!(rt; found, wanted);
-}
-
-fn same_truth(rt: &impl Abort, found: bool, wanted: bool) {
-    assert_eq!(rt; found, wanted);
-}
-
-fn same_message(rt: &impl Abort, found: Option<&[u8]>, wanted: Option<&[u8]>) {
     assert_eq!(rt; found, wanted);
 }
 

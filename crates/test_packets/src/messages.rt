@@ -1,6 +1,6 @@
 //! Each public call on its happy path, with its answer.
 
-use crate::{MessageList, PartList};
+use mold_messages::{MessageList, PartList};
 use std::alloc::Global;
 use std::process::Abort;
 use std::test::Fail;

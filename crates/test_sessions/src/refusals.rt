@@ -1,7 +1,7 @@
 //! Each public call on its happy path, with the line that it writes.
 
-use crate::{push_answer_refusal, push_append_refusal, push_receiver_refusal};
 use mold_receiver::Refused;
+use mold_refusals::{push_answer_refusal, push_append_refusal, push_receiver_refusal};
 use mold_session::{AnswerError, AppendError};
 use mold_text::Word;
 use mold_wire::DecodeError;

@@ -1,6 +1,8 @@
 //! What no clause says: that a device is asked once, and each call on its happy path.
 
-use crate::{DeviceFault, FromRead, IntoWrite, MemorySink, MemorySource, Sink, Source, write_all};
+use mold_devices::{
+    DeviceFault, FromRead, IntoWrite, MemorySink, MemorySource, Sink, Source, write_all,
+};
 use std::io;
 use std::io::{Error, ErrorKind, Read, Write};
 use std::test::Fail;

@@ -1,7 +1,7 @@
 //! What no clause says: that datagrams go by sockets, and each call on its happy path.
 
-use crate::{Datagrams, MemoryPort, Step, UdpPort};
 use mold_devices::DeviceFault;
+use mold_ports::{Datagrams, MemoryPort, Step, UdpPort};
 use std::alloc::Global;
 use std::net::{Ipv4Addr, SocketAddr, SocketAddrV4};
 use std::test::Fail;

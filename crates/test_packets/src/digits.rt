@@ -1,7 +1,7 @@
 //! Each public call on its happy path. Digits are compared with what the crate `hex` makes of them: at every
 //! length that fills whole vectors and leaves a rest, and with every byte at every place.
 
-use crate::{decode, push_bytes, push_long_number, push_number, write_bytes, write_number};
+use mold_digits::{decode, push_bytes, push_long_number, push_number, write_bytes, write_number};
 use std::alloc::Global;
 use std::process::Abort;
 use std::test::Fail;

@@ -2,10 +2,10 @@
 //! changes, and a second call does what the first was to do: each test passes whichever growth is refused, and
 //! `rt try mold_world --test --fail-alloc N` refuses the Nth one.
 
-use crate::{Event, Report, SessionRefusal, Stopped, Way, World, WorldError};
 use mold_receiver::{Line, LineReport, Refused, Taken};
 use mold_session::{AppendError, Unsent};
 use mold_wire::{DecodeError, Session};
+use mold_world::{Event, Report, SessionRefusal, Stopped, Way, World, WorldError};
 use std::alloc::Global;
 use std::process::Abort;
 use std::test::Fail;

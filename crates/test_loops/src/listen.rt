@@ -3,8 +3,9 @@
 
 ghost use Rattle.std.specs.Prelude.{◌≡◌, length};
 
-use crate::{Desk, LONGEST, hear_port, listen_loop, push_last};
+use crate::comparisons::{same_bytes, same_outcome, same_size};
 use mold_devices::{CommandFault, MemorySink, Sink};
+use mold_listen::{Desk, LONGEST, hear_port, listen_loop, push_last};
 use mold_ports::{Datagrams, MemoryPort, Step};
 use mold_receiver::{Arbiter, Line, Receiver};
 use mold_wire::Session;
@@ -40,18 +41,6 @@ const QUIET: &[u8] = b"";
 
 /// The receive fails.
 const FAILS: &[u8] = b"fails";
-
-fn same_answer(rt: &impl Abort, found: Result<u8, CommandFault>, wanted: Result<u8, CommandFault>) {
-    assert_eq!(rt; found, wanted);
-}
-
-fn same_bytes(rt: &impl Abort, found: &[u8], wanted: &[u8]) {
-    assert_eq!(rt; found, wanted);
-}
-
-fn same_size(rt: &impl Abort, found: usize, wanted: usize) {
-    assert_eq!(rt; found, wanted);
-}
 
 fn step(alloc: Global, bytes: &[u8]) -> Result<Step, AllocError> {
     if bytes.is_empty() {
@@ -137,7 +126,7 @@ impl Listener {
         text: &[u8],
     ) {
         let found = self.listen(burst, turns);
-        same_answer(rt, found, answer);
+        same_outcome(rt, found, answer);
         same_bytes(rt, self.sink.bytes(), text);
     }
 
@@ -155,7 +144,7 @@ impl Listener {
             b"1 41\n2 42\n3 43\nfinished next 4 failed 0\n"
         };
         if outcome.is_ok() {
-            same_answer(rt, outcome, Ok(0));
+            same_outcome(rt, outcome, Ok(0));
             same_bytes(rt, self.sink.bytes(), text.as_slice());
             return;
         }
@@ -164,7 +153,7 @@ impl Listener {
         } else {
             CommandFault::Memory
         };
-        same_answer(rt, outcome, Err(refused));
+        same_outcome(rt, outcome, Err(refused));
         assert!(rt; text.starts_with(self.sink.bytes()));
     }
 }

@@ -1,7 +1,7 @@
 //! The lists of the examples by their names, which reason comes first, and what is left after a growth was
 //! refused. Each kind of comparison stands once, and what is owned is lent: the proof of a test grows with both.
 
-use crate::{Checker, Memory, Range, Reason, Verdict, check};
+use mold_capture::{Checker, Memory, Range, Reason, Verdict, check};
 use mold_wire::DecodeError;
 use std::alloc::{AllocError, Global};
 use std::process::Abort;

@@ -1,7 +1,7 @@
 //! What words come to, and the texts of help, version and usage. Each kind of comparison is made in one place,
 //! and tells the line of the words.
 
-use super::{
+use mold_words::{
     Address, ListenOrder, LoopOrder, Order, PackOrder, PublishOrder, ServeOrder, SimOrder,
     UpgradeOrder, UsageFault, read_words,
 };

@@ -1,8 +1,8 @@
 //! The file of a journal: worked examples, and devices that give and take one byte a call and fail.
 
-use crate::tests::{same_bytes, same_number};
-use crate::{FileError, Journal, Upgraded, upgrade};
+use crate::comparisons::{same_bytes, same_message, same_number};
 use mold_devices::{MemorySink, MemorySource};
+use mold_session::{FileError, Journal, Upgraded, upgrade};
 use mold_wire::Session;
 use std::alloc::Global;
 use std::process::Abort;
@@ -27,10 +27,6 @@ const BAD_FLAG: [u8; 33] =
 
 /// The file of version 1 of `AB` and an empty message.
 const FIRST: [u8; 24] = *b"MOLDJNL1SESSION001\x00\x02AB\x00\x00";
-
-fn same_message(rt: &impl Abort, found: Option<&[u8]>, wanted: Option<&[u8]>) {
-    assert_eq!(rt; found, wanted);
-}
 
 fn same_saved(rt: &impl Abort, found: Result<(), FileError>, wanted: Result<(), FileError>) {
     assert_eq!(rt; found, wanted);

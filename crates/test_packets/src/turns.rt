@@ -1,7 +1,7 @@
 //! Text that is written once enough of it came together.
 
-use crate::send_large;
 use mold_devices::MemorySink;
+use mold_turns::send_large;
 use std::test::Fail;
 
 #[test]

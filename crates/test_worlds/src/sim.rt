@@ -3,8 +3,8 @@
 
 ghost use Rattle.std.specs.Prelude.{◌<◌, ◌≤◌};
 
-use crate::Sim;
 use mold_devices::{CommandFault, MemorySink, MemorySource, Sink, Source, run_lines};
+use mold_sim::Sim;
 use mold_wire::Session;
 use std::alloc::{AllocError, Global};
 use std::process::Abort;

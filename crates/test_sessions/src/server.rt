@@ -1,7 +1,7 @@
 //! The server: its examples, which refusal comes first, and answers in bursts.
 
-use crate::tests::{same_bytes, same_number};
-use crate::{AnswerError, AppendError, Journal, Plan, Server, ServerError};
+use crate::comparisons::{same_bytes, same_number};
+use mold_session::{AnswerError, AppendError, Journal, Plan, Server, ServerError};
 use mold_wire::{Body, Request, Session, decode};
 use std::alloc::Global;
 use std::process::Abort;

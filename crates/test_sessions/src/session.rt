@@ -1,24 +1,13 @@
 //! Each public call on its happy path, and the examples of a journal and a publisher.
 
-use crate::{AppendError, Journal, Publisher, PublisherError, Unsent};
+use crate::comparisons::{same_bytes, same_number, same_truth};
+use mold_session::{AppendError, Journal, Publisher, PublisherError, Unsent};
 use mold_wire::Session;
 use std::alloc::Global;
 use std::process::Abort;
 use std::test::Fail;
 
 const SESSION: Session = Session(*b"SESSION001");
-
-pub(crate) fn same_number(rt: &impl Abort, found: u64, wanted: u64) {
-    assert_eq!(rt; found, wanted);
-}
-
-pub(crate) fn same_bytes(rt: &impl Abort, found: &[u8], wanted: &[u8]) {
-    assert_eq!(rt; found, wanted);
-}
-
-fn same_truth(rt: &impl Abort, found: bool, wanted: bool) {
-    assert_eq!(rt; found, wanted);
-}
 
 fn same_added(rt: &impl Abort, found: Result<u64, AppendError>, wanted: Result<u64, AppendError>) {
     assert_eq!(rt; found, wanted);

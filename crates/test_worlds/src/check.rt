@@ -1,7 +1,7 @@
 //! The folders of the example and the lists of the checker, by what is printed; names and their order; and
 //! writes and growths that fail.
 
-use crate::{Entry, check_entries};
+use mold_check::{Entry, check_entries};
 use mold_devices::{CommandFault, MemorySink, Sink};
 use std::alloc::Global;
 use std::process::Abort;

@@ -1,6 +1,6 @@
 //! Each public call on its happy path, and the bytes of known packets, read and written.
 
-use crate::{
+use mold_wire::{
     Body, DecodeError, Packer, PackerError, Packet, Request, RequestError, Session, decode,
 };
 use std::process::Abort;

@@ -1,0 +1,17 @@
+//! Tests of `mold_wire`, `mold_devices`, `mold_messages`, `mold_digits`, `mold_text`, `mold_turns`, `mold_ports`.
+#![tactic(auto)]
+
+#[cfg(test)]
+mod devices;
+#[cfg(test)]
+mod digits;
+#[cfg(test)]
+mod messages;
+#[cfg(test)]
+mod ports;
+#[cfg(test)]
+mod text;
+#[cfg(test)]
+mod turns;
+#[cfg(test)]
+mod wire;

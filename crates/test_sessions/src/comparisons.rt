@@ -1,0 +1,19 @@
+//! Comparisons that several modules make: each costs its proof once.
+
+use std::process::Abort;
+
+pub fn same_number(rt: &impl Abort, found: u64, wanted: u64) {
+    assert_eq!(rt; found, wanted);
+}
+
+pub fn same_truth(rt: &impl Abort, found: bool, wanted: bool) {
+    assert_eq!(rt; found, wanted);
+}
+
+pub fn same_bytes(rt: &impl Abort, found: &[u8], wanted: &[u8]) {
+    assert_eq!(rt; found, wanted);
+}
+
+pub fn same_message(rt: &impl Abort, found: Option<&[u8]>, wanted: Option<&[u8]>) {
+    assert_eq!(rt; found, wanted);
+}

@@ -1,0 +1,5 @@
+//! Tests of `mold_words`.
+#![tactic(auto)]
+
+#[cfg(test)]
+mod words;

@@ -1,0 +1,9 @@
+//! Tests of `mold_world`, `mold_check`, `mold_sim`.
+#![tactic(auto)]
+
+#[cfg(test)]
+mod check;
+#[cfg(test)]
+mod sim;
+#[cfg(test)]
+mod world;
