@@ -131,11 +131,9 @@ fn requests_are_shown(rt: HostRuntime) {
 fn bad_lines_are_refused_and_the_rest_is_shown(rt: HostRuntime) {
     // An odd number of digits, a byte that is no digit, a carriage return, bytes that are no text, a
     // dash; an empty line, a digit in upper case, and a last line that nothing ends.
-    let input =
-        b"534\n5g\n53455353494f4e30303100000000000000010000\r\n\xff\xfe\n-\n\n\
+    let input = b"534\n5g\n53455353494f4e30303100000000000000010000\r\n\xff\xfe\n-\n\n\
         53455353494F4E30303100000000000000010000\n00";
-    let text =
-        b"refused NotHex\nrefused NotHex\nrefused NotHex\nrefused NotHex\nrefused NotHex\n\
+    let text = b"refused NotHex\nrefused NotHex\nrefused NotHex\nrefused NotHex\nrefused NotHex\n\
         heartbeat 53455353494f4e303031 1\nrefused Short 1\n";
     expect_done(&rt, &PACKETS, input, text, 2);
 }
