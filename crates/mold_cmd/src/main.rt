@@ -1,34 +1,14 @@
 //! The program `mold`: packets of MoldUDP64 from the command line.
 #![tactic(auto)]
 
-mod command;
-#[cfg(test)]
-mod comparisons;
-mod filling;
-mod folder;
-#[cfg(test)]
-mod folder_tests;
-mod line_refusal;
-mod looping;
-mod pack;
 mod program_fault;
-mod publish_loop;
-#[cfg(test)]
-mod publish_loop_tests;
-mod sending;
-mod show;
 mod sockets;
-#[cfg(test)]
-mod tests;
-mod upgrading;
 
-ghost use Rattle.mold_cmd.specs.Command.{IsStreamed};
+ghost use Rattle.mold_commands.specs.Command.{IsStreamed};
 
-use crate::command::run_command;
-use crate::folder::run_check;
 use crate::program_fault::ProgramFault;
 use crate::sockets::{run_listen, run_loop, run_publish, run_serve};
-use crate::upgrading::run_upgrade;
+use mold_commands::{check_folder, run_command, run_upgrade};
 use mold_devices::{CommandFault, FromRead, IntoWrite, NewFile};
 use mold_words::{Order, UpgradeOrder, UsageFault, read_words};
 use std::fs::File;
@@ -100,6 +80,13 @@ fn flushed(outcome: Result<u8, CommandFault>, flush: io::Result<()>) -> Result<u
         Ok(()) => Ok(status),
         Err(_) => Err(CommandFault::Write),
     }
+}
+
+// Checks the folder over standard output, which is flushed once.
+fn run_check(rt: &HostRuntime, folder: &str) -> Result<u8, CommandFault> {
+    let mut sink = IntoWrite::new(rt.stdout());
+    let outcome = check_folder(rt, folder, &mut sink);
+    flushed(outcome, sink.into_inner().flush())
 }
 
 // Upgrades a journal's file. The new one is made when something is written to it.

@@ -1,17 +1,17 @@
 //! The commands whose ports are UDP sockets.
 
 ghost use Rattle.std.specs.Prelude.{◌≡◌, IfOk};
-ghost use Rattle.mold_cmd.specs.Publishing.{HasRoom};
+ghost use Rattle.mold_publish.specs.Publishing.{HasRoom};
 
 use crate::flushed;
-use crate::looping::{Drops, Ear, Wires, run_over};
 use crate::program_fault::ProgramFault;
-use crate::publish_loop::publish_loop;
-use crate::upgrading::push_file_refused;
 use mold_devices::{CommandFault, FromRead, IntoWrite, NewFile, send};
 use mold_listen::{Desk, listen_loop};
+use mold_loop::{Drops, Ear, Wires, run_over};
 use mold_ports::UdpPort;
+use mold_publish::publish_loop;
 use mold_receiver::{Arbiter, Receiver};
+use mold_refusals::push_file_refusal;
 use mold_serve::serve_loop;
 use mold_session::{FileError, Journal, Publisher, Server};
 use mold_wire::Session;
@@ -66,7 +66,7 @@ fn load_journal(
 // Tells on standard output why a file is no journal, and answers the status.
 fn tell_file_refused(rt: &HostRuntime, error: FileError) -> Result<u8, CommandFault> {
     let mut text = Vec::new(rt.alloc());
-    push_file_refused(&mut text, error)?;
+    push_file_refusal(&mut text, error)?;
     let mut sink = IntoWrite::new(rt.stdout());
     let outcome = send(&mut sink, &mut text);
     let outcome = match outcome {

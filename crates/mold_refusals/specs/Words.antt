@@ -1,5 +1,5 @@
--- Why a publisher, a re-request server and a receiver refuse something, as words: a name, and the numbers that go
--- with it.
+-- Why a publisher, a re-request server and a receiver refuse something, and why a file is no journal, as words: a
+-- name, and the numbers that go with it.
 use Rattle.std.specs.Prelude.{List, [], ◌∷◌, ℕ, codes, decimal}
 use Rattle.mold_receiver.specs.declared.refused.Refused.{Refused}
 use Rattle.mold_receiver.specs.declared.refused.Refused.TheVariants as refused
@@ -7,6 +7,8 @@ use Rattle.mold_session.specs.declared.error.AnswerError.{AnswerError}
 use Rattle.mold_session.specs.declared.error.AnswerError.TheVariants as answer
 use Rattle.mold_session.specs.declared.error.AppendError.{AppendError}
 use Rattle.mold_session.specs.declared.error.AppendError.TheVariants as append
+use Rattle.mold_session.specs.declared.error.FileError.{FileError}
+use Rattle.mold_session.specs.declared.error.FileError.TheVariants as file
 use Rattle.mold_text.specs.Text.{fault_words}
 
 -- why a message is not published
@@ -35,3 +37,16 @@ receiver_words (refused.EndBelow known) = codes "EndBelow" ∷ decimal known ∷
 receiver_words (refused.PastEnd end) = codes "PastEnd" ∷ decimal end ∷ []
 receiver_words (refused.Conflict number) = codes "Conflict" ∷ decimal number ∷ []
 receiver_words refused.Memory = codes "Memory" ∷ []
+
+-- why a file is no journal
+abbrev pub file_fault_words : FileError → List (List ℕ)
+file_fault_words (file.Short len) = codes "Short" ∷ decimal len ∷ []
+file_fault_words file.BadMagic = codes "BadMagic" ∷ []
+file_fault_words (file.BadFlag byte) = codes "BadFlag" ∷ decimal byte ∷ []
+file_fault_words file.Full = codes "Full" ∷ []
+file_fault_words (file.TooLong len) = codes "TooLong" ∷ decimal len ∷ []
+file_fault_words (file.BlockCut number) = codes "BlockCut" ∷ decimal number ∷ []
+file_fault_words (file.CountDiffers count found) = codes "CountDiffers" ∷ decimal count ∷ decimal found ∷ []
+file_fault_words file.Read = codes "Read" ∷ []
+file_fault_words file.Write = codes "Write" ∷ []
+file_fault_words file.Memory = codes "Memory" ∷ []

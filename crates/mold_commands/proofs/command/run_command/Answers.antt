@@ -1,0 +1,23 @@
+use Rattle.mold_show.specs.Pack.{pack_text, pack_status}
+use Rattle.mold_sim.specs.Sim.{sim_status, sim_text}
+use Rattle.mold_commands.proofs.command.run_command.Goals as goal
+
+pub returns-in_ok-new-in-Pack-clause-whole : goal.returns-in_ok-new-in-Pack-clause-whole
+unfolding pack_text pack_status
+returns-in_ok-new-in-Pack-clause-whole g c =
+    rw c.in-Pack.is (rw c.in_ok-new-in-Pack.ensures at c.run_lines-in-Pack.ensures.whole)
+
+pub returns-in_ok-new-in-Pack-clause-front : goal.returns-in_ok-new-in-Pack-clause-front
+unfolding pack_text
+returns-in_ok-new-in-Pack-clause-front g c =
+    rw c.in-Pack.is (rw c.in_ok-new-in-Pack.ensures at c.run_lines-in-Pack.ensures.front)
+
+pub returns-in_ok-sim_of-in-Sim-clause-whole : goal.returns-in_ok-sim_of-in-Sim-clause-whole
+unfolding sim_text sim_status
+returns-in_ok-sim_of-in-Sim-clause-whole g c =
+    rw c.in-Sim.is (rw c.in_ok-sim_of-in-Sim.ensures at c.run_lines-in-Sim.ensures.whole)
+
+pub returns-in_ok-sim_of-in-Sim-clause-front : goal.returns-in_ok-sim_of-in-Sim-clause-front
+unfolding sim_text
+returns-in_ok-sim_of-in-Sim-clause-front g c =
+    rw c.in-Sim.is (rw c.in_ok-sim_of-in-Sim.ensures at c.run_lines-in-Sim.ensures.front)

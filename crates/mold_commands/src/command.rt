@@ -1,0 +1,62 @@
+//! The commands that read a source and write a sink.
+
+ghost use Rattle.std.specs.Prelude.{◌≡◌, IfOk, IfSome};
+ghost use Rattle.std.specs.Io.KnownBytes.{Appends};
+ghost use Rattle.mold_commands.specs.Command.{IsStreamed, sim_start, text, status};
+ghost use Rattle.mold_devices.specs.Devices.{AppendsFront};
+ghost use Rattle.mold_devices.specs.Faults.{CountsCommand};
+
+use mold_devices::{CommandFault, Sink, Source, run_lines};
+use mold_show::{Pack, Show};
+use mold_sim::Sim;
+use mold_wire::Session;
+use mold_words::{Order, SimOrder};
+use std::alloc::{AllocError, Global};
+
+/// Does what an order that reads lines says with the whole input of the source, and answers the status: 0 done, 2
+/// something was refused. After a fault a beginning of the output is written. `Read` and `Write` come
+/// only where the source or the sink failed, `Memory` only where a growth was refused.
+pub fn run_command<S: Source, K: Sink>(
+    alloc: Global,
+    order: &Order,
+    source: &mut S,
+    sink: &mut K,
+) -> Result<u8, CommandFault>
+    requires { IsStreamed order.now }
+    ensures whole { IfOk result (λ answer. IfSome (S.left source.old) (λ input.
+        Appends (K.held sink.old) (K.held sink.new) (text order.now input)
+        × (answer ≡ status order.now input))) }
+    ensures front { IfSome (S.left source.old) (λ input.
+        AppendsFront (K.held sink.old) (K.held sink.new) (text order.now input)) }
+    ensures failures { CountsCommand (S.failed source.old) (S.failed source.new)
+        (K.failed sink.old) (K.failed sink.new) result }
+{
+    match order {
+        Order::Show { request } => {
+            run_lines(alloc, &mut Show::new(alloc, *request), source, sink)
+        }
+        Order::Pack(order) => run_lines(alloc, &mut Pack::new(alloc, order)?, source, sink),
+        Order::Sim(order) => run_lines(alloc, &mut sim_of(alloc, order)?, source, sink),
+        Order::Check { folder: _ }
+        | Order::Publish(_)
+        | Order::Serve(_)
+        | Order::Listen(_)
+        | Order::Loop(_)
+        | Order::Upgrade(_) => unreachable!(),
+    }
+}
+
+// The command of an order to simulate.
+fn sim_of(alloc: Global, order: &SimOrder) -> Result<Sim, AllocError>
+    ensures { IfOk result (λ sim. sim ≡ sim_start order.now) }
+{
+    Sim::new(
+        alloc,
+        Session(order.session),
+        order.limits.limit,
+        order.limits.server_limit,
+        order.burst,
+        order.window,
+        order.receivers,
+    )
+}

@@ -1,0 +1,46 @@
+//! `mold check`: the entries of a folder.
+
+use mold_check::{Entry, check_entries, names_datagram};
+use mold_devices::{CommandFault, Sink};
+use std::alloc::Global;
+use std::fs::{self, DirEntry, Files};
+use std::io::{self, ErrorKind};
+
+// Reads an entry. Of one that is no datagram nothing but the name is read.
+fn read_entry<R: Files + AllocGlobal>(rt: &R, found: &DirEntry<R, Global>) -> io::Result<Entry> {
+    let name = String::from_str(rt.alloc(), found.file_name())?;
+    let bytes = if names_datagram(name.as_str()) {
+        fs::read(rt, found.path())?
+    } else {
+        Vec::new(rt.alloc())
+    };
+    Ok(Entry { name, bytes })
+}
+
+// Reads the entries of the folder, in the order in which the system lists them. A name that is not UTF-8 is an
+// error, and so is a datagram that can't be read, as one that is a folder.
+fn read_entries<R: Files + AllocGlobal + Clone + Drop>(
+    rt: &R,
+    folder: &str,
+) -> io::Result<Vec<Entry>> {
+    let mut entries = Vec::new(rt.alloc());
+    for found in fs::read_dir(rt, folder)? {
+        entries.push(read_entry(rt, &found?)?)?;
+    }
+    Ok(entries)
+}
+
+/// Reads the folder, and tells in the sink what `check_entries` finds; it answers the status. `Read` is
+/// answered where the folder or a datagram in it can't be read, or a name is not UTF-8, also that of an entry
+/// that is no datagram; nothing is written then. What the folder holds is the system's word.
+pub fn check_folder<R: Files + AllocGlobal + Clone + Drop, K: Sink>(
+    rt: &R,
+    folder: &str,
+    sink: &mut K,
+) -> Result<u8, CommandFault> {
+    match read_entries(rt, folder) {
+        Ok(entries) => check_entries(rt.alloc(), entries.as_slice(), sink),
+        Err(error) if error.kind() == ErrorKind::OutOfMemory => Err(CommandFault::Memory),
+        Err(_) => Err(CommandFault::Read),
+    }
+}

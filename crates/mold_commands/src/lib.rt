@@ -1,0 +1,10 @@
+//! The commands of the program over any source, sink and files.
+#![tactic(auto)]
+
+mod command;
+mod folder;
+mod upgrading;
+
+pub use command::run_command;
+pub use folder::check_folder;
+pub use upgrading::run_upgrade;

@@ -1,0 +1,3 @@
+pub mod DatagramLemmas
+pub mod PublishingLemmas
+pub mod PublishLoopLemmas

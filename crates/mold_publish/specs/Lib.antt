@@ -1,0 +1,3 @@
+pub mod Publishing
+pub mod PublishLoop
+pub mod Sending

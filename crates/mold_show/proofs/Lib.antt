@@ -1,0 +1,2 @@
+pub mod PackLemmas
+pub mod ShowLemmas

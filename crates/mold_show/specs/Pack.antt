@@ -1,0 +1,48 @@
+-- What `mold pack` prints for its input.
+use Rattle.std.specs.Prelude.{ℕ, ◌+◌, ◌-◌, List, [], ◌++◌, false, length, Option, None, Some}
+use Rattle.mold_devices.specs.Lines.{lines_of}
+use Rattle.mold_devices.specs.Turns.{Printing}
+use Rattle.mold_session.specs.Journal.{JournalState}
+use Rattle.mold_session.specs.Publisher.{PublisherState}
+use Rattle.mold_words.specs.declared.pack_order.PackOrder.{PackOrder}
+use Rattle.mold_show.specs.Packets.{packet_line, packet_lines}
+use Rattle.mold_publish.specs.Publishing.{lines_published, packed_status, refused_text}
+use Rattle.mold_publish.specs.Sending.{all_but_last, end_packet, packets_behind}
+use Rattle.mold_publish.specs.declared.line_refusal.LineRefusal.{LineRefusal}
+
+-- what is printed of a session's messages behind the first ones: their data packets and the end packet,
+-- or where the line behind the last message is refused, all but the last of the data packets and why
+abbrev pub packed_text : ℕ → ℕ → JournalState → Option LineRefusal → List ℕ
+packed_text limit sent journal None =
+    packet_lines (packets_behind limit sent journal) ++ packet_line (end_packet journal)
+packed_text limit sent journal (Some why) =
+    packet_lines (all_but_last (packets_behind limit sent journal)) ++ refused_text (length journal.messages + 1) why
+
+-- what a publisher prints of the lines that are left, and the status that it ends with
+abbrev pub pack_printing : PublisherState → Printing
+pack_printing publisher = record {
+  text = λ input. let published = lines_published publisher.journal (lines_of input) in
+      packed_text publisher.limit publisher.sent published.journal published.refused;
+  status = λ input. packed_status (lines_published publisher.journal (lines_of input)).refused;
+}
+
+-- the publisher of a session that begins
+abbrev pub beginning : PackOrder → PublisherState
+beginning order = record {
+  journal = record {
+    session = record { 0 = order.session };
+    max_message = order.limit - 22;
+    messages = [];
+    closed = false;
+  };
+  limit = order.limit;
+  sent = 0;
+}
+
+-- what is printed for the whole input: the lines up to the first that is refused are the messages of the
+-- session, the first of which has number 1
+unfoldable pub pack_text : PackOrder → List ℕ → List ℕ
+pack_text order input = (pack_printing (beginning order)).text input
+
+unfoldable pub pack_status : PackOrder → List ℕ → ℕ
+pack_status order input = (pack_printing (beginning order)).status input

@@ -1,0 +1,111 @@
+//! `mold pack`: messages given as lines of hexadecimal digits, printed as the packets of a session.
+
+ghost use Rattle.std.specs.Prelude.{◌≡◌, ◌++◌, length, take, IfOk, OnErr, OnOk};
+ghost use Rattle.mold_show.specs.Pack.{beginning};
+ghost use Rattle.mold_publish.specs.Sending.{end_packet};
+ghost use Rattle.mold_show.specs.Packets.{line_of_some, packet_line};
+ghost use Rattle.mold_session.specs.Publisher.{after_datagram, closed, next_datagram};
+
+use mold_devices::{LineCommand, Lines, ReadFault, Source, Turn};
+use mold_publish::{Filled, fill, push_line_refused};
+use mold_session::Publisher;
+use mold_session::laws::packing_law;
+use mold_text::{Word, push_line};
+use mold_wire::Session;
+use mold_wire::laws::{front_law, packet_length_law};
+use mold_words::PackOrder;
+use std::alloc::{AllocError, Global};
+use std::marker::Model;
+
+// Writes the next datagram as a line, and nothing where there is none. The publisher counts it as sent
+// even where memory was refused for the line.
+fn push_datagram(out: &mut Vec<u8>, publisher: &mut Publisher) -> Result<(), AllocError>
+    ensures text { OnOk result (out.new.items ≡ out.old.items ++ line_of_some (next_datagram publisher.old)) }
+    ensures kept { OnErr result (take (length out.old.items) out.new.items ≡ out.old.items) }
+    ensures sent { publisher.new ≡ after_datagram publisher.old }
+{
+    match publisher.datagram() {
+        Some(datagram) => push_line(out, &[Word::Digits(datagram)]),
+        None => Ok(()),
+    }
+}
+
+// Closes the session, of which every message was sent, and writes its end packet as a line.
+fn push_end(out: &mut Vec<u8>, publisher: &mut Publisher) -> Result<(), AllocError>
+    requires { publisher.old.sent ≡ length publisher.old.journal.messages }
+    ensures text { OnOk result (out.new.items ≡ out.old.items ++ packet_line (end_packet publisher.old.journal)) }
+    ensures kept { OnErr result (take (length out.old.items) out.new.items ≡ out.old.items) }
+    ensures closed { publisher.new ≡ closed publisher.old }
+{
+    let _ = publisher.close();
+    match publisher.end() {
+        Some(end) => push_line(out, &[Word::Digits(end)]),
+        None => Ok(()),
+    }
+}
+
+/// The command `pack`: it prints the packets of a session whose messages the lines of its input spell.
+#[derive(Drop)]
+pub struct Pack {
+    publisher: Publisher,
+    message: Vec<u8>,
+}
+
+impl Model for Pack {
+    ghost use Rattle.mold_session.specs.Publisher.{PublisherState};
+    ghost use Rattle.mold_publish.specs.Publishing.{HasRoom};
+
+    ghost Value = { PublisherState };
+
+    ghost view = { λ p. p.publisher };
+
+    ghost invariant = { λ p. HasRoom p.publisher };
+}
+
+impl Pack {
+    /// A session without messages. It takes the memory of a datagram.
+    pub fn new(alloc: Global, order: &PackOrder) -> Result<Pack, AllocError>
+        ensures { IfOk result (λ pack. pack ≡ beginning order.now) }
+    {
+        packet_length_law();
+        // The limit of an order is in its range, so only memory can be wanting.
+        let Ok(publisher) = Publisher::new(alloc, Session(order.session), order.limit) else {
+            return Err(AllocError);
+        };
+        Ok(Pack {
+            publisher,
+            message: Vec::new(alloc),
+        })
+    }
+}
+
+impl LineCommand for Pack {
+    ghost use Rattle.mold_show.specs.Pack.{pack_printing};
+
+    ghost prints = { pack_printing };
+
+    fn turn<S: Source>(
+        &mut self,
+        lines: &mut Lines,
+        source: &mut S,
+        out: &mut Vec<u8>,
+    ) -> Result<Turn, ReadFault> {
+        front_law();
+        packing_law();
+        match fill(&mut self.publisher, lines, source, &mut self.message)? {
+            Filled::Full => {
+                push_datagram(out, &mut self.publisher)?;
+                Ok(Turn::More)
+            }
+            Filled::End => {
+                push_datagram(out, &mut self.publisher)?;
+                push_end(out, &mut self.publisher)?;
+                Ok(Turn::Done { status: 0 })
+            }
+            Filled::Refused { why } => {
+                push_line_refused(out, self.publisher.journal().next(), why)?;
+                Ok(Turn::Done { status: 2 })
+            }
+        }
+    }
+}

@@ -1,0 +1,95 @@
+//! A folder that the test makes, and folders that can't be read.
+
+use crate::comparisons::{same_bytes, same_outcome};
+use mold_commands::check_folder;
+use mold_devices::{CommandFault, MemorySink};
+use std::fs::{Files, create_dir, remove_dir_all, write};
+use std::path::PathBuf;
+use std::process::{self, Abort};
+use std::test::Fail;
+use std::{env, io};
+
+const TWO_X: &[u8] = b"SESSION001\0\0\0\0\0\0\0\x02\0\x01\0\x01X";
+
+const TWO_Y: &[u8] = b"SESSION001\0\0\0\0\0\0\0\x02\0\x01\0\x01Y";
+
+// A new folder of the process, for the test of this name.
+fn new_folder(rt: &HostRuntime, test: &str) -> io::Result<PathBuf> {
+    let name = format!(in rt.alloc(); "mold-check-{test}-{}", process::id(rt.process()))?;
+    let folder = env::temp_dir(rt)?.join(rt.alloc(), name.as_str())?;
+    create_dir(rt, folder.as_path())?;
+    Ok(folder)
+}
+
+// Writes the file of this name in the folder.
+fn put(
+    rt: &(impl Files + AllocGlobal),
+    folder: &PathBuf,
+    name: &str,
+    bytes: &[u8],
+) -> Result<(), Fail> {
+    let file = folder.join(rt.alloc(), name)?;
+    write(rt, file, bytes)?;
+    Ok(())
+}
+
+// Makes a folder of this name in the folder.
+fn put_folder(rt: &(impl Files + AllocGlobal), folder: &PathBuf, name: &str) -> Result<(), Fail> {
+    let inner = folder.join(rt.alloc(), name)?;
+    create_dir(rt, inner)?;
+    Ok(())
+}
+
+// Checks the folder, and compares the answer, and what is told. `at` is the number of the check in its test.
+fn expect(
+    rt: &(impl Abort + Files + AllocGlobal + Clone + Drop),
+    folder: &PathBuf,
+    text: &[u8],
+    wanted: Result<u8, CommandFault>,
+    at: u64,
+) -> Result<(), Fail> {
+    let folder = folder.to_str().ok_or("no text")?;
+    let mut sink = MemorySink::new(rt.alloc());
+    let answer = check_folder(rt, folder, &mut sink);
+    same_outcome(rt, answer, wanted, at);
+    same_bytes(rt, sink.bytes(), text, at);
+    Ok(())
+}
+
+// Two datagrams that contradict each other, and a file that is none.
+fn put_conflict(rt: &(impl Files + AllocGlobal), folder: &PathBuf) -> Result<(), Fail> {
+    put(rt, folder, "b.pkt", TWO_Y)?;
+    put(rt, folder, "c.txt", b"no datagram")?;
+    put(rt, folder, "a.pkt", TWO_X)
+}
+
+#[test]
+fn check_folders(rt: HostRuntime) -> Result<(), Fail> {
+    let folder = new_folder(&rt, "conflict")?;
+    put_conflict(&rt, &folder)?;
+    let text = b"files 2 skipped 1\nrefused b.pkt Conflict 2\n";
+    expect(&rt, &folder, text, Ok(2), 1)?;
+    remove_dir_all(&rt, folder)?;
+    Ok(())
+}
+
+// A folder is skipped, and one whose name is that of a datagram can't be read.
+fn expect_folders(
+    rt: &(impl Abort + Files + AllocGlobal + Clone + Drop),
+    folder: &PathBuf,
+) -> Result<(), Fail> {
+    put_folder(rt, folder, "inner")?;
+    let text = b"files 0 skipped 1\nincomplete end none\n";
+    expect(rt, folder, text, Ok(1), 1)?;
+    put_folder(rt, folder, "x.pkt")?;
+    expect(rt, folder, b"", Err(CommandFault::Read), 2)
+}
+
+/// A folder in the folder is skipped, unless its name is that of a datagram.
+#[test]
+fn folders_that_are_not_read(rt: HostRuntime) -> Result<(), Fail> {
+    let folder = new_folder(&rt, "unread")?;
+    expect_folders(&rt, &folder)?;
+    remove_dir_all(&rt, folder.as_path())?;
+    expect(&rt, &folder, b"", Err(CommandFault::Read), 3)
+}
