@@ -1,11 +1,11 @@
-//! Tests of the commands over sources, sinks and ports in memory, and over folders that they make.
+//! Tests of `mold_commands`, over sources, sinks and folders, and of `mold_publish`, over ports in memory.
 #![tactic(auto)]
 
 #[cfg(test)]
+mod commands;
+#[cfg(test)]
 mod comparisons;
 #[cfg(test)]
-mod folder_tests;
+mod folder;
 #[cfg(test)]
-mod publish_loop_tests;
-#[cfg(test)]
-mod tests;
+mod publishing;
