@@ -6,11 +6,12 @@ use Rattle.std.specs.FinMap as finite
 use Rattle.std.specs.Option.{option_map, option_or}
 use Rattle.std.proofs.lemmas.Bool.{true≢false}
 use Rattle.mold_wire.specs.Packet.{messages_of, top_of}
+use Rattle.mold_wire.specs.Reading.{reading}
 use Rattle.mold_wire.specs.declared.packet.Packet.{Packet}
 use Rattle.mold_wire.specs.declared.session.Session.{Session}
 use Rattle.mold_capture.specs.declared.reason.Reason.{Reason}
-use Rattle.mold_capture.specs.Refusal.{conflict, header_refusals, refusals, first_some, told}
-use Rattle.mold_capture.specs.Seen.{Pairs, Seen, IsSound, end_in, joined, pairs_with, seen_by}
+use Rattle.mold_capture.specs.Refusal.{conflict, header_refusals, refusal, refusal_read, refusals, first_some, told}
+use Rattle.mold_capture.specs.Seen.{Pairs, Seen, IsSound, after, end_in, joined, joined_read, pairs_with, seen_by}
 use Rattle.mold_capture.specs.Verdict.{IsWholeSeen, lacks, missing_in}
 use Rattle.mold_capture.proofs.GapLemmas.{none_lacking, lacking_none}
 
@@ -102,3 +103,24 @@ whole_none seen sound end whole =
 pub ok_then : {X E : Type 0} (r : Result X E) (P Q : X → Type 0) → ((x : X) → P x → Q x) → IfOk r P → IfOk r Q
 ok_then (Ok x) P Q to holds = to x holds
 ok_then (Err e) P Q to holds = tt
+
+-- of a datagram that reads as the packet, what was said being given by its parts: its refusal by the header,
+pub read_early : (before seen : Seen) (bytes : List ℕ) (p : Packet) (reason : Reason) → before ≡ seen
+    → reading bytes ≡ Ok p → first_some (header_refusals before.session before.known before.ended p) ≡ told reason
+    → is_some (told reason) ≡ true → refusal seen bytes ≡ told reason
+read_early before seen bytes p reason same read header some =
+    ap (λ (s : Seen). refusal s bytes) (sym same) ∙ ap (refusal_read before) read
+    ∙ refused_early before p reason header some
+
+-- by a conflict,
+pub read_late : (before seen : Seen) (bytes : List ℕ) (p : Packet) → before ≡ seen → reading bytes ≡ Ok p
+    → first_some (header_refusals before.session before.known before.ended p) ≡ None
+    → refusal seen bytes ≡ conflict before.pairs p.sequence (messages_of p.body)
+read_late before seen bytes p same read header =
+    ap (λ (s : Seen). refusal s bytes) (sym same) ∙ ap (refusal_read before) read ∙ refused_late before p header
+
+-- and what was said with it
+pub read_joined : (before seen : Seen) (bytes : List ℕ) (p : Packet) → before ≡ seen → reading bytes ≡ Ok p
+    → joined before p ≡ after seen bytes
+read_joined before seen bytes p same read =
+    sym (ap (joined_read before) read) ∙ ap (λ (s : Seen). after s bytes) same

@@ -2,7 +2,7 @@
 
 ghost use Rattle.std.specs.Prelude.{◌≡◌, ◌++◌, ◌∷◌, [], OnOk, IfOk};
 ghost use Rattle.std.specs.Io.KnownBytes.{Appends};
-ghost use Rattle.mold_capture.specs.Outcome.{outcome_in, whole};
+ghost use Rattle.mold_capture.specs.Outcome.{incomplete, outcome_in, whole};
 ghost use Rattle.mold_capture.specs.Verdict.{ranges_of};
 ghost use Rattle.mold_check.specs.Entries.{NamesDiffer};
 ghost use Rattle.mold_check.specs.Report.{Checked, CountsWrite, counts_line, incomplete_line, missing_line};
@@ -113,6 +113,37 @@ fn send_missing<K: Sink>(
     send(sink, text)
 }
 
+// Writes the text, and behind it that the session is whole; it answers the status.
+fn tell_whole<K: Sink>(sink: &mut K, text: &mut Vec<u8>, messages: u64) -> Result<u8, CommandFault>
+    ensures whole { IfOk result (λ status. Appends (K.held sink.old) (K.held sink.new)
+        (text.old.items ++ outcome_text [] (whole messages)) × (status ≡ 0)) }
+    ensures front { AppendsFront (K.held sink.old) (K.held sink.new)
+        (text.old.items ++ outcome_text [] (whole messages)) }
+    ensures failures { CountsWrite (K.failed sink.old) (K.failed sink.new) result }
+{
+    push_whole(text, messages)?;
+    send(sink, text)?;
+    Ok(0)
+}
+
+// Writes the text, and behind it what is missing; it answers the status.
+fn tell_incomplete<K: Sink>(
+    sink: &mut K,
+    text: &mut Vec<u8>,
+    missing: &[Range],
+    end: Option<u64>,
+) -> Result<u8, CommandFault>
+    ensures whole { IfOk result (λ status. Appends (K.held sink.old) (K.held sink.new)
+        (text.old.items ++ outcome_text [] (incomplete (ranges_of missing.now) end)) × (status ≡ 1)) }
+    ensures front { AppendsFront (K.held sink.old) (K.held sink.new)
+        (text.old.items ++ outcome_text [] (incomplete (ranges_of missing.now) end)) }
+    ensures failures { CountsWrite (K.failed sink.old) (K.failed sink.new) result }
+{
+    push_incomplete(text, end)?;
+    send_missing(sink, text, missing)?;
+    Ok(1)
+}
+
 // Writes the text, and behind it what the verdict tells; it answers the status.
 fn tell_verdict<K: Sink>(
     sink: &mut K,
@@ -127,15 +158,9 @@ fn tell_verdict<K: Sink>(
     ensures failures { CountsWrite (K.failed sink.old) (K.failed sink.new) result }
 {
     match verdict {
-        Verdict::Whole { messages } => {
-            push_whole(text, *messages)?;
-            send(sink, text)?;
-            Ok(0)
-        }
+        Verdict::Whole { messages } => tell_whole(sink, text, *messages),
         Verdict::Incomplete { missing, end } => {
-            push_incomplete(text, *end)?;
-            send_missing(sink, text, missing.as_slice())?;
-            Ok(1)
+            tell_incomplete(sink, text, missing.as_slice(), *end)
         }
     }
 }

@@ -5,7 +5,7 @@ use Rattle.std.proofs.Common.{append-nil, add-one, inl, inr, arith}
 use Rattle.std.proofs.lemmas.Bool.{cond-true, cond-false, cases_Bool, cases_lt, eqb-true, eqb-false}
 use Rattle.std.proofs.lemmas.List.{take-append-le, drop-append-le, drop-drop, drop-take, get_or_append_left}
 use Rattle.std.proofs.lemmas.List.{get_or-append_right, nil_from_length}
-use Rattle.memchr.specs.Find.{NoneBefore, Passes, is_byte}
+use Rattle.memchr.specs.Find.{NoneBefore, Nowhere, Passes, is_byte}
 use Rattle.std.specs.Io.KnownBytes.{Consumes, IsAtEnd, prepend_known}
 use Rattle.mold_devices.specs.Lines.{onto_first, lines_of, GivesLine, HasNoEnd}
 
@@ -155,6 +155,11 @@ pub found_end : (bytes piece : List ℕ) (at : ℕ) → bytes ≡ piece →
 found_end bytes piece at same found =
     subst (λ (t : List ℕ). FirstEnd t at) same
     (record { within = found.0.high; here = found.1; before = λ k lt is. found.0.before k (omega arith) lt is })
+
+-- where a search found none, no line ends
+pub none_found : (bytes piece : List ℕ) → bytes ≡ piece → Nowhere (Passes (is_byte 10) bytes) 0 (length bytes)
+    → HasNoEnd piece
+none_found bytes piece same none = subst HasNoEnd same (λ k lt is. none k (omega arith) lt is)
 
 end_gives : (known mid left : Option (List ℕ)) (joined piece : List ℕ) (empty : Bool) →
     InPieces known mid left joined piece → IsOver left piece → empty ≡ eqb (length joined) 0 →

@@ -1,6 +1,6 @@
 -- The packets of an answer, offered one by one.
 use Rattle.std.proofs.Common.{◌≡◌, ℕ, ◌-◌, Bool, true, false, List, [], ◌∷◌, ◌++◌, length, Result, Ok, Err, refl, sym, ap, subst, ◌∙◌, append_assoc, arith}
-use Rattle.std.proofs.lemmas.Result.{on_ok_weaker}
+use Rattle.std.proofs.lemmas.Result.{IfOk-from_err, on_ok_weaker}
 use Rattle.std.specs.Prelude.{IsErr, OnOk}
 use Rattle.mold_ports.specs.Ports.{Port, offered}
 use Rattle.mold_serve.specs.Answering.{OffersOne, OffersNext, Reaches, left_of}
@@ -55,6 +55,18 @@ module _ {P T E : Type 0} (to : P) (result : Result T E) (service : Service) (pl
     parts = parts;
     port = sent;
     whole = ok_so result (same_stall sent counted (ap (λ (s : ServerState). s.answered) same));
+  }
+
+  -- it was sent, and memory was refused behind it
+  pub offered_untold : new ≡ offered false to bytes old → IsErr result →
+      OffersOne to result (left_of service plan) (left_of service behind) (stall_of old tally server)
+      (stall_of new told after)
+  offered_untold sent refused = record {
+    fails = false;
+    packet = next_packet service.journal.messages service.limit plan;
+    parts = parts;
+    port = sent ∙ ap (λ (b : List ℕ). offered false to b old) spells.spelled;
+    whole = IfOk-from_err result _ refused;
   }
 
   -- it was sent

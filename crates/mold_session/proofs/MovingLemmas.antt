@@ -40,6 +40,15 @@ moves_written old mid new kept text still p none q = record {
   appended = Appends-trans old mid new kept text p q;
 }
 
+-- what was kept was written, and the text is kept
+pub moves_kept : (old new : Option (List ℕ)) (kept text flushed still : List ℕ) → Appends old new kept →
+    flushed ≡ [] → still ≡ flushed ++ text → Moves old new kept text still
+moves_kept old new kept text flushed still p none is = record {
+  written = kept;
+  parts = ap (λ (t : List ℕ). kept ++ t) (sym (is ∙ ap (λ (t : List ℕ). t ++ text) none));
+  appended = p;
+}
+
 -- one text after the other
 pub moves_both : (old mid new : Option (List ℕ)) (kept text held more still : List ℕ) → Moves old mid kept text held →
     Moves mid new held more still → Moves old new kept (text ++ more) still

@@ -59,20 +59,39 @@ fn command_from<'a>(alloc: Global, row: CommandRow) -> Result<Command<'a>, Alloc
     Ok(command)
 }
 
-// The program with the command of each row.
-fn command_of_rows<'a>(alloc: Global, rows: &[CommandRow]) -> Result<Command<'a>, AllocError>
-    ensures { IfOk result (λ c. app_of c ≡ fold with_command bare_app (map command_of rows.now)) }
+// The program without commands.
+fn bare_command<'a>(alloc: Global) -> Result<Command<'a>, AllocError>
+    ensures { IfOk result (λ c. app_of c ≡ bare_app) }
 {
-    let mut command = Command::new(alloc, "mold")
+    Command::new(alloc, "mold")
         .no_binary_name(true)
         .version(VERSION)
         .about(ABOUT)
         .after_help(WITHOUT_COMMAND)
-        .bin_name("mold")?;
+        .bin_name("mold")
+}
+
+// A program with the command of one more row.
+fn with_command<'a>(
+    alloc: Global,
+    program: Command<'a>,
+    row: CommandRow,
+) -> Result<Command<'a>, AllocError>
+    ensures { IfOk result (λ c. app_of c ≡ with_command (app_of program.entry) (command_of row)) }
+{
+    let command = command_from(alloc, row)?;
+    program.subcommand(command)
+}
+
+// The program with the command of each row.
+fn command_of_rows<'a>(alloc: Global, rows: &[CommandRow]) -> Result<Command<'a>, AllocError>
+    ensures { IfOk result (λ c. app_of c ≡ fold with_command bare_app (map command_of rows.now)) }
+{
+    let mut program = bare_command(alloc)?;
     for row in rows {
-        command = command.subcommand(command_from(alloc, *row)?)?;
+        program = with_command(alloc, program, *row)?;
     }
-    Ok(command)
+    Ok(program)
 }
 
 /// The program's commands and options. The only error is want of memory.

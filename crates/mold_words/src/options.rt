@@ -1,9 +1,9 @@
 //! The values of a command's options, as a parse found them.
 
-ghost use Rattle.std.specs.Prelude.{◌≡◌, ◌≤◌, IfOk, MatchResult, None, Some, false, option_map, true};
+ghost use Rattle.std.specs.Prelude.{◌≡◌, ◌≤◌, IfOk, MatchResult, None, Some, false, option_map, string_bytes, true};
 ghost use Rattle.std.specs.List.{list_all};
 ghost use Rattle.clap.specs.Words.{first_of, found_of, rows_of};
-ghost use Rattle.mold_words.specs.NoOrders.{LacksValue, is_address};
+ghost use Rattle.mold_words.specs.NoOrders.{LacksOrder, LacksValue, is_address};
 ghost use Rattle.mold_words.specs.Orders.{address_in, address_view, flag_in, has_no_address, is_no_address};
 ghost use Rattle.mold_words.specs.Orders.{burst_in, limit_in, limits_in, number_in, session_in, turns_in, window_in};
 ghost use Rattle.mold_words.specs.Values.{is_character};
@@ -14,6 +14,7 @@ use crate::limits::Limits;
 use crate::no_order::NoOrder;
 use crate::values::{number_of, session_of};
 use clap::ArgMatches;
+use std::alloc::Global;
 
 /// What holds where an option is not given.
 const USUAL_LIMIT: u64 = 1400;
@@ -35,6 +36,20 @@ pub(crate) fn required_in<'a>(
         (LacksValue (first_of name.now (rows_of (found_of options.now)))) }
 {
     text_in(options, name).ok_or(NoOrder::Missing { name })
+}
+
+/// The text of an option that has one, as an order keeps it.
+pub(crate) fn string_in(
+    alloc: Global,
+    options: &ArgMatches<'_>,
+    name: &'static str,
+) -> Result<String, NoOrder>
+    ensures { MatchResult result
+        (λ text. first_of name.now (rows_of (found_of options.now)) ≡ Some (string_bytes text))
+        (LacksOrder (first_of name.now (rows_of (found_of options.now)))) }
+{
+    let text = required_in(options, name)?;
+    Ok(String::from_str(alloc, text)?)
 }
 
 /// Whether the flag was given.

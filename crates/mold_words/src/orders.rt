@@ -2,7 +2,7 @@
 
 ghost use Rattle.std.specs.Prelude.{◌≡◌, ◌⊎◌, MatchResult, None, Some};
 ghost use Rattle.clap.specs.Words.{found_of, rows_of, subcommand_rows_of};
-ghost use Rattle.mold_words.specs.NoOrders.{LacksOrder, LacksValue, is_address};
+ghost use Rattle.mold_words.specs.NoOrders.{LacksOrder, is_address};
 ghost use Rattle.mold_words.specs.Orders.{check_of, lacks_address, listen_of, loop_of, order_at, order_in, pack_of};
 ghost use Rattle.mold_words.specs.Orders.{publish_of, serve_of, show_of, sim_of, upgrade_of, view};
 
@@ -11,7 +11,7 @@ use crate::loop_order::LoopOrder;
 use crate::no_order::NoOrder;
 use crate::options::{
     address_in, burst_in, check_addresses, flag_in, limit_in, limits_in, number_in, required_in,
-    session_in, turns_in, window_in,
+    session_in, string_in, turns_in, window_in,
 };
 use crate::pack_order::PackOrder;
 use crate::publish_order::PublishOrder;
@@ -50,14 +50,14 @@ fn order_at(alloc: Global, name: &str, options: &ArgMatches<'_>) -> Result<Order
 {
     match name {
         "show" => Ok(show_order(options)),
-        "pack" => Ok(Order::Pack(pack_order(options)?)),
-        "sim" => Ok(Order::Sim(sim_order(options)?)),
+        "pack" => pack_order(options),
+        "sim" => sim_order(options),
         "check" => check_order(alloc, options),
-        "publish" => Ok(Order::Publish(publish_order(alloc, options)?)),
-        "serve" => Ok(Order::Serve(serve_order(alloc, options)?)),
-        "listen" => Ok(Order::Listen(listen_order(options)?)),
-        "loop" => Ok(Order::Loop(loop_order(options)?)),
-        "upgrade" => Ok(Order::Upgrade(upgrade_order(alloc, options)?)),
+        "publish" => publish_order(alloc, options),
+        "serve" => serve_order(alloc, options),
+        "listen" => listen_order(options),
+        "loop" => loop_order(options),
+        "upgrade" => upgrade_order(alloc, options),
         _ => Err(NoOrder::Command),
     }
 }
@@ -74,21 +74,21 @@ fn show_order(options: &ArgMatches<'_>) -> Order
 
 // The order of `pack`.
 #[tactic(auto, unfolding(crate::specs::Orders::pack_of))]
-fn pack_order(options: &ArgMatches<'_>) -> Result<PackOrder, NoOrder>
+fn pack_order(options: &ArgMatches<'_>) -> Result<Order, NoOrder>
     ensures { MatchResult result
-        (λ order. pack_of (rows_of (found_of options.now)) ≡ Some (view (Order.Pack order)))
-        (LacksValue (pack_of (rows_of (found_of options.now)))) }
+        (λ order. pack_of (rows_of (found_of options.now)) ≡ Some (view order))
+        (LacksOrder (pack_of (rows_of (found_of options.now)))) }
 {
     let session = session_in(options, "session")?;
     let limit = limit_in(options, "limit")?;
-    Ok(PackOrder { session, limit })
+    Ok(Order::Pack(PackOrder { session, limit }))
 }
 
 // The order of `upgrade`.
 #[tactic(auto, unfolding(crate::specs::Orders::upgrade_of))]
-fn upgrade_order(alloc: Global, options: &ArgMatches<'_>) -> Result<UpgradeOrder, NoOrder>
+fn upgrade_order(alloc: Global, options: &ArgMatches<'_>) -> Result<Order, NoOrder>
     ensures { MatchResult result
-        (λ order. upgrade_of (rows_of (found_of options.now)) ≡ Some (view (Order.Upgrade order)))
+        (λ order. upgrade_of (rows_of (found_of options.now)) ≡ Some (view order))
         (LacksOrder (upgrade_of (rows_of (found_of options.now)))) }
 {
     let journal = required_in(options, "journal")?;
@@ -96,32 +96,32 @@ fn upgrade_order(alloc: Global, options: &ArgMatches<'_>) -> Result<UpgradeOrder
     if journal == to {
         return Err(NoOrder::SameFiles);
     }
-    Ok(UpgradeOrder {
+    Ok(Order::Upgrade(UpgradeOrder {
         journal: String::from_str(alloc, journal)?,
         to: String::from_str(alloc, to)?,
         close: flag_in(options, "close"),
-    })
+    }))
 }
 
 // The order of `sim`.
 #[tactic(auto, unfolding(crate::specs::Orders::sim_of))]
-fn sim_order(options: &ArgMatches<'_>) -> Result<SimOrder, NoOrder>
+fn sim_order(options: &ArgMatches<'_>) -> Result<Order, NoOrder>
     ensures { MatchResult result
-        (λ order. sim_of (rows_of (found_of options.now)) ≡ Some (view (Order.Sim order)))
-        (LacksValue (sim_of (rows_of (found_of options.now)))) }
+        (λ order. sim_of (rows_of (found_of options.now)) ≡ Some (view order))
+        (LacksOrder (sim_of (rows_of (found_of options.now)))) }
 {
     let session = session_in(options, "session")?;
     let limits = limits_in(options)?;
     let window = window_in(options)?;
     let receivers = number_in(options, "receivers", 2, 1, 8)?;
     let burst = burst_in(options)?;
-    Ok(SimOrder {
+    Ok(Order::Sim(SimOrder {
         session,
         limits,
         window,
         receivers: receivers as usize,
         burst,
-    })
+    }))
 }
 
 // The order of `check`.
@@ -131,64 +131,63 @@ fn check_order(alloc: Global, options: &ArgMatches<'_>) -> Result<Order, NoOrder
         (λ order. check_of (rows_of (found_of options.now)) ≡ Some (view order))
         (LacksOrder (check_of (rows_of (found_of options.now)))) }
 {
-    let folder = required_in(options, "folder")?;
     Ok(Order::Check {
-        folder: String::from_str(alloc, folder)?,
+        folder: string_in(alloc, options, "folder")?,
     })
 }
 
 // The order of `publish`.
 #[tactic(auto, unfolding(crate::specs::Orders::publish_of))]
-fn publish_order(alloc: Global, options: &ArgMatches<'_>) -> Result<PublishOrder, NoOrder>
+fn publish_order(alloc: Global, options: &ArgMatches<'_>) -> Result<Order, NoOrder>
     ensures { MatchResult result
-        (λ order. publish_of (rows_of (found_of options.now)) ≡ Some (view (Order.Publish order)))
+        (λ order. publish_of (rows_of (found_of options.now)) ≡ Some (view order))
         (LacksOrder (publish_of (rows_of (found_of options.now)))) }
 {
     let session = session_in(options, "session")?;
     let limit = limit_in(options, "limit")?;
     let a = address_in(options, "a")?;
     let b = address_in(options, "b")?;
-    let journal = required_in(options, "journal")?;
     let beats = number_in(options, "beats", 1, 0, 1000)?;
     let ends = number_in(options, "ends", 1, 0, 1000)?;
-    Ok(PublishOrder {
+    let journal = string_in(alloc, options, "journal")?;
+    Ok(Order::Publish(PublishOrder {
         session,
         limit,
         a,
         b,
-        journal: String::from_str(alloc, journal)?,
+        journal,
         beats: beats as u32,
         ends: ends as u32,
-    })
+    }))
 }
 
 // The order of `serve`.
 #[tactic(auto, unfolding(crate::specs::Orders::serve_of))]
-fn serve_order(alloc: Global, options: &ArgMatches<'_>) -> Result<ServeOrder, NoOrder>
+fn serve_order(alloc: Global, options: &ArgMatches<'_>) -> Result<Order, NoOrder>
     ensures { MatchResult result
-        (λ order. serve_of (rows_of (found_of options.now)) ≡ Some (view (Order.Serve order)))
+        (λ order. serve_of (rows_of (found_of options.now)) ≡ Some (view order))
         (LacksOrder (serve_of (rows_of (found_of options.now)))) }
 {
-    let journal = required_in(options, "journal")?;
     let limit = limit_in(options, "limit")?;
     let burst = burst_in(options)?;
     let bind = address_in(options, "bind")?;
     let turns = turns_in(options)?;
-    Ok(ServeOrder {
-        journal: String::from_str(alloc, journal)?,
+    let journal = string_in(alloc, options, "journal")?;
+    Ok(Order::Serve(ServeOrder {
+        journal,
         limit,
         burst,
         bind,
         turns,
-    })
+    }))
 }
 
 // The order of `listen`.
 #[tactic(auto, unfolding(crate::specs::Orders::listen_of))]
-fn listen_order(options: &ArgMatches<'_>) -> Result<ListenOrder, NoOrder>
+fn listen_order(options: &ArgMatches<'_>) -> Result<Order, NoOrder>
     ensures { MatchResult result
-        (λ order. listen_of (rows_of (found_of options.now)) ≡ Some (view (Order.Listen order)))
-        (LacksValue (listen_of (rows_of (found_of options.now)))) }
+        (λ order. listen_of (rows_of (found_of options.now)) ≡ Some (view order))
+        (LacksOrder (listen_of (rows_of (found_of options.now)))) }
 {
     let session = session_in(options, "session")?;
     let next = number_in(options, "next", 1, 1, MOST_NEXT)?;
@@ -198,7 +197,7 @@ fn listen_order(options: &ArgMatches<'_>) -> Result<ListenOrder, NoOrder>
     let server = address_in(options, "server")?;
     let burst = burst_in(options)?;
     let turns = turns_in(options)?;
-    Ok(ListenOrder {
+    Ok(Order::Listen(ListenOrder {
         session,
         next,
         window,
@@ -207,15 +206,15 @@ fn listen_order(options: &ArgMatches<'_>) -> Result<ListenOrder, NoOrder>
         server,
         burst,
         turns,
-    })
+    }))
 }
 
 // The order of `loop`.
 #[tactic(auto, unfolding(crate::specs::Orders::loop_of))]
-fn loop_order(options: &ArgMatches<'_>) -> Result<LoopOrder, NoOrder>
+fn loop_order(options: &ArgMatches<'_>) -> Result<Order, NoOrder>
     ensures { MatchResult result
-        (λ order. loop_of (rows_of (found_of options.now)) ≡ Some (view (Order.Loop order)))
-        (LacksValue (loop_of (rows_of (found_of options.now)))) }
+        (λ order. loop_of (rows_of (found_of options.now)) ≡ Some (view order))
+        (LacksOrder (loop_of (rows_of (found_of options.now)))) }
 {
     let session = session_in(options, "session")?;
     let limits = limits_in(options)?;
@@ -224,7 +223,7 @@ fn loop_order(options: &ArgMatches<'_>) -> Result<LoopOrder, NoOrder>
     let drop_a = number_in(options, "drop-a", 0, 0, 1000)?;
     let drop_b = number_in(options, "drop-b", 0, 0, 1000)?;
     let turns = turns_in(options)?;
-    Ok(LoopOrder {
+    Ok(Order::Loop(LoopOrder {
         session,
         limits,
         window,
@@ -232,5 +231,5 @@ fn loop_order(options: &ArgMatches<'_>) -> Result<LoopOrder, NoOrder>
         drop_a: drop_a as u32,
         drop_b: drop_b as u32,
         turns,
-    })
+    }))
 }

@@ -8,7 +8,17 @@ use Rattle.mold_check.specs.declared.entry.Entry.{Entry}
 use Rattle.mold_check.proofs.OrderLemmas.{lent, order_few}
 use Rattle.mold_check.proofs.CheckedLemmas.{verdict_outcome, verdict_text, refused_outcome, checked_of, bytes_lent}
 use Rattle.mold_check.proofs.CheckedLemmas.{length-lent, name_at, within_order, report_text, told_whole, told_front}
+use Rattle.mold_check.proofs.ReportLemmas.{front_none}
 use Rattle.mold_check.proofs.report.check_entries.Goals as goal
+
+pub returns-in_err-order-clause-front : goal.returns-in_err-order-clause-front
+returns-in_err-order-clause-front g c = λ differ checked. front_none _ _
+
+pub returns-in_err-datagrams-clause-front : goal.returns-in_err-datagrams-clause-front
+returns-in_err-datagrams-clause-front g c = λ differ checked. front_none _ _
+
+pub returns-in_err-push_counts-clause-front : goal.returns-in_err-push_counts-clause-front
+returns-in_err-push_counts-clause-front g c = λ differ checked. front_none _ _
 
 pub overflow_sub-entries : goal.overflow_sub-entries
 overflow_sub-entries g c =

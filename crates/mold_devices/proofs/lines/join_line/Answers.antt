@@ -1,6 +1,8 @@
-use Rattle.std.proofs.Common.{ℕ, ap, ◌∙◌, eqb}
-use Rattle.std.specs.Io.KnownBytes.{prepend_known}
-use Rattle.mold_devices.proofs.LineLemmas.{InPieces, IsOver, found_end, gives_joined, gives_end}
+use Rattle.std.proofs.Common.{◌≡◌, ◌∙◌, ◌++◌, ℕ, List, ap, arith, eqb, subst, sym}
+use Rattle.std.specs.Io.KnownBytes.{Consumes, prepend_known}
+use Rattle.std.proofs.KnownBytes.{Consumes-trans}
+use Rattle.mold_devices.specs.Lines.{HasNoEnd}
+use Rattle.mold_devices.proofs.LineLemmas.{HasNoEnd-append, InPieces, IsOver, found_end, gives_joined, gives_end, none_found}
 use Rattle.mold_devices.proofs.lines.join_line.Goals as goal
 
 pub returns-then-count-eq0-clause-line : goal.returns-then-count-eq0-clause-line
@@ -32,3 +34,23 @@ returns-in-Some-clause-line g c =
     let found = found_end c.rest-in-pieces.result.now piece at c.rest-in-pieces.ensures.value c.in-Some.ensures in
     rw (c.skip.ensures, c.in_ok-extend_from_slice-2.ensures.items, c.rest-in-Some.ensures.value)
     (gives_joined line found)
+
+pub pieces-preserved : goal.pieces-preserved
+pieces-preserved g c =
+    let known = prepend_known c.args.piece.now (g.S.Source.left c.args.source.now) in
+    let joined = c.pieces.joined.items in
+    let piece = c.refill.new.self in
+    let added : c.extend_from_slice-in-pieces.new.self.items ≡ joined ++ piece =
+    c.in_ok-extend_from_slice-3.ensures.items ∙ ap (λ (t : List ℕ). joined ++ t) c.rest-in-pieces-2.ensures.value in
+    let none = none_found c.rest-in-pieces.result.now piece c.rest-in-pieces.ensures.value c.in_default.ensures in
+    let lower = c.in_ok-count.ensures.bound (omega arith) in
+    record {
+      read =
+          subst (Consumes known (g.S.Source.left c.refill.new.source)) (sym added)
+          (Consumes-trans known (g.S.Source.left c.pieces.source) (g.S.Source.left c.refill.new.source) joined piece
+          c.pieces.invariant.read c.in_ok-count.ensures.bytes);
+      no_end = subst HasNoEnd (sym added) (HasNoEnd-append joined piece c.pieces.invariant.no_end none);
+      lower = omega (arith, c.refill.ensures.kept, c.pieces.invariant.lower);
+      work = λ some. omega (arith, lower);
+      failures = c.in_ok-count.ensures.failures ∙ c.pieces.invariant.failures;
+    }

@@ -5,4 +5,4 @@ use Rattle.mold_words.specs.Table.{command_of}
 use Rattle.mold_words.proofs.command.command_of_rows.Given as goal
 
 abbrev pub invariant-loop-row : goal.invariant-loop-row
-invariant-loop-row l = app_of l.command ≡ fold with_command bare_app (map command_of (take l.row-index l.fn.rows))
+invariant-loop-row l = app_of l.program ≡ fold with_command bare_app (map command_of (take l.row-index l.fn.rows))

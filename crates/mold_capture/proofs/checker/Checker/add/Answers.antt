@@ -1,22 +1,49 @@
-use Rattle.std.proofs.Common.{max, sym, ap, subst, ◌∙◌}
+use Rattle.std.proofs.Common.{max, sym, ap, rules, subst, ◌∙◌}
 use Rattle.mold_capture.specs.Seen.{IsSound, seen_by}
 use Rattle.mold_capture.proofs.JoinLemmas.{still_sound}
 use Rattle.mold_capture.proofs.RefusalLemmas.{joins_from}
-use Rattle.mold_capture.proofs.CheckerLemmas.{refused_late, Joins, joins_is}
+use Rattle.mold_capture.proofs.CheckerLemmas.{refused_late, Joins, joins_is, read_early, read_late, read_joined}
 use Rattle.mold_capture.proofs.checker.Checker.add.Goals as goal
+
+pub returns-in_err-top-clause-refused : goal.returns-in_err-top-clause-refused
+returns-in_err-top-clause-refused c =
+    let f = c.self.inside in
+    let refused = read_early (seen_by f.session f.known f.ended f.carried) c.args.self.now c.args.bytes.now
+    c.in-Ok.packet c.in_err-top.field-0.0 c.self.view_is (sym c.decode.ensures.exact ∙ c.in-Ok.is)
+    c.in_err-top.ensures.refused c.in_err-top.ensures.some in
+    search (rules, refused)
+
+pub returns-in_err-join_messages-clause-refused : goal.returns-in_err-join_messages-clause-refused
+returns-in_err-join_messages-clause-refused c =
+    let f = c.self.inside in
+    let refused = read_late (seen_by f.session f.known f.ended f.carried) c.args.self.now c.args.bytes.now
+    c.in-Ok.packet c.self.view_is (sym c.decode.ensures.exact ∙ c.in-Ok.is) c.in_ok-top.ensures.ok
+    ∙ c.in_err-join_messages.ensures.refused in
+    search (rules, refused)
+
+-- the checker's parts are those before, and the packet
+joined_parts : (c : goal.After-ended-1) → Joins c.self.inside.session c.or-self-inside.result c.self.inside.known
+    c.max-self-inside.result c.self.inside.ended c.told_end-ended.result c.self.inside.carried
+    c.join_messages.new.carried c.in-Ok.packet
+joined_parts c = record {
+  session_is = c.or-self-inside.ensures;
+  known_is = c.max-self-inside.ensures ∙ ap (max c.self.inside.known) c.in_ok-top.ensures.top;
+  ended_is = c.told_end-ended.ensures;
+  pairs_is = c.in_ok-join_messages.ensures.ok;
+}
 
 pub invariant_of-self-2 : goal.invariant_of-self-2
 invariant_of-self-2 c =
     let f = c.self.inside in
     let before = seen_by f.session f.known f.ended f.carried in
     let none = refused_late before c.in-Ok.packet c.in_ok-top.ensures.ok ∙ c.in_ok-join_messages.ensures.taken in
-    let joins : Joins f.session c.or-self-inside.result f.known c.max-self-inside.result f.ended c.told_end-ended.result
-    f.carried c.join_messages.new.carried c.in-Ok.packet = record {
-      session_is = c.or-self-inside.ensures;
-      known_is = c.max-self-inside.ensures ∙ ap (max f.known) c.in_ok-top.ensures.top;
-      ended_is = c.told_end-ended.ensures;
-      pairs_is = c.in_ok-join_messages.ensures.ok;
-    }
-    in
-    subst IsSound (sym (joins_is _ _ _ _ _ _ _ _ c.in-Ok.packet joins))
+    subst IsSound (sym (joins_is _ _ _ _ _ _ _ _ c.in-Ok.packet (joined_parts c)))
     (still_sound before c.in-Ok.packet c.self.invariant (joins_from before c.in-Ok.packet none))
+
+pub returns-clause-ok : goal.returns-clause-ok
+returns-clause-ok c =
+    let f = c.self.inside in
+    let before = seen_by f.session f.known f.ended f.carried in
+    joins_is _ _ _ _ _ _ _ _ c.in-Ok.packet (joined_parts c)
+    ∙ read_joined before c.args.self.now c.args.bytes.now c.in-Ok.packet c.self.view_is
+    (sym c.decode.ensures.exact ∙ c.in-Ok.is)
