@@ -84,20 +84,33 @@ pub fn run_serve(rt: &HostRuntime, order: &ServeOrder) -> Result<u8, ProgramFaul
         Err(error) => return Ok(tell_file_refused(rt, error)?),
     };
     let mut port = open_port(rt, order.bind)?;
+    Ok(serve_on(rt, order, max_message, &journal, &mut port)?)
+}
+
+// Makes a server of messages up to so many bytes, and serves the journal over the port.
+fn serve_on(
+    rt: &HostRuntime,
+    order: &ServeOrder,
+    max_message: u16,
+    journal: &Journal,
+    port: &mut UdpPort,
+) -> Result<u8, CommandFault>
+    requires { journal.now.max_message ≡ max_message }
+{
     // The limits of an order are in their ranges, so only memory can be wanting.
     let Ok(mut server) = Server::new(rt.alloc(), order.limit, max_message, order.burst) else {
-        return Err(ProgramFault::Command(CommandFault::Memory));
+        return Err(CommandFault::Memory);
     };
     let mut sink = IntoWrite::new(rt.stdout());
     let outcome = serve_loop(
         rt.alloc(),
-        &mut port,
+        port,
         &mut server,
-        &journal,
+        journal,
         u64::from(order.turns),
         &mut sink,
     );
-    Ok(flushed(outcome, sink.into_inner().flush())?)
+    flushed(outcome, sink.into_inner().flush())
 }
 
 /// Listens on two ports, and asks the server from a third one. A line's wait ends where the other line has
@@ -111,25 +124,36 @@ pub fn run_listen(rt: &HostRuntime, order: &ListenOrder) -> Result<u8, ProgramFa
     b.stand_beside(&a);
     requests.stand_beside(&a);
     requests.stand_beside(&b);
+    Ok(listen_on(rt, order, &mut a, &mut b, &mut requests)?)
+}
+
+// Makes a receiver behind an arbiter, and listens on the ports.
+fn listen_on(
+    rt: &HostRuntime,
+    order: &ListenOrder,
+    a: &mut UdpPort,
+    b: &mut UdpPort,
+    requests: &mut UdpPort,
+) -> Result<u8, CommandFault> {
     // The numbers of an order are in their ranges, so only memory can be wanting.
     let Ok(receiver) = Receiver::new(rt.alloc(), Session(order.session), order.next, order.window)
     else {
-        return Err(ProgramFault::Command(CommandFault::Memory));
+        return Err(CommandFault::Memory);
     };
     let mut arbiter = Arbiter::new(receiver);
     let mut sink = IntoWrite::new(rt.stdout());
     let outcome = listen_loop(
         rt.alloc(),
-        &mut a,
-        &mut b,
-        &mut requests,
+        a,
+        b,
+        requests,
         SocketAddr::V4(socket_address(order.server)),
         &mut arbiter,
         order.burst,
         u64::from(order.turns),
         &mut sink,
     );
-    Ok(flushed(outcome, sink.into_inner().flush())?)
+    flushed(outcome, sink.into_inner().flush())
 }
 
 /// Publishes the messages of standard input on two lines from a port of its own. The journal's file is made at
