@@ -1,10 +1,12 @@
 //! What no clause says: that a device is asked once, and each call on its happy path.
 
+use crate::comparisons::{same_bytes, same_count, same_number, same_outcome, same_size};
 use mold_devices::{
     DeviceFault, FromRead, IntoWrite, MemorySink, MemorySource, Sink, Source, write_all,
 };
 use std::io;
 use std::io::{Error, ErrorKind, Read, Write};
+use std::process::Abort;
 use std::test::Fail;
 
 /// Gives one byte a call, but is interrupted at the second.
@@ -55,67 +57,87 @@ fn memory_source_gives_its_bytes(rt: HostRuntime) {
     let mut place = [0u8; 8];
     let mut source = MemorySource::new(b"abcde");
     source.at_most(3);
-    assert_eq!(rt; source.read(&mut place), Ok(3));
-    assert_eq!(rt; place[..3], b"abc"[..]);
+    same_count(&rt, source.read(&mut place), Ok(3));
+    same_bytes(&rt, &place[..3], b"abc");
     source.fail_at(2);
     source.at_most(1);
-    assert_eq!(rt; source.read(&mut place), Ok(1));
-    assert_eq!(rt; place[0], b'd');
-    assert_eq!(rt; source.read(&mut place), Err(DeviceFault));
-    assert_eq!(rt; source.read(&mut place), Ok(1));
-    assert_eq!(rt; place[0], b'e');
-    assert_eq!(rt; source.read(&mut place), Ok(0));
-    assert_eq!(rt; source.failures(), 1);
+    same_count(&rt, source.read(&mut place), Ok(1));
+    same_bytes(&rt, &place[..1], b"d");
+    same_count(&rt, source.read(&mut place), Err(DeviceFault));
+    same_count(&rt, source.read(&mut place), Ok(1));
+    same_bytes(&rt, &place[..1], b"e");
+    same_count(&rt, source.read(&mut place), Ok(0));
+    same_number(&rt, source.failures(), 1);
 }
 
 #[test]
 fn memory_sink_takes_bytes(rt: HostRuntime) {
     let mut sink = MemorySink::new(rt.alloc());
-    assert_eq!(rt; sink.write(b"ab"), Ok(2));
+    expect_bytes_taken(&rt, &mut sink);
+}
+
+fn expect_bytes_taken(rt: &impl Abort, sink: &mut MemorySink) {
+    same_count(rt, sink.write(b"ab"), Ok(2));
     sink.at_most(1);
     sink.fail_at(2);
-    assert_eq!(rt; sink.write(b"cd"), Ok(1));
-    assert_eq!(rt; sink.write(b"d"), Err(DeviceFault));
-    assert_eq!(rt; write_all(&mut sink, b"de"), Ok(()));
-    assert_eq!(rt; sink.bytes(), b"abcde".as_slice());
+    same_count(rt, sink.write(b"cd"), Ok(1));
+    same_count(rt, sink.write(b"d"), Err(DeviceFault));
+    same_outcome(rt, write_all(sink, b"de"), Ok(()));
+    same_bytes(rt, sink.bytes(), b"abcde");
     sink.fail_at(2);
-    assert_eq!(rt; write_all(&mut sink, b"fg"), Err(DeviceFault));
-    assert_eq!(rt; sink.bytes(), b"abcdef".as_slice());
-    assert_eq!(rt; sink.failures(), 2);
+    same_outcome(rt, write_all(sink, b"fg"), Err(DeviceFault));
+    same_bytes(rt, sink.bytes(), b"abcdef");
+    same_number(rt, sink.failures(), 2);
 }
 
 #[test]
 fn readers_and_writers_are_devices(rt: HostRuntime) -> Result<(), Fail> {
+    expect_reader(&rt);
+    expect_writer(&rt, Vec::new(rt.alloc()));
+    Ok(())
+}
+
+fn expect_reader(rt: &impl Abort) {
     let mut place = [0u8; 8];
     let mut source = FromRead::new(b"abc".as_slice());
-    assert_eq!(rt; source.read(&mut place), Ok(3));
-    assert_eq!(rt; place[..3], b"abc"[..]);
-    assert_eq!(rt; source.read(&mut place), Ok(0));
-    assert_eq!(rt; source.failures(), 0);
-    assert_eq!(rt; source.into_inner().len(), 0);
-    let mut sink = IntoWrite::new(Vec::new(rt.alloc()));
-    assert_eq!(rt; write_all(&mut sink, b"abc"), Ok(()));
-    assert_eq!(rt; sink.failures(), 0);
-    assert_eq!(rt; sink.into_inner().as_slice(), b"abc".as_slice());
-    Ok(())
+    same_count(rt, source.read(&mut place), Ok(3));
+    same_bytes(rt, &place[..3], b"abc");
+    same_count(rt, source.read(&mut place), Ok(0));
+    same_number(rt, source.failures(), 0);
+    same_size(rt, source.into_inner().len(), 0);
+}
+
+fn expect_writer(rt: &impl Abort, written: Vec<u8>) {
+    let mut sink = IntoWrite::new(written);
+    same_outcome(rt, write_all(&mut sink, b"abc"), Ok(()));
+    same_number(rt, sink.failures(), 0);
+    same_bytes(rt, sink.into_inner().as_slice(), b"abc");
 }
 
 #[test]
 fn interrupted_and_idle_calls_are_failures(rt: HostRuntime) {
+    expect_interrupted(&rt);
+    expect_reluctant(&rt);
+}
+
+fn expect_interrupted(rt: &impl Abort) {
     let mut place = [0u8; 8];
     let mut source = FromRead::new(Interrupted { calls: 0 });
-    assert_eq!(rt; source.read(&mut place), Ok(1));
-    assert_eq!(rt; source.read(&mut place), Err(DeviceFault));
-    assert_eq!(rt; source.failures(), 1);
-    assert_eq!(rt; source.read(&mut place), Ok(1));
-    assert_eq!(rt; source.failures(), 1);
-    assert_eq!(rt; source.into_inner().calls, 3);
+    same_count(rt, source.read(&mut place), Ok(1));
+    same_count(rt, source.read(&mut place), Err(DeviceFault));
+    same_number(rt, source.failures(), 1);
+    same_count(rt, source.read(&mut place), Ok(1));
+    same_number(rt, source.failures(), 1);
+    same_number(rt, source.into_inner().calls, 3);
+}
+
+fn expect_reluctant(rt: &impl Abort) {
     let mut sink = IntoWrite::new(Reluctant { calls: 0 });
-    assert_eq!(rt; sink.write(b"ab"), Ok(1));
-    assert_eq!(rt; sink.write(b"ab"), Err(DeviceFault));
-    assert_eq!(rt; sink.write(b"ab"), Err(DeviceFault));
-    assert_eq!(rt; sink.failures(), 2);
-    assert_eq!(rt; sink.write(b""), Ok(0));
-    assert_eq!(rt; sink.write(b"ab"), Ok(1));
-    assert_eq!(rt; sink.failures(), 2);
+    same_count(rt, sink.write(b"ab"), Ok(1));
+    same_count(rt, sink.write(b"ab"), Err(DeviceFault));
+    same_count(rt, sink.write(b"ab"), Err(DeviceFault));
+    same_number(rt, sink.failures(), 2);
+    same_count(rt, sink.write(b""), Ok(0));
+    same_count(rt, sink.write(b"ab"), Ok(1));
+    same_number(rt, sink.failures(), 2);
 }

@@ -1,8 +1,9 @@
 //! Each public call on its happy path. Digits are compared with what the crate `hex` makes of them: at every
 //! length that fills whole vectors and leaves a rest, and with every byte at every place.
 
+use crate::comparisons::{same_bytes, same_size};
 use mold_digits::{decode, push_bytes, push_long_number, push_number, write_bytes, write_number};
-use std::alloc::Global;
+use std::alloc::{AllocError, Global};
 use std::process::Abort;
 use std::test::Fail;
 
@@ -26,9 +27,10 @@ fn expect_as_hex(
 ) -> Result<(), Fail> {
     expected.resize(digits.len() / 2, 0)?;
     let good = hex::decode_to_slice(digits, expected.as_mut_slice()).is_ok();
-    assert_eq!(rt; decode(digits, bytes)?, good, "{digits:?}");
+    let found = decode(digits, bytes)?;
+    assert!(rt; found == good, "{digits:?}");
     if good {
-        assert_eq!(rt; bytes.as_slice(), expected.as_slice(), "{digits:?}");
+        assert!(rt; bytes.as_slice() == expected.as_slice(), "{digits:?}");
     }
     Ok(())
 }
@@ -68,31 +70,46 @@ fn bytes_of_every_length_are_written(rt: HostRuntime) -> Result<(), Fail> {
     let mut text = Vec::new(rt.alloc());
     for byte in 0..=u8::MAX {
         bytes.push(byte.wrapping_mul(37))?;
-        text.clear();
-        push_bytes(&mut text, bytes.as_slice())?;
-        let expected = hex::encode(rt.alloc(), bytes.as_slice())?;
-        assert_eq!(rt; text.as_slice(), expected.as_bytes());
+        expect_written_as_hex(&rt, bytes.as_slice(), &mut text)?;
     }
+    Ok(())
+}
+
+// Writes the digits of these bytes into `text`, which is emptied before.
+fn expect_written_as_hex(
+    rt: &(impl Abort + AllocGlobal),
+    bytes: &[u8],
+    text: &mut Vec<u8>,
+) -> Result<(), Fail> {
+    text.clear();
+    push_bytes(text, bytes)?;
+    let expected = hex::encode(rt.alloc(), bytes)?;
+    assert!(rt; text.as_slice() == expected.as_bytes(), "{bytes:?}");
     Ok(())
 }
 
 #[test]
 fn numbers_are_written(rt: HostRuntime) -> Result<(), Fail> {
     let mut text = Vec::new(rt.alloc());
-    for number in [0, 7, 10, 99, 100, 65507, u64::MAX] {
-        push_number(&mut text, number)?;
-        text.push(b' ')?;
-    }
-    for number in [8, 42, 18446744073709551616, u128::MAX] {
-        push_long_number(&mut text, number)?;
-        text.push(b' ')?;
-    }
-    assert_eq!(rt;
+    write_numbers(&mut text)?;
+    same_bytes(
+        &rt,
         text.as_slice(),
         b"0 7 10 99 100 65507 18446744073709551615 8 42 18446744073709551616 \
-340282366920938463463374607431768211455 "
-            .as_slice()
+340282366920938463463374607431768211455 ",
     );
+    Ok(())
+}
+
+fn write_numbers(text: &mut Vec<u8>) -> Result<(), AllocError> {
+    for number in &[0, 7, 10, 99, 100, 65507, u64::MAX] {
+        push_number(text, *number)?;
+        text.push(b' ')?;
+    }
+    for number in &[8, 42, 18446744073709551616, u128::MAX] {
+        push_long_number(text, *number)?;
+        text.push(b' ')?;
+    }
     Ok(())
 }
 
@@ -101,7 +118,20 @@ fn numbers_are_written(rt: HostRuntime) -> Result<(), Fail> {
 fn numbers_and_bytes_are_written_into_a_slice(rt: HostRuntime) -> Result<(), Fail> {
     let mut place = [b'.'; 32];
     let mut text = Vec::new(rt.alloc());
-    for number in [
+    write_into(&mut place, &mut text)?;
+    same_bytes(
+        &rt,
+        text.as_slice(),
+        b"0 10 123 1234 12345 123456 1234567 12345678 123456789 18446744073709551615 ",
+    );
+    same_size(&rt, write_bytes(&mut place, 2, b"\x0a\xff"), 6);
+    same_bytes(&rt, &place[..6], b".10aff");
+    Ok(())
+}
+
+// Each number behind the first byte of `place`, from where it is taken over.
+fn write_into(place: &mut [u8; 32], text: &mut Vec<u8>) -> Result<(), AllocError> {
+    for number in &[
         0,
         10,
         123,
@@ -113,15 +143,9 @@ fn numbers_and_bytes_are_written_into_a_slice(rt: HostRuntime) -> Result<(), Fai
         123456789,
         u64::MAX,
     ] {
-        let end = write_number(&mut place, 1, number);
+        let end = write_number(place, 1, *number);
         text.extend_from_slice(&place[1..end])?;
         text.push(b' ')?;
     }
-    assert_eq!(rt;
-        text.as_slice(),
-        b"0 10 123 1234 12345 123456 1234567 12345678 123456789 18446744073709551615 ".as_slice()
-    );
-    assert_eq!(rt; write_bytes(&mut place, 2, b"\x0a\xff"), 6);
-    assert_eq!(rt; place[..6], b".10aff"[..]);
     Ok(())
 }

@@ -1,5 +1,6 @@
 //! Each public call on its happy path, with its answer.
 
+use crate::comparisons::{same_message, same_size};
 use mold_messages::{MessageList, PartList};
 use std::alloc::Global;
 use std::process::Abort;
@@ -16,17 +17,14 @@ fn three(alloc: Global) -> Result<MessageList, Fail> {
 
 fn expect_from<'w, 'm>(rt: &impl Abort, list: &MessageList, first: usize, wanted: &'w [&'m [u8]]) {
     let mut rest = list.iter_from(first);
-    for want in wanted {
-        assert_eq!(rt; rest.next(), Some(*want));
+    for (place, want) in wanted.iter().enumerate() {
+        same_message(rt, place, rest.next(), Some(*want));
     }
-    assert_eq!(rt; rest.next(), None);
+    same_message(rt, wanted.len(), rest.next(), None);
 }
 
 fn expect_at(rt: &impl Abort, list: &MessageList, i: usize, want: &[u8]) {
-    match list.get(i) {
-        Some(message) => assert_eq!(rt; message, want),
-        None => assert!(rt; false, "no message at {i}"),
-    }
+    same_message(rt, i, list.get(i), Some(want));
 }
 
 fn joined(rt: &impl Abort, list: &MessageList, from: usize, to: usize) -> usize {
@@ -37,15 +35,15 @@ fn joined(rt: &impl Abort, list: &MessageList, from: usize, to: usize) -> usize 
 #[test]
 fn messages_are_lent_as_they_were_pushed(rt: HostRuntime) -> Result<(), Fail> {
     let list = three(rt.alloc())?;
-    assert_eq!(rt; list.len(), 3);
+    same_size(&rt, list.len(), 3);
     assert!(rt; !list.is_empty());
     expect_at(&rt, &list, 0, b"AB");
     expect_at(&rt, &list, 1, b"");
     expect_at(&rt, &list, 2, b"C");
-    assert_eq!(rt; list.get(3), None);
-    assert_eq!(rt; joined(&rt, &list, 0, 3), 3);
-    assert_eq!(rt; joined(&rt, &list, 1, 3), 1);
-    assert_eq!(rt; joined(&rt, &list, 2, 2), 0);
+    same_message(&rt, 3, list.get(3), None);
+    same_size(&rt, joined(&rt, &list, 0, 3), 3);
+    same_size(&rt, joined(&rt, &list, 1, 3), 1);
+    same_size(&rt, joined(&rt, &list, 2, 2), 0);
     Ok(())
 }
 
@@ -54,14 +52,18 @@ fn messages_are_visited_from_any_of_them_on(rt: HostRuntime) -> Result<(), Fail>
     let list = three(rt.alloc())?;
     expect_from(&rt, &list, 0, &[b"AB", b"", b"C"]);
     expect_from(&rt, &list, 1, &[b"", b"C"]);
-    assert_eq!(rt; list.iter_from(3).next(), None);
-    assert_eq!(rt; list.iter_from(4).next(), None);
+    same_message(&rt, 0, list.iter_from(3).next(), None);
+    same_message(&rt, 0, list.iter_from(4).next(), None);
+    expect_lengths(&rt, &list);
+    Ok(())
+}
+
+fn expect_lengths(rt: &impl Abort, list: &MessageList) {
     let mut lengths = [9usize; 4];
-    for (place, message) in lengths.iter_mut().zip(&list) {
+    for (place, message) in lengths.iter_mut().zip(list) {
         *place = message.len();
     }
     assert_eq!(rt; lengths, [2, 0, 1, 9]);
-    Ok(())
 }
 
 #[test]
@@ -72,10 +74,10 @@ fn a_list_is_cut_and_filled_again(rt: HostRuntime) -> Result<(), Fail> {
     list.truncate(1);
     list.push(b"DEF")?;
     expect_from(&rt, &list, 0, &[b"AB", b"DEF"]);
-    assert_eq!(rt; joined(&rt, &list, 0, 2), 5);
+    same_size(&rt, joined(&rt, &list, 0, 2), 5);
     list.clear();
     assert!(rt; list.is_empty());
-    assert_eq!(rt; list.get(0), None);
+    same_message(&rt, 0, list.get(0), None);
     list.reserve(2, 4)?;
     list.push(b"AB")?;
     list.push(b"CD")?;
@@ -90,8 +92,8 @@ fn a_thousand_messages_take_few_growths(rt: HostRuntime) -> Result<(), Fail> {
     for _ in 0..1000u16 {
         list.push(b"x")?;
     }
-    assert_eq!(rt; list.len(), 1000);
-    assert_eq!(rt; joined(&rt, &list, 0, 1000), 1000);
+    same_size(&rt, list.len(), 1000);
+    same_size(&rt, joined(&rt, &list, 0, 1000), 1000);
     Ok(())
 }
 
@@ -109,30 +111,36 @@ fn a_message_comes_in_parts(rt: HostRuntime) -> Result<(), Fail> {
 }
 
 fn expect_part(rt: &impl Abort, list: &PartList, i: usize, want: &[u8]) {
-    match list.get(i) {
-        Some(message) => assert_eq!(rt; message, want),
-        None => assert!(rt; false, "no message at {i}"),
-    }
+    same_message(rt, i, list.get(i), Some(want));
 }
 
 /// `AB` and `C` behind their lengths, and an empty message.
 #[test]
 fn parts_lie_in_copied_bytes(rt: HostRuntime) -> Result<(), Fail> {
-    let mut list = PartList::new(rt.alloc());
-    assert!(rt; list.is_empty());
-    assert_eq!(rt; list.append(b"\0\x02AB\0\x01C")?, 0);
-    list.mark(2, 4)?;
-    list.mark(6, 7)?;
-    list.push(b"")?;
-    assert_eq!(rt; list.len(), 3);
+    let mut list = parts(&rt)?;
+    same_size(&rt, list.len(), 3);
     expect_part(&rt, &list, 0, b"AB");
     expect_part(&rt, &list, 1, b"C");
     expect_part(&rt, &list, 2, b"");
-    assert!(rt; list.get(3).is_none());
+    same_message(&rt, 3, list.get(3), None);
+    expect_cut(&rt, &mut list);
+    Ok(())
+}
+
+fn parts(rt: &(impl Abort + AllocGlobal)) -> Result<PartList, Fail> {
+    let mut list = PartList::new(rt.alloc());
+    assert!(rt; list.is_empty());
+    same_size(rt, list.append(b"\0\x02AB\0\x01C")?, 0);
+    list.mark(2, 4)?;
+    list.mark(6, 7)?;
+    list.push(b"")?;
+    Ok(list)
+}
+
+fn expect_cut(rt: &impl Abort, list: &mut PartList) {
     list.truncate(1);
-    assert_eq!(rt; list.len(), 1);
-    expect_part(&rt, &list, 0, b"AB");
+    same_size(rt, list.len(), 1);
+    expect_part(rt, list, 0, b"AB");
     list.clear();
     assert!(rt; list.is_empty());
-    Ok(())
 }

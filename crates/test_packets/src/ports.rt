@@ -1,11 +1,13 @@
 //! What no clause says: that datagrams go by sockets, and each call on its happy path.
 
+use crate::comparisons::{same_bytes, same_number, same_outcome, same_size};
 use mold_devices::DeviceFault;
 use mold_ports::{Datagrams, MemoryPort, Step, UdpPort};
 use std::alloc::Global;
 use std::net::{Ipv4Addr, SocketAddr, SocketAddrV4};
+use std::process::Abort;
 use std::test::Fail;
-use std::time::Instant;
+use std::time::{Clock, Instant};
 
 // The loopback address with a port, where 0 is one that the system gives.
 fn loopback(port: u16) -> SocketAddrV4 {
@@ -24,63 +26,117 @@ fn three_steps(alloc: Global) -> Result<MemoryPort, Fail> {
     Ok(MemoryPort::new(alloc, script))
 }
 
+// What a receive in memory gave: how many bytes from which peer.
+fn same_receipt(
+    rt: &impl Abort,
+    found: Result<Option<(usize, u32)>, DeviceFault>,
+    wanted: Result<Option<(usize, u32)>, DeviceFault>,
+) {
+    assert_eq!(rt; found, wanted);
+}
+
 #[test]
 fn memory_port_gives_its_steps_once(rt: HostRuntime) -> Result<(), Fail> {
-    let mut place = [0u8; 8];
     let mut port = three_steps(rt.alloc())?;
-    assert_eq!(rt; port.left(), 3);
-    assert_eq!(rt; port.receive(&mut place), Ok(Some((3, 7))));
-    assert_eq!(rt; place[..3], b"abc"[..]);
-    assert_eq!(rt; port.receive(&mut place), Ok(None));
-    assert_eq!(rt; port.left(), 1);
-    assert_eq!(rt; port.receive(&mut place), Err(DeviceFault));
-    assert_eq!(rt; port.receive(&mut place), Ok(None));
-    assert_eq!(rt; port.left(), 0);
-    assert_eq!(rt; port.failures(), 1);
+    expect_steps_once(&rt, &mut port);
     Ok(())
+}
+
+fn expect_steps_once(rt: &impl Abort, port: &mut MemoryPort) {
+    let mut place = [0u8; 8];
+    same_size(rt, port.left(), 3);
+    same_receipt(rt, port.receive(&mut place), Ok(Some((3, 7))));
+    same_bytes(rt, &place[..3], b"abc");
+    same_receipt(rt, port.receive(&mut place), Ok(None));
+    same_size(rt, port.left(), 1);
+    same_receipt(rt, port.receive(&mut place), Err(DeviceFault));
+    same_receipt(rt, port.receive(&mut place), Ok(None));
+    same_size(rt, port.left(), 0);
+    same_number(rt, port.failures(), 1);
 }
 
 #[test]
 fn memory_port_cuts_what_is_longer_than_the_place(rt: HostRuntime) -> Result<(), Fail> {
     let mut place = [0u8; 2];
     let mut port = three_steps(rt.alloc())?;
-    assert_eq!(rt; port.receive(&mut place), Ok(Some((2, 7))));
-    assert_eq!(rt; place[..], b"ab"[..]);
+    same_receipt(&rt, port.receive(&mut place), Ok(Some((2, 7))));
+    same_bytes(&rt, &place, b"ab");
     Ok(())
 }
 
 #[test]
 fn memory_port_keeps_what_it_sends(rt: HostRuntime) {
     let mut port = MemoryPort::new(rt.alloc(), Vec::new(rt.alloc()));
+    expect_sent_kept(&rt, &mut port);
+}
+
+fn expect_sent_kept(rt: &impl Abort, port: &mut MemoryPort) {
     port.fail_send(2);
-    assert_eq!(rt; port.send(1, b"ab"), Ok(()));
-    assert_eq!(rt; port.send(2, b"cd"), Err(DeviceFault));
-    assert_eq!(rt; port.send(2, b""), Ok(()));
-    assert_eq!(rt; port.failures(), 1);
+    same_outcome(rt, port.send(1, b"ab"), Ok(()));
+    same_outcome(rt, port.send(2, b"cd"), Err(DeviceFault));
+    same_outcome(rt, port.send(2, b""), Ok(()));
+    same_number(rt, port.failures(), 1);
     let sent = port.sent();
-    assert_eq!(rt; sent.len(), 2);
-    assert_eq!(rt; sent[0].0, 1);
-    assert_eq!(rt; sent[0].1.as_slice(), b"ab".as_slice());
-    assert_eq!(rt; sent[1].0, 2);
-    assert_eq!(rt; sent[1].1.len(), 0);
+    same_size(rt, sent.len(), 2);
+    expect_letter(rt, sent, 0, 1, b"ab");
+    expect_letter(rt, sent, 1, 2, b"");
+}
+
+// The datagram at this place is these bytes to this peer.
+fn expect_letter(rt: &impl Abort, sent: &[(u32, Vec<u8>)], place: usize, to: u32, bytes: &[u8]) {
+    match sent.get(place) {
+        Some(letter) => {
+            assert!(rt; letter.0 == to, "letter {place}");
+            same_bytes(rt, letter.1.as_slice(), bytes);
+        }
+        None => assert!(rt; false, "no letter {place}"),
+    }
+}
+
+// A port of the loopback address.
+fn open(rt: &HostRuntime) -> Result<UdpPort, Fail> {
+    Ok(UdpPort::bind(rt.alloc(), rt, loopback(0))?)
+}
+
+// A receive gives so many bytes from this address.
+fn expect_datagram(
+    rt: &impl Abort,
+    port: &mut UdpPort,
+    place: &mut [u8],
+    len: usize,
+    from: SocketAddr,
+) {
+    assert_eq!(rt; port.receive(place), Ok(Some((len, from))));
+}
+
+fn expect_nothing(rt: &impl Abort, port: &mut UdpPort) {
+    let mut place = [0u8; 16];
+    assert!(rt;
+        matches!(port.receive(&mut place), Ok(None)),
+        "something came, or a fault"
+    );
 }
 
 #[test]
 fn datagrams_go_by_sockets(rt: HostRuntime) -> Result<(), Fail> {
+    let mut one = open(&rt)?;
+    let mut other = open(&rt)?;
+    expect_by_sockets(&rt, &mut one, &mut other);
+    Ok(())
+}
+
+fn expect_by_sockets(rt: &impl Abort, one: &mut UdpPort, other: &mut UdpPort) {
     let mut place = [0u8; 65507];
-    let mut one = UdpPort::bind(rt.alloc(), &rt, loopback(0))?;
-    let mut other = UdpPort::bind(rt.alloc(), &rt, loopback(0))?;
     let (from, to) = (one.address(), other.address());
     assert!(rt; from != to);
-    assert_eq!(rt; one.send(to, b"abc"), Ok(()));
-    assert_eq!(rt; other.receive(&mut place), Ok(Some((3, from))));
-    assert_eq!(rt; place[..3], b"abc"[..]);
+    same_outcome(rt, one.send(to, b"abc"), Ok(()));
+    expect_datagram(rt, other, &mut place, 3, from);
+    same_bytes(rt, &place[..3], b"abc");
     // Port 0 takes no datagram.
     let nowhere = SocketAddr::V4(loopback(0));
-    assert_eq!(rt; one.send(nowhere, b"abc"), Err(DeviceFault));
-    assert_eq!(rt; one.failures(), 1);
-    assert_eq!(rt; other.failures(), 0);
-    Ok(())
+    same_outcome(rt, one.send(nowhere, b"abc"), Err(DeviceFault));
+    same_number(rt, one.failures(), 1);
+    same_number(rt, other.failures(), 0);
 }
 
 #[test]
@@ -93,7 +149,7 @@ fn a_taken_port_is_not_bound_again(rt: HostRuntime) -> Result<(), Fail> {
 }
 
 // How many milliseconds the shortest of so many receives takes. Other work of the machine may hold up some.
-fn least_wait(rt: &HostRuntime, port: &mut UdpPort, receives: u8) -> Result<u128, Fail> {
+fn least_wait(rt: &impl Clock, port: &mut UdpPort, receives: u8) -> Result<u128, Fail> {
     let mut place = [0u8; 16];
     let mut least = 1000;
     for _ in 0..receives {
@@ -107,31 +163,50 @@ fn least_wait(rt: &HostRuntime, port: &mut UdpPort, receives: u8) -> Result<u128
 // A wait for nothing lasts its time; one beside a port that has a datagram ends at once.
 #[test]
 fn a_wait_ends_where_a_port_beside_has_a_datagram(rt: HostRuntime) -> Result<(), Fail> {
+    let mut silent = open(&rt)?;
+    let mut busy = open(&rt)?;
+    expect_wait_ended(&rt, &mut silent, &mut busy)
+}
+
+fn expect_wait_ended(
+    rt: &(impl Abort + Clock),
+    silent: &mut UdpPort,
+    busy: &mut UdpPort,
+) -> Result<(), Fail> {
     let mut place = [0u8; 16];
-    let mut silent = UdpPort::bind(rt.alloc(), &rt, loopback(0))?;
-    let mut busy = UdpPort::bind(rt.alloc(), &rt, loopback(0))?;
-    assert!(rt; least_wait(&rt, &mut silent, 1)? >= 90);
-    silent.stand_beside(&busy);
-    assert_eq!(rt; busy.send(busy.address(), b"abc"), Ok(()));
-    assert!(rt; least_wait(&rt, &mut silent, 5)? < 90);
-    assert_eq!(rt; busy.receive(&mut place), Ok(Some((3, busy.address()))));
+    assert!(rt; least_wait(rt, silent, 1)? >= 90);
+    silent.stand_beside(busy);
+    let address = busy.address();
+    same_outcome(rt, busy.send(address, b"abc"), Ok(()));
+    assert!(rt; least_wait(rt, silent, 5)? < 90);
+    expect_datagram(rt, busy, &mut place, 3, address);
     Ok(())
 }
 
 // Behind a wait that ended so the next receives don't wait, but for one behind a send.
 #[test]
 fn a_receive_behind_a_send_waits(rt: HostRuntime) -> Result<(), Fail> {
+    let server = open(&rt)?;
+    let mut asking = open(&rt)?;
+    let mut busy = open(&rt)?;
+    expect_wait_behind_send(&rt, &mut asking, &mut busy, server.address())
+}
+
+fn expect_wait_behind_send(
+    rt: &(impl Abort + Clock),
+    asking: &mut UdpPort,
+    busy: &mut UdpPort,
+    server: SocketAddr,
+) -> Result<(), Fail> {
     let mut place = [0u8; 16];
-    let mut asking = UdpPort::bind(rt.alloc(), &rt, loopback(0))?;
-    let server = UdpPort::bind(rt.alloc(), &rt, loopback(0))?;
-    let mut busy = UdpPort::bind(rt.alloc(), &rt, loopback(0))?;
-    asking.stand_beside(&busy);
-    assert_eq!(rt; busy.send(busy.address(), b"abc"), Ok(()));
-    assert_eq!(rt; asking.receive(&mut place), Ok(None));
-    assert_eq!(rt; busy.receive(&mut place), Ok(Some((3, busy.address()))));
-    assert!(rt; least_wait(&rt, &mut asking, 2)? < 90);
-    assert_eq!(rt; asking.send(server.address(), b"ask"), Ok(()));
-    assert!(rt; least_wait(&rt, &mut asking, 1)? >= 90);
+    asking.stand_beside(busy);
+    let address = busy.address();
+    same_outcome(rt, busy.send(address, b"abc"), Ok(()));
+    expect_nothing(rt, asking);
+    expect_datagram(rt, busy, &mut place, 3, address);
+    assert!(rt; least_wait(rt, asking, 2)? < 90);
+    same_outcome(rt, asking.send(server, b"ask"), Ok(()));
+    assert!(rt; least_wait(rt, asking, 1)? >= 90);
     Ok(())
 }
 
@@ -139,22 +214,28 @@ fn a_receive_behind_a_send_waits(rt: HostRuntime) -> Result<(), Fail> {
 // something there ends that.
 #[test]
 fn a_port_passes_beside_a_busy_one(rt: HostRuntime) -> Result<(), Fail> {
-    let mut place = [0u8; 16];
-    let mut quiet = UdpPort::bind(rt.alloc(), &rt, loopback(0))?;
-    let mut busy = UdpPort::bind(rt.alloc(), &rt, loopback(0))?;
+    let mut quiet = open(&rt)?;
+    let mut busy = open(&rt)?;
     quiet.stand_beside(&busy);
     busy.stand_beside(&quiet);
-    assert_eq!(rt; busy.send(busy.address(), b"abc"), Ok(()));
-    assert_eq!(rt; quiet.receive(&mut place), Ok(None));
-    assert_eq!(rt; busy.send(quiet.address(), b"late"), Ok(()));
-    for _pass in 0..3 {
-        assert_eq!(rt; quiet.receive(&mut place), Ok(None));
-    }
-    assert_eq!(rt; quiet.receive(&mut place), Ok(Some((4, busy.address()))));
-    assert_eq!(rt; quiet.receive(&mut place), Ok(None));
-    assert_eq!(rt; busy.receive(&mut place), Ok(Some((3, busy.address()))));
-    assert_eq!(rt; busy.send(quiet.address(), b"more"), Ok(()));
-    assert_eq!(rt; busy.receive(&mut place), Ok(None));
-    assert_eq!(rt; quiet.receive(&mut place), Ok(Some((4, busy.address()))));
+    expect_passes(&rt, &mut quiet, &mut busy);
     Ok(())
+}
+
+fn expect_passes(rt: &impl Abort, quiet: &mut UdpPort, busy: &mut UdpPort) {
+    let mut place = [0u8; 16];
+    let (to_quiet, to_busy) = (quiet.address(), busy.address());
+    same_outcome(rt, busy.send(to_busy, b"abc"), Ok(()));
+    expect_nothing(rt, quiet);
+    same_outcome(rt, busy.send(to_quiet, b"late"), Ok(()));
+    // The three passes.
+    expect_nothing(rt, quiet);
+    expect_nothing(rt, quiet);
+    expect_nothing(rt, quiet);
+    expect_datagram(rt, quiet, &mut place, 4, to_busy);
+    expect_nothing(rt, quiet);
+    expect_datagram(rt, busy, &mut place, 3, to_busy);
+    same_outcome(rt, busy.send(to_quiet, b"more"), Ok(()));
+    expect_nothing(rt, busy);
+    expect_datagram(rt, quiet, &mut place, 4, to_busy);
 }

@@ -1,5 +1,6 @@
 //! Each public call on its happy path, with the text that it writes.
 
+use crate::comparisons::same_bytes;
 use mold_text::{
     Word, packet_fault_words, push_line, push_line_behind, push_line_with, push_packet,
     push_refused, push_request, request_fault_words,
@@ -32,7 +33,7 @@ fn words_are_joined_by_single_spaces(rt: HostRuntime) -> Result<(), Fail> {
         &[Word::Number(1)],
     )?;
     let text = b"delivered 7 18446744073709551616 0aff - 41\n\nnothing\nsent 0\nsent 0 1\n";
-    assert_eq!(rt; out.as_slice(), text.as_slice());
+    same_bytes(&rt, out.as_slice(), text);
     Ok(())
 }
 
@@ -49,7 +50,7 @@ fn packets_and_requests_are_printed(rt: HostRuntime) -> Result<(), Fail> {
     push_request(&mut out, &request)?;
     let text =
         b"data 53455353494f4e303031 1 2\n  1 2 4142\n  2 0 -\nrequest 53455353494f4e303031 1 2\n";
-    assert_eq!(rt; out.as_slice(), text.as_slice());
+    same_bytes(&rt, out.as_slice(), text);
     Ok(())
 }
 
@@ -67,6 +68,6 @@ fn refusals_are_names_and_numbers(rt: HostRuntime) -> Result<(), Fail> {
     push_refused(&mut out, &request_fault_words(fault))?;
     let text =
         b"refused Short 19\nrefused BlockCut 1\nrefused Trailing 20\nrefused RequestLength 21\n";
-    assert_eq!(rt; out.as_slice(), text.as_slice());
+    same_bytes(&rt, out.as_slice(), text);
     Ok(())
 }

@@ -1,7 +1,8 @@
 //! Each public call on its happy path, and the bytes of known packets, read and written.
 
+use crate::comparisons::{same_bytes, same_message, same_number, same_size};
 use mold_wire::{
-    Body, DecodeError, Packer, PackerError, Packet, Request, RequestError, Session, decode,
+    Blocks, Body, DecodeError, Packer, PackerError, Packet, Request, RequestError, Session, decode,
 };
 use std::process::Abort;
 use std::test::Fail;
@@ -15,20 +16,39 @@ const HEARTBEAT: &[u8] = b"SESSION001\0\0\0\0\0\0\0\x01\0\0";
 
 const END: &[u8] = b"SESSION001\0\0\0\0\0\0\0\x03\xff\xff";
 
+const END_1: &[u8] = b"SESSION001\0\0\0\0\0\0\0\x01\xff\xff";
+
+// The greatest number, and `A`.
+const LAST: &[u8] = b"SESSION001\xff\xff\xff\xff\xff\xff\xff\xff\0\x01\0\x01A";
+
+// Two messages that fill 64 bytes.
+const FULL: &[u8] = b"SESSION001\0\0\0\0\0\0\0\x01\0\x02\
+    \0\x14\x01\x01\x01\x01\x01\x01\x01\x01\x01\x01\x01\x01\x01\x01\x01\x01\x01\x01\x01\x01\
+    \0\x14\x02\x02\x02\x02\x02\x02\x02\x02\x02\x02\x02\x02\x02\x02\x02\x02\x02\x02\x02\x02";
+
 // Where the header of a packet ends, and the first block of `TWO_MESSAGES`.
 const HEADER_END: usize = 20;
 
 const FIRST_END: usize = 24;
 
+fn same_top(rt: &impl Abort, found: Option<u64>, wanted: Option<u64>) {
+    assert_eq!(rt; found, wanted);
+}
+
+// A packet of the session from this number on, up to this one.
+fn expect_header(rt: &impl Abort, packet: &Packet<'_>, sequence: u64, top: Option<u64>) {
+    assert!(rt; packet.session == SESSION, "another session");
+    same_number(rt, packet.sequence, sequence);
+    same_top(rt, packet.top(), top);
+}
+
 fn expect_bare(rt: &impl Abort, bytes: &[u8], sequence: u64, ends: bool) -> Result<(), Fail> {
     let packet = decode(bytes)?;
-    assert_eq!(rt; packet.session, SESSION);
-    assert_eq!(rt; packet.sequence, sequence);
-    assert_eq!(rt; packet.top(), Some(sequence));
+    expect_header(rt, &packet, sequence, Some(sequence));
     match packet.body {
         Body::Data(_) => assert!(rt; false, "messages"),
-        Body::Heartbeat => assert!(rt; !ends),
-        Body::End => assert!(rt; ends),
+        Body::Heartbeat => assert!(rt; !ends, "a heartbeat"),
+        Body::End => assert!(rt; ends, "an end"),
     }
     Ok(())
 }
@@ -36,53 +56,62 @@ fn expect_bare(rt: &impl Abort, bytes: &[u8], sequence: u64, ends: bool) -> Resu
 #[test]
 fn heartbeats_and_ends_are_read(rt: HostRuntime) -> Result<(), Fail> {
     expect_bare(&rt, HEARTBEAT, 1, false)?;
-    expect_bare(&rt, b"SESSION001\0\0\0\0\0\0\0\x01\xff\xff", 1, true)?;
+    expect_bare(&rt, END_1, 1, true)?;
     expect_bare(&rt, END, 3, true)
 }
 
 #[test]
 fn messages_are_lent_in_order(rt: HostRuntime) -> Result<(), Fail> {
     let packet = decode(TWO_MESSAGES)?;
-    assert_eq!(rt; packet.session, SESSION);
-    assert_eq!(rt; packet.sequence, 1);
-    assert_eq!(rt; packet.top(), Some(3));
-    let data = match packet.body {
-        Body::Data(blocks) => Some(blocks),
-        Body::Heartbeat | Body::End => None,
-    };
-    let blocks = data.ok_or("no messages")?;
-    assert_eq!(rt; blocks.len(), 2);
-    assert_eq!(rt; blocks.get(0), Some(b"AB".as_slice()));
-    assert_eq!(rt; blocks.get(1), Some(b"".as_slice()));
-    assert_eq!(rt; blocks.get(2), None);
+    expect_header(&rt, &packet, 1, Some(3));
+    match &packet.body {
+        Body::Data(blocks) => expect_two(&rt, blocks),
+        Body::Heartbeat | Body::End => assert!(rt; false, "no messages"),
+    }
+    Ok(())
+}
+
+fn expect_two(rt: &impl Abort, blocks: &Blocks<'_>) {
+    same_number(rt, u64::from(blocks.len()), 2);
+    same_message(rt, 0, blocks.get(0), Some(b"AB"));
+    same_message(rt, 1, blocks.get(1), Some(b""));
+    same_message(rt, 2, blocks.get(2), None);
+    expect_lengths(rt, blocks);
+    same_size(rt, blocks.iter().count(), 2);
+}
+
+fn expect_lengths(rt: &impl Abort, blocks: &Blocks<'_>) {
     let mut lengths = [None; 3];
-    for (place, message) in lengths.iter_mut().zip(&blocks) {
+    for (place, message) in lengths.iter_mut().zip(blocks) {
         *place = Some(message.len());
     }
     assert_eq!(rt; lengths, [Some(2), Some(0), None]);
-    assert_eq!(rt; blocks.iter().count(), 2);
-    Ok(())
 }
 
 #[test]
 fn packets_are_compared_by_what_they_say(rt: HostRuntime) -> Result<(), Fail> {
     let elsewhere = *b"SESSION001\0\0\0\0\0\0\0\x01\0\x02\0\x02AB\0\0";
     let packet = decode(&elsewhere)?;
-    assert_eq!(rt; packet, decode(TWO_MESSAGES)?);
-    assert_eq!(rt; packet.clone()?, packet);
-    assert_ne!(rt;
-        packet,
-        decode(b"SESSION001\0\0\0\0\0\0\0\x01\0\x02\0\x02AC\0\0")?
-    );
-    assert_ne!(rt; packet, decode(HEARTBEAT)?);
+    expect_compared(&rt, &packet, &decode(TWO_MESSAGES)?, true);
+    expect_compared(&rt, &packet.clone()?, &packet, true);
+    let another = decode(b"SESSION001\0\0\0\0\0\0\0\x01\0\x02\0\x02AC\0\0")?;
+    expect_compared(&rt, &packet, &another, false);
+    expect_compared(&rt, &packet, &decode(HEARTBEAT)?, false);
     Ok(())
+}
+
+fn expect_compared(rt: &impl Abort, one: &Packet<'_>, other: &Packet<'_>, same: bool) {
+    assert!(rt;
+        (one == other) == same,
+        "{one:?} and {other:?}, the same: {same}"
+    );
 }
 
 #[test]
 fn a_top_beyond_64_bits_is_none(rt: HostRuntime) -> Result<(), Fail> {
-    let packet = decode(b"SESSION001\xff\xff\xff\xff\xff\xff\xff\xff\0\x01\0\x01A")?;
-    assert_eq!(rt; packet.sequence, 18446744073709551615);
-    assert_eq!(rt; packet.top(), None);
+    let packet = decode(LAST)?;
+    same_number(&rt, packet.sequence, 18446744073709551615);
+    same_top(&rt, packet.top(), None);
     Ok(())
 }
 
@@ -113,63 +142,66 @@ fn each_front_of_two_messages_has_its_fault(rt: HostRuntime) {
 // In this order: the limits, before any packet, a heartbeat, up to the limit, and the end.
 #[test]
 fn the_table_of_the_packer(rt: HostRuntime) -> Result<(), Fail> {
-    let limits = [
-        (63, Some(PackerError::Limit)),
-        (64, None),
-        (65507, None),
-        (65508, Some(PackerError::Limit)),
-    ];
-    for (limit, refusal) in limits {
-        assert_eq!(rt;
-            Packer::new(rt.alloc(), limit).err(),
-            refusal,
-            "limit {limit}"
-        );
-    }
-    // Of 64 bytes a header leaves 44, and a block's length 42 of these.
+    expect_limit(&rt, 63, Some(PackerError::Limit));
+    expect_limit(&rt, 64, None);
+    expect_limit(&rt, 65507, None);
+    expect_limit(&rt, 65508, Some(PackerError::Limit));
     let mut packer = Packer::new(rt.alloc(), 64)?;
-    assert_eq!(rt; packer.bytes(), b"".as_slice());
-    assert!(rt; !packer.fits(0));
-    assert!(rt; !packer.add(b""));
-    packer.start(SESSION, 1);
-    assert_eq!(rt; packer.bytes(), HEARTBEAT);
-    assert!(rt; packer.fits(42));
-    assert!(rt; !packer.fits(43));
-    assert!(rt; packer.add(&[1; 20]));
-    assert!(rt; packer.add(&[2; 20]));
-    let full = b"SESSION001\0\0\0\0\0\0\0\x01\0\x02\
-        \0\x14\x01\x01\x01\x01\x01\x01\x01\x01\x01\x01\x01\x01\x01\x01\x01\x01\x01\x01\x01\x01\
-        \0\x14\x02\x02\x02\x02\x02\x02\x02\x02\x02\x02\x02\x02\x02\x02\x02\x02\x02\x02\x02\x02";
-    assert_eq!(rt; packer.bytes(), full.as_slice());
-    assert!(rt; !packer.add(b""));
-    assert_eq!(rt; packer.bytes(), full.as_slice());
-    packer.end(SESSION, 3);
-    assert!(rt; !packer.fits(0));
-    assert_eq!(rt; packer.bytes(), END);
+    expect_packed(&rt, &mut packer);
     Ok(())
+}
+
+fn expect_limit(rt: &(impl Abort + AllocGlobal), limit: usize, refusal: Option<PackerError>) {
+    let found = Packer::new(rt.alloc(), limit).err();
+    assert!(rt; found == refusal, "limit {limit}");
+}
+
+// Of 64 bytes a header leaves 44, and a block's length 42 of these.
+fn expect_packed(rt: &impl Abort, packer: &mut Packer) {
+    same_bytes(rt, packer.bytes(), b"");
+    expect_fits(rt, packer, 0, false);
+    expect_added(rt, packer, b"", false);
+    packer.start(SESSION, 1);
+    same_bytes(rt, packer.bytes(), HEARTBEAT);
+    expect_fits(rt, packer, 42, true);
+    expect_fits(rt, packer, 43, false);
+    expect_added(rt, packer, &[1; 20], true);
+    expect_added(rt, packer, &[2; 20], true);
+    same_bytes(rt, packer.bytes(), FULL);
+    expect_added(rt, packer, b"", false);
+    same_bytes(rt, packer.bytes(), FULL);
+    packer.end(SESSION, 3);
+    expect_fits(rt, packer, 0, false);
+    same_bytes(rt, packer.bytes(), END);
+}
+
+fn expect_fits(rt: &impl Abort, packer: &Packer, len: usize, fits: bool) {
+    assert!(rt; packer.fits(len) == fits, "{len} bytes");
+}
+
+fn expect_added(rt: &impl Abort, packer: &mut Packer, message: &[u8], fits: bool) {
+    assert!(rt; packer.add(message) == fits, "{message:?}");
 }
 
 #[test]
 fn packets_are_written_as_they_are_read(rt: HostRuntime) -> Result<(), Fail> {
     let mut packer = Packer::new(rt.alloc(), 1400)?;
-    packer.end(SESSION, 1);
-    assert_eq!(rt;
-        packer.bytes(),
-        b"SESSION001\0\0\0\0\0\0\0\x01\xff\xff".as_slice()
-    );
-    packer.start(SESSION, 1);
-    assert!(rt; packer.add(b"AB"));
-    assert!(rt; packer.add(b""));
-    assert_eq!(rt; packer.bytes(), TWO_MESSAGES);
-    packer.start(SESSION, 18446744073709551615);
-    assert!(rt; packer.add(b"A"));
-    assert_eq!(rt;
-        packer.bytes(),
-        b"SESSION001\xff\xff\xff\xff\xff\xff\xff\xff\0\x01\0\x01A".as_slice()
-    );
+    expect_written(&rt, &mut packer);
     let packet = decode(packer.bytes())?;
-    assert_eq!(rt; packet.sequence, 18446744073709551615);
+    same_number(&rt, packet.sequence, 18446744073709551615);
     Ok(())
+}
+
+fn expect_written(rt: &impl Abort, packer: &mut Packer) {
+    packer.end(SESSION, 1);
+    same_bytes(rt, packer.bytes(), END_1);
+    packer.start(SESSION, 1);
+    expect_added(rt, packer, b"AB", true);
+    expect_added(rt, packer, b"", true);
+    same_bytes(rt, packer.bytes(), TWO_MESSAGES);
+    packer.start(SESSION, 18446744073709551615);
+    expect_added(rt, packer, b"A", true);
+    same_bytes(rt, packer.bytes(), LAST);
 }
 
 #[test]
