@@ -14,12 +14,18 @@ use Rattle.std.proofs.lemmas.List.{length-replicate, length-set, length-drop, dr
 use Rattle.std.proofs.lemmas.List.{drop-replicate, replicate-append-replicate}
 use Rattle.mold_receiver.specs.Store.{Message, differs}
 use Rattle.mold_receiver.specs.Slots.{Slot, slot_at, slot_entries, store_of, count_held, AreSlots}
-use Rattle.mold_receiver.proofs.StoreLemmas.{get_made}
+use Rattle.mold_receiver.proofs.StoreLemmas.{get_made, none_some}
 
 pub count_within : (slots : List Slot) → count_held slots ≤ length slots
 count_within [] = omega arith
 count_within (None ∷ slots) = omega (arith, count_within slots)
 count_within (Some m ∷ slots) = omega (arith, count_within slots)
+
+-- where the first slot has none, fewer slots have a message than there are
+pub count_below : (slots : List Slot) → 0 < length slots → slot_at slots 0 ≡ None → count_held slots < length slots
+count_below [] some first = absurd (omega (arith, some))
+count_below (None ∷ slots) some first = omega (arith, count_within slots)
+count_below (Some m ∷ slots) some first = absurd (none_some (sym first))
 
 count-push : (slots : List Slot) → count_held (slots ++ None ∷ []) ≡ count_held slots
 count-push [] = refl

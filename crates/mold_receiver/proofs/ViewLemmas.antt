@@ -29,7 +29,7 @@ use Rattle.mold_receiver.proofs.CaseLemmas.{nothing_handed, nothing_stored, noth
 use Rattle.mold_receiver.proofs.CaseLemmas.{at_handed, at_stored, at_kept}
 use Rattle.mold_receiver.proofs.KeepLemmas.{slot_fresh, length-put_pairs}
 use Rattle.mold_receiver.proofs.RuleLemmas.{IsBetween, message_below, message_past, message_within, message_bounds}
-use Rattle.mold_receiver.proofs.RuleLemmas.{available_cases, count_same, count_from}
+use Rattle.mold_receiver.proofs.RuleLemmas.{available_cases, count_same, count_from, none_unless}
 use Rattle.mold_receiver.proofs.SlotLemmas.{get-slots, len-slots, slot_past, slot_moved}
 use Rattle.mold_receiver.proofs.StoreLemmas.{get-cut, none_some, run_reads, run_ends, run_short}
 
@@ -469,6 +469,15 @@ slot_numbers session next known ended slots well i m is =
     let lies = well.stored (next + i) m (get_from next slots (next + i) (omega arith) ∙ ap (slot_at slots) place
     ∙ is) in
     omega (arith, lies.2, well.last)
+
+-- the first slot is that of `next`, of which no message is stored
+pub first_empty : (session : Session) (next known : ℕ) (ended : Option ℕ) (slots : List Slot) →
+    IsWellFormed (view_over session next known ended slots) → slot_at slots 0 ≡ None
+first_empty session next known ended slots well =
+    none_unless (slot_at slots 0) (λ m is.
+    let place : next - next ≡ 0 = omega arith in
+    let lies = well.stored next m (get_from next slots next (omega arith) ∙ ap (slot_at slots) place ∙ is) in
+    omega (arith, lies.0))
 
 -- empty slots hold an empty store
 pub empty_store : (next n : ℕ) → store_of next (replicate n None) ≡ finite.empty

@@ -322,6 +322,7 @@ impl Receiver {
     /// How many messages are stored, fewer than the window.
     pub fn stored(&self) -> u32
         ensures count { result ≡ finite.len self.now.store }
+        ensures bound { result < self.now.window }
     {
         self.slots.held()
     }

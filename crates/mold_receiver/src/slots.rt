@@ -112,7 +112,8 @@ impl Slots {
 
     /// How many slots have a message.
     pub(crate) fn held(&self) -> u32
-        ensures { result ≡ count_held self.now }
+        ensures count { result ≡ count_held self.now }
+        ensures some { 0 < length self.now }
     {
         self.held
     }

@@ -16,4 +16,4 @@ returns-then-held-eq0 c =
     let p = c.args.packet.now in
     sym (empty_no_conflict (store_of c.args.next c.args.slots.now)
     (from_next c.args.next p.sequence (messages_of p.body))
-    (none_held c.args.next c.args.slots.now (sym c.held.ensures ∙ c.if-held-eq0.true)))
+    (none_held c.args.next c.args.slots.now (sym c.held.ensures.count ∙ c.if-held-eq0.true)))
