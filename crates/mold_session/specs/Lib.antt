@@ -11,3 +11,4 @@ pub mod Server
 pub mod Serving
 pub mod Truthful
 pub mod Upgrading
+pub use Rattle.mold_devices.specs.Devices

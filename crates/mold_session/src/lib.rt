@@ -19,6 +19,7 @@ mod upgrading;
 
 pub use error::{AnswerError, AppendError, FileError, PublisherError, ServerError, Unsent};
 pub use journal::Journal;
+pub use mold_devices::{DeviceFault, FromRead, IntoWrite, MemorySink, MemorySource, Sink, Source};
 pub use plan::Plan;
 pub use publisher::Publisher;
 pub use server::Server;

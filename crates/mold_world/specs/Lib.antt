@@ -13,3 +13,5 @@ pub mod Inside
 pub mod Renewals
 pub mod Sending
 pub mod Straight
+pub use Rattle.mold_rounds.specs.Rounds
+pub use Rattle.mold_rounds.specs.CatchUp

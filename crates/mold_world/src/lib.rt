@@ -14,6 +14,7 @@ mod way;
 mod world;
 
 pub use event::Event;
+pub use mold_rounds::{Memory, catch_up};
 pub use report::{Report, SessionRefusal, WorldError};
 pub use stopped::Stopped;
 pub use way::Way;
