@@ -14,7 +14,7 @@ use Rattle.mold_session.specs.declared.error.FileError.TheVariants.{TooLong, Mem
 use Rattle.mold_session.proofs.HeadLemmas.{length-magic_1, length-magic_2, one_magic, behind_1, behind_2, count_at, flag_at}
 
 -- a block begins with the length of its message
-length_read : (message rest : List ℕ) → length message ≤ 65535 → big_number 2 (block message ++ rest) ≡ length message
+pub length_read : (message rest : List ℕ) → length message ≤ 65535 → big_number 2 (block message ++ rest) ≡ length message
 length_read message rest fits = omega arith
 
 -- one block stands at the front of the bytes
@@ -22,7 +22,7 @@ pub record SameBlock (one other more rest : List ℕ) : Type 0 where
   pub message : one ≡ other
   pub behind : more ≡ rest
 
-block_here : (one other more rest : List ℕ) → length one ≤ 65535 → length other ≤ 65535 →
+pub block_here : (one other more rest : List ℕ) → length one ≤ 65535 → length other ≤ 65535 →
     block one ++ more ≡ block other ++ rest → SameBlock one other more rest
 block_here one other more rest fits also same =
     let long : length one ≡ length other =
@@ -67,7 +67,7 @@ further (message ∷ front) (first ∷ all) rest each also same =
     }
 
 -- the same blocks are of the same messages
-same_messages : (one other : List (List ℕ)) → AllByRecursion (IsWithin 65535) one →
+pub same_messages : (one other : List (List ℕ)) → AllByRecursion (IsWithin 65535) one →
     AllByRecursion (IsWithin 65535) other → blocks one ≡ blocks other → one ≡ other
 same_messages [] [] each also same = refl
 same_messages [] (message ∷ other) each also same = absurd (no_block message (blocks other) (sym same))
@@ -77,7 +77,7 @@ same_messages (message ∷ one) (first ∷ other) each also same =
     ap (λ (t : List ℕ). t ∷ one) begins.message
     ∙ ap (λ (t : List (List ℕ)). first ∷ t) (same_messages one other each.1 also.1 begins.behind)
 
-each_file : (most : ℕ) (messages : List (List ℕ)) → most ≤ 65535 → AllByRecursion (IsWithin most) messages →
+pub each_file : (most : ℕ) (messages : List (List ℕ)) → most ≤ 65535 → AllByRecursion (IsWithin most) messages →
     AllByRecursion (IsWithin 65535) messages
 each_file most [] bound each = tt
 each_file most (message ∷ messages) bound each =
@@ -126,7 +126,7 @@ no_rest_fault most count extra rest (Short len) bound each few same fault = faul
 no_rest_fault most count extra rest (BadFlag byte) bound each few same fault = fault
 no_rest_fault most count extra rest (CountDiffers stated found) bound each few same fault = fault
 
-no_blocks_fault : (most : ℕ) (messages : List (List ℕ)) (behind : List ℕ) (error : FileError) → most ≤ 65535 →
+pub no_blocks_fault : (most : ℕ) (messages : List (List ℕ)) (behind : List ℕ) (error : FileError) → most ≤ 65535 →
     AllByRecursion (IsWithin most) messages → length messages < 18446744073709551615 → behind ≡ blocks messages →
     BlocksFault most behind error → ⊥
 no_blocks_fault most messages behind error bound each few same fault =

@@ -7,6 +7,7 @@ pub mod FrontLemmas
 pub mod HeadLemmas
 pub mod LoadingLemmas
 pub mod MovingLemmas
+pub mod OneFaultLemmas
 pub mod PackingLemmas
 pub mod PublisherLemmas
 pub mod SavingLemmas

@@ -74,8 +74,8 @@ pub enum AnswerError {
     Ahead { next: u64 },
 }
 
-/// Why a journal's file is not loaded, saved or upgraded. Where several apply to a file, the first of them
-/// by the order of the bytes is answered.
+/// Why a journal's file is not loaded, saved or upgraded. A file has one fault at most: what is wrong first, in the
+/// order of its bytes.
 #[derive(Clone, Copy, Debug, PartialEq, Eq, Error)]
 pub enum FileError {
     /// Fewer bytes than stand before the blocks: 18 in version 1, 27 in version 2; how many there are.

@@ -152,9 +152,9 @@ impl Journal {
 
     /// Reads the file of a journal, of version 1, which is open, or of version 2, whose messages have at
     /// most `max_message` bytes. It reads at most 4,096 bytes at once, goes through the file once, and holds
-    /// no more than the journal and what was read at once. Of several refusals the first in the order of the
-    /// file is answered; `Read` and `Memory` come as they occur. A journal that is answered has read the
-    /// source to its end.
+    /// no more than the journal and what was read at once. Bytes have one fault at most (`laws::one_fault_law`), so
+    /// the one that is answered is the only one; `Read` and `Memory` come as they occur. A journal that is
+    /// answered has read the source to its end.
     pub fn load<S: Source>(
         alloc: Global,
         max_message: u16,

@@ -146,6 +146,13 @@ pub fn one_file_law()
         AllByRecursion (IsWithin most) messages → ¬ JournalFault most bytes error }
 {}
 
+/// A file has one fault: no bytes have two for the same bound. So what `Journal::load` refuses a file with is, `Read`
+/// and `Memory` aside, all that it may refuse it with.
+pub fn one_fault_law()
+    ensures { (most : ℕ) (bytes : List ℕ) (one other : FileError) → most ≤ 65535 →
+        JournalFault most bytes one → JournalFault most bytes other → one ≡ other }
+{}
+
 /// A publisher stays one while messages are published that nothing refuses, and sent, and when it is closed
 /// once all are sent.
 pub fn publisher_law()
