@@ -19,8 +19,8 @@ fn place_of(ends: &[usize], i: usize) -> usize
 }
 
 /// Messages of any lengths, kept joined in one buffer. A message costs its bytes and the 8 of the place
-/// where it ends. Memory is taken by `push` and `reserve` alone, mostly for more than is asked, and is
-/// kept until the list is let go.
+/// where it ends. Memory is taken by `push`, `extend_last` and `reserve` alone, mostly for more than is asked,
+/// and is kept until the list is let go.
 #[derive(Debug, Drop)]
 pub struct MessageList {
     // Where each message ends in the bytes.
