@@ -1,7 +1,9 @@
 //! `mold upgrade`: a journal's file written again, in the version that is written today.
 
-ghost use Rattle.std.specs.Prelude.{◌≡◌, ◌++◌, IfOk, Ok, OnOk};
-ghost use Rattle.mold_commands.specs.Upgrade.{TellsUpgrade, upgrade_text};
+ghost use Rattle.std.specs.Prelude.{◌≡◌, ◌++◌, IfOk, Ok, OnOk, Result};
+ghost use Rattle.mold_commands.specs.Upgrade.{IsUpgradeOutcome, TellsOutcome, TellsUpgrade, fault_of, upgrade_status, upgrade_text};
+ghost use Rattle.mold_session.specs.declared.error.FileError.{FileError};
+ghost use Rattle.mold_session.specs.declared.upgrading.Upgraded.{Upgraded};
 
 use mold_devices::{CommandFault, Sink, Source, send};
 use mold_refusals::push_file_refusal;
@@ -28,9 +30,57 @@ fn push_upgraded(out: &mut Vec<u8>, upgraded: Upgraded) -> Result<(), AllocError
     )
 }
 
+// Writes the line of an outcome, and answers its status.
+fn push_outcome(out: &mut Vec<u8>, outcome: Result<Upgraded, FileError>) -> Result<u8, AllocError>
+    ensures text { OnOk result (out.new.items ≡ out.old.items ++ upgrade_text outcome) }
+    ensures status { IfOk result (λ status. status ≡ upgrade_status outcome) }
+{
+    match outcome {
+        Ok(upgraded) => {
+            push_upgraded(out, upgraded)?;
+            Ok(0)
+        }
+        Err(error) => {
+            push_file_refusal(out, error)?;
+            Ok(2)
+        }
+    }
+}
+
+// Tells the outcome, and answers its status.
+fn tell<K: Sink>(
+    alloc: Global,
+    outcome: Result<Upgraded, FileError>,
+    sink: &mut K,
+) -> Result<u8, CommandFault>
+    ensures { TellsOutcome K.held K.failed sink.old sink.new outcome result }
+{
+    let mut text = Vec::new(alloc);
+    let Ok(status) = push_outcome(&mut text, outcome) else {
+        return Err(CommandFault::Memory);
+    };
+    let Ok(()) = send(sink, &mut text) else {
+        return Err(CommandFault::Write);
+    };
+    Ok(status)
+}
+
+// The fault of a device or of memory that an upgrade ended with.
+fn device_fault(outcome: Result<Upgraded, FileError>) -> Option<CommandFault>
+    ensures { result ≡ fault_of outcome }
+{
+    match outcome {
+        Err(FileError::Read) => Some(CommandFault::Read),
+        Err(FileError::Write) => Some(CommandFault::Write),
+        Err(FileError::Memory) => Some(CommandFault::Memory),
+        _ => None,
+    }
+}
+
 /// Reads the file of a journal from the source, writes it in version 2 in `journal`, closed also where
-/// `close` is true, and tells in the sink what became of it. The status is 0, or 2 where the file is
-/// refused; then nothing is written in `journal`.
+/// `close` is true, and tells in the sink what became of it, which is what `upgrade` answered. The status is 0, or 2
+/// where the file is refused. A fault of the source, of `journal` or of memory within `upgrade` is answered, and then
+/// nothing is told; one behind it leaves `journal` as `upgrade` left it.
 pub fn run_upgrade<S: Source, J: Sink, K: Sink>(
     alloc: Global,
     source: &mut S,
@@ -38,23 +88,14 @@ pub fn run_upgrade<S: Source, J: Sink, K: Sink>(
     close: bool,
     sink: &mut K,
 ) -> Result<u8, CommandFault>
-    ensures told { IfOk result (TellsUpgrade (S.left source.old) (J.held journal.old) (J.held journal.new) close
-        (K.held sink.old) (K.held sink.new)) }
+    ensures told { (outcome : Result Upgraded FileError)
+        × IsUpgradeOutcome (S.left source.old) (S.failed source.old) (S.failed source.new)
+        J.held J.failed journal.old journal.new close outcome
+        × TellsUpgrade K.held K.failed sink.old sink.new outcome result }
 {
-    let mut text = Vec::new(alloc);
-    let status = match upgrade(alloc, source, journal, close) {
-        Ok(upgraded) => {
-            push_upgraded(&mut text, upgraded)?;
-            0
-        }
-        Err(FileError::Read) => return Err(CommandFault::Read),
-        Err(FileError::Write) => return Err(CommandFault::Write),
-        Err(FileError::Memory) => return Err(CommandFault::Memory),
-        Err(error) => {
-            push_file_refusal(&mut text, error)?;
-            2
-        }
-    };
-    send(sink, &mut text)?;
-    Ok(status)
+    let outcome = upgrade(alloc, source, journal, close);
+    match device_fault(outcome) {
+        Some(fault) => Err(fault),
+        None => tell(alloc, outcome, sink),
+    }
 }
