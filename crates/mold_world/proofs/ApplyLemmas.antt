@@ -15,6 +15,7 @@ use Rattle.mold_session.specs.declared.error.AppendError.{AppendError}
 use Rattle.mold_world.specs.Effect.{Happening, Outcome, asked, asked_for, delivered, effect, is_own, noised, publishing}
 use Rattle.mold_world.specs.Effect.{renewed, requested, restarted, sending, unsent_count, with_place}
 use Rattle.mold_world.specs.Effect.Happening.{Publish, Datagram, Heartbeat, Close, End, Request, Ask, Deliver, Noise, Restart}
+use Rattle.mold_world.specs.Hearing.{Hears}
 use Rattle.mold_world.specs.Kept.{IsWorld}
 use Rattle.mold_world.specs.Refusals.{Applies, MayWant, Refuses}
 use Rattle.mold_world.specs.Steps.{AreSteps}
@@ -58,6 +59,14 @@ pub applied_steps :
     Applies old happening result new → OnOk result (AreSteps old new)
 applied_steps steps old new happening (Ok says) is applied = steps old new happening says is applied
 applied_steps steps old new happening (Err error) is applied = tt
+
+pub applied_heard :
+    (heard : (w new : WorldState) (happening : Happening) (says : Report) → IsWorld w →
+    effect w happening ≡ Ok (says, new) → Hears happening says w new)
+    (old new : WorldState) (happening : Happening) (result : Result Report WorldError) → IsWorld old →
+    Applies old happening result new → IfOk result (λ says. Hears happening says old new)
+applied_heard heard old new happening (Ok says) is applied = heard old new happening says is applied
+applied_heard heard old new happening (Err error) is applied = tt
 
 -- the rule never answers that memory is wanting
 ok_none :

@@ -1,6 +1,7 @@
 pub mod MachineLemmas
 pub mod PlaceLemmas
 pub mod EventLemmas
+pub mod HearingLemmas
 pub mod RunLemmas
 pub mod StepLemmas
 pub mod GivingLemmas

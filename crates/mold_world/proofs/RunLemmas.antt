@@ -15,11 +15,12 @@ use Rattle.mold_session.specs.Journal.{append_refusal}
 use Rattle.mold_session.specs.Publisher.{PublisherState}
 use Rattle.mold_session.specs.declared.error.AppendError.{AppendError}
 use Rattle.mold_world.proofs.EventLemmas.{AllLaws, event_kept, outcome_kept}
+use Rattle.mold_world.proofs.HearingLemmas.{noise_hands_nothing, sent_taken}
 use Rattle.mold_world.proofs.MachineLemmas.{both_published, each_later, handed_published}
 use Rattle.mold_world.specs.Effect.{Happening, Outcome, after_event, after_outcome, effect, run_events}
 use Rattle.mold_world.specs.Effect.Happening.{Publish, Datagram, Heartbeat, Close, End, Request, Ask, Deliver, Noise, Restart}
 use Rattle.mold_world.specs.HandOns.{handed_at, handed_by, handed_by_all, handed_of}
-use Rattle.mold_world.specs.Headline.{ArePublished}
+use Rattle.mold_world.specs.Headline.{ArePublished, HandOn}
 use Rattle.mold_world.specs.Kept.{IsPlaceKept, IsWorld}
 use Rattle.mold_world.specs.World.{MayBegin, PlaceState, WorldState, beginning, place_at}
 use Rattle.std.specs.Prelude.{Bool, true, ◌&&◌}
@@ -228,11 +229,7 @@ handed_here laws w receiver at None datagram is here sent = tt
 handed_here laws w receiver at (Some place) None is here sent = tt
 handed_here laws w receiver at (Some place) (Some bytes) is here sent =
     let view : View = place.arbitration.view in
-    let kept = is.places receiver place here in
-    let told = is.said at bytes sent in
-    let took = laws.receivers.take view told.packet bytes w.publisher.journal.messages w.publisher.journal.closed
-    kept.honest told.spelled (told.session ∙ sym kept.session) told.so
-    in
+    let took = sent_taken laws.receivers.take w receiver at place bytes is here sent in
     subst (λ (t : Result Reception Refused). ArePublished w.publisher.journal.messages (handed_of receiver view.next t))
     (sym took.received)
     (handed_published w.publisher.journal.messages receiver view.next took.reception.handed took.handed)
@@ -249,7 +246,9 @@ handed_in_event laws w (Request bytes) is = tt
 handed_in_event laws w (Ask receiver) is = tt
 handed_in_event laws w (Deliver receiver line at) is =
     handed_here laws w receiver at (slice_get w.places receiver) (slice_get w.sent at) is refl refl
-handed_in_event laws w (Noise receiver line bytes) is = tt
+handed_in_event laws w (Noise receiver line bytes) is =
+    subst (λ (t : List HandOn). ArePublished w.publisher.journal.messages t)
+    (sym (noise_hands_nothing w receiver line bytes is)) tt
 handed_in_event laws w (Restart receiver next) is = tt
 
 -- and stays so to the end of a run

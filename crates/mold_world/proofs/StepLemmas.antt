@@ -23,6 +23,7 @@ use Rattle.mold_session.specs.Truthful.{TellsTruth}
 use Rattle.mold_session.specs.declared.error.AnswerError.{AnswerError}
 use Rattle.mold_session.specs.declared.error.AppendError.{AppendError}
 use Rattle.mold_world.proofs.EventLemmas.{AllLaws, answer_told, not_own, wanted_answerable}
+use Rattle.mold_world.proofs.HearingLemmas.{sent_taken}
 use Rattle.mold_world.proofs.PlaceLemmas.{followed_messages, given_kept, handed_messages, same_Ok, view_refused}
 use Rattle.mold_receiver.specs.Arbiter.{arbitrated}
 use Rattle.std.specs.FinMap as finite
@@ -346,11 +347,7 @@ deliver_steps :
 deliver_steps laws law w receiver at line None datagram done is here found same = err_steps w _ done same
 deliver_steps laws law w receiver at line (Some place) None done is here found same = err_steps w _ done same
 deliver_steps laws law w receiver at line (Some place) (Some bytes) done is here found same =
-    let kept = is.places receiver place here in
-    let told = is.said at bytes found in
-    let took = laws.receivers.take place.arbitration.view told.packet bytes w.publisher.journal.messages
-    w.publisher.journal.closed kept.honest told.spelled (told.session ∙ sym kept.session) told.so
-    in
+    let took = sent_taken laws.receivers.take w receiver at place bytes is here found in
     ok_steps w _ done (deliver_made w receiver place (given place line bytes) took.reception.handed
     (taken_hands laws law w receiver at line place bytes took.reception is here found took.received)) same
 

@@ -1,8 +1,9 @@
 -- What is handed on by the events of a run.
-use Rattle.std.specs.Prelude.{ℕ, List, [], ◌∷◌, ◌++◌, Option, None, Some, Result, Ok, Err, slice_get}
+use Rattle.std.specs.Prelude.{ℕ, List, [], ◌∷◌, ◌++◌, Bool, true, false, Option, None, Some, Result, Ok, Err, slice_get}
+use Rattle.mold_wire.specs.Reading.{reading}
 use Rattle.mold_receiver.specs.Receive.{Reception, receive}
 use Rattle.mold_receiver.specs.declared.refused.Refused.{Refused}
-use Rattle.mold_world.specs.Effect.{Happening, after_event}
+use Rattle.mold_world.specs.Effect.{Happening, after_event, is_own}
 use Rattle.mold_world.specs.Effect.Happening.{Publish, Datagram, Heartbeat, Close, End, Request, Ask, Deliver, Noise, Restart}
 use Rattle.mold_world.specs.Headline.{HandOn, handed_from}
 use Rattle.mold_world.specs.World.{PlaceState, WorldState}
@@ -19,7 +20,12 @@ handed_at receiver (Some place) None = []
 handed_at receiver (Some place) (Some bytes) =
     handed_of receiver place.arbitration.view.next (receive place.arbitration.view bytes)
 
--- only a delivery hands something on
+-- what a receiver hands on when bytes come as noise, unless these are a packet of the session, which is refused
+abbrev pub handed_of_noise : ℕ → Option PlaceState → List ℕ → Bool → List HandOn
+handed_of_noise receiver place bytes true = []
+handed_of_noise receiver place bytes false = handed_at receiver place (Some bytes)
+
+-- what is handed on by an event: nothing, unless something comes to a receiver
 abbrev pub handed_by : WorldState → Happening → List HandOn
 handed_by w (Publish message) = []
 handed_by w Datagram = []
@@ -30,7 +36,8 @@ handed_by w (Request bytes) = []
 handed_by w (Ask receiver) = []
 handed_by w (Deliver receiver line place) =
     handed_at receiver (slice_get w.places receiver) (slice_get w.sent place)
-handed_by w (Noise receiver line bytes) = []
+handed_by w (Noise receiver line bytes) =
+    handed_of_noise receiver (slice_get w.places receiver) bytes (is_own w.publisher.journal.session (reading bytes))
 handed_by w (Restart receiver next) = []
 
 -- all that is handed on by some events, also by receivers that begin anew later

@@ -3,6 +3,7 @@ pub mod Headline
 pub mod World
 pub mod Effect
 pub mod HandOns
+pub mod Hearing
 pub mod Kept
 pub mod Steps
 pub mod Seen

@@ -1,8 +1,10 @@
 //! What holds of the definitions alone. Each law is a function that does nothing: its contract is the law.
 
-ghost use Rattle.std.specs.Prelude.{◌≡◌, ℕ, Bool, List, Ok, Some, slice_get, true};
+ghost use Rattle.std.specs.Prelude.{◌≡◌, ℕ, Bool, List, Ok, Option, Some, slice_get, true};
 ghost use Rattle.mold_receiver.specs.Honest.{IsHonest, IsTakenHonestly};
 ghost use Rattle.mold_receiver.specs.View.{View};
+ghost use Rattle.mold_receiver.specs.declared.line.Line.{Line};
+ghost use Rattle.mold_wire.specs.Block.{IsBytes};
 ghost use Rattle.mold_wire.specs.Packet.{Spells};
 ghost use Rattle.mold_wire.specs.Truth.{IsTrue};
 ghost use Rattle.mold_wire.specs.declared.packet.Packet.{Packet};
@@ -10,6 +12,7 @@ ghost use Rattle.mold_wire.specs.declared.session.Session.{Session};
 ghost use Rattle.mold_world.specs.Effect.{Happening, effect, run_events};
 ghost use Rattle.mold_world.specs.HandOns.{handed_by_all};
 ghost use Rattle.mold_world.specs.Headline.{ArePublished, HasAll, IsPrefix, all_handed};
+ghost use Rattle.mold_world.specs.Hearing.{AreStrange, Hears, IsUnmoved};
 ghost use Rattle.mold_world.specs.Kept.{IsWorld};
 ghost use Rattle.mold_world.specs.Steps.{AreSteps, machine_of};
 ghost use Rattle.mold_world.specs.Machine.{AreAllowed, Step, run, start};
@@ -90,6 +93,25 @@ pub fn run_law()
     publisher_law();
     sending_law();
     answered_law();
+}
+
+/// The receivers of a world hear the truth alone. None of them refuses a datagram that was sent: it takes it
+/// as a receiver does to which nothing but the truth was told. Each of them refuses bytes that spell no
+/// packet of the session, and its view and its book stay. So a delivery is never told as refused, and noise
+/// always is, with every view and every book as they were (but for want of memory, of which a law can't
+/// speak).
+pub fn hearing_law()
+    ensures sent { (w : WorldState) (receiver at : ℕ) (place : PlaceState) (bytes : List ℕ) → IsWorld w →
+        slice_get w.places receiver ≡ Some place → slice_get w.sent at ≡ Some bytes →
+        IsTakenHonestly place.arbitration.view bytes w.publisher.journal.messages w.publisher.journal.closed }
+    ensures strange { (w : WorldState) (receiver : ℕ) (place : PlaceState) (line : Option Line) (bytes : List ℕ) →
+        IsWorld w → slice_get w.places receiver ≡ Some place → IsBytes bytes →
+        AreStrange w.publisher.journal.session bytes → IsUnmoved place line bytes }
+    ensures heard { (w new : WorldState) (happening : Happening) (report : Report) → IsWorld w →
+        effect w happening ≡ Ok (report, new) → Hears happening report w new }
+{
+    reading_law();
+    honest_take_law();
 }
 
 /// The straight path: a receiver whose book begins with all that was put in datagrams, to which each

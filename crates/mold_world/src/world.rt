@@ -7,6 +7,7 @@ ghost use Rattle.mold_receiver.specs.Arbiter.{report_on};
 ghost use Rattle.mold_world.specs.Effect.{after_event, effect, run_events};
 ghost use Rattle.mold_world.specs.HandOns.{handed_by_all};
 ghost use Rattle.mold_world.specs.Headline.{ArePublished};
+ghost use Rattle.mold_world.specs.Hearing.{Hears};
 ghost use Rattle.mold_world.specs.Kept.{IsWorld};
 ghost use Rattle.mold_world.specs.Refusals.{MayWant, Refuses, world_refusal};
 ghost use Rattle.mold_world.specs.Runs.{IsHeadline, IsStopped, applied};
@@ -18,7 +19,7 @@ ghost use Rattle.mold_world.specs.declared.report.WorldError.{WorldError};
 
 use crate::beginning::{check_world, has_name, make_places};
 use crate::event::Event;
-use crate::laws::{run_law, straight_law};
+use crate::laws::{hearing_law, run_law, straight_law};
 use crate::parts::Parts;
 use crate::report::{Report, WorldError};
 use crate::stopped::Stopped;
@@ -90,12 +91,17 @@ impl World {
 
     /// Lets an event happen. A refusal leaves the world as it was. `Memory` comes only where a growth was
     /// refused, and before anything is sent: of an answer either all datagrams are sent or none.
+    ///
+    /// A datagram that was sent is never reported as refused; noise always is, and changes no receiver's view
+    /// and no book.
     pub fn apply(&mut self, event: &Event<'_>) -> Result<Report, WorldError>
         ensures done { IfOk result (λ report. effect self.old (seen event.now) ≡ Ok (report, self.new)) }
         ensures refused { IfErr result (λ error. Refuses self.old (seen event.now) error) }
         ensures same { OnErr result (self.new ≡ self.old) }
+        ensures heard { IfOk result (λ report. Hears (seen event.now) report self.old self.new) }
         ensures step { OnOk result (AreSteps self.old self.new) }
     {
+        hearing_law();
         run_law();
         self.parts.change(event)
     }
