@@ -54,9 +54,9 @@ applied_same old new happening (Err error) applied = applied.1
 
 pub applied_steps :
     (steps : (w new : WorldState) (happening : Happening) (says : Report) → IsWorld w →
-    effect w happening ≡ Ok (says, new) → AreSteps w new)
+    effect w happening ≡ Ok (says, new) → AreSteps w happening new)
     (old new : WorldState) (happening : Happening) (result : Result Report WorldError) → IsWorld old →
-    Applies old happening result new → OnOk result (AreSteps old new)
+    Applies old happening result new → OnOk result (AreSteps old happening new)
 applied_steps steps old new happening (Ok says) is applied = steps old new happening says is applied
 applied_steps steps old new happening (Err error) is applied = tt
 

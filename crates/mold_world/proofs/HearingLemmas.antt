@@ -21,8 +21,9 @@ use Rattle.mold_receiver.specs.declared.refused.Refused.{Refused}
 use Rattle.mold_world.proofs.EventLemmas.{not_own}
 use Rattle.mold_world.proofs.PlaceLemmas.{view_refused}
 use Rattle.mold_world.specs.Effect.{Happening, Outcome, book_after, delivered, effect, given, is_own, noised, told}
-use Rattle.mold_world.specs.Effect.Happening.{Publish, Datagram, Heartbeat, Close, End, Request, Ask, Deliver, Noise, Restart}
-use Rattle.mold_world.specs.HandOns.{handed_by, handed_of, handed_of_noise}
+use Rattle.mold_world.specs.Effect.Happening.{Publish, Datagram, Heartbeat, Close, End}
+use Rattle.mold_world.specs.Effect.Happening.{Request, Ask, Deliver, Noise, Restart}
+use Rattle.mold_world.specs.HandOns.{handed_at, handed_by, handed_of, handed_of_noise}
 use Rattle.mold_world.specs.Hearing.{AreStrange, Hears, IsUnmoved, KeepsBooks, TellsRefused, TellsTaken}
 use Rattle.mold_world.specs.Kept.{IsWorld}
 use Rattle.mold_world.specs.World.{PlaceState, WorldState}
@@ -121,6 +122,44 @@ pub noise_hands_nothing :
 noise_hands_nothing w receiver line bytes is =
     noise_hands w receiver line bytes (slice_get w.places receiver)
     (is_own w.publisher.journal.session (reading bytes)) is refl refl
+
+-- nor does an event that is refused
+ok_refused :
+    {P : Type 0} (done : Report × WorldState) (error : WorldError) → ◌≡◌ {A = Outcome} (Ok done) (Err error) → P
+ok_refused done error same = absurd (let e = same in cc)
+
+refused_delivery :
+    (w : WorldState) (receiver : ℕ) (line : Option Line) (place : Option PlaceState) (datagram : Option (List ℕ))
+    (error : WorldError) → delivered w receiver line place datagram ≡ Err error → handed_at receiver place datagram ≡ []
+refused_delivery w receiver line None datagram error same = refl
+refused_delivery w receiver line (Some place) None error same = refl
+refused_delivery w receiver line (Some place) (Some bytes) error same = ok_refused _ error same
+
+refused_noise :
+    (w : WorldState) (receiver : ℕ) (line : Option Line) (bytes : List ℕ) (place : Option PlaceState) (own : Bool)
+    (error : WorldError) → noised w receiver line bytes place own ≡ Err error →
+    handed_of_noise receiver place bytes own ≡ []
+refused_noise w receiver line bytes place true error same = refl
+refused_noise w receiver line bytes None false error same = refl
+refused_noise w receiver line bytes (Some place) false error same = ok_refused _ error same
+
+pub refused_hands_nothing :
+    (w : WorldState) (happening : Happening) (error : WorldError) → effect w happening ≡ Err error →
+    handed_by w happening ≡ []
+unfolding effect
+refused_hands_nothing w (Publish message) error same = refl
+refused_hands_nothing w Datagram error same = refl
+refused_hands_nothing w Heartbeat error same = refl
+refused_hands_nothing w Close error same = refl
+refused_hands_nothing w End error same = refl
+refused_hands_nothing w (Request bytes) error same = refl
+refused_hands_nothing w (Ask receiver) error same = refl
+refused_hands_nothing w (Deliver receiver line at) error same =
+    refused_delivery w receiver line (slice_get w.places receiver) (slice_get w.sent at) error same
+refused_hands_nothing w (Noise receiver line bytes) error same =
+    refused_noise w receiver line bytes (slice_get w.places receiver)
+    (is_own w.publisher.journal.session (reading bytes)) error same
+refused_hands_nothing w (Restart receiver next) error same = refl
 
 -- an element that is put in place of another of which the same is told
 map_set :

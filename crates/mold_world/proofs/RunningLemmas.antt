@@ -1,16 +1,19 @@
 -- A run of events, one after the other.
-use Rattle.std.proofs.Common.{◌≡◌, ℕ, ◌+◌, ◌<◌, ◌≤◌, List, [], ◌∷◌, ◌++◌, length, map, take, get_or, refl, sym, ap, subst, ◌∙◌, arith}
+use Rattle.std.proofs.Common.{◌≡◌, ℕ, ◌+◌, ◌<◌, ◌≤◌, List, [], ◌∷◌, ◌++◌, length, map, take, get_or, append_assoc}
+use Rattle.std.proofs.Common.{refl, sym, ap, subst, ◌∙◌, arith}
 use Rattle.std.specs.Prelude.{true, false, Some, Result, Ok, Err, OnErr, OnOk, is_err, slice_get}
 use Rattle.std.proofs.lemmas.List.{get_or-map, length-map, take_all, take_more}
 use Rattle.std.proofs.lemmas.Option.{slice_get-get_or}
+use Rattle.mold_world.proofs.HearingLemmas.{refused_hands_nothing}
 use Rattle.mold_world.specs.Effect.{Happening, Outcome, after_event, after_outcome, effect, run_events}
-use Rattle.mold_world.specs.Headline.{IsPrefix}
+use Rattle.mold_world.specs.HandOns.{handed_by}
+use Rattle.mold_world.specs.Headline.{HandOn, IsPrefix, all_handed, handed_in}
 use Rattle.mold_world.specs.Kept.{IsWorld}
 use Rattle.mold_world.specs.Machine.{AreAllowed, Machine, Step, after as after_step, run}
 use Rattle.mold_world.specs.Refusals.{MayWant}
 use Rattle.mold_world.specs.Runs.{IsHeadline, IsStopped}
 use Rattle.mold_world.specs.Seen.{seen}
-use Rattle.mold_world.specs.Steps.{AreSteps, machine_of}
+use Rattle.mold_world.specs.Steps.{AreSteps, AreStepsOfAll, NamesAfter, machine_of}
 use Rattle.mold_world.specs.World.{PlaceState, WorldState}
 use Rattle.mold_world.specs.declared.event.Event.{Event}
 use Rattle.mold_world.specs.declared.report.Report.{Report}
@@ -25,7 +28,7 @@ pub record RunLaws : Type 0 where
       place.arbitration.view.ended ≡ Some place.arbitration.view.next →
       (w.publisher.journal.closed ≡ true) × (place.book.messages ≡ w.publisher.journal.messages)
   pub steps : (w new : WorldState) (happening : Happening) (report : Report) → IsWorld w →
-      effect w happening ≡ Ok (report, new) → AreSteps w new
+      effect w happening ≡ Ok (report, new) → AreSteps w happening new
 
 -- what holds after success, and after an error
 pub on_ok : {T E X : Type 0} (result : Result T E) → false ≡ is_err result → OnOk result X → X
@@ -102,27 +105,65 @@ run_both : (machine : Machine) (first second : List Step) → run machine (first
 run_both machine [] second = refl
 run_both machine (step ∷ first) second = run_both (after_step machine step) first second
 
-steps_both : (old mid new : WorldState) → AreSteps old mid → AreSteps mid new → AreSteps old new
-steps_both old mid new one two = record {
-  steps = one.steps ++ two.steps;
-  allowed = allowed_both (machine_of old) one.steps two.steps one.allowed
-      (subst (λ (t : Machine). AreAllowed t two.steps) one.made two.allowed);
-  made = two.made
-      ∙ ap (λ (t : Machine). run t two.steps) one.made
-      ∙ sym (run_both (machine_of old) one.steps two.steps);
-}
+handed_both :
+    (machine : Machine) (first second : List Step) →
+    all_handed machine (first ++ second) ≡ all_handed machine first ++ all_handed (run machine first) second
+handed_both machine [] second = refl
+handed_both machine (step ∷ first) second =
+    let next : Machine = after_step machine step in
+    ap (λ (t : List HandOn). handed_in machine step ++ t) (handed_both next first second)
+    ∙ sym (append_assoc (handed_in machine step) (all_handed next first) (all_handed (run next first) second))
+
+-- an event is the steps that it names, and none where it is refused
+record AreStepsOf (w : WorldState) (happening : Happening) (outcome : Outcome) : Type 0 where
+  steps : List Step
+  named : NamesAfter w happening outcome steps
+  allowed : AreAllowed (machine_of w) steps
+  made : machine_of (after_outcome w outcome) ≡ run (machine_of w) steps
+  handed : all_handed (machine_of w) steps ≡ handed_by w happening
 
 outcome_steps :
-    (w : WorldState) (outcome : Outcome) →
-    ((report : Report) (new : WorldState) → outcome ≡ Ok (report, new) → AreSteps w new) →
-    AreSteps w (after_outcome w outcome)
-outcome_steps w (Ok done) steps = steps done.0 done.1 refl
-outcome_steps w (Err refused) steps = record { steps = []; allowed = tt; made = refl }
+    (w : WorldState) (happening : Happening) (outcome : Outcome) → effect w happening ≡ outcome →
+    ((report : Report) (new : WorldState) → outcome ≡ Ok (report, new) → AreSteps w happening new) →
+    AreStepsOf w happening outcome
+outcome_steps w happening (Ok done) is steps =
+    let made = steps done.0 done.1 refl in
+    record {
+      steps = made.steps;
+      named = made.named;
+      allowed = made.allowed;
+      made = made.made;
+      handed = made.handed;
+    }
+outcome_steps w happening (Err refused) is steps = record {
+  steps = [];
+  named = refl;
+  allowed = tt;
+  made = refl;
+  handed = sym (refused_hands_nothing w happening refused is);
+}
 
 pub run_steps :
-    (laws : RunLaws) (w : WorldState) (happenings : List Happening) → IsWorld w → AreSteps w (run_events w happenings)
-run_steps laws w [] is = record { steps = []; allowed = tt; made = refl }
+    (laws : RunLaws) (w : WorldState) (happenings : List Happening) → IsWorld w →
+    AreStepsOfAll w happenings (run_events w happenings)
+run_steps laws w [] is = record { steps = []; named = refl; allowed = tt; made = refl; handed = refl }
 run_steps laws w (happening ∷ happenings) is =
-    steps_both w (after_event w happening) (run_events (after_event w happening) happenings)
-    (outcome_steps w (effect w happening) (λ report new done. laws.steps w new happening report is done))
-    (run_steps laws (after_event w happening) happenings (laws.run w (happening ∷ []) is))
+    let machine : Machine = machine_of w in
+    let next : WorldState = after_event w happening in
+    let one = outcome_steps w happening (effect w happening) refl (λ report new done.
+    laws.steps w new happening report is done)
+    in
+    let others = run_steps laws next happenings (laws.run w (happening ∷ []) is) in
+    record {
+      steps = one.steps ++ others.steps;
+      named = (one.steps, others.steps, refl, one.named, others.named);
+      allowed = allowed_both machine one.steps others.steps one.allowed
+          (subst (λ (t : Machine). AreAllowed t others.steps) one.made others.allowed);
+      made = others.made
+          ∙ ap (λ (t : Machine). run t others.steps) one.made
+          ∙ sym (run_both machine one.steps others.steps);
+      handed = handed_both machine one.steps others.steps
+          ∙ ap (λ (t : List HandOn). t ++ all_handed (run machine one.steps) others.steps) one.handed
+          ∙ ap (λ (t : Machine). handed_by w happening ++ all_handed t others.steps) (sym one.made)
+          ∙ ap (λ (t : List HandOn). handed_by w happening ++ t) others.handed;
+    }

@@ -1,9 +1,9 @@
 -- What an event does to the world is made of steps of the machine.
-use Rattle.std.proofs.Common.{◌≡◌, ℕ, zero, suc, ◌+◌, ◌-◌, cond, leb, ltb, List, [], ◌∷◌, ◌++◌, length, map}
+use Rattle.std.proofs.Common.{◌≡◌, ℕ, zero, suc, ◌+◌, ◌-◌, ◌≤◌, cond, leb, ltb, List, [], ◌∷◌, ◌++◌, length, map}
 use Rattle.std.proofs.Common.{take, refl, sym, ap, subst, ◌∙◌, append_assoc, inl, inr, arith}
 use Rattle.std.specs.Prelude.{◌⊎◌, ◌&&◌, ◌==◌, Option, None, Some, Bool, true, false, Result, Ok, Err, slice_get, slice_set}
 use Rattle.std.proofs.lemmas.Bool.{and_parts, cond-false, cond-true, cases_eq, eq-eqb, eqb-true, false≢true, leb-true, ne_eqb}
-use Rattle.std.proofs.lemmas.List.{append-nil, length-take}
+use Rattle.std.proofs.lemmas.List.{append-nil, length-map, length-take}
 use Rattle.std.proofs.lemmas.Option.{none-some}
 use Rattle.mold_wire.specs.Packet.{Spells, messages_of, spelling_of}
 use Rattle.mold_wire.specs.Reading.{reading}
@@ -15,26 +15,30 @@ use Rattle.mold_receiver.specs.View.{View}
 use Rattle.mold_receiver.specs.Wanted.{wanted}
 use Rattle.mold_receiver.specs.declared.line.Line.{Line}
 use Rattle.mold_receiver.specs.declared.refused.Refused.{Refused}
-use Rattle.mold_session.specs.Answer.{answer}
+use Rattle.mold_session.specs.Answer.{answer, from_number}
+use Rattle.mold_session.specs.Datagrams.{packing}
 use Rattle.mold_session.specs.Journal.{JournalState, append_refusal}
 use Rattle.mold_session.specs.Publisher.{PublisherState, after_datagram, closed, next_datagram, next_end, next_heartbeat}
 use Rattle.mold_session.specs.Server.{IsAnswerable, asking}
 use Rattle.mold_session.specs.Truthful.{TellsTruth}
 use Rattle.mold_session.specs.declared.error.AnswerError.{AnswerError}
 use Rattle.mold_session.specs.declared.error.AppendError.{AppendError}
-use Rattle.mold_world.proofs.EventLemmas.{AllLaws, answer_told, not_own, wanted_answerable}
-use Rattle.mold_world.proofs.HearingLemmas.{sent_taken}
-use Rattle.mold_world.proofs.PlaceLemmas.{followed_messages, given_kept, handed_messages, same_Ok, view_refused}
-use Rattle.mold_receiver.specs.Arbiter.{arbitrated}
+use Rattle.mold_world.proofs.EventLemmas.{AllLaws, answer_told, wanted_answerable}
+use Rattle.mold_world.proofs.HearingLemmas.{err_so, noise_hands_nothing, noise_unmoved, ok_so, sent_taken}
+use Rattle.mold_world.proofs.PlaceLemmas.{followed_messages, given_kept, handed_messages, same_Ok}
 use Rattle.std.specs.FinMap as finite
 use Rattle.mold_world.specs.Effect.{Happening, Outcome, answered, book_after, asked, asked_for, delivered, effect, given, is_own, noised}
 use Rattle.mold_world.specs.Effect.{publishing, renewed, requested, restarted, sending, unsent_count, with_place}
 use Rattle.mold_world.specs.Effect.Happening.{Publish as PublishEvent, Datagram, Heartbeat, Close as CloseEvent, End}
 use Rattle.mold_world.specs.Effect.Happening.{Request, Ask, Deliver as DeliverEvent, Noise, Restart as RestartEvent}
+use Rattle.mold_world.specs.HandOns.{handed_at, handed_by, handed_of}
+use Rattle.mold_world.specs.Headline.{all_handed, handed_from}
+use Rattle.mold_world.specs.Hearing.{IsUnmoved}
 use Rattle.mold_world.specs.Kept.{IsPlaceKept, IsWorld}
-use Rattle.mold_world.specs.Machine.{AreAllowed, IsEndSent, IsSaid, IsSentAs, Machine, Standing, after, run, standing_at, start}
+use Rattle.mold_world.specs.Machine.{AreAllowed, IsEndSent, IsSaid, IsSentAs, Machine, Standing, Step, after, run, standing_at}
+use Rattle.mold_world.specs.Machine.{start}
 use Rattle.mold_world.specs.Machine.Step.{Publish, Close, Send, Deliver, Restart}
-use Rattle.mold_world.specs.Steps.{AreSteps, is_end, is_finished, machine_of, standing_of}
+use Rattle.mold_world.specs.Steps.{AreSends, AreSteps, Names, is_end, is_finished, machine_of, standing_of}
 use Rattle.mold_wire.specs.declared.session.Session.{Session}
 use Rattle.mold_world.specs.World.{PlaceState, WorldState, beginning, place_at}
 use Rattle.mold_world.specs.declared.report.Report.{Report}
@@ -43,35 +47,55 @@ use Rattle.mold_world.specs.declared.report.SessionRefusal.TheVariants as sessio
 use Rattle.mold_world.specs.declared.report.WorldError.{WorldError}
 use Rattle.mold_world.specs.declared.report.WorldError.TheVariants.{NotReached, Session as Refuses}
 
--- what is answered is what it says
-ok_steps :
-    (w : WorldState) (here done : Report × WorldState) → AreSteps w here.1 → ◌≡◌ {A = Outcome} (Ok here) (Ok done) →
-    AreSteps w done.1
-ok_steps w here done steps same =
-    let path : here ≡ done = (let e = same in cc) in
-    subst (λ (t : Report × WorldState). AreSteps w t.1) path steps
+-- an event of a kind is its steps
+abbrev IsDone : WorldState → Happening → Report × WorldState → Type 0
+IsDone w happening done = AreSteps w happening done.1
 
-err_steps :
-    (w : WorldState) (refused : WorldError) (done : Report × WorldState) →
-    ◌≡◌ {A = Outcome} (Err refused) (Ok done) → AreSteps w done.1
-err_steps w refused done same = absurd (let e = same in cc)
+-- datagrams are sent, no more than so many
+record DidSend (most : ℕ) (w new : WorldState) : Type 0 where
+  more : List (List ℕ)
+  few : length more ≤ most
+  allowed : AreAllowed (machine_of w) (map Send more)
+  made : machine_of new ≡ run (machine_of w) (map Send more)
 
--- a world that stays
-none : (w : WorldState) → AreSteps w w
-none w = record { steps = []; allowed = tt; made = refl }
+abbrev IsSent : ℕ → WorldState → Report × WorldState → Type 0
+IsSent most w done = DidSend most w done.1
+
+-- none is, in a world that stays
+none : (most : ℕ) (w : WorldState) → DidSend most w w
+none most w = record { more = []; few = omega arith; allowed = tt; made = refl }
+
+-- what sends hands nothing on
+sends_handed : (machine : Machine) (more : List (List ℕ)) → all_handed machine (map Send more) ≡ []
+sends_handed machine [] = refl
+sends_handed machine (bytes ∷ more) = sends_handed (after machine (Send bytes)) more
+
+sent_steps :
+    (w : WorldState) (happening : Happening) (most : ℕ) (done : Report × WorldState) →
+    ((steps : List Step) → AreSends most steps → Names w happening steps) → handed_by w happening ≡ [] →
+    DidSend most w done.1 → AreSteps w happening done.1
+sent_steps w happening most done names nothing sent = record {
+  steps = map Send sent.more;
+  named = names (map Send sent.more) (record { sent = sent.more; few = sent.few; so = refl });
+  allowed = sent.allowed;
+  made = sent.made;
+  handed = sends_handed (machine_of w) sent.more ∙ sym nothing;
+}
 
 publish_steps :
     (laws : AllLaws) (w : WorldState) (message : List ℕ) (refusal : Option AppendError) (done : Report × WorldState) →
     IsWorld w → append_refusal w.publisher.journal message ≡ refusal → publishing w message refusal ≡ Ok done →
-    AreSteps w done.1
+    AreSteps w (PublishEvent message) done.1
 publish_steps laws w message None done is free same =
     let may = laws.sending.may w.publisher message free in
-    ok_steps w _ done (record {
+    ok_so (IsDone w (PublishEvent message)) _ done same (record {
       steps = Publish message ∷ [];
+      named = refl;
       allowed = ((may.unclosed, omega (arith, is.publisher.journaled.few, may.number)), tt);
       made = refl;
-    }) same
-publish_steps laws w message (Some refusal) done is some same = err_steps w _ done same
+      handed = refl;
+    })
+publish_steps laws w message (Some refusal) done is some same = err_so (IsDone w (PublishEvent message)) _ done same
 
 -- what tells the truth may be said
 said_of :
@@ -83,11 +107,12 @@ send_steps :
     (w : WorldState) (next : Option Packet) (publisher : PublisherState) (done : Report × WorldState) →
     publisher.journal ≡ w.publisher.journal →
     ((packet : Packet) → next ≡ Some packet → TellsTruth w.publisher.journal (spelling_of packet)) →
-    sending w next publisher ≡ Ok done → AreSteps w done.1
-send_steps w None publisher done journal told same = ok_steps w _ done (none w) same
+    sending w next publisher ≡ Ok done → DidSend 1 w done.1
+send_steps w None publisher done journal told same = ok_so (IsSent 1 w) _ done same (none 1 w)
 send_steps w (Some packet) publisher done journal told same =
-    ok_steps w _ done (record {
-      steps = Send (spelling_of packet) ∷ [];
+    ok_so (IsSent 1 w) _ done same (record {
+      more = spelling_of packet ∷ [];
+      few = omega arith;
       allowed = (said_of w (spelling_of packet) (told packet refl), tt);
       made = ap (λ (t : JournalState). record {
         session = t.session;
@@ -96,15 +121,16 @@ send_steps w (Some packet) publisher done journal told same =
         sent = w.sent ++ spelling_of packet ∷ [];
         standings = λ receiver. standing_of (slice_get w.places receiver);
       }) journal;
-    }) same
+    })
 
 close_steps :
     (w : WorldState) (unsent : Bool) (done : Report × WorldState) →
     cond {A = Outcome} unsent (Err (Refuses (session.Close (record { count = unsent_count w.publisher }))))
-    (Ok (report.Closed, record w { publisher = closed w.publisher })) ≡ Ok done → AreSteps w done.1
-close_steps w true done same = err_steps w _ done same
+    (Ok (report.Closed, record w { publisher = closed w.publisher })) ≡ Ok done → AreSteps w CloseEvent done.1
+close_steps w true done same = err_so (IsDone w CloseEvent) _ done same
 close_steps w false done same =
-    ok_steps w _ done (record { steps = Close ∷ []; allowed = (tt, tt); made = refl }) same
+    ok_so (IsDone w CloseEvent) _ done same
+    (record { steps = Close ∷ []; named = refl; allowed = (tt, tt); made = refl; handed = refl })
 
 -- datagrams that are sent one after the other
 sends_allowed :
@@ -127,41 +153,46 @@ sends_made machine (bytes ∷ more) =
     sends_made (after machine (Send bytes)) more
     ∙ ap (λ (t : List (List ℕ)). record machine { sent = t }) (append_assoc machine.sent (bytes ∷ []) more)
 
+few_sent : (packets : List Packet) (most : ℕ) → length (map spelling_of (take most packets)) ≤ most
+few_sent packets most = omega (arith, length-map (take most packets) spelling_of, length-take most packets)
+
 answer_steps :
     (laws : AllLaws) (w : WorldState) (request : Asked) (done : Report × WorldState) → IsWorld w →
-    IsAnswerable w.publisher.journal request → answered w request ≡ Ok done → AreSteps w done.1
+    IsAnswerable w.publisher.journal request → answered w request ≡ Ok done → DidSend w.burst w done.1
 answer_steps laws w request done is may same =
     let more : List (List ℕ) = map spelling_of (answer w.publisher.journal.messages w.publisher.journal.session
     w.server_limit request.sequence request.count w.burst)
     in
-    ok_steps w _ done (record {
-      steps = map Send more;
+    ok_so (IsSent w.burst w) _ done same (record {
+      more = more;
+      few = few_sent (packing w.server_limit w.publisher.journal.session request.sequence
+          (take request.count (from_number w.publisher.journal.messages request.sequence))) w.burst;
       allowed = sends_allowed (machine_of w) more (λ place bytes found.
           said_of w bytes (answer_told laws.answers w request is may place bytes found));
       made = sym (sends_made (machine_of w) more);
-    }) same
+    })
 
 request_steps :
     (laws : AllLaws) (w : WorldState) (bytes : List ℕ) (asks : Result Asked AnswerError)
     (done : Report × WorldState) → IsWorld w → asking w.publisher.journal bytes ≡ asks →
-    requested w asks ≡ Ok done → AreSteps w done.1
+    requested w asks ≡ Ok done → DidSend w.burst w done.1
 request_steps laws w bytes (Ok request) done is asked_now same =
     answer_steps laws w request done is (laws.answers.answerable w.publisher.journal request bytes asked_now) same
-request_steps laws w bytes (Err refusal) done is asked_now same = err_steps w _ done same
+request_steps laws w bytes (Err refusal) done is asked_now same = err_so (IsSent w.burst w) _ done same
 
 want_steps :
     (laws : AllLaws) (w : WorldState) (place : PlaceState) (want : Option Asked) (done : Report × WorldState) →
     IsWorld w → IsPlaceKept w.publisher.journal w.sent place → wanted place.arbitration.view ≡ want →
-    asked_for w want ≡ Ok done → AreSteps w done.1
-want_steps laws w place None done is kept want same = ok_steps w _ done (none w) same
+    asked_for w want ≡ Ok done → DidSend w.burst w done.1
+want_steps laws w place None done is kept want same = ok_so (IsSent w.burst w) _ done same (none w.burst w)
 want_steps laws w place (Some request) done is kept want same =
     answer_steps laws w request done is
     (wanted_answerable laws.answers w.publisher.journal w.sent place request kept want) same
 
 ask_steps :
     (laws : AllLaws) (w : WorldState) (receiver : ℕ) (place : Option PlaceState) (done : Report × WorldState) →
-    IsWorld w → slice_get w.places receiver ≡ place → asked w place ≡ Ok done → AreSteps w done.1
-ask_steps laws w receiver None done is here same = err_steps w _ done same
+    IsWorld w → slice_get w.places receiver ≡ place → asked w place ≡ Ok done → DidSend w.burst w done.1
+ask_steps laws w receiver None done is here same = err_so (IsSent w.burst w) _ done same
 ask_steps laws w receiver (Some place) done is here same =
     want_steps laws w place (wanted place.arbitration.view) done is (is.places receiver place here) refl same
 
@@ -257,12 +288,17 @@ pub record HandsOnSent (w : WorldState) (receiver : ℕ) (old new : PlaceState) 
       IsSentAs w.sent (old.arbitration.view.next + i) message
 
 deliver_made :
-    (w : WorldState) (receiver : ℕ) (old new : PlaceState) (handed : List (List ℕ)) →
-    HandsOnSent w receiver old new handed → AreSteps w (with_place w receiver new)
-deliver_made w receiver old new handed hands =
+    (w : WorldState) (receiver at : ℕ) (line : Option Line) (old new : PlaceState) (handed : List (List ℕ)) →
+    HandsOnSent w receiver old new handed →
+    handed_by w (DeliverEvent receiver line at) ≡ handed_from receiver old.arbitration.view.next handed →
+    AreSteps w (DeliverEvent receiver line at) (with_place w receiver new)
+deliver_made w receiver at line old new handed hands so =
     let standing : Standing = standing_of (slice_get w.places receiver) in
     let book : standing.book ≡ old.book.messages =
     ap (λ (t : Option PlaceState). (standing_of t).book) hands.here
+    in
+    let behind : length standing.book + 1 ≡ old.arbitration.view.next =
+    ap (λ (t : List (List ℕ)). length t + 1) book ∙ book_length w.publisher.journal w.sent old hands.kept
     in
     let ended : Bool = is_finished new.arbitration.view in
     let longer : standing.book ++ handed ≡ new.book.messages =
@@ -270,18 +306,11 @@ deliver_made w receiver old new handed hands =
     in
     record {
       steps = Deliver receiver handed ended ∷ [];
+      named = record { messages = handed; ended = ended; so = refl };
       allowed = (
         (
           (λ i message found.
-              subst (λ (t : ℕ). IsSentAs w.sent t message)
-              (let z : old.arbitration.view.next + i ≡ length standing.book + 1 + i =
-              omega (
-                arith,
-                book_length w.publisher.journal w.sent old hands.kept,
-                ap (λ (t : List (List ℕ)). length t) book,
-              )
-              in z)
-              (hands.each i message found)),
+              subst (λ (t : ℕ). IsSentAs w.sent (t + i) message) (sym behind) (hands.each i message found)),
           (λ told.
               subst (λ (t : ℕ). IsEndSent w.sent w.publisher.journal.session t)
               (sym (ap (λ (t : List (List ℕ)). length t + 1) longer
@@ -293,6 +322,9 @@ deliver_made w receiver old new handed hands =
       );
       made = machine_with w receiver old new (record { book = standing.book ++ handed; ended = ended }) hands.here
           (ap (λ (t : List (List ℕ)). record { book = t; ended = ended }) (sym longer));
+      handed = append-nil (handed_from receiver (length standing.book + 1) handed)
+          ∙ ap (λ (t : ℕ). handed_from receiver t handed) behind
+          ∙ sym so;
     }
 
 -- what the receiver's law says of what is handed on
@@ -339,37 +371,45 @@ taken_hands laws law w receiver at line place bytes r is here found received =
           ];
     }
 
+-- so what its event hands on is what its step does
+handed_taken :
+    (w : WorldState) (receiver at : ℕ) (line : Option Line) (place : PlaceState) (bytes : List ℕ) (r : Reception) →
+    slice_get w.places receiver ≡ Some place → slice_get w.sent at ≡ Some bytes →
+    receive place.arbitration.view bytes ≡ Ok r →
+    handed_by w (DeliverEvent receiver line at) ≡ handed_from receiver place.arbitration.view.next r.handed
+handed_taken w receiver at line place bytes r here found received =
+    (λ j. handed_at receiver (here j) (found j))
+    ∙ ap (λ (t : Result Reception Refused). handed_of receiver place.arbitration.view.next t) received
+
 deliver_steps :
     (laws : AllLaws) (law : HandsOnLaw) (w : WorldState) (receiver at : ℕ) (line : Option Line)
     (place : Option PlaceState) (datagram : Option (List ℕ)) (done : Report × WorldState) → IsWorld w →
     slice_get w.places receiver ≡ place → slice_get w.sent at ≡ datagram →
-    delivered w receiver line place datagram ≡ Ok done → AreSteps w done.1
-deliver_steps laws law w receiver at line None datagram done is here found same = err_steps w _ done same
-deliver_steps laws law w receiver at line (Some place) None done is here found same = err_steps w _ done same
+    delivered w receiver line place datagram ≡ Ok done → AreSteps w (DeliverEvent receiver line at) done.1
+deliver_steps laws law w receiver at line None datagram done is here found same =
+    err_so (IsDone w (DeliverEvent receiver line at)) _ done same
+deliver_steps laws law w receiver at line (Some place) None done is here found same =
+    err_so (IsDone w (DeliverEvent receiver line at)) _ done same
 deliver_steps laws law w receiver at line (Some place) (Some bytes) done is here found same =
     let took = sent_taken laws.receivers.take w receiver at place bytes is here found in
-    ok_steps w _ done (deliver_made w receiver place (given place line bytes) took.reception.handed
-    (taken_hands laws law w receiver at line place bytes took.reception is here found took.received)) same
+    ok_so (IsDone w (DeliverEvent receiver line at)) _ done same
+    (deliver_made w receiver at line place (given place line bytes) took.reception.handed
+    (taken_hands laws law w receiver at line place bytes took.reception is here found took.received)
+    (handed_taken w receiver at line place bytes took.reception here found took.received))
 
 -- a receiver that refuses bytes is the same to the machine
 refused_made :
-    (w : WorldState) (receiver : ℕ) (line : Option Line) (bytes : List ℕ) (place : PlaceState) (refused : Refused) →
-    slice_get w.places receiver ≡ Some place → receive place.arbitration.view bytes ≡ Err refused →
-    AreSteps w (with_place w receiver (given place line bytes))
-refused_made w receiver line bytes place refused here is =
+    (w : WorldState) (receiver : ℕ) (line : Option Line) (bytes : List ℕ) (place : PlaceState) → IsWorld w →
+    slice_get w.places receiver ≡ Some place → IsUnmoved place line bytes →
+    AreSteps w (Noise receiver line bytes) (with_place w receiver (given place line bytes))
+refused_made w receiver line bytes place is here stays =
     let new : PlaceState = given place line bytes in
-    let view : new.arbitration.view ≡ place.arbitration.view =
-    ap (λ (t : Result Reception Refused). (arbitrated line bytes place.arbitration t).view) is
-    ∙ view_refused line bytes place.arbitration refused
-    in
-    let book : new.book ≡ place.book =
-    ap (λ (t : Result Reception Refused). book_after place.book place.arbitration.view.next t) is
-    in
     let standing : standing_of (Some new) ≡ standing_of (Some place) =
-    λ i. record { book = (book i).messages; ended = is_finished (view i) }
+    λ i. record { book = (stays.book i).messages; ended = is_finished (stays.view i) }
     in
     record {
       steps = [];
+      named = refl;
       allowed = tt;
       made = λ i. record {
         session = w.publisher.journal.session;
@@ -380,27 +420,30 @@ refused_made w receiver line bytes place refused here is =
             (stands_at w receiver place new (standing_of (Some place)) here standing other
             ∙ stands_same w receiver place here other) i;
       };
+      handed = sym (noise_hands_nothing w receiver line bytes is);
     }
 
 noise_steps :
     (w : WorldState) (receiver : ℕ) (line : Option Line) (bytes : List ℕ) (place : Option PlaceState) (own : Bool)
     (done : Report × WorldState) → IsWorld w → slice_get w.places receiver ≡ place →
     is_own w.publisher.journal.session (reading bytes) ≡ own → noised w receiver line bytes place own ≡ Ok done →
-    AreSteps w done.1
-noise_steps w receiver line bytes None own done is here mine same = err_steps w _ done same
-noise_steps w receiver line bytes (Some place) true done is here mine same = err_steps w _ done same
+    AreSteps w (Noise receiver line bytes) done.1
+noise_steps w receiver line bytes None own done is here mine same =
+    err_so (IsDone w (Noise receiver line bytes)) _ done same
+noise_steps w receiver line bytes (Some place) true done is here mine same =
+    err_so (IsDone w (Noise receiver line bytes)) _ done same
 noise_steps w receiver line bytes (Some place) false done is here mine same =
-    let kept = is.places receiver place here in
-    let refused = not_own place.arbitration.view w.publisher.journal.session (reading bytes) kept.session mine in
-    ok_steps w _ done (refused_made w receiver line bytes place refused.0 here refused.1) same
+    ok_so (IsDone w (Noise receiver line bytes)) _ done same
+    (refused_made w receiver line bytes place is here (noise_unmoved w receiver line bytes place is here mine))
 
 restart_at_steps :
     (w : WorldState) (receiver next : ℕ) (place : PlaceState) (reached : Bool) (done : Report × WorldState) →
     IsWorld w → slice_get w.places receiver ≡ Some place →
     (leb 1 next && leb next place.arbitration.view.next) ≡ reached →
     cond {A = Outcome} reached (Ok (report.Restarted next, with_place w receiver (renewed place next)))
-    (Err (NotReached place.arbitration.view.next)) ≡ Ok done → AreSteps w done.1
-restart_at_steps w receiver next place false done is here reached same = err_steps w _ done same
+    (Err (NotReached place.arbitration.view.next)) ≡ Ok done → AreSteps w (RestartEvent receiver next) done.1
+restart_at_steps w receiver next place false done is here reached same =
+    err_so (IsDone w (RestartEvent receiver next)) _ done same
 restart_at_steps w receiver next place true done is here reached same =
     let kept = is.places receiver place here in
     let both = and_parts (leb 1 next) (leb next place.arbitration.view.next) reached in
@@ -412,8 +455,9 @@ restart_at_steps w receiver next place true done is here reached same =
     ap (λ (t : List (List ℕ)). take (next - 1) t) book
     ∙ sym (handed_messages place.book.first (take (next - 1) place.book.messages))
     in
-    ok_steps w _ done (record {
+    ok_so (IsDone w (RestartEvent receiver next)) _ done same (record {
       steps = Restart receiver next ∷ [];
+      named = refl;
       allowed = (
         (
           leb-true 1 next both.0,
@@ -429,36 +473,43 @@ restart_at_steps w receiver next place true done is here reached same =
       made = machine_with w receiver place (renewed place next)
           (record { book = take (next - 1) standing.book; ended = false }) here
           (ap (λ (t : List (List ℕ)). record { book = t; ended = false }) (sym cut));
-    }) same
+      handed = refl;
+    })
 
 restart_steps :
     (w : WorldState) (receiver next : ℕ) (place : Option PlaceState) (done : Report × WorldState) → IsWorld w →
-    slice_get w.places receiver ≡ place → restarted w receiver next place ≡ Ok done → AreSteps w done.1
-restart_steps w receiver next None done is here same = err_steps w _ done same
+    slice_get w.places receiver ≡ place → restarted w receiver next place ≡ Ok done →
+    AreSteps w (RestartEvent receiver next) done.1
+restart_steps w receiver next None done is here same = err_so (IsDone w (RestartEvent receiver next)) _ done same
 restart_steps w receiver next (Some place) done is here same =
     restart_at_steps w receiver next place (leb 1 next && leb next place.arbitration.view.next) done is here refl same
 
 -- every event that is not refused
 pub event_steps :
     (laws : AllLaws) (law : HandsOnLaw) (w : WorldState) (happening : Happening) (done : Report × WorldState) →
-    IsWorld w → effect w happening ≡ Ok done → AreSteps w done.1
+    IsWorld w → effect w happening ≡ Ok done → AreSteps w happening done.1
 unfolding effect
 event_steps laws law w (PublishEvent message) done is same =
     publish_steps laws w message (append_refusal w.publisher.journal message) done is refl same
 event_steps laws law w Datagram done is same =
-    send_steps w (next_datagram w.publisher) (after_datagram w.publisher) done refl
-    (λ packet next. laws.sending.datagram w.publisher packet is.publisher is.answers.named next) same
+    sent_steps w Datagram 1 done (λ steps sends. sends) refl
+    (send_steps w (next_datagram w.publisher) (after_datagram w.publisher) done refl
+    (λ packet next. laws.sending.datagram w.publisher packet is.publisher is.answers.named next) same)
 event_steps laws law w Heartbeat done is same =
-    send_steps w (next_heartbeat w.publisher) w.publisher done refl
-    (λ packet next. laws.sending.heartbeat w.publisher packet is.publisher is.answers.named next) same
+    sent_steps w Heartbeat 1 done (λ steps sends. sends) refl
+    (send_steps w (next_heartbeat w.publisher) w.publisher done refl
+    (λ packet next. laws.sending.heartbeat w.publisher packet is.publisher is.answers.named next) same)
 event_steps laws law w CloseEvent done is same = close_steps w (ltb 0 (unsent_count w.publisher)) done same
 event_steps laws law w End done is same =
-    send_steps w (next_end w.publisher) w.publisher done refl
-    (λ packet next. laws.sending.end w.publisher packet is.publisher is.answers.named next) same
+    sent_steps w End 1 done (λ steps sends. sends) refl
+    (send_steps w (next_end w.publisher) w.publisher done refl
+    (λ packet next. laws.sending.end w.publisher packet is.publisher is.answers.named next) same)
 event_steps laws law w (Request bytes) done is same =
-    request_steps laws w bytes (asking w.publisher.journal bytes) done is refl same
+    sent_steps w (Request bytes) w.burst done (λ steps sends. sends) refl
+    (request_steps laws w bytes (asking w.publisher.journal bytes) done is refl same)
 event_steps laws law w (Ask receiver) done is same =
-    ask_steps laws w receiver (slice_get w.places receiver) done is refl same
+    sent_steps w (Ask receiver) w.burst done (λ steps sends. sends) refl
+    (ask_steps laws w receiver (slice_get w.places receiver) done is refl same)
 event_steps laws law w (DeliverEvent receiver line at) done is same =
     deliver_steps laws law w receiver at line (slice_get w.places receiver) (slice_get w.sent at) done is refl refl same
 event_steps laws law w (Noise receiver line bytes) done is same =

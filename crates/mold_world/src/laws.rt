@@ -60,9 +60,10 @@ pub fn safety_law()
 /// all of the closed session. Each message ever handed on in a run of events is, at the run's end, the one
 /// published with its number.
 ///
-/// And what an event does is made of steps of the machine of `safety_law`: one step, none where nothing that
-/// the machine sees changes, and as many as datagrams where a burst is sent. The world at the start is the
-/// machine at its start.
+/// And what an event does is steps of the machine of `safety_law`, those that it names: a publication is one
+/// publication, a datagram or a burst so many sendings, a delivery one delivery, a restart one restart, noise
+/// none. What is handed on in them is what the event hands on. The world at the start is the machine at its
+/// start.
 pub fn run_law()
     ensures begins { (session : Session) (limit server_limit burst : ℕ) (windows : List ℕ) →
         MayBegin session limit server_limit → IsWorld (beginning session limit server_limit burst windows) }
@@ -80,7 +81,7 @@ pub fn run_law()
     ensures starts { (session : Session) (limit server_limit burst : ℕ) (windows : List ℕ) →
         machine_of (beginning session limit server_limit burst windows) ≡ start session }
     ensures steps { (w new : WorldState) (happening : Happening) (report : Report) → IsWorld w →
-        effect w happening ≡ Ok (report, new) → AreSteps w new }
+        effect w happening ≡ Ok (report, new) → AreSteps w happening new }
 {
     reading_law();
     true_stays_law();

@@ -12,7 +12,7 @@ ghost use Rattle.mold_world.specs.Kept.{IsWorld};
 ghost use Rattle.mold_world.specs.Refusals.{MayWant, Refuses, world_refusal};
 ghost use Rattle.mold_world.specs.Runs.{IsHeadline, IsStopped, applied};
 ghost use Rattle.mold_world.specs.Seen.{seen};
-ghost use Rattle.mold_world.specs.Steps.{AreSteps, is_finished};
+ghost use Rattle.mold_world.specs.Steps.{AreSteps, AreStepsOfAll, is_finished};
 ghost use Rattle.mold_world.specs.Straight.{HasSent, IsStraight};
 ghost use Rattle.mold_world.specs.World.{beginning};
 ghost use Rattle.mold_world.specs.declared.report.WorldError.{WorldError};
@@ -99,7 +99,7 @@ impl World {
         ensures refused { IfErr result (λ error. Refuses self.old (seen event.now) error) }
         ensures same { OnErr result (self.new ≡ self.old) }
         ensures heard { IfOk result (λ report. Hears (seen event.now) report self.old self.new) }
-        ensures step { OnOk result (AreSteps self.old self.new) }
+        ensures step { OnOk result (AreSteps self.old (seen event.now) self.new) }
     {
         hearing_law();
         run_law();
@@ -131,7 +131,8 @@ impl World {
     ///
     /// Whether it stops or not: after each event every book is a prefix of what is published, and all of the
     /// closed session where the receiver is finished; and each message that was handed on at a number, also
-    /// by a receiver that began anew since, is the one published with that number at the end.
+    /// by a receiver that began anew since, is the one published with that number at the end. All of it is
+    /// steps of the machine of `laws::safety_law`, which hand on just these messages.
     ///
     /// After `Ok` a receiver to which each datagram of new messages came as soon as it was sent, and which
     /// did not begin anew, has all that was put in datagrams, if it had that before.
@@ -142,7 +143,7 @@ impl World {
         ensures headline { (count : ℕ) → IsHeadline (run_events self.old (take count (map seen events.now))) }
         ensures handed { ArePublished self.new.publisher.journal.messages
             (handed_by_all self.old (applied result (map seen events.now))) }
-        ensures steps { AreSteps self.old self.new }
+        ensures steps { AreStepsOfAll self.old (applied result (map seen events.now)) self.new }
         ensures straight { OnOk result ((receiver : ℕ) → IsStraight self.old receiver (map seen events.now) →
             HasSent self.old receiver → HasSent self.new receiver) }
     {

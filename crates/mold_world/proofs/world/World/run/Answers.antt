@@ -4,7 +4,7 @@ use Rattle.mold_world.specs.Effect.{Happening}
 use Rattle.mold_world.specs.HandOns.{handed_by_all}
 use Rattle.mold_world.specs.Headline.{ArePublished}
 use Rattle.mold_world.specs.Seen.{seen}
-use Rattle.mold_world.specs.Steps.{AreSteps}
+use Rattle.mold_world.specs.Steps.{AreStepsOfAll}
 use Rattle.mold_world.specs.Straight.{HasSent}
 use Rattle.mold_world.specs.World.{WorldState}
 use Rattle.mold_world.proofs.world.World.run.Goals.{After-keep}
@@ -47,9 +47,9 @@ returns-then-is_err-clause-handed c =
 pub returns-then-is_err-clause-steps : goal.returns-then-is_err-clause-steps
 returns-then-is_err-clause-steps c =
     let left = on_err c.pass.result c.if-is_err.ensures.value c.pass.ensures.same ∙ c.loop-at.invariant in
-    subst (λ (t : WorldState). AreSteps c.args.self.now t) (sym left)
-    (run_steps (laws (goal.at.returns-then-is_err-clause-steps c).After-keep) c.args.self.now
-    (take c.loop-at.at (map seen c.args.events.now)) c.keep.ensures)
+    let happened : List Happening = take c.loop-at.at (map seen c.args.events.now) in
+    subst (λ (t : WorldState). AreStepsOfAll c.args.self.now happened t) (sym left)
+    (run_steps (laws (goal.at.returns-then-is_err-clause-steps c).After-keep) c.args.self.now happened c.keep.ensures)
 
 pub returns-clause-left : goal.returns-clause-left
 returns-clause-left c =
@@ -74,9 +74,9 @@ returns-clause-steps c =
     let left =
     passed_all c.args.self.now c.loop-at.self c.args.events.now c.loop-at.at c.loop-at-test.false c.loop-at.invariant
     in
-    subst (λ (t : WorldState). AreSteps c.args.self.now t) (sym left)
-    (run_steps (laws (goal.at.returns-clause-steps c).After-keep) c.args.self.now (map seen c.args.events.now)
-    c.keep.ensures)
+    let happened : List Happening = map seen c.args.events.now in
+    subst (λ (t : WorldState). AreStepsOfAll c.args.self.now happened t) (sym left)
+    (run_steps (laws (goal.at.returns-clause-steps c).After-keep) c.args.self.now happened c.keep.ensures)
 
 pub returns-clause-straight : goal.returns-clause-straight
 returns-clause-straight c =
