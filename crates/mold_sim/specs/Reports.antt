@@ -6,13 +6,13 @@ use Rattle.mold_world.specs.Steps.{is_finished}
 use Rattle.mold_world.specs.World.{PlaceState}
 use Rattle.mold_world.specs.declared.report.Report.{Report}
 use Rattle.mold_world.specs.declared.report.Report.TheVariants as report
-use Rattle.mold_world.specs.declared.report.SessionRefusal.{SessionRefusal}
-use Rattle.mold_world.specs.declared.report.SessionRefusal.TheVariants as session
+use Rattle.mold_world.specs.declared.report.SessionError.{SessionError}
+use Rattle.mold_world.specs.declared.report.SessionError.TheVariants as session
 use Rattle.mold_world.specs.declared.report.WorldError.{WorldError}
 use Rattle.mold_world.specs.declared.report.WorldError.TheVariants as error
 
 -- why publisher or server refuse
-abbrev pub session_words : SessionRefusal → List (List ℕ)
+abbrev pub session_words : SessionError → List (List ℕ)
 session_words (session.Append why) = append_words why
 session_words (session.Close unsent) = codes "Unsent" ∷ decimal unsent.count ∷ []
 session_words (session.Answer why) = answer_words why
@@ -24,7 +24,7 @@ error_words error.NoReceiver = codes "NoReceiver" ∷ []
 error_words error.NoSuchDatagram = codes "NoSuchDatagram" ∷ []
 error_words error.NotNoise = codes "NotNoise" ∷ []
 error_words (error.NotReached next) = codes "NotReached" ∷ decimal next ∷ []
-error_words (error.Session why) = session_words why
+error_words (error.Layer why) = session_words why
 error_words error.Memory = codes "Memory" ∷ []
 error_words error.BadLimit = codes "BadLimit" ∷ []
 error_words (error.BadWindow r) = codes "BadWindow" ∷ decimal r ∷ []

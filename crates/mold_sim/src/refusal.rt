@@ -7,7 +7,7 @@ ghost use Rattle.mold_world.specs.declared.report.WorldError.TheVariants.{Memory
 
 use mold_refusals::{push_answer_refusal, push_append_refusal};
 use mold_text::{Word, push_refused};
-use mold_world::{SessionRefusal, WorldError};
+use mold_world::{SessionError, WorldError};
 use std::alloc::AllocError;
 
 // The line of a name and its number.
@@ -19,14 +19,14 @@ fn push_number(out: &mut Vec<u8>, name: &[u8], number: u64) -> Result<(), AllocE
     push_refused(out, &[Word::Text(name), Word::Number(number)])
 }
 
-fn push_session_refused(out: &mut Vec<u8>, why: SessionRefusal) -> Result<(), AllocError>
+fn push_session_refused(out: &mut Vec<u8>, why: SessionError) -> Result<(), AllocError>
     ensures text { OnOk result (out.new.items ≡ out.old.items ++ refused_line (session_words why)) }
     ensures kept { OnErr result (take (length out.old.items) out.new.items ≡ out.old.items) }
 {
     match why {
-        SessionRefusal::Append(why) => push_append_refusal(out, &[Word::Text(b"refused")], why),
-        SessionRefusal::Close(unsent) => push_number(out, b"Unsent", unsent.count),
-        SessionRefusal::Answer(why) => push_answer_refusal(out, &[Word::Text(b"refused")], why),
+        SessionError::Append(why) => push_append_refusal(out, &[Word::Text(b"refused")], why),
+        SessionError::Close(unsent) => push_number(out, b"Unsent", unsent.count),
+        SessionError::Answer(why) => push_answer_refusal(out, &[Word::Text(b"refused")], why),
     }
 }
 
@@ -42,7 +42,7 @@ pub fn push_error(out: &mut Vec<u8>, why: WorldError) -> Result<(), AllocError>
         WorldError::NoSuchDatagram => push_refused(out, &[Word::Text(b"NoSuchDatagram")]),
         WorldError::NotNoise => push_refused(out, &[Word::Text(b"NotNoise")]),
         WorldError::NotReached { next } => push_number(out, b"NotReached", next),
-        WorldError::Session(why) => push_session_refused(out, why),
+        WorldError::Layer(why) => push_session_refused(out, why),
         WorldError::Memory => Err(AllocError),
         WorldError::BadLimit => push_refused(out, &[Word::Text(b"BadLimit")]),
         WorldError::BadWindow { r } => push_number(out, b"BadWindow", r as u64),

@@ -22,9 +22,9 @@ use Rattle.mold_world.specs.Steps.{AreSteps}
 use Rattle.mold_world.specs.World.{PlaceState, WorldState}
 use Rattle.mold_world.specs.declared.report.Report.{Report}
 use Rattle.mold_world.specs.declared.report.Report.TheVariants as report
-use Rattle.mold_world.specs.declared.report.SessionRefusal.TheVariants as session
+use Rattle.mold_world.specs.declared.report.SessionError.TheVariants as session
 use Rattle.mold_world.specs.declared.report.WorldError.{WorldError}
-use Rattle.mold_world.specs.declared.report.WorldError.TheVariants.{Memory, NotReached, Session as SessionRefuses}
+use Rattle.mold_world.specs.declared.report.WorldError.TheVariants.{Memory, NotReached, Layer as SessionRefuses}
 
 pub applied_kept :
     (kept : (w new : WorldState) (happening : Happening) (says : Report) → IsWorld w →

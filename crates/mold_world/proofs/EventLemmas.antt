@@ -40,9 +40,9 @@ use Rattle.mold_world.specs.Kept.{IsPlaceKept, IsWorld}
 use Rattle.mold_world.specs.World.{PlaceState, WorldState}
 use Rattle.mold_world.specs.declared.report.Report.{Report}
 use Rattle.mold_world.specs.declared.report.Report.TheVariants as report
-use Rattle.mold_world.specs.declared.report.SessionRefusal.TheVariants as session
+use Rattle.mold_world.specs.declared.report.SessionError.TheVariants as session
 use Rattle.mold_world.specs.declared.report.WorldError.{WorldError}
-use Rattle.mold_world.specs.declared.report.WorldError.TheVariants.{NotReached, Session as Refuses}
+use Rattle.mold_world.specs.declared.report.WorldError.TheVariants.{NotReached, Layer as Refuses}
 
 -- what the laws of session and wire say
 pub record SendingLaws : Type 0 where

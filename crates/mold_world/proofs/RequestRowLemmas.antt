@@ -13,9 +13,9 @@ use Rattle.mold_world.specs.Refusals.{Applies, Refuses}
 use Rattle.mold_world.specs.World.{PlaceState, WorldState}
 use Rattle.mold_world.specs.declared.report.Report.{Report}
 use Rattle.mold_world.specs.declared.report.Report.TheVariants.{Nothing}
-use Rattle.mold_world.specs.declared.report.SessionRefusal.TheVariants.{Answer}
+use Rattle.mold_world.specs.declared.report.SessionError.TheVariants.{Answer}
 use Rattle.mold_world.specs.declared.report.WorldError.{WorldError}
-use Rattle.mold_world.specs.declared.report.WorldError.TheVariants.{Memory, NoReceiver, Session}
+use Rattle.mold_world.specs.declared.report.WorldError.TheVariants.{Layer, Memory, NoReceiver}
 
 -- the plan is that of the request, or the request's refusal is the plan's
 refused_plan :
@@ -41,7 +41,7 @@ pub request_refused :
     (w : WorldState) (bytes : List ℕ) (cause : AnswerError) (limit burst : ℕ) →
     ◌≡◌ {A = Result PlanState AnswerError} (Err cause) (planning w.publisher.journal w.burst bytes) →
     limit ≡ w.server_limit → burst ≡ w.burst →
-    Refuses w (Request bytes) (Session (Answer cause)) × (record w { server_limit = limit; burst = burst } ≡ w)
+    Refuses w (Request bytes) (Layer (Answer cause)) × (record w { server_limit = limit; burst = burst } ≡ w)
 unfolding effect
 request_refused w bytes cause limit burst is limited bursts = (
   inr (ap (requested w) (refused_plan w.publisher.journal w.burst (asking w.publisher.journal bytes) cause is)),

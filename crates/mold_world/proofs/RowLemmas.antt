@@ -23,9 +23,9 @@ use Rattle.mold_world.specs.Sending.{stored, stored_report}
 use Rattle.mold_world.specs.World.{WorldState}
 use Rattle.mold_world.specs.declared.report.Report.{Report}
 use Rattle.mold_world.specs.declared.report.Report.TheVariants as report
-use Rattle.mold_world.specs.declared.report.SessionRefusal.TheVariants as session
+use Rattle.mold_world.specs.declared.report.SessionError.TheVariants as session
 use Rattle.mold_world.specs.declared.report.WorldError.{WorldError}
-use Rattle.mold_world.specs.declared.report.WorldError.TheVariants.{Memory, Session as Refused}
+use Rattle.mold_world.specs.declared.report.WorldError.TheVariants.{Memory, Layer as Refused}
 
 -- a message is published
 pub publish_done :

@@ -25,9 +25,9 @@ use Rattle.mold_session.specs.declared.error.AppendError.{AppendError}
 use Rattle.mold_world.specs.World.{PlaceState, WorldState}
 use Rattle.mold_world.specs.declared.report.Report.{Report}
 use Rattle.mold_world.specs.declared.report.Report.TheVariants as report
-use Rattle.mold_world.specs.declared.report.SessionRefusal.TheVariants as session
+use Rattle.mold_world.specs.declared.report.SessionError.TheVariants as session
 use Rattle.mold_world.specs.declared.report.WorldError.{WorldError}
-use Rattle.mold_world.specs.declared.report.WorldError.TheVariants.{NoReceiver, NoSuchDatagram, NotNoise, NotReached, Session as Refuses}
+use Rattle.mold_world.specs.declared.report.WorldError.TheVariants.{NoReceiver, NoSuchDatagram, NotNoise, NotReached, Layer as Refuses}
 
 -- what may happen: the publisher's and the server's calls; a receiver's request; a datagram sent before that
 -- comes to a receiver on a line or, where none is named, as an answer; bytes that are none of the session's

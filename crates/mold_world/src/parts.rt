@@ -16,7 +16,7 @@ ghost use Rattle.mold_world.specs.declared.report.WorldError.{WorldError};
 use crate::burst::send_all;
 use crate::event::Event;
 use crate::place::Place;
-use crate::report::{Report, SessionRefusal, WorldError};
+use crate::report::{Report, SessionError, WorldError};
 use crate::way::Way;
 use mold_messages::MessageList;
 use mold_receiver::laws::wanted_law;
@@ -102,7 +102,7 @@ impl Parts {
     {
         match self.publisher.close() {
             Ok(()) => Ok(Report::Closed),
-            Err(unsent) => Err(WorldError::Session(SessionRefusal::Close(unsent))),
+            Err(unsent) => Err(WorldError::Layer(SessionError::Close(unsent))),
         }
     }
 

@@ -1,6 +1,6 @@
 //! What refusals of the layers below are to the world.
 
-use crate::report::{SessionRefusal, WorldError};
+use crate::report::{SessionError, WorldError};
 use mold_session::{AnswerError, AppendError};
 use std::alloc::AllocError;
 
@@ -24,19 +24,19 @@ impl From<AppendError> for WorldError {
     fn from(cause: AppendError) -> WorldError {
         match cause {
             AppendError::Memory => WorldError::Memory,
-            other => WorldError::Session(SessionRefusal::Append(other)),
+            other => WorldError::Layer(SessionError::Append(other)),
         }
     }
 }
 
 impl From<AnswerError> for WorldError {
     ghost use Rattle.std.specs.Prelude.{◌≡◌};
-    ghost use Rattle.mold_world.specs.declared.report.SessionRefusal.TheVariants.{Answer};
-    ghost use Rattle.mold_world.specs.declared.report.WorldError.TheVariants.{Session};
+    ghost use Rattle.mold_world.specs.declared.report.SessionError.TheVariants.{Answer};
+    ghost use Rattle.mold_world.specs.declared.report.WorldError.TheVariants.{Layer};
 
-    ghost from_gives = { λ cause error. error ≡ Session (Answer cause) };
+    ghost from_gives = { λ cause error. error ≡ Layer (Answer cause) };
 
     fn from(cause: AnswerError) -> WorldError {
-        WorldError::Session(SessionRefusal::Answer(cause))
+        WorldError::Layer(SessionError::Answer(cause))
     }
 }

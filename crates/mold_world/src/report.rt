@@ -27,7 +27,7 @@ pub enum Report {
 
 /// Why a publisher or a re-request server refused.
 #[derive(Clone, Copy, Debug, PartialEq, Eq, Error)]
-pub enum SessionRefusal {
+pub enum SessionError {
     /// The message is not published.
     #[error("{0}")]
     Append(AppendError),
@@ -58,7 +58,7 @@ pub enum WorldError {
     NotReached { next: u64 },
     /// The publisher or the server refused.
     #[error("{0}")]
-    Session(SessionRefusal),
+    Layer(SessionError),
     /// A growth was refused.
     #[error("out of memory")]
     Memory,

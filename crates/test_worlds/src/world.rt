@@ -5,7 +5,7 @@
 use mold_receiver::{Line, LineReport, Refused, Taken};
 use mold_session::{AppendError, Unsent};
 use mold_wire::{DecodeError, Session};
-use mold_world::{Event, Report, SessionRefusal, Stopped, Way, World, WorldError};
+use mold_world::{Event, Report, SessionError, Stopped, Way, World, WorldError};
 use std::alloc::Global;
 use std::process::Abort;
 use std::test::Fail;
@@ -115,10 +115,10 @@ const TWO_ANSWERS: [Answer; 16] = [
     Ok(Report::Published { number: 1 }),
     Ok(Report::Sent { place: 0 }),
     Ok(Report::Published { number: 2 }),
-    Err(WorldError::Session(SessionRefusal::Close(Unsent { count: 1 }))),
+    Err(WorldError::Layer(SessionError::Close(Unsent { count: 1 }))),
     Ok(Report::Sent { place: 1 }),
     Ok(Report::Closed),
-    Err(WorldError::Session(SessionRefusal::Append(AppendError::Closed))),
+    Err(WorldError::Layer(SessionError::Append(AppendError::Closed))),
     Ok(Report::Sent { place: 2 }),
     ONE_HANDED,
     NONE_HANDED,
