@@ -79,7 +79,14 @@ request_applied answerable answers w new bytes plan limit burst (Ok says) is lim
     ∙ (λ j. bursting (record w { server_limit = sym limited j; burst = sym bursts j }) (sym packets j))
     ∙ sent
 request_applied answerable answers w new bytes plan limit burst (Err error) is limited bursts sent same wanting =
-    (inl (wanting, tt), same ∙ (λ j. record w { server_limit = limited j; burst = bursts j }))
+    let journal : JournalState = w.publisher.journal in
+    let of_plan = request_of_plan journal w.burst (asking journal bytes) plan is in (
+      inl (
+        wanting,
+        subst (λ (t : Outcome). IsOk t) (sym (requested_at w bytes of_plan.request of_plan.is)) refl,
+      ),
+      same ∙ (λ j. record w { server_limit = limited j; burst = bursts j }),
+    )
 
 pub ask_nobody :
     (w : WorldState) (receiver : ℕ) → slice_get w.places receiver ≡ None → Refuses w (Ask receiver) NoReceiver

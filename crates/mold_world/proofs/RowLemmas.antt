@@ -7,9 +7,9 @@ use Rattle.std.proofs.lemmas.Option.{none-some, same_Some}
 use Rattle.std.proofs.Math.Seq.{drop-length}
 use Rattle.mold_messages.specs.Listed.{HasRoom, Listed}
 use Rattle.mold_wire.specs.Packet.{Spells, messages_of}
-use Rattle.mold_wire.specs.Packing.{Fits, IsFront, front}
+use Rattle.mold_wire.specs.Packing.{Fits, IsFront, front, packet_length}
 use Rattle.mold_wire.specs.declared.packet.Packet.{Packet}
-use Rattle.mold_wire.specs.declared.packet.Body.TheVariants.{Data}
+use Rattle.mold_wire.specs.declared.packet.Body.TheVariants.{Data, Heartbeat as HeartbeatBody, End as EndBody}
 use Rattle.mold_session.specs.Journal.{append_refusal}
 use Rattle.mold_session.specs.Publisher.{IsPublisher, Lends, PublisherState, after_datagram, closed, next_datagram, next_end}
 use Rattle.mold_session.specs.Publisher.{next_front, next_heartbeat, published, unsent_of}
@@ -106,43 +106,74 @@ sent_row w next publisher told new sent idle is =
     send_stored w next publisher is.lent is.lends idle
     ∙ (λ j. Ok (sym is.reported j, record w { publisher = sym is.left j; sent = sym is.now j }))
 
+pub heartbeat_row :
+    (w : WorldState) (told : Report) (new : PublisherState) (sent : List (List ℕ)) →
+    IsStored w (next_heartbeat w.publisher) w.publisher told new sent →
+    effect w Heartbeat ≡ Ok (told, record w { publisher = new; sent = sent })
+unfolding effect
+heartbeat_row w told new sent is = sent_row w (next_heartbeat w.publisher) w.publisher told new sent (λ _. refl) is
+
+pub end_row :
+    (w : WorldState) (told : Report) (new : PublisherState) (sent : List (List ℕ)) →
+    IsStored w (next_end w.publisher) w.publisher told new sent →
+    effect w End ≡ Ok (told, record w { publisher = new; sent = sent })
+unfolding effect
+end_row w told new sent is = sent_row w (next_end w.publisher) w.publisher told new sent (λ _. refl) is
+
+-- a datagram without messages that is lent has the room of a header
+pub record HeaderLaws : Type 0 where
+  pub spelled : (packet : Packet) (bytes : List ℕ) → Spells packet bytes →
+      length bytes ≡ packet_length (messages_of packet.body)
+  pub none : packet_length [] ≡ 20
+
+header_room :
+    (laws : HeaderLaws) (next : Option Packet) (list : Listed) (lent : Option (List ℕ)) →
+    ((packet : Packet) → next ≡ Some packet → messages_of packet.body ≡ []) → HasRoom list 1 20 → Lends next lent →
+    IfSome lent (λ bytes. HasRoom list 1 (length bytes))
+header_room laws next list None bare room lends = tt
+header_room laws None list (Some bytes) bare room lends = absurd lends
+header_room laws (Some packet) list (Some bytes) bare room lends =
+    let header : length bytes ≡ 20 =
+    laws.spelled packet bytes lends ∙ ap packet_length (bare packet refl) ∙ laws.none
+    in
+    record { messages = room.messages; bytes = omega (arith, room.bytes, header) }
+
+bare_heartbeat :
+    (publisher : PublisherState) (shut : Bool) (packet : Packet) →
+    cond {A = Option Packet} shut None (Some (record {
+      session = publisher.journal.session;
+      sequence = publisher.sent + 1;
+      body = HeartbeatBody;
+    })) ≡ Some packet → messages_of packet.body ≡ []
+bare_heartbeat publisher true packet is = absurd (none-some packet is)
+bare_heartbeat publisher false packet is = ap (λ (t : Packet). messages_of t.body) (sym (same_Some _ packet is))
+
+pub heartbeat_room :
+    (laws : HeaderLaws) (publisher : PublisherState) (list : Listed) (lent : Option (List ℕ)) → HasRoom list 1 20 →
+    Lends (next_heartbeat publisher) lent → IfSome lent (λ bytes. HasRoom list 1 (length bytes))
+heartbeat_room laws publisher list lent room lends =
+    header_room laws (next_heartbeat publisher) list lent (bare_heartbeat publisher publisher.journal.closed) room lends
+
+bare_end :
+    (publisher : PublisherState) (shut : Bool) (packet : Packet) →
+    cond {A = Option Packet} shut (Some (record {
+      session = publisher.journal.session;
+      sequence = length publisher.journal.messages + 1;
+      body = EndBody;
+    })) None ≡ Some packet → messages_of packet.body ≡ []
+bare_end publisher true packet is = ap (λ (t : Packet). messages_of t.body) (sym (same_Some _ packet is))
+bare_end publisher false packet is = absurd (none-some packet is)
+
+pub end_room :
+    (laws : HeaderLaws) (publisher : PublisherState) (list : Listed) (lent : Option (List ℕ)) → HasRoom list 1 20 →
+    Lends (next_end publisher) lent → IfSome lent (λ bytes. HasRoom list 1 (length bytes))
+end_room laws publisher list lent room lends =
+    header_room laws (next_end publisher) list lent (bare_end publisher publisher.journal.closed) room lends
+
 front_nothing : (limit most : ℕ) → front limit [] most ≡ []
 unfolding front
 front_nothing limit zero = refl
 front_nothing limit (suc most) = refl
-
--- what is lent by a publisher that stays is stored, or memory is wanting for it
-stored_applied :
-    (w : WorldState) (happening : Happening) (next : Option Packet) (lent : Option (List ℕ))
-    (result : Result Report WorldError) (new : PublisherState) (sent : List (List ℕ)) →
-    effect w happening ≡ sending w next w.publisher → MayWant w happening → Lends next lent → new ≡ w.publisher →
-    OnOk result (sent ≡ stored w.sent lent) → IfOk result (λ told. told ≡ stored_report w.sent lent) →
-    OnErr result (sent ≡ w.sent) → IfErr result (λ error. error ≡ Memory) →
-    Applies w happening result (record w { publisher = new; sent = sent })
-stored_applied w happening next lent (Ok told) new sent rule may lends left now reported same wanting =
-    rule ∙ sent_row w next w.publisher told new sent (λ _. refl)
-    (record { lent = lent; lends = lends; left = left; reported = reported; now = now })
-stored_applied w happening next lent (Err error) new sent rule may lends left now reported same wanting =
-    (inl (wanting, may), (λ j. record w { publisher = left j; sent = same j }))
-
-pub heartbeat_applied :
-    (w : WorldState) (lent : Option (List ℕ)) (result : Result Report WorldError) (new : PublisherState)
-    (sent : List (List ℕ)) → Lends (next_heartbeat w.publisher) lent → new ≡ w.publisher →
-    OnOk result (sent ≡ stored w.sent lent) → IfOk result (λ told. told ≡ stored_report w.sent lent) →
-    OnErr result (sent ≡ w.sent) → IfErr result (λ error. error ≡ Memory) →
-    Applies w Heartbeat result (record w { publisher = new; sent = sent })
-unfolding effect
-heartbeat_applied w lent result new sent =
-    stored_applied w Heartbeat (next_heartbeat w.publisher) lent result new sent refl tt
-
-pub end_applied :
-    (w : WorldState) (lent : Option (List ℕ)) (result : Result Report WorldError) (new : PublisherState)
-    (sent : List (List ℕ)) → Lends (next_end w.publisher) lent → new ≡ w.publisher →
-    OnOk result (sent ≡ stored w.sent lent) → IfOk result (λ told. told ≡ stored_report w.sent lent) →
-    OnErr result (sent ≡ w.sent) → IfErr result (λ error. error ≡ Memory) →
-    Applies w End result (record w { publisher = new; sent = sent })
-unfolding effect
-end_applied w lent result new sent = stored_applied w End (next_end w.publisher) lent result new sent refl tt
 
 -- where nothing is unsent a datagram changes nothing
 idle_datagram :

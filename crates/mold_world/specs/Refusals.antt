@@ -39,16 +39,16 @@ pub record IsCopying (w : WorldState) (receiver sent : ℕ) : Type 0 where
   pub found : slice_get w.sent sent ≡ Some bytes
   pub copied : IsCopied place.arbitration.view bytes
 
--- where memory may be wanting: in place of a message's publication, before anything is sent, where a
--- receiver is that asks, where a datagram is copied, and in place of a restart; so an event that is refused
--- for another cause is refused for that, unless it may send
+-- where memory may be wanting: in place of a message's publication, before the publisher sends, in place of an
+-- answer, where a receiver is that asks, where a datagram is copied, and in place of a restart; so an event that
+-- is refused for another cause is refused for that
 abbrev pub MayWant : WorldState → Happening → Type 0
 MayWant w (Publish message) = IsOk (effect w (Publish message))
 MayWant w Datagram = Unit {0}
 MayWant w Heartbeat = Unit {0}
 MayWant w Close = ⊥
 MayWant w End = Unit {0}
-MayWant w (Request bytes) = Unit {0}
+MayWant w (Request bytes) = IsOk (effect w (Request bytes))
 MayWant w (Ask receiver) = IsOk (effect w (Ask receiver))
 MayWant w (Deliver receiver line sent) = IsCopying w receiver sent
 MayWant w (Noise receiver line bytes) = ⊥

@@ -22,12 +22,15 @@ use mold_messages::MessageList;
 use mold_receiver::laws::wanted_law;
 use mold_session::laws::{answered_law, sending_law};
 use mold_session::{Plan, Publisher, Server};
-use mold_wire::laws::{front_law, spelling_length_law};
+use mold_wire::laws::{front_law, packet_length_law, spelling_length_law};
 use mold_wire::{Session, decode};
 use std::alloc::Global;
 
 /// The bytes of a datagram beside a message that stands alone in it: a header and the message's length.
 const BESIDE: usize = 22;
+
+/// The bytes of a datagram without messages: a header.
+const HEADER: usize = 20;
 
 /// A publisher, a re-request server, all that they ever sent, and receivers.
 #[derive(Debug, Drop)]
@@ -89,11 +92,16 @@ impl Parts {
         Ok(stored.unwrap())
     }
 
+    // Sends a heartbeat. Its room is made first.
     fn heartbeat(&mut self) -> Result<Report, WorldError>
         ensures applied { Applies (world_of self.old) Heartbeat result (world_of self.new) }
         ensures serves { KeepsServing self.old self.new }
     {
-        store(&mut self.sent, self.publisher.heartbeat())
+        packet_length_law();
+        spelling_length_law();
+        self.sent.reserve(1, HEADER)?;
+        let stored = store(&mut self.sent, self.publisher.heartbeat());
+        Ok(stored.unwrap())
     }
 
     fn close(&mut self) -> Result<Report, WorldError>
@@ -106,11 +114,16 @@ impl Parts {
         }
     }
 
+    // Sends an end packet. Its room is made first.
     fn end(&mut self) -> Result<Report, WorldError>
         ensures applied { Applies (world_of self.old) End result (world_of self.new) }
         ensures serves { KeepsServing self.old self.new }
     {
-        store(&mut self.sent, self.publisher.end())
+        packet_length_law();
+        spelling_length_law();
+        self.sent.reserve(1, HEADER)?;
+        let stored = store(&mut self.sent, self.publisher.end());
+        Ok(stored.unwrap())
     }
 
     // Sends all that a plan has left, or nothing of it where memory is refused.
