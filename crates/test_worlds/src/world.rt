@@ -240,6 +240,31 @@ const FIVE: [Event<'static>; 22] = [
     },
 ];
 
+// The session's messages.
+const MESSAGES: [[u8; 20]; 5] = [[1; 20], [2; 20], [3; 20], [4; 20], [5; 20]];
+
+const ONE_AND_TWO: &[u8] = b"SESSION001\0\0\0\0\0\0\0\x01\0\x02\
+    \0\x14\x01\x01\x01\x01\x01\x01\x01\x01\x01\x01\x01\x01\x01\x01\x01\x01\x01\x01\x01\x01\
+    \0\x14\x02\x02\x02\x02\x02\x02\x02\x02\x02\x02\x02\x02\x02\x02\x02\x02\x02\x02\x02\x02";
+
+const THREE_AND_FOUR: &[u8] = b"SESSION001\0\0\0\0\0\0\0\x03\0\x02\
+    \0\x14\x03\x03\x03\x03\x03\x03\x03\x03\x03\x03\x03\x03\x03\x03\x03\x03\x03\x03\x03\x03\
+    \0\x14\x04\x04\x04\x04\x04\x04\x04\x04\x04\x04\x04\x04\x04\x04\x04\x04\x04\x04\x04\x04";
+
+const FIVE_ALONE: &[u8] = b"SESSION001\0\0\0\0\0\0\0\x05\0\x01\
+    \0\x14\x05\x05\x05\x05\x05\x05\x05\x05\x05\x05\x05\x05\x05\x05\x05\x05\x05\x05\x05\x05";
+
+const END_BEHIND_FIVE: &[u8] = b"SESSION001\0\0\0\0\0\0\0\x06\xff\xff";
+
+// The datagrams that those events send; the last answers the receiver that lacks messages 3 to 5.
+const SENT: [&[u8]; 5] = [
+    ONE_AND_TWO,
+    THREE_AND_FOUR,
+    FIVE_ALONE,
+    END_BEHIND_FIVE,
+    THREE_AND_FOUR,
+];
+
 // `next`, `known`, how many are stored, how many the book has, and whether the receiver is finished.
 type Standing = (u64, u64, u32, usize, bool);
 
@@ -429,10 +454,7 @@ fn expect_report(rt: &impl Abort, world: &World, r: usize, line: Line, want: (u6
 /// The book has the five messages from number 1 on.
 fn expect_five(rt: &impl Abort, world: &World, r: usize) {
     holds(rt, first_of(world, r) == Some(1));
-    for (i, message) in [[1; 20], [2; 20], [3; 20], [4; 20], [5; 20]]
-        .iter()
-        .enumerate()
-    {
+    for (i, message) in MESSAGES.iter().enumerate() {
         same_bytes(rt, message_of(world, r, i), Some(message.as_slice()));
     }
 }
@@ -529,6 +551,50 @@ fn expect_run(rt: &(impl Abort + AllocGlobal), world: &mut World) -> Result<(), 
 fn five_messages_in_one_run(rt: HostRuntime) -> Result<(), Fail> {
     let mut world = world(rt.alloc(), 1, &[4, 1])?;
     expect_run(&rt, &mut world)?;
+    Ok(())
+}
+
+/// What was sent are the first of the session's datagrams.
+fn expect_sent(rt: &impl Abort, world: &World) {
+    let count = world.sent_len();
+    holds(rt, count <= SENT.len());
+    for (i, bytes) in SENT.iter().enumerate() {
+        let want = if i < count { Some(*bytes) } else { None };
+        same_bytes(rt, world.sent_at(i), want);
+    }
+}
+
+/// A book has the first of the session's messages.
+fn expect_front(rt: &impl Abort, world: &World, r: usize) {
+    for (i, message) in MESSAGES.iter().enumerate() {
+        if let Some(found) = message_of(world, r, i) {
+            same_bytes(rt, Some(found), Some(message.as_slice()));
+        }
+    }
+    holds(rt, message_of(world, r, MESSAGES.len()).is_none());
+}
+
+fn expect_fronts(rt: &impl Abort, world: &World) {
+    expect_sent(rt, world);
+    expect_front(rt, world, 0);
+    expect_front(rt, world, 1);
+}
+
+fn expect_run_on(rt: &impl Abort, world: &mut World) {
+    if let Err(Stopped { at }) = world.run(&FIVE) {
+        expect_fronts(rt, world);
+        run_whole(rt, world, FIVE.split_at(at).1);
+    }
+    expect_end(rt, world);
+    expect_sent(rt, world);
+}
+
+/// A run that a refused growth stops leaves books and datagrams that are, byte by byte, the first of the
+/// session's; and one more from where it stopped leaves all of them, as a run without a stop does.
+#[test]
+fn a_run_that_stops_goes_on(rt: HostRuntime) -> Result<(), Fail> {
+    let mut world = world(rt.alloc(), 1, &[4, 1])?;
+    expect_run_on(&rt, &mut world);
     Ok(())
 }
 
