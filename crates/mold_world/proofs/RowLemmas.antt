@@ -1,7 +1,7 @@
 -- What an event does, by what the calls of publisher and server ensure.
 use Rattle.std.proofs.Common.{◌≡◌, ℕ, zero, suc, ◌+◌, ◌≤◌, cond, ltb, List, [], ◌∷◌, ◌++◌, length, drop}
 use Rattle.std.proofs.Common.{refl, sym, ap, subst, ◌∙◌, inl, inr, arith}
-use Rattle.std.specs.Prelude.{◌==◌, Option, None, Some, Bool, true, false, Result, Ok, Err, unwrap_or, IsOk, IfSome, IfOk, IfErr, OnOk, OnErr}
+use Rattle.std.specs.Prelude.{◌==◌, Option, None, Some, Bool, true, false, Ok, Err, unwrap_or, IsOk, IfSome}
 use Rattle.std.proofs.lemmas.Bool.{lt-ltb, eqb-true}
 use Rattle.std.proofs.lemmas.Option.{none-some, same_Some}
 use Rattle.std.proofs.Math.Seq.{drop-length}
@@ -16,16 +16,16 @@ use Rattle.mold_session.specs.Publisher.{next_front, next_heartbeat, published, 
 use Rattle.mold_session.specs.declared.error.AppendError.{AppendError}
 use Rattle.mold_session.specs.declared.error.AppendError.TheVariants.{Closed, TooLong, Full, Memory as AppendMemory}
 use Rattle.mold_session.specs.declared.error.Unsent.{Unsent}
-use Rattle.mold_world.specs.Effect.{Happening, Outcome, effect, publishing, sending, unsent_count}
+use Rattle.mold_world.specs.Effect.{Outcome, effect, publishing, sending, unsent_count}
 use Rattle.mold_world.specs.Effect.Happening.{Publish, Datagram, Heartbeat, Close, End}
-use Rattle.mold_world.specs.Refusals.{Applies, MayWant, Refuses, append_error}
+use Rattle.mold_world.specs.Refusals.{Refuses, append_error}
 use Rattle.mold_world.specs.Sending.{stored, stored_report}
 use Rattle.mold_world.specs.World.{WorldState}
 use Rattle.mold_world.specs.declared.report.Report.{Report}
 use Rattle.mold_world.specs.declared.report.Report.TheVariants as report
 use Rattle.mold_world.specs.declared.report.SessionError.TheVariants as session
 use Rattle.mold_world.specs.declared.report.WorldError.{WorldError}
-use Rattle.mold_world.specs.declared.report.WorldError.TheVariants.{Memory, Layer as Refused}
+use Rattle.mold_world.specs.declared.report.WorldError.TheVariants.{Layer as Refused}
 
 -- a message is published
 pub publish_done :

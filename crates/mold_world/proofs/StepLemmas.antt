@@ -44,7 +44,6 @@ use Rattle.mold_world.specs.World.{PlaceState, WorldState, beginning, place_at}
 use Rattle.mold_world.specs.declared.report.Report.{Report}
 use Rattle.mold_world.specs.declared.report.Report.TheVariants as report
 use Rattle.mold_world.specs.declared.report.SessionError.TheVariants as session
-use Rattle.mold_world.specs.declared.report.WorldError.{WorldError}
 use Rattle.mold_world.specs.declared.report.WorldError.TheVariants.{NotReached, Layer as Refuses}
 
 -- an event of a kind is its steps

@@ -6,14 +6,14 @@ use Rattle.std.proofs.Math.Seq.{take-add}
 use Rattle.std.proofs.lemmas.List.{length-take}
 use Rattle.std.proofs.lemmas.Bool.{cases_eq, eq-eqb, ne_eqb}
 use Rattle.std.proofs.lemmas.Option.{none-some, same_Some}
-use Rattle.mold_wire.specs.Packet.{Spells, messages_of, spelling_of, top_of}
+use Rattle.mold_wire.specs.Packet.{Spells, spelling_of, top_of}
 use Rattle.mold_wire.specs.Reading.{reading}
 use Rattle.mold_wire.specs.Truth.{IsTrue}
 use Rattle.mold_wire.specs.declared.packet.Body.TheVariants.{Data}
 use Rattle.mold_wire.specs.declared.packet.Packet.{Packet}
 use Rattle.mold_wire.specs.declared.request.Request.{Request as Asked}
 use Rattle.mold_receiver.specs.Honest.{IsHonest, IsTakenHonestly}
-use Rattle.mold_receiver.specs.Receive.{IsTakenPacket, Reception, handed_on, receive, view_after}
+use Rattle.mold_receiver.specs.Receive.{IsTakenPacket, Reception, receive, view_after}
 use Rattle.mold_receiver.specs.View.{IsWellFormed, View}
 use Rattle.mold_receiver.specs.Wanted.{wanted}
 use Rattle.mold_receiver.specs.declared.line.Line.{Line}

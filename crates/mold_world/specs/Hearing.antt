@@ -1,5 +1,5 @@
 -- What the receivers of a world do with what comes to them.
-use Rattle.std.specs.Prelude.{◌≡◌, ℕ, List, map, Option, Result, Err}
+use Rattle.std.specs.Prelude.{◌≡◌, ℕ, List, map, Option, Err}
 use Rattle.mold_wire.specs.Packet.{Spells}
 use Rattle.mold_wire.specs.declared.packet.Packet.{Packet}
 use Rattle.mold_wire.specs.declared.session.Session.{Session}

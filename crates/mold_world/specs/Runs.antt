@@ -1,12 +1,9 @@
 -- A run of events, and what it promises.
-use Rattle.std.specs.Prelude.{◌≡◌, ℕ, List, [], ◌∷◌, take, Option, None, Some, Result, Ok, Err, true, slice_get}
-use Rattle.mold_world.specs.Effect.{Happening, Outcome, after_event, effect, run_events}
-use Rattle.mold_world.specs.Effect.Happening.{Publish, Datagram, Heartbeat, Close, End, Request, Ask, Deliver, Noise, Restart}
+use Rattle.std.specs.Prelude.{◌≡◌, ℕ, List, take, Some, Result, Ok, Err, true, slice_get}
+use Rattle.mold_world.specs.Effect.{Happening, run_events}
 use Rattle.mold_world.specs.Headline.{IsPrefix}
 use Rattle.mold_world.specs.Refusals.{MayWant}
 use Rattle.mold_world.specs.World.{PlaceState, WorldState}
-use Rattle.mold_world.specs.declared.report.Report.{Report}
-use Rattle.mold_world.specs.declared.report.Report.TheVariants as report
 use Rattle.mold_world.specs.declared.stopped.Stopped.{Stopped}
 
 -- the events of a run that were applied: all, or those before the one at which it stopped

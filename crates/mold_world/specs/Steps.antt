@@ -1,6 +1,6 @@
 -- The world as the machine sees it, and an event as steps of the machine.
 use Rattle.std.specs.Prelude.{◌≡◌, ℕ, ◌≤◌, Bool, false, List, [], ◌∷◌, ◌++◌, length, map}
-use Rattle.std.specs.Prelude.{Option, None, Some, Result, Ok, Err, ◌==◌, slice_get}
+use Rattle.std.specs.Prelude.{Option, None, Some, Ok, Err, ◌==◌, slice_get}
 use Rattle.mold_receiver.specs.View.{View}
 use Rattle.mold_world.specs.Effect.{Happening, Outcome, after_event, effect}
 use Rattle.mold_world.specs.Effect.Happening.{Publish as PublishEvent, Datagram, Heartbeat, Close as CloseEvent, End}
