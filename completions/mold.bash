@@ -1,0 +1,64 @@
+# Completion of the words of the program mold, for bash. A shell reads it by `. completions/mold.bash`, or by
+# itself where install.sh put it. tests/manual compares it with the program's help.
+
+# The options of a command, with those that every command has.
+_mold_options() {
+    case $1 in
+    show) printf '%s ' --request ;;
+    pack) printf '%s ' --session --limit ;;
+    sim) printf '%s ' --session --limit --server-limit --window --receivers --burst ;;
+    publish) printf '%s ' --session --limit --a --b --journal --beats --ends ;;
+    serve) printf '%s ' --journal --limit --burst --bind --turns ;;
+    listen) printf '%s ' --session --next --window --a --b --server --burst --turns ;;
+    loop) printf '%s ' --session --limit --server-limit --window --burst --drop-a --drop-b --turns ;;
+    upgrade) printf '%s ' --journal --to --close ;;
+    esac
+    printf '%s' --help
+}
+
+_mold_commands='show pack sim check publish serve listen loop upgrade help'
+
+# Completes a word of files, or of folders alone with -d.
+_mold_files() {
+    compopt -o filenames 2>/dev/null
+    mapfile -t COMPREPLY < <(compgen "$1" -- "$2")
+}
+
+_mold_words() {
+    mapfile -t COMPREPLY < <(compgen -W "$1" -- "$2")
+}
+
+_mold() {
+    local word=${COMP_WORDS[COMP_CWORD]} before=${COMP_WORDS[COMP_CWORD - 1]} command=${COMP_WORDS[1]}
+    COMPREPLY=()
+    if [ "$COMP_CWORD" -eq 1 ]; then
+        _mold_words "$_mold_commands --help --version" "$word"
+        return
+    fi
+    # In `127.0.0.1:9000` the colon is a word of its own, and in `--to=FILE` the =.
+    if [ "$word" = : ] || [ "$before" = : ]; then
+        return
+    elif [ "$word" = = ]; then
+        word=
+    elif [ "$before" = = ] && [ "$COMP_CWORD" -ge 3 ]; then
+        before=${COMP_WORDS[COMP_CWORD - 2]}
+    fi
+    case $command:$before in
+    help:*) _mold_words "$_mold_commands" "$word" ;;
+    *:--journal | *:--to) _mold_files -f "$word" ;;
+    *:--a | *:--b | *:--bind | *:--server)
+        compopt -o nospace 2>/dev/null
+        _mold_words '127.0.0.1: 0.0.0.0:' "$word"
+        ;;
+    show:--request | upgrade:--close) _mold_words "$(_mold_options "$command")" "$word" ;;
+    *:--help) ;;
+    *:--*) ;;
+    check:*) case $word in
+        -*) _mold_words --help "$word" ;;
+        *) _mold_files -d "$word" ;;
+        esac ;;
+    *) _mold_words "$(_mold_options "$command")" "$word" ;;
+    esac
+}
+
+complete -F _mold mold ./mold
