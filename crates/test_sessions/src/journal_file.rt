@@ -1,10 +1,12 @@
 //! The file of a journal: worked examples, and devices that give and take one byte a call and fail.
 
 use crate::comparisons::{same_bytes, same_message, same_number};
-use mold_devices::{MemorySink, MemorySource};
+use mold_devices::{FromRead, MemorySink, MemorySource, Source};
 use mold_session::{FileError, Journal, Upgraded, upgrade};
 use mold_wire::Session;
 use std::alloc::Global;
+use std::io;
+use std::io::Read;
 use std::process::Abort;
 use std::test::Fail;
 
@@ -84,6 +86,24 @@ fn a_failed_save_has_written_a_beginning(rt: HostRuntime) -> Result<(), Fail> {
     Ok(())
 }
 
+/// The journal is saved as these bytes by writes of a byte.
+fn expect_saved_by_bytes(rt: &impl Abort, alloc: Global, journal: &Journal, want: &[u8]) {
+    let mut sink = MemorySink::new(alloc);
+    sink.at_most(1);
+    same_saved(rt, journal.save(&mut sink), Ok(()));
+    same_bytes(rt, sink.bytes(), want);
+}
+
+/// A sink that takes one byte a call has the same bytes in the end.
+#[test]
+fn a_journal_is_saved_byte_by_byte(rt: HostRuntime) -> Result<(), Fail> {
+    let mut journal = two_messages(rt.alloc())?;
+    expect_saved_by_bytes(&rt, rt.alloc(), &journal, &OPEN);
+    journal.close();
+    expect_saved_by_bytes(&rt, rt.alloc(), &journal, &CLOSED);
+    Ok(())
+}
+
 fn expect_long(rt: &impl Abort, bytes: &[u8]) {
     assert!(rt; bytes.len() == 5029);
     same_bytes(rt, &bytes[27..29], &[0x13, 0x88]);
@@ -102,7 +122,7 @@ fn long_messages_are_saved_in_few_writes(rt: HostRuntime) -> Result<(), Fail> {
     Ok(())
 }
 
-fn load(alloc: Global, max_message: u16, source: &mut MemorySource<'_>) -> Loaded {
+fn load<S: Source>(alloc: Global, max_message: u16, source: &mut S) -> Loaded {
     let journal = Journal::load(alloc, max_message, source)?;
     Ok((journal.next() - 1, journal.is_closed()))
 }
@@ -139,6 +159,7 @@ fn a_cut_file_of_version_1_is_told(rt: HostRuntime) {
     expect_42(&rt, alloc, &FIRST, Ok((2, false)));
     let too_long = Err(FileError::TooLong { len: 2 });
     expect_loaded(&rt, alloc, 1, &FIRST, too_long);
+    expect_loaded(&rt, alloc, 1, &FIRST[..20], too_long);
     let bad_magic = Err(FileError::BadMagic);
     expect_42(&rt, alloc, b"MOLDJNL3SESSION001", bad_magic);
 }
@@ -224,6 +245,39 @@ fn long_messages_are_loaded(rt: HostRuntime) -> Result<(), Fail> {
     let sink = saved(&rt, rt.alloc(), &journal);
     let again = loaded_again(rt.alloc(), sink.bytes())?;
     expect_same(&rt, &again, &journal);
+    Ok(())
+}
+
+/// Bytes in memory, and the most that a read of them asked for.
+#[derive(Drop)]
+struct Asking<'a> {
+    bytes: &'a [u8],
+    most: usize,
+}
+
+impl Read for Asking<'_> {
+    fn read(&mut self, place: &mut [u8]) -> io::Result<usize> {
+        self.most = self.most.max(place.len());
+        self.bytes.read(place)
+    }
+}
+
+fn expect_small_reads(rt: &impl Abort, alloc: Global, file: &[u8]) {
+    let mut source = FromRead::new(Asking {
+        bytes: file,
+        most: 0,
+    });
+    same_loaded(rt, load(alloc, 10000, &mut source), Ok((2, false)));
+    let most = source.into_inner().most;
+    assert!(rt; most <= 4096, "{most} bytes at once");
+}
+
+/// A read asks for at most 4,096 bytes, whatever the messages have.
+#[test]
+fn a_file_is_read_in_pieces(rt: HostRuntime) -> Result<(), Fail> {
+    let journal = long_messages(rt.alloc())?;
+    let sink = saved(&rt, rt.alloc(), &journal);
+    expect_small_reads(&rt, rt.alloc(), sink.bytes());
     Ok(())
 }
 

@@ -25,6 +25,9 @@ fn journal_of_five(alloc: Global) -> Result<Journal, AppendError> {
     Ok(journal)
 }
 
+// A request for message 5, and 20 bytes behind it.
+const LONGER: [u8; 40] = *b"SESSION001\0\0\0\0\0\0\0\x05\0\x01SESSION001\0\0\0\0\0\0\0\x05\0\x01";
+
 fn request(session: Session, sequence: u64, count: u16) -> [u8; 20] {
     Request {
         session,
@@ -116,6 +119,13 @@ impl Service {
             Ok(_) => assert!(rt; false, "planned"),
             Err(why) => same_refusal(rt, why, want),
         }
+    }
+
+    // The bytes are refused by their length, by `answer` and by `plan`.
+    fn expect_refused_length(&mut self, rt: &impl Abort, asked: &[u8]) {
+        let want = AnswerError::RequestLength { len: asked.len() };
+        self.expect_refused_answer(rt, asked, want);
+        self.expect_refused_plan(rt, asked, want);
     }
 
     fn expect_answered(&self, rt: &impl Abort, count: u64) {
@@ -260,10 +270,22 @@ fn refusals_come_in_their_order(rt: HostRuntime) -> Result<(), Fail> {
     ] {
         expect_refused(&rt, rt.alloc(), &request(session, sequence, count), want)?;
     }
-    let cut = AnswerError::RequestLength { len: 19 };
-    expect_refused(&rt, rt.alloc(), &[0; 19], cut)?;
-    let long = AnswerError::RequestLength { len: 21 };
-    expect_refused(&rt, rt.alloc(), &[0; 21], long)
+    Ok(())
+}
+
+/// Of 0 to 40 bytes that begin as a request just the 20 of one are answered.
+#[test]
+fn requests_of_other_lengths_are_refused(rt: HostRuntime) -> Result<(), Fail> {
+    let mut service = Service::new(rt.alloc(), 1)?;
+    for len in 0..20usize {
+        service.expect_refused_length(&rt, &LONGER[..len]);
+    }
+    service.expect_one(&rt, &LONGER[..20], 42, 5);
+    for len in 21..41usize {
+        service.expect_refused_length(&rt, &LONGER[..len]);
+    }
+    service.expect_answered(&rt, 1);
+    Ok(())
 }
 
 /// Of 2 for 65,535 three datagrams could come, and two are enough; the plan is counted once.
