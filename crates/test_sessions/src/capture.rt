@@ -259,7 +259,8 @@ fn expect_growth(rt: &impl Abort, checker: &mut Checker, nothing: &Verdict, hole
     verdict_again(rt, checker, &Verdict::Whole { messages: 6 });
 }
 
-/// To be run with each allocation refused in turn.
+/// It passes whichever growth is refused. The gate refuses none; `rt try test_sessions --test --fail-alloc N`
+/// refuses the Nth one of each test.
 #[test]
 fn a_refused_growth_changes_nothing(rt: HostRuntime) -> Result<(), Fail> {
     let nothing = incomplete(rt.alloc(), &[], None)?;
@@ -269,8 +270,8 @@ fn a_refused_growth_changes_nothing(rt: HostRuntime) -> Result<(), Fail> {
     Ok(())
 }
 
-/// To be run with each allocation refused in turn: want of memory is told at the datagram that brings something
-/// new, or behind the last one.
+/// It passes whichever growth is refused: want of memory is told at the datagram that brings something new, or
+/// behind the last one.
 #[test]
 fn a_check_tells_where_memory_was_refused(rt: HostRuntime) -> Result<(), Fail> {
     let list = [BEAT_5, DATA_2, DATA_2];
@@ -308,8 +309,8 @@ fn expect_nothing_new(rt: &impl Abort, checker: &mut Checker, empty: &Verdict) {
     verdict_again(rt, checker, &Verdict::Whole { messages: 4 });
 }
 
-/// To be run with each allocation refused in turn: a datagram that brings nothing new takes no memory, so it
-/// is never refused for want of it, nor is one that is refused for another reason.
+/// It passes whichever growth is refused: a datagram that brings nothing new takes no memory, so it is never
+/// refused for want of it, nor is one that is refused for another reason.
 #[test]
 fn what_brings_nothing_new_takes_no_memory(rt: HostRuntime) -> Result<(), Fail> {
     let empty = incomplete(rt.alloc(), &[], None)?;

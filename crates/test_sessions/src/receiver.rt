@@ -443,8 +443,8 @@ fn receiver_again(rt: &impl Abort, alloc: Global) -> Result<Receiver, Fail> {
     }
 }
 
-/// It passes whichever growth is refused: `rt try mold_receiver --test --fail-alloc N -- a_refused_growth`
-/// refuses the Nth one.
+/// It passes whichever growth is refused. The gate refuses none; `rt try test_sessions --test --fail-alloc N`
+/// refuses the Nth one of each test.
 #[test]
 fn a_refused_growth_changes_nothing(rt: HostRuntime) -> Result<(), Fail> {
     let receiver = receiver_again(&rt, rt.alloc())?;

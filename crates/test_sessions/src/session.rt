@@ -61,7 +61,7 @@ fn messages_are_appended_and_got_by_number(rt: HostRuntime) -> Result<(), Fail> 
     Ok(())
 }
 
-/// A thousand messages of a byte take far fewer than 500 growths: with the 500th refused they succeed.
+/// A thousand messages, so that what keeps them grows several times.
 #[test]
 fn a_thousand_messages_are_appended(rt: HostRuntime) -> Result<(), Fail> {
     let mut journal = Journal::new(rt.alloc(), SESSION, 1);
