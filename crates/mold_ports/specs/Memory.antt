@@ -1,5 +1,5 @@
 -- Ports in memory.
-use Rattle.std.specs.Prelude.{ℕ, Bool, true, false, List}
+use Rattle.std.specs.Prelude.{◌<◌, ◌≤◌, ◌⊎◌, ℕ, Bool, true, false, List, length}
 use Rattle.std.specs.Global.{Vec}
 use Rattle.mold_ports.specs.Ports.{Port, Receipt, Datagram, Quiet, Failure, offered}
 use Rattle.mold_ports.specs.declared.step.Step.{Step}
@@ -20,7 +20,13 @@ abbrev pub kept_letter : Bool → ℕ → List ℕ → Port ℕ → Port ℕ
 kept_letter true to bytes port = port
 kept_letter false to bytes port = offered false to bytes port
 
--- a port in memory: the port, and which send from now on fails (0 where none does)
+-- a port in memory: the port, how many letters it keeps before it asks for memory for their list, and which send
+-- from now on fails (0 where none does)
 pub record MemoryState : Type 0 where
   pub port : Port ℕ
+  pub room : ℕ
   pub fails_at : ℕ
+
+-- to keep one letter more, of these bytes, asks for memory: for the bytes, or for the list of letters
+abbrev pub AsksMemory : MemoryState → List ℕ → Type 0
+AsksMemory memory bytes = (0 < length bytes) ⊎ (memory.room ≤ length memory.port.sent)

@@ -1,8 +1,8 @@
 //! A script in memory as a port.
 
-ghost use Rattle.std.specs.Prelude.{◌≡◌, ◌-◌, ◌≤◌, ℕ, Bool, true, [], length, map, is_err, IfOk, IfSome, IsErr};
+ghost use Rattle.std.specs.Prelude.{◌≡◌, ◌-◌, ◌≤◌, ◌⊎◌, ℕ, Bool, true, [], length, map, is_err, IfOk, IfSome, IsErr};
 ghost use Rattle.mold_devices.specs.Devices.{Counts};
-ghost use Rattle.mold_ports.specs.Memory.{kept_letter, letter_of, receipt_at};
+ghost use Rattle.mold_ports.specs.Memory.{AsksMemory, kept_letter, letter_of, receipt_at};
 ghost use Rattle.mold_ports.specs.Ports.{Port, cut, next_of, offered, receipt_of, received};
 
 use crate::datagrams::Datagrams;
@@ -26,7 +26,7 @@ pub struct MemoryPort {
 }
 
 impl Model for MemoryPort {
-    ghost use Rattle.std.specs.Prelude.{drop, map};
+    ghost use Rattle.std.specs.Prelude.{drop, map, vec_capacity};
     ghost use Rattle.mold_ports.specs.Memory.{MemoryState, letter_of, receipt_at};
 
     ghost Value = { MemoryState };
@@ -37,6 +37,7 @@ impl Model for MemoryPort {
         sent = map letter_of s.letters.items;
         failures = s.failures;
       };
+      room = vec_capacity s.letters;
       fails_at = s.fails_at;
     } };
 }
@@ -46,6 +47,7 @@ impl MemoryPort {
     pub fn new(alloc: Global, script: Vec<Step>) -> MemoryPort
         ensures { result ≡ record {
           port = record { comes = map receipt_at script.items; sent = []; failures = 0 };
+          room = 0;
           fails_at = 0;
         } }
     {
@@ -83,6 +85,8 @@ impl MemoryPort {
     // Keeps a letter.
     fn keep(&mut self, to: u32, bytes: &[u8]) -> Result<(), AllocError>
         ensures kept { self.new.port ≡ kept_letter (is_err result) to bytes.now self.old.port }
+        ensures refused { IsErr result → AsksMemory self.old bytes.now }
+        ensures room { self.old.room ≤ self.new.room }
         ensures fails_at { self.new.fails_at ≡ self.old.fails_at }
     {
         let mut copy = Vec::new(self.alloc);
@@ -106,6 +110,10 @@ impl Datagrams for MemoryPort {
 
         // Just what this one does.
         ensures fails { self.old.fails_at ≡ 1 → IsErr result }
+
+        // Beside the send that is to fail, only a growth is refused.
+        ensures refused { IsErr result → (self.old.fails_at ≡ 1) ⊎ AsksMemory self.old bytes.now }
+        ensures room { self.old.room ≤ self.new.room }
         ensures fails_at { self.new.fails_at ≡ self.old.fails_at - 1 }
     {
         let fails = self.fails_at == 1;
@@ -125,6 +133,7 @@ impl Datagrams for MemoryPort {
         ensures failures { Counts self.old.port.failures self.new.port.failures result }
 
         // Just what this one does.
+        ensures room { self.new.room ≡ self.old.room }
         ensures fails_at { self.new.fails_at ≡ self.old.fails_at }
     {
         let Some(step) = self.script.get(self.used) else {
