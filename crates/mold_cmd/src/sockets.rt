@@ -38,7 +38,7 @@ fn socket_address(address: Address) -> SocketAddrV4 {
 }
 
 fn open_port(rt: &HostRuntime, address: Address) -> Result<UdpPort, ProgramFault> {
-    match UdpPort::bind(rt.alloc(), rt, socket_address(address)) {
+    match UdpPort::bind(rt, socket_address(address)) {
         Ok(port) => Ok(port),
         Err(_) => Err(ProgramFault::Socket),
     }

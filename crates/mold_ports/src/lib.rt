@@ -3,7 +3,6 @@
 
 mod datagrams;
 mod memory_port;
-mod passes;
 mod step;
 mod udp_port;
 

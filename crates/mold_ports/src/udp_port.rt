@@ -4,11 +4,9 @@ ghost use Rattle.std.specs.Prelude.{◌≡◌, ◌≤◌, false, [], length, IfO
 ghost use Rattle.mold_devices.specs.Devices.{one_more};
 
 use crate::datagrams::Datagrams;
-use crate::passes::Passes;
 use libc::net::{POLLIN, POLLOUT, SO_RCVBUF, SOL_SOCKET, poll, setsockopt};
 use libc::types::pollfd;
 use mold_devices::DeviceFault;
-use std::alloc::Global;
 use std::io;
 use std::io::ErrorKind;
 use std::marker::Model;
@@ -29,36 +27,33 @@ const KEPT: i32 = 1 << 22;
 /// In the place of a descriptor: none.
 const NONE: RawFd = -1;
 
-// What is waited for.
+// What a receive beside other ports does first, by what the last look told.
 #[derive(Clone, Copy, PartialEq, Eq)]
-enum Patience {
-    // A datagram, here or at a port beside.
-    Shared,
-    // First the answer to what was sent.
+enum Outlook {
+    // A datagram was here: it looks for the next one.
+    Busy,
+    // None was: it waits, for a datagram here or at a port beside.
+    Quiet,
+    // Something was sent: it waits for the answer.
     Asking,
-    // As where it is shared, until a datagram comes: the last wait for an answer was in vain.
+    // The last wait for an answer was in vain: it waits as where none was here, also behind a send, until a
+    // datagram comes.
     Unanswered,
 }
 
-// A port that another one stands beside.
-#[derive(Drop)]
-struct Neighbour {
-    descriptor: RawFd,
-    passes: Passes,
-}
-
-/// A UDP socket over IPv4 as a port. A receive waits at most 100 milliseconds; that of a port that stands
-/// beside others ends its wait early, with none, where one of them has a datagram. Of ports that were waited
-/// for, those that had nothing where another had something give none at their next three receives, without a
-/// look; a wait that finds a datagram there ends that. Behind a send such a port first gives the answer two
-/// milliseconds, unless the last answer did not come in them. The socket is closed where the port is dropped.
+/// A UDP socket over IPv4 as a port. A receive gives none only where the system said that nothing is here, and
+/// waits at most 100 milliseconds for something. The wait of a port that stands beside others ends early where one
+/// of them has a datagram; behind a send it is for the answer alone in its first two milliseconds, unless the last
+/// answer did not come in them. Such a port looks before it waits where its last receive gave a datagram, and else
+/// waits first. A wait that the system refuses or interrupts is a failure, and so is a datagram that was here and
+/// can't be taken, as by a wrong checksum. It takes no memory. The socket is closed where the port is dropped.
 #[derive(Drop)]
 pub struct UdpPort {
     socket: UdpSocket,
     address: SocketAddr,
-    beside: [Option<Neighbour>; 2],
-    patience: Patience,
-    passes: Passes,
+    // The descriptors of the ports beside.
+    beside: [RawFd; 2],
+    outlook: Outlook,
     failures: u64,
 }
 
@@ -72,21 +67,16 @@ impl Model for UdpPort {
 
 impl UdpPort {
     /// A port at an address of this machine, at port 0 one that the system gives. It fails where the address
-    /// is not the machine's or is taken, and where a socket can't be had, and not for want of memory.
-    pub fn bind<R: Net>(
-        alloc: Global,
-        rt: &R,
-        address: SocketAddrV4,
-    ) -> Result<UdpPort, DeviceFault>
+    /// is not the machine's or is taken, and where a socket can't be had.
+    pub fn bind<R: Net>(rt: &R, address: SocketAddrV4) -> Result<UdpPort, DeviceFault>
         ensures { IfOk result (λ port. port.failures ≡ 0) }
     {
         match open(rt, address) {
             Ok((socket, address)) => Ok(UdpPort {
                 socket,
                 address,
-                beside: [None, None],
-                patience: Patience::Shared,
-                passes: Passes::new(alloc),
+                beside: [NONE, NONE],
+                outlook: Outlook::Quiet,
                 failures: 0,
             }),
             Err(_) => Err(DeviceFault),
@@ -100,95 +90,103 @@ impl UdpPort {
 
     /// Lets its receives end their wait where the other port has a datagram, so that a silent port does not
     /// hold up a busy one. It stands beside at most two, the last ones that it was given. They have to be
-    /// kept as long as it is: what is left unreceived at one of them ends its every wait.
+    /// kept as long as it is: what is left unreceived at one of them ends its every wait. Where the system
+    /// refuses a socket that doesn't wait by itself, it does not stand beside the other port.
     pub fn stand_beside(&mut self, other: &UdpPort)
         ensures { self.new ≡ self.old }
     {
-        // From now on it waits by `poll`. Should the system refuse that, each call waits for itself alone.
-        let _ = self.socket.set_nonblocking(true);
-        let neighbour = Neighbour {
-            descriptor: other.socket.as_raw_fd(),
-            passes: other.passes.share(),
-        };
-        self.beside = [Some(neighbour), self.beside[0].take()];
+        if self.socket.set_nonblocking(true).is_ok() {
+            self.beside = [other.socket.as_raw_fd(), self.beside[0]];
+        }
     }
 
     // Whether no other port ends its waits: then each call waits by itself.
     fn is_alone(&self) -> bool {
-        self.beside[0].is_none()
+        self.beside[0] == NONE
     }
 
     // Takes a datagram: one that is here or, alone, comes in its time; none where none does.
-    fn take(&mut self, place: &mut [u8]) -> io::Result<Option<(usize, SocketAddr)>>
+    fn take(&mut self, place: &mut [u8]) -> Result<Option<(usize, SocketAddr)>, DeviceFault>
         ensures count { IfOk result (λ answer. IfSome answer (λ found. found.0 ≤ length place.new)) }
         ensures failures { self.new ≡ self.old }
     {
         match self.socket.recv_from(place) {
             Ok(found) => {
-                self.patience = Patience::Shared;
+                self.outlook = Outlook::Busy;
                 Ok(Some(found))
             }
             Err(error) if error.kind() == ErrorKind::WouldBlock => Ok(None),
-            Err(error) => Err(error),
+            Err(_) => Err(DeviceFault),
         }
     }
 
-    // Waits until a datagram is here or at a port beside it, or the time is over. Answers whether one may be
-    // here.
-    fn wait(&mut self) -> bool
+    // Waits for an answer alone. Answers whether one is here.
+    fn wait_for_answer(&mut self) -> Result<bool, DeviceFault>
         ensures { self.new ≡ self.old }
     {
-        if self.patience == Patience::Asking {
-            self.patience = Patience::Unanswered;
-            let mut asked = [watched(self.socket.as_raw_fd(), POLLIN)];
-            if poll(&mut asked, i32::from(ANSWER_WAIT)) != 0 {
-                return true;
-            }
-        }
-        let [one, other] = &self.beside;
-        let mut asked = [
-            watched(self.socket.as_raw_fd(), POLLIN),
-            watched(descriptor_of(one), POLLIN),
-            watched(descriptor_of(other), POLLIN),
-        ];
-        let found = poll(&mut asked, i32::from(WAIT - ANSWER_WAIT));
-        if found > 0 {
-            self.passes.tell(asked[0].revents != 0);
-            tell(one, asked[1]);
-            tell(other, asked[2]);
-        }
-        found < 0 || asked[0].revents != 0
+        self.outlook = Outlook::Unanswered;
+        let mut asked = [watched(self.socket.as_raw_fd(), POLLIN)];
+        wait_for(&mut asked, ANSWER_WAIT)?;
+        Ok(asked[0].revents != 0)
     }
 
-    // Takes a datagram that is here or comes in its time; none where none does.
-    fn take_in_time(&mut self, place: &mut [u8]) -> io::Result<Option<(usize, SocketAddr)>>
+    // Waits until a datagram is here or at a port beside, or the time is over. Answers whether one is here.
+    fn wait(&mut self) -> Result<bool, DeviceFault>
+        ensures { self.new ≡ self.old }
+    {
+        if self.outlook == Outlook::Asking && self.wait_for_answer()? {
+            return Ok(true);
+        }
+        let [one, other] = self.beside;
+        let mut asked = [
+            watched(self.socket.as_raw_fd(), POLLIN),
+            watched(one, POLLIN),
+            watched(other, POLLIN),
+        ];
+        wait_for(&mut asked, WAIT - ANSWER_WAIT)?;
+        Ok(asked[0].revents != 0)
+    }
+
+    // Waits, and takes the datagram that is here then; none where none is.
+    fn take_behind_wait(
+        &mut self,
+        place: &mut [u8],
+    ) -> Result<Option<(usize, SocketAddr)>, DeviceFault>
         ensures count { IfOk result (λ answer. IfSome answer (λ found. found.0 ≤ length place.new)) }
         ensures failures { self.new ≡ self.old }
     {
-        if self.passes.pass() {
+        if !self.wait()? {
             return Ok(None);
         }
-        if let Some(found) = self.take(place)? {
-            return Ok(Some(found));
+        match self.take(place)? {
+            Some(found) => Ok(Some(found)),
+            None => Err(DeviceFault),
         }
+    }
+
+    // Takes a datagram that is here or comes in its time; none where none does.
+    fn take_in_time(&mut self, place: &mut [u8]) -> Result<Option<(usize, SocketAddr)>, DeviceFault>
+        ensures count { IfOk result (λ answer. IfSome answer (λ found. found.0 ≤ length place.new)) }
+        ensures failures { self.new ≡ self.old }
+    {
         if self.is_alone() {
-            return Ok(None);
+            return self.take(place);
         }
-        // A datagram that ended the wait may be gone, as by a wrong checksum.
-        if self.wait() {
-            self.take(place)
-        } else {
-            Ok(None)
+        if self.outlook == Outlook::Busy {
+            self.outlook = Outlook::Quiet;
+            if let Some(found) = self.take(place)? {
+                return Ok(Some(found));
+            }
         }
+        self.take_behind_wait(place)
     }
 
     // From now on an answer is waited for, unless the last wait for one was in vain.
     fn expect_answer(&mut self)
         ensures { self.new ≡ self.old }
     {
-        self.passes.tell(true);
-        if self.patience == Patience::Shared {
-            self.patience = Patience::Asking;
+        if self.outlook != Outlook::Unanswered {
+            self.outlook = Outlook::Asking;
         }
     }
 
@@ -215,7 +213,7 @@ impl Datagrams for UdpPort {
         {
             // The system has no room for it yet.
             let mut asked = [watched(self.socket.as_raw_fd(), POLLOUT)];
-            let _ = poll(&mut asked, i32::from(WAIT));
+            let _ = wait_for(&mut asked, WAIT);
             sent = self.socket.send_to(bytes, to);
         }
         match sent {
@@ -253,19 +251,12 @@ fn open<R: Net>(rt: &R, address: SocketAddrV4) -> io::Result<(UdpSocket, SocketA
     Ok((socket, address))
 }
 
-// The descriptor of a port beside.
-fn descriptor_of(neighbour: &Option<Neighbour>) -> RawFd {
-    match neighbour {
-        Some(neighbour) => neighbour.descriptor,
-        None => NONE,
+// Waits until one of the descriptors is ready, or so many milliseconds are over.
+fn wait_for(asked: &mut [pollfd], time: u16) -> Result<(), DeviceFault> {
+    if poll(asked, i32::from(time)) < 0 {
+        return Err(DeviceFault);
     }
-}
-
-// Tells a port beside what `poll` found of it.
-fn tell(neighbour: &Option<Neighbour>, asked: pollfd) {
-    if let Some(neighbour) = neighbour {
-        neighbour.passes.tell(asked.revents != 0);
-    }
+    Ok(())
 }
 
 // A descriptor of which `poll` is to tell whether it is ready for the events; none never is.
