@@ -1,15 +1,14 @@
 //! The program `mold`: packets of MoldUDP64 from the command line.
 #![tactic(auto)]
 
-mod program_fault;
 mod sockets;
 
 ghost use Rattle.mold_commands.specs.Command.{IsStreamed};
 
-use crate::program_fault::ProgramFault;
 use crate::sockets::{run_listen, run_loop, run_publish, run_serve};
 use mold_commands::{check_folder, run_command, run_upgrade};
 use mold_devices::{CommandFault, FromRead, IntoWrite, NewFile};
+use mold_wiring::{ProgramFault, exit_code, flushed, tell_fault};
 use mold_words::{Order, UpgradeOrder, UsageFault, read_words};
 use std::fs::File;
 use std::io::{ErrorKind, Write};
@@ -17,16 +16,7 @@ use std::process::ExitCode;
 use std::rt::Env;
 use std::{env, io};
 
-/// The status of a fault of a device, of memory or of the words.
-const FAULT: u8 = 3;
-
 const NOT_UTF8: &str = "error: a word is not UTF-8\n";
-
-// Prints the word behind `fault` as a line of standard error, and answers the status.
-fn tell_fault(rt: &impl Eprint, word: &str) -> ExitCode {
-    let _ = rt.eprintln(format_args!("fault {word}"));
-    ExitCode::from(FAULT)
-}
 
 // Prints the text of help or of the version, or the text of a usage fault and the fault.
 fn tell_usage(rt: &(impl Print + Eprint), fault: UsageFault) -> ExitCode {
@@ -73,15 +63,6 @@ fn run_streamed(rt: &HostRuntime, order: &Order) -> Result<u8, CommandFault>
     flushed(outcome, sink.into_inner().flush())
 }
 
-// The outcome of a command whose output was flushed so.
-fn flushed(outcome: Result<u8, CommandFault>, flush: io::Result<()>) -> Result<u8, CommandFault> {
-    let status = outcome?;
-    match flush {
-        Ok(()) => Ok(status),
-        Err(_) => Err(CommandFault::Write),
-    }
-}
-
 // Checks the folder over standard output, which is flushed once.
 fn run_check(rt: &HostRuntime, folder: &str) -> Result<u8, CommandFault> {
     let mut sink = IntoWrite::new(rt.stdout());
@@ -126,8 +107,5 @@ fn main(rt: HostRuntime) -> ExitCode {
         Ok(order) => order,
         Err(fault) => return tell_usage(&rt, fault),
     };
-    match run(&rt, &order) {
-        Ok(status) => ExitCode::from(status),
-        Err(fault) => tell_fault(&rt, fault.word()),
-    }
+    exit_code(&rt, run(&rt, &order))
 }

@@ -1,5 +1,7 @@
 //! Why the program ends before its time.
 
+ghost use Rattle.std.specs.Prelude.{◌≡◌};
+
 use mold_devices::CommandFault;
 
 /// Why the program ends before its time.
@@ -11,17 +13,12 @@ pub enum ProgramFault {
     Socket,
 }
 
-impl ProgramFault {
-    /// The word behind `fault`.
-    pub fn word(self) -> &'static str {
-        match self {
-            ProgramFault::Command(fault) => fault.word(),
-            ProgramFault::Socket => "Socket",
-        }
-    }
-}
-
 impl From<CommandFault> for ProgramFault {
+    ghost use Rattle.std.specs.Prelude.{◌≡◌};
+    ghost use Rattle.mold_wiring.specs.declared.program_fault.ProgramFault.TheVariants.{Command};
+
+    ghost from_gives = { λ cause fault. fault ≡ Command cause };
+
     fn from(fault: CommandFault) -> ProgramFault {
         ProgramFault::Command(fault)
     }

@@ -1,0 +1,16 @@
+//! Addresses of ports, as the system takes them.
+
+ghost use Rattle.std.specs.Prelude.{◌≡◌};
+ghost use Rattle.std.specs.Net.Addr.{ipv4_octets};
+ghost use Rattle.std.specs.Net.Socket.{v4_ip, v4_port};
+
+use mold_words::Address;
+use std::net::{Ipv4Addr, SocketAddrV4};
+
+/// The address as the system takes it.
+pub fn socket_address(address: Address) -> SocketAddrV4
+    ensures host { ipv4_octets (v4_ip result) ≡ address.host }
+    ensures port { v4_port result ≡ address.port }
+{
+    SocketAddrV4::new(Ipv4Addr::from_octets(address.host), address.port)
+}

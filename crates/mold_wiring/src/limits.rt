@@ -1,0 +1,12 @@
+//! How long the messages of packets may be.
+
+ghost use Rattle.std.specs.Prelude.{◌≡◌, ◌-◌, ◌≤◌};
+
+// The most bytes of a message that fits alone into a packet of this limit.
+pub(crate) fn longest_message(limit: usize) -> u16
+    requires least { 64 ≤ limit }
+    requires most { limit ≤ 65507 }
+    ensures { result ≡ limit - 22 }
+{
+    (limit - 22) as u16
+}

@@ -1,0 +1,89 @@
+//! What `serve` is made of.
+
+ghost use Rattle.std.specs.Prelude.{◌≡◌, ◌-◌, true, IfErr, IfOk};
+ghost use Rattle.std.specs.Io.KnownBytes.{Appends};
+ghost use Rattle.mold_refusals.specs.Words.{file_fault_words};
+ghost use Rattle.mold_serve.specs.Serving.{served_by, service_of, serving, stall_of};
+ghost use Rattle.mold_serve.specs.Tally.{last_line, no_tally};
+ghost use Rattle.mold_session.specs.FileFault.{JournalFault};
+ghost use Rattle.mold_session.specs.Loading.{Refuses};
+ghost use Rattle.mold_text.specs.Text.{refused_line};
+ghost use Rattle.mold_turns.specs.Faults.{CountsSink};
+ghost use Rattle.mold_turns.specs.Runs.{Ran};
+ghost use Rattle.mold_wiring.specs.Wiring.{server_of};
+
+use crate::limits::longest_message;
+use mold_devices::{CommandFault, Sink, Source, send};
+use mold_ports::Datagrams;
+use mold_refusals::push_file_refusal;
+use mold_serve::serve_loop;
+use mold_session::{FileError, Journal, Server};
+use mold_words::ServeOrder;
+use std::alloc::{AllocError, Global};
+
+/// The journal of a file, of messages that fit the order's packets, or why the file is none. What the source fails
+/// with, and want of memory, are faults.
+pub fn load_journal<S: Source>(
+    alloc: Global,
+    order: &ServeOrder,
+    source: &mut S,
+) -> Result<Result<Journal, FileError>, CommandFault>
+    ensures longest { IfOk result (λ loaded. IfOk loaded (λ journal.
+        journal.max_message ≡ order.now.limit - 22)) }
+    ensures refused { IfOk result (λ loaded. IfErr loaded
+        (Refuses (JournalFault (order.now.limit - 22)) (S.left source.old))) }
+{
+    match Journal::load(alloc, longest_message(order.limit), source) {
+        Ok(journal) => Ok(Ok(journal)),
+        Err(FileError::Read) => Err(CommandFault::Read),
+        Err(FileError::Memory) => Err(CommandFault::Memory),
+        Err(error) => Ok(Err(error)),
+    }
+}
+
+/// Tells why a file is no journal, and answers the status.
+pub fn tell_file_refused<K: Sink>(
+    alloc: Global,
+    error: FileError,
+    sink: &mut K,
+) -> Result<u8, CommandFault>
+    ensures told { IfOk result (λ status.
+        Appends (K.held sink.old) (K.held sink.new) (refused_line (file_fault_words error)) × (status ≡ 2)) }
+    ensures sink { CountsSink (K.failed sink.old) (K.failed sink.new) result }
+{
+    let mut text = Vec::new(alloc);
+    push_file_refusal(&mut text, error)?;
+    send(sink, &mut text)?;
+    Ok(2)
+}
+
+/// The server of an order, whose numbers are in their ranges: so only memory can be wanting.
+pub fn make_server(alloc: Global, order: &ServeOrder) -> Result<Server, AllocError>
+    ensures { IfOk result (λ server. server ≡ server_of order.now) }
+{
+    let longest = longest_message(order.limit);
+    match Server::new(alloc, order.limit, longest, order.burst) {
+        Ok(server) => Ok(server),
+        Err(_) => Err(AllocError),
+    }
+}
+
+/// Serves requests from the journal, as `serve_loop` does, with the order's server and in as many turns as it says.
+pub fn serve_over<D: Datagrams, K: Sink>(
+    alloc: Global,
+    order: &ServeOrder,
+    port: &mut D,
+    server: &mut Server,
+    journal: &Journal,
+    sink: &mut K,
+) -> Result<u8, CommandFault>
+    requires server { server.old ≡ server_of order.now }
+    requires journal { journal.now.max_message ≡ order.now.limit - 22 }
+    ensures run { D.tells ≡ true → Ran (serving (service_of journal.now (server_of order.now))) order.now.turns
+        (stall_of (D.port port.old) no_tally (server_of order.now)) (λ stall. last_line stall.tally) (λ stall. 0)
+        (λ stall. (D.port port.new ≡ stall.port) × (server.new ≡ served_by (server_of order.now) stall))
+        result (K.held sink.old) (K.held sink.new) (D.port port.new).sent }
+    ensures sink { CountsSink (K.failed sink.old) (K.failed sink.new) result }
+{
+    serve_loop(alloc, port, server, journal, u64::from(order.turns), sink)
+}
