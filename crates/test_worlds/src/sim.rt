@@ -1,5 +1,5 @@
 //! What no clause says: the texts of whole scripts, lines of another form, and each read and write failing
-//! in turn. The growths are refused by the tool that runs the tests.
+//! in turn.
 
 ghost use Rattle.std.specs.Prelude.{◌<◌, ◌≤◌};
 
@@ -20,8 +20,8 @@ fn sim(alloc: Global, burst: u16, receivers: usize) -> Result<Sim, AllocError>
     Sim::new(alloc, Session(*b"SESSION001"), 64, 64, burst, 4, receivers)
 }
 
-// Runs the script with so many bytes a call, and compares what is printed, of which a beginning is printed
-// where memory is refused.
+// Runs the script with so many bytes a call, and compares what is printed: a beginning of it, where memory is
+// wanting.
 fn expect_run(
     rt: &(impl Abort + AllocGlobal),
     sim: &mut Sim,
