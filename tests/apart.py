@@ -1,0 +1,654 @@
+"""What `mold` prints, written apart from it: from docs/PROTOCOL.md and docs/FORMATS.md alone, in another language, over
+whole lists of messages and datagrams. `tests/foreign` and `tests/long-run` compare the program with it.
+
+Each command is a function of its options and of all its input. It answers the text and the status; what else comes of
+a command, as a file or datagrams, stands behind them. A refusal within is raised, as the text that is printed of it.
+"""
+import binascii
+import re
+from bisect import bisect_right
+from dataclasses import dataclass, field
+from itertools import accumulate
+
+GREATEST = (1 << 64) - 1
+HEADER = 20
+COUNT_OF_AN_END = 65535
+MOST_ASKED = 65534
+
+
+class Refused(Exception):
+    """Why something is refused, as it is printed."""
+
+
+# Packets and requests.
+
+
+@dataclass(frozen=True)
+class Packet:
+    """A heartbeat, some data or the end of a session."""
+
+    kind: str
+    session: bytes
+    sequence: int
+    messages: tuple = ()
+
+    def top(self):
+        return self.sequence + len(self.messages)
+
+    def carried(self):
+        return dict(enumerate(self.messages, self.sequence))
+
+
+def number_in(some_bytes):
+    return int.from_bytes(some_bytes, "big")
+
+
+def block(message):
+    return len(message).to_bytes(2, "big") + message
+
+
+def blocks(messages):
+    return b"".join(block(it) for it in messages)
+
+
+def header(session, sequence, count):
+    return session + sequence.to_bytes(8, "big") + count.to_bytes(2, "big")
+
+
+def spelling(packet):
+    """The datagram of a packet."""
+    count = COUNT_OF_AN_END if packet.kind == "end" else len(packet.messages)
+    return header(packet.session, packet.sequence, count) + blocks(packet.messages)
+
+
+def whole_blocks(some_bytes, most=GREATEST):
+    """The messages of the whole blocks that bytes begin with, at most so many, and how many bytes these take."""
+    messages, at = [], 0
+    while len(messages) < most and len(some_bytes) - at >= 2:
+        behind = at + 2 + number_in(some_bytes[at : at + 2])
+        if behind > len(some_bytes):
+            break
+        messages.append(some_bytes[at + 2 : behind])
+        at = behind
+    return messages, at
+
+
+def packet_of(datagram):
+    if len(datagram) < HEADER:
+        raise Refused(f"Short {len(datagram)}")
+    count = number_in(datagram[18:20])
+    kind = {0: "heartbeat", COUNT_OF_AN_END: "end"}.get(count, "data")
+    stated = count if kind == "data" else 0
+    messages, size = whole_blocks(datagram[HEADER:], stated)
+    if len(messages) < stated:
+        raise Refused(f"BlockCut {len(messages)}")
+    if len(datagram) > HEADER + size:
+        raise Refused(f"Trailing {HEADER + size}")
+    return Packet(kind, datagram[:10], number_in(datagram[10:18]), tuple(messages))
+
+
+@dataclass(frozen=True)
+class Request:
+    session: bytes
+    sequence: int
+    count: int
+
+    def spelling(self):
+        return header(self.session, self.sequence, self.count)
+
+
+def request_of(datagram):
+    if len(datagram) != HEADER:
+        raise Refused(f"RequestLength {len(datagram)}")
+    return Request(datagram[:10], number_in(datagram[10:18]), number_in(datagram[18:20]))
+
+
+# Lines of text.
+
+
+def lines_of(some_bytes):
+    lines = some_bytes.split(b"\n")
+    return lines if lines[-1] else lines[:-1]
+
+
+def bytes_of(digits):
+    """The bytes that hexadecimal digits stand for."""
+    try:
+        return binascii.unhexlify(digits)
+    except ValueError:
+        raise Refused("NotHex") from None
+
+
+def text_of(lines):
+    return "".join(f"{it}\n" for it in lines).encode()
+
+
+def printed_message(message):
+    return message.hex() or "-"
+
+
+def padded(session):
+    """The session of an option's text."""
+    return session.encode().ljust(10)
+
+
+# show
+
+
+def lines_of_packet(packet):
+    words = f"{packet.kind} {packet.session.hex()} {packet.sequence}"
+    if packet.kind != "data":
+        return [words]
+    return [f"{words} {len(packet.messages)}"] + [
+        f"  {number} {len(message)} {printed_message(message)}" for number, message in packet.carried().items()
+    ]
+
+
+def lines_of_request(request):
+    return [f"request {request.session.hex()} {request.sequence} {request.count}"]
+
+
+def show(some_bytes, is_request=False):
+    said, status = [], 0
+    for line in filter(None, lines_of(some_bytes)):
+        try:
+            datagram = bytes_of(line)
+            said += lines_of_request(request_of(datagram)) if is_request else lines_of_packet(packet_of(datagram))
+        except Refused as why:
+            said.append(f"refused {why}")
+            status = 2
+    return text_of(said), status
+
+
+# Publishing.
+
+
+def front(limit, messages):
+    """The longest front of messages that fits a packet."""
+    sizes = accumulate((2 + len(it) for it in messages), initial=HEADER)
+    return messages[: bisect_right(list(sizes), limit) - 1]
+
+
+def packing(limit, session, first, messages, most=GREATEST):
+    """The first so many packets of messages, each the longest front that fits of what is left."""
+    packets, at = [], 0
+    while at < len(messages) and len(packets) < most:
+        # No packet of 65,507 bytes has more.
+        fitting = front(limit, messages[at : at + 32743])
+        if not fitting:
+            break
+        packets.append(Packet("data", session, first + at, tuple(fitting)))
+        at += len(fitting)
+    return packets
+
+
+def messages_of(limit, lines):
+    """The messages of lines up to the first that is refused, and what is printed of that one, if any."""
+    messages = []
+    for number, line in enumerate(lines, 1):
+        try:
+            message = bytes_of(line)
+            if len(message) > limit - 22:
+                raise Refused(f"TooLong {len(message)}")
+        except Refused as why:
+            return messages, f"refused line {number} {why}"
+        messages.append(message)
+    return messages, None
+
+
+def pack(session, limit, some_bytes):
+    messages, refusal = messages_of(limit, lines_of(some_bytes))
+    packets = packing(limit, session, 1, messages)
+    if refusal:
+        return text_of([spelling(it).hex() for it in packets[:-1]] + [refusal]), 2
+    packets.append(Packet("end", session, len(messages) + 1))
+    return text_of(spelling(it).hex() for it in packets), 0
+
+
+def publish(session, limit, beats, ends, some_bytes):
+    """Also what is sent on each line, and the journal's file, if there is one."""
+    messages, refusal = messages_of(limit, lines_of(some_bytes))
+    packets = packing(limit, session, 1, messages)
+    if refusal:
+        return text_of([refusal]), 2, [spelling(it) for it in packets[:-1]], None
+    behind = len(messages) + 1
+    sent = packets + beats * [Packet("heartbeat", session, behind)] + ends * [Packet("end", session, behind)]
+    text = f"published {len(messages)} datagrams {len(packets)} failed 0"
+    return text_of([text]), 0, [spelling(it) for it in sent], journal_file(session, messages, True)
+
+
+# The journal's file.
+
+
+@dataclass(frozen=True)
+class Journal:
+    session: bytes
+    messages: list
+    is_closed: bool
+
+
+def journal_file(session, messages, is_closed):
+    """The file of version 2."""
+    flag = b"\1" if is_closed else b"\0"
+    return b"MOLDJNL2" + session + flag + len(messages).to_bytes(8, "big") + blocks(messages)
+
+
+def old_journal_file(session, messages):
+    """The file of version 1."""
+    return b"MOLDJNL1" + session + blocks(messages)
+
+
+def messages_of_file(some_bytes, longest):
+    """The messages of the blocks that end a file."""
+    messages, size = whole_blocks(some_bytes)
+    for message in messages:
+        if len(message) > longest:
+            raise Refused(f"TooLong {len(message)}")
+    rest = some_bytes[size:]
+    if len(rest) >= 2 and number_in(rest[:2]) > longest:
+        raise Refused(f"TooLong {number_in(rest[:2])}")
+    if rest:
+        raise Refused(f"BlockCut {len(messages) + 1}")
+    return messages
+
+
+def journal_of(some_bytes, longest=65535):
+    """The journal of a file whose messages are to be so long at most."""
+    if len(some_bytes) < 18:
+        raise Refused(f"Short {len(some_bytes)}")
+    if some_bytes[:8] not in (b"MOLDJNL1", b"MOLDJNL2"):
+        raise Refused("BadMagic")
+    session = some_bytes[8:18]
+    if some_bytes[:8] == b"MOLDJNL1":
+        return Journal(session, messages_of_file(some_bytes[18:], longest), False)
+    if len(some_bytes) < 27:
+        raise Refused(f"Short {len(some_bytes)}")
+    if some_bytes[18] > 1:
+        raise Refused(f"BadFlag {some_bytes[18]}")
+    messages = messages_of_file(some_bytes[27:], longest)
+    stated = number_in(some_bytes[19:27])
+    if stated != len(messages):
+        raise Refused(f"CountDiffers {stated} {len(messages)}")
+    return Journal(session, messages, some_bytes[18] == 1)
+
+
+def upgrade(close, some_bytes):
+    """Also the new file, if there is one."""
+    try:
+        journal = journal_of(some_bytes)
+    except Refused as why:
+        return text_of([f"refused {why}"]), 2, None
+    is_closed = close or journal.is_closed
+    text = f"upgraded {len(journal.messages)} {'closed' if is_closed else 'open'}"
+    return text_of([text]), 0, journal_file(journal.session, journal.messages, is_closed)
+
+
+# The server.
+
+
+def answer(session, messages, limit, burst, asked):
+    """The packets that answer the bytes of a request."""
+    request = request_of(asked)
+    if request.session != session:
+        raise Refused("WrongSession")
+    if request.sequence == 0:
+        raise Refused("SequenceZero")
+    if request.count == 0:
+        raise Refused("EmptyRequest")
+    if request.sequence > len(messages):
+        raise Refused(f"Ahead {len(messages) + 1}")
+    wanted = messages[request.sequence - 1 :][: request.count]
+    return packing(limit, session, request.sequence, wanted, burst)
+
+
+def serve(limit, burst, file, requests, quiet=0):
+    """Also the list of answers, each of them a list of datagrams. So many turns bring nothing."""
+    try:
+        journal = journal_of(file, limit - 22)
+    except Refused as why:
+        return text_of([f"refused {why}"]), 2, []
+    said, answers, refused = [], [], 0
+    for asked in requests:
+        try:
+            packets = answer(journal.session, journal.messages, limit, burst, asked)
+            said += [f"answered {it.sequence} {len(it.messages)}" for it in packets]
+            answers.append([spelling(it) for it in packets])
+        except Refused as why:
+            said.append(f"refused {why}")
+            refused += 1
+    said.append(f"answered {sum(map(len, answers))} refused {refused} quiet {quiet} failed 0")
+    return text_of(said), 0, answers
+
+
+# The receiving rule.
+
+
+@dataclass(frozen=True)
+class View:
+    """What a receiver knows: `end` is none until an end packet told it, `store` has messages by their numbers."""
+
+    session: bytes
+    next: int
+    known: int
+    window: int
+    end: int = None
+    store: dict = field(default_factory=dict)
+
+    def wanted(self):
+        if self.next == self.known:
+            return None
+        distance = min(self.store, default=self.known) - self.next
+        return Request(self.session, self.next, min(MOST_ASKED, distance))
+
+    def is_finished(self):
+        return self.end == self.next
+
+
+def fresh(session, first, window):
+    return View(session, first, first, window)
+
+
+def need_taken(view, packet):
+    """Refuses a packet by the first reason that applies."""
+    if packet.session != view.session:
+        raise Refused("WrongSession")
+    if packet.sequence == 0:
+        raise Refused("SequenceZero")
+    if packet.top() > GREATEST:
+        raise Refused("PastLast")
+    if packet.kind == "end" and view.end not in (None, packet.sequence):
+        raise Refused(f"EndConflict {view.end}")
+    if packet.kind == "end" and packet.sequence < view.known:
+        raise Refused(f"EndBelow {view.known}")
+    if packet.kind != "end" and view.end is not None and packet.top() > view.end:
+        raise Refused(f"PastEnd {view.end}")
+    carried = packet.carried()
+    differing = [k for k, message in view.store.items() if k >= view.next and carried.get(k, message) != message]
+    if differing:
+        raise Refused(f"Conflict {min(differing)}")
+
+
+def malformed(datagram):
+    try:
+        return packet_of(datagram)
+    except Refused as why:
+        raise Refused(f"Malformed {why}") from None
+
+
+def receive(view, datagram):
+    """The view afterwards, the messages handed on with their numbers, and the three counts."""
+    packet = malformed(datagram)
+    need_taken(view, packet)
+    carried = packet.carried()
+    at_hand = view.store | {k: message for k, message in carried.items() if k >= view.next}
+    after = view.next
+    while after in at_hand:
+        after += 1
+    store = {k: message for k, message in at_hand.items() if after < k < after + view.window}
+    handed = [(k, at_hand[k]) for k in range(view.next, after)]
+    kept = sum(k in store and k not in view.store for k in carried)
+    beyond = sum(k >= after + view.window for k in carried)
+    end = packet.sequence if packet.kind == "end" else view.end
+    now = View(view.session, after, max(view.known, packet.top()), view.window, end, store)
+    return now, handed, (len(handed), kept, beyond)
+
+
+def last_line(view, failed=0):
+    if view.is_finished():
+        return f"finished next {view.next} failed {failed}", 0
+    return f"open next {view.next} known {view.known} failed {failed}", 1
+
+
+def hear(view, datagram, said):
+    """The view after a datagram of a listener, whose text is added."""
+    try:
+        view, handed, _ = receive(view, datagram)
+        said += [f"{number} {printed_message(message)}" for number, message in handed]
+    except Refused as why:
+        said.append(f"refused {why}")
+    return view
+
+
+def listen(view, heard):
+    """What is printed of datagrams, in the order in which they are taken."""
+    said = []
+    for datagram in heard:
+        view = hear(view, datagram, said)
+    line, status = last_line(view)
+    return text_of([*said, line]), status
+
+
+# loop
+
+
+def is_sent(drop, number):
+    """Whether a line that drops each so many-th packet has the packet of this number, from 1."""
+    return drop == 0 or number % drop != 0
+
+
+def loop(session, limits, window, burst, drops, turns, some_bytes):
+    """Over ports that lose nothing. The limits are of publisher and server, the drops of A and B."""
+    limit, server_limit = limits
+    messages, refusal = messages_of(limit, lines_of(some_bytes))
+    packets = packing(limit, session, 1, messages)
+    view, said = fresh(session, 1, window), []
+    for number, packet in enumerate(packets[:-1] if refusal else packets, 1):
+        for drop in drops:
+            if is_sent(drop, number):
+                view = hear(view, spelling(packet), said)
+    if refusal:
+        return text_of([*said, refusal]), 2
+    for _ in drops:
+        view = hear(view, spelling(Packet("end", session, len(messages) + 1)), said)
+    for _ in range(turns):
+        if view.wanted() is None:
+            break
+        for packet in answer(session, messages, server_limit, burst, view.wanted().spelling()):
+            view = hear(view, spelling(packet), said)
+    line, status = last_line(view)
+    return text_of([*said, line]), status
+
+
+# sim
+
+
+@dataclass
+class World:
+    session: bytes
+    limit: int
+    server_limit: int
+    burst: int
+    window: int
+    views: list
+    books: list
+    messages: list = field(default_factory=list)
+    is_closed: bool = False
+    # How many messages were put in a datagram.
+    sent_messages: int = 0
+    sent: list = field(default_factory=list)
+
+    def send(self, packets):
+        first = len(self.sent)
+        self.sent += [spelling(it) for it in packets]
+        return f"sent {first}" + (f" to {len(self.sent) - 1}" if len(packets) > 1 else "")
+
+    def view(self, r):
+        if r >= len(self.views):
+            raise Refused("NoReceiver")
+        return self.views[r]
+
+    def publish(self, message):
+        if self.is_closed:
+            raise Refused("Closed")
+        if len(message) > self.limit - 22:
+            raise Refused(f"TooLong {len(message)}")
+        self.messages.append(message)
+        return f"published {len(self.messages)}"
+
+    def datagram(self):
+        unsent = self.messages[self.sent_messages :]
+        if not unsent:
+            return "nothing"
+        packets = packing(self.limit, self.session, self.sent_messages + 1, unsent, 1)
+        self.sent_messages += len(packets[0].messages)
+        return self.send(packets)
+
+    def heartbeat(self):
+        if self.is_closed:
+            return "nothing"
+        return self.send([Packet("heartbeat", self.session, self.sent_messages + 1)])
+
+    def close(self):
+        if self.sent_messages < len(self.messages):
+            raise Refused(f"Unsent {len(self.messages) - self.sent_messages}")
+        self.is_closed = True
+        return "closed"
+
+    def end(self):
+        if not self.is_closed:
+            return "nothing"
+        return self.send([Packet("end", self.session, len(self.messages) + 1)])
+
+    def request(self, asked):
+        return self.send(answer(self.session, self.messages, self.server_limit, self.burst, asked))
+
+    def ask(self, r):
+        wanted = self.view(r).wanted()
+        return "nothing" if wanted is None else self.request(wanted.spelling())
+
+    def deliver(self, r, _, place):
+        view = self.view(r)
+        if place >= len(self.sent):
+            raise Refused("NoSuchDatagram")
+        self.views[r], handed, counts = receive(view, self.sent[place])
+        self.books[r] += [message for _, message in handed]
+        return "delivered {} {} {}".format(*counts)
+
+    def noise(self, r, _, some_bytes):
+        view = self.view(r)
+        try:
+            receive(view, some_bytes)
+        except Refused as why:
+            if str(why).startswith(("Malformed", "WrongSession")):
+                return f"noise {why}"
+        raise Refused("NotNoise")
+
+    def restart(self, r, first):
+        view = self.view(r)
+        if not 1 <= first <= view.next:
+            raise Refused(f"NotReached {view.next}")
+        self.views[r] = fresh(self.session, first, self.window)
+        del self.books[r][first - 1 :]
+        return f"restarted {first}"
+
+
+def make_world(session, limits, window, receivers, burst):
+    views = [fresh(session, 1, window) for _ in range(receivers)]
+    return World(session, *limits, burst, window, views, [[] for _ in views])
+
+
+def read_number(word):
+    if re.fullmatch(rb"[0-9]{1,20}", word) and int(word) <= GREATEST:
+        return int(word)
+    raise Refused("Syntax")
+
+
+def read_bytes(word):
+    if word == b"-":
+        return b""
+    try:
+        return bytes_of(word or b"x")
+    except Refused:
+        raise Refused("Syntax") from None
+
+
+def read_way(word):
+    if word in (b"a", b"b", b"answer"):
+        return word
+    raise Refused("Syntax")
+
+
+EVENTS = {
+    b"publish": (World.publish, read_bytes),
+    b"datagram": (World.datagram,),
+    b"heartbeat": (World.heartbeat,),
+    b"close": (World.close,),
+    b"end": (World.end,),
+    b"request": (World.request, read_bytes),
+    b"ask": (World.ask, read_number),
+    b"deliver": (World.deliver, read_number, read_way, read_number),
+    b"noise": (World.noise, read_number, read_way, read_bytes),
+    b"restart": (World.restart, read_number, read_number),
+}
+
+
+def run_line(world, line):
+    """What is printed of a line of a script, which is run."""
+    name, *words = line.split(b" ")
+    call, *readers = EVENTS.get(name, (None,))
+    if call is None or len(words) != len(readers):
+        raise Refused("Syntax")
+    return call(world, *[read(word) for read, word in zip(readers, words)])
+
+
+def line_of_receiver(r, view, book):
+    state = "finished" if view.is_finished() else "open"
+    return f"receiver {r} next {view.next} known {view.known} book {len(book)} {state}"
+
+
+def sim(session, limits, window, receivers, burst, some_bytes):
+    """The limits are of publisher and server."""
+    world = make_world(session, limits, window, receivers, burst)
+    said, status = [], 0
+    for line in filter(None, lines_of(some_bytes)):
+        try:
+            said.append(run_line(world, line))
+        except Refused as why:
+            said.append(f"refused {why}")
+            status = 2
+    said += [line_of_receiver(r, *them) for r, them in enumerate(zip(world.views, world.books))]
+    return text_of(said), status
+
+
+# check
+
+
+@dataclass
+class Capture:
+    """What accepted datagrams tell of their session."""
+
+    session: bytes = None
+    known: int = 1
+    end: int = None
+    carried: dict = field(default_factory=dict)
+
+    def add(self, datagram):
+        packet = malformed(datagram)
+        # The reasons are a receiver's, and each number carried before is as one that is stored above `next`.
+        session = packet.session if self.session is None else self.session
+        need_taken(View(session, 1, self.known, 1, self.end, self.carried), packet)
+        self.session = session
+        self.known = max(self.known, packet.top())
+        self.end = packet.sequence if packet.kind == "end" else self.end
+        self.carried |= packet.carried()
+
+    def missing(self):
+        """The longest ranges of numbers below the greatest top that nothing carries."""
+        marks = [0, *sorted(self.carried), self.known]
+        return [(a + 1, b - 1) for a, b in zip(marks, marks[1:]) if a + 1 < b]
+
+
+def check(entries):
+    """The entries of a folder: names and bytes, none of these where an entry is no file that is read."""
+    captured = sorted((name.encode(), some_bytes) for name, some_bytes in entries if name.endswith(".pkt"))
+    said, capture = [f"files {len(captured)} skipped {len(entries) - len(captured)}"], Capture()
+    for name, datagram in captured:
+        try:
+            capture.add(datagram)
+        except Refused as why:
+            return text_of([*said, f"refused {name.decode()} {why}"]), 2
+    missing = capture.missing()
+    if capture.end is not None and not missing:
+        return text_of([*said, f"whole {capture.end - 1}"]), 0
+    said.append(f"incomplete end {'none' if capture.end is None else capture.end}")
+    return text_of(said + [f"missing {first} {last}" for first, last in missing]), 1
