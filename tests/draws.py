@@ -1,0 +1,349 @@
+"""Inputs for `mold`, drawn from a seed, for tests/long-run: numbers at their edges, packets and files that are cut and
+changed, scripts whose events mostly make sense."""
+from dataclasses import dataclass
+
+import apart
+
+EDGES = [0, 1, 2, 3, 4, 63, 64, 65534, 65535, 65536, (1 << 32) - 1, 1 << 32, (1 << 63) - 1, 1 << 63]
+EDGES += [apart.GREATEST - it for it in range(4)]
+COUNTS = [0, 1, 2, 3, 255, 256, 32743, 65533, 65534, 65535]
+LIMITS = [64, 65, 66, 85, 100, 1400, 65507]
+WINDOWS = [1, 2, 3, 4, 5, 8, 64, 1024, 65535, 65536]
+BURSTS = [1, 2, 3, 63, 64]
+NAME = "SESSION001"
+# How many numbers a listener is brought over to its end.
+FARTHEST = 200
+# Lines of a script that are no event, or one that is refused.
+NO_EVENTS = [b"", b"publish", b"publish 4", b"publish  ", b"publish", b"request 0g", b"restart 0 +1", b"\xc3\xa9"]
+NO_EVENTS += [b"ask -1", b"ask 18446744073709551615", b"ask 18446744073709551616", b"deliver 0 c 0", b"deliver 0 A 0"]
+DEFAULTS = {"limit": 1400, "server-limit": 1400, "window": 1024, "receivers": 2, "burst": 1, "next": 1}
+DEFAULTS |= {"beats": 1, "ends": 1, "drop-a": 0, "drop-b": 0, "turns": 1000}
+
+
+@dataclass
+class Case:
+    """A call: its options by name, and the items of its input, each a tuple whose last part is bytes."""
+
+    options: dict
+    items: list
+    # The words of the options.
+    words: list
+
+    def lines(self):
+        """The input of lines, which may end without 0A."""
+        return b"\n".join(it[-1] for it in self.items) + (b"\n" if self.options.get("is_ended", True) else b"")
+
+
+def has(chance, likelihood):
+    return chance.random() < likelihood
+
+
+def number(chance):
+    return chance.choice([chance.choice(EDGES), chance.randint(0, 9), chance.getrandbits(64)])
+
+
+def session_text(chance):
+    if has(chance, 0.7):
+        return NAME
+    return "".join(chr(chance.randint(0x20, 0x7E)) for _ in range(chance.randint(1, 10)))
+
+
+def some_session(chance):
+    return chance.choice([NAME.encode(), NAME.encode(), b"SESSION002", chance.randbytes(10)])
+
+
+def message(chance, longest=42):
+    size = chance.choice([0, 1, 2, 20, chance.randint(0, 8), chance.randint(0, 42), longest - 1, longest])
+    size = min(size, longest)
+    return bytes([chance.randrange(256)]) * size if has(chance, 0.5) else chance.randbytes(size)
+
+
+def digits(chance, some_bytes):
+    text = some_bytes.hex()
+    if has(chance, 0.8):
+        return text.encode()
+    return "".join(chance.choice([it, it.upper()]) for it in text).encode()
+
+
+def damaged(chance, some_bytes):
+    """The bytes cut, with others behind, or with one or two changed."""
+    way = chance.randrange(4)
+    if way == 0:
+        return some_bytes[: chance.randint(0, len(some_bytes))]
+    if way == 1:
+        return some_bytes + chance.randbytes(chance.choice([1, 1, 2, 20]))
+    for _ in range(way - 1):
+        at = chance.randrange(len(some_bytes) or 1)
+        value = chance.choice([0, 1, 254, 255, chance.randrange(256)])
+        some_bytes = some_bytes[:at] + bytes([value]) + some_bytes[at + 1 :]
+    return some_bytes
+
+
+def packet(chance, session, sequence):
+    kind = chance.choice(["heartbeat", "data", "data", "data", "end"])
+    messages = [message(chance) for _ in range(chance.choice([1, 1, 2, 3, 9]))] if kind == "data" else []
+    return apart.Packet(kind, session, sequence, tuple(messages))
+
+
+def great_datagram(chance):
+    """One of those that no network carries."""
+    messages = chance.choice([65534 * [b""], [bytes(65535)], 3 * [bytes(65534), b"A"], 65533 * [b""]])
+    return apart.spelling(apart.Packet("data", NAME.encode(), number(chance), tuple(messages)))
+
+
+def datagram(chance):
+    if has(chance, 0.002):
+        return great_datagram(chance)
+    drawn = apart.spelling(packet(chance, some_session(chance), number(chance)))
+    if has(chance, 0.2):
+        drawn = drawn[:18] + chance.choice(COUNTS).to_bytes(2, "big") + drawn[20:]
+    return damaged(chance, drawn) if has(chance, 0.4) else drawn
+
+
+def request(chance, session, behind):
+    """The bytes of a request to a journal whose next message has the number `behind`."""
+    sequence = chance.choice([0, 1, behind - 1, behind, number(chance), chance.randint(1, behind)])
+    asked = apart.Request(session, max(sequence, 0), chance.choice(COUNTS + [1, 2, 3, 4, 5])).spelling()
+    return damaged(chance, asked) if has(chance, 0.15) else asked
+
+
+def spoiled_line(chance, line):
+    """The line with what no line of digits has, and no 0A."""
+    strange = bytes([chance.choice([it for it in range(256) if it != 10])])
+    at = chance.randint(0, len(line))
+    within = line[:at] + strange + line[at:]
+    return chance.choice([line + b"0", line[1:], within, line + b"\r", b" " + line, b"-", b"\xff", b"0x" + line])
+
+
+def option_words(chance, options):
+    """Words that say the options, in any order, joined or not; one that has its default value may be left out."""
+    words = []
+    for name in chance.sample(sorted(options), len(options)):
+        value = options[name]
+        if value == DEFAULTS.get(name) and has(chance, 0.5):
+            continue
+        text = str(value)
+        if isinstance(value, int) and has(chance, 0.2):
+            text = text.zfill(chance.randint(1, 20))
+        joined = text.startswith("-") or has(chance, 0.3)
+        words += [f"--{name}={text}"] if joined else [f"--{name}", text]
+    return words
+
+
+def case_of(chance, options, items, **others):
+    others |= {"is_ended": has(chance, 0.8)}
+    return Case(options | others, items, option_words(chance, options))
+
+
+def show(chance):
+    is_request = has(chance, 0.3)
+    items = []
+    for _ in range(chance.choice([1, 1, 3, 20, 60])):
+        is_whole = is_request and has(chance, 0.7)
+        drawn = request(chance, some_session(chance), 9) if is_whole else datagram(chance)
+        line = digits(chance, drawn)
+        items.append((spoiled_line(chance, line) if has(chance, 0.1) else b"" if has(chance, 0.03) else line,))
+    case = case_of(chance, {}, items, is_request=is_request)
+    case.words = ["--request"] if is_request else []
+    return case
+
+
+def some_lines(chance, limit, most):
+    """Lines of messages, of which one may be refused."""
+    longest = min(limit - 22, 1378 if has(chance, 0.99) else 65485)
+    lines = [digits(chance, message(chance, longest)) for _ in range(chance.randint(0, most))]
+    if lines and has(chance, 0.25):
+        at = chance.randrange(len(lines))
+        too_long = digits(chance, bytes(chance.choice([limit - 21, limit - 20, 65536, 2 * limit])))
+        lines[at] = chance.choice([spoiled_line(chance, lines[at]), too_long])
+    return [(it,) for it in lines]
+
+
+def pack(chance):
+    options = {"session": session_text(chance), "limit": chance.choice(LIMITS + [chance.randint(64, 300)])}
+    if has(chance, 0.003):
+        # About as many messages as fit the greatest packet.
+        options["limit"], items = 65507, [(b"",)] * chance.randint(32741, 32746)
+    else:
+        items = some_lines(chance, options["limit"], chance.choice([3, 12, 60]))
+    return case_of(chance, options, items)
+
+
+def publish(chance):
+    options = {"session": session_text(chance), "limit": chance.choice([64, 65, 100, 1400])}
+    options |= {name: chance.choice([0, 1, 2, 9]) for name in ("beats", "ends")}
+    return case_of(chance, options, some_lines(chance, options["limit"], chance.choice([3, 12, 40])))
+
+
+def loop(chance):
+    options = {"session": session_text(chance), "limit": chance.choice([64, 65, 85, 100, 1400])}
+    options["server-limit"] = chance.choice([it for it in LIMITS if it >= options["limit"]])
+    options |= {"window": chance.choice(WINDOWS), "burst": chance.choice(BURSTS)}
+    options |= {name: chance.choice([0, 1, 2, 2, 3, 1000]) for name in ("drop-a", "drop-b")}
+    options["turns"] = chance.choice([1, 2, 1000, 1000])
+    return case_of(chance, options, some_lines(chance, options["limit"], chance.choice([3, 12, 40])))
+
+
+def numbered(chance, value):
+    """A number as a script may have it."""
+    return str(value).zfill(chance.choice([1, 1, 1, 2, 20])).encode()
+
+
+def bytes_word(chance, some_bytes):
+    return digits(chance, some_bytes) or b"-"
+
+
+def way(chance):
+    return chance.choice([b"a", b"b", b"answer"])
+
+
+def script_line(chance, world):
+    """An event's line, which mostly is one that the world can run."""
+    r = numbered(chance, number(chance) if has(chance, 0.02) else chance.randrange(len(world.views)))
+    name = chance.choice(
+        ["publish"] * 5 + ["datagram"] * 3 + ["deliver"] * 9 + ["ask", "ask", "request", "heartbeat", "end", "noise"]
+        + (["restart", "close"] if has(chance, 0.3) else [])
+    )
+    if name == "publish":
+        longest = world.limit - 22 + (1 if has(chance, 0.03) else 0)
+        words = [bytes_word(chance, message(chance, longest))]
+    elif name == "ask":
+        words = [r]
+    elif name == "request":
+        words = [bytes_word(chance, request(chance, world.session, len(world.messages) + 1))]
+    elif name == "deliver":
+        place = chance.randrange(len(world.sent) + (1 if has(chance, 0.05) else 0) or 1)
+        words = [r, way(chance), numbered(chance, number(chance) if has(chance, 0.03) else place)]
+    elif name == "noise":
+        words = [r, way(chance), bytes_word(chance, noise(chance, world))]
+    elif name == "restart":
+        first = chance.randint(0, len(world.messages) + 1)
+        words = [r, numbered(chance, number(chance) if has(chance, 0.2) else first)]
+    else:
+        words = []
+    return b" ".join([name.encode(), *words])
+
+
+def noise(chance, world):
+    if world.sent and has(chance, 0.5):
+        return damaged(chance, chance.choice(world.sent))
+    return datagram(chance)
+
+
+def other_line(chance, line):
+    """What is no event, or hardly one."""
+    changed = [line + b" ", b" " + line, line + b"\r", line + b" 0", line[:-1], line.upper()]
+    changed += [line.replace(b" ", b"  ", 1), line.replace(b" ", b"\t", 1), line.replace(b"0", b"0" * 21, 1)]
+    return chance.choice(changed + NO_EVENTS)
+
+
+def sim(chance):
+    options = {"session": session_text(chance), "limit": chance.choice([64, 64, 65, 85, 100, 1400])}
+    options["server-limit"] = chance.choice([it for it in LIMITS if it >= options["limit"]])
+    options |= {"window": chance.choice(WINDOWS), "burst": chance.choice(BURSTS)}
+    options["receivers"] = chance.choice([1, 1, 2, 3, 8])
+    limits = options["limit"], options["server-limit"]
+    numbers = options["window"], options["receivers"], options["burst"]
+    world = apart.make_world(apart.padded(options["session"]), limits, *numbers)
+    items = []
+    for _ in range(chance.choice([5, 30, 120])):
+        line = script_line(chance, world)
+        if has(chance, 0.05):
+            line = other_line(chance, line)
+        items.append((line,))
+        try:
+            apart.run_line(world, line)
+        except apart.Refused:
+            pass
+    return case_of(chance, options, items)
+
+
+def captured(chance, session, messages):
+    """A datagram of a session of these messages, or one that it can't have."""
+    behind = len(messages) + 1
+    first = chance.randint(1, behind)
+    carried = messages[first - 1 : first - 1 + chance.choice([1, 2, 5, 99])]
+    if has(chance, 0.15):
+        drawn = apart.spelling(packet(chance, session, chance.choice([first, behind, number(chance)])))
+        return damaged(chance, drawn) if has(chance, 0.3) else drawn
+    if has(chance, 0.02):
+        return datagram(chance)
+    if carried and has(chance, 0.8):
+        return apart.spelling(apart.Packet("data", session, first, tuple(carried)))
+    return apart.spelling(apart.Packet("heartbeat", session, first))
+
+
+def entry_name(chance):
+    stem = "".join(chance.choice("abAB.é 01-_\u20ac\U0001f600") for _ in range(chance.randint(0, 6)))
+    return stem + chance.choice([".pkt"] * 12 + [".PKT", ".pkt ", "pkt", ".pkt.txt", ""])
+
+
+def check(chance):
+    session = chance.choice([NAME.encode(), chance.randbytes(10)])
+    messages = [message(chance) for _ in range(chance.choice([0, 1, 3, 12]))]
+    datagrams = [captured(chance, session, messages) for _ in range(chance.choice([0, 1, 3, 8]))]
+    if has(chance, 0.6):
+        datagrams.append(apart.spelling(apart.Packet("end", session, len(messages) + 1)))
+    if messages and has(chance, 0.5):
+        datagrams += [apart.spelling(it) for it in apart.packing(chance.choice([64, 100, 1400]), session, 1, messages)]
+    entries = {entry_name(chance).encode(): it for it in datagrams}
+    entries = {name: it for name, it in entries.items() if name not in (b"", b".", b"..")}
+    return Case({"folders": ["sub"] if has(chance, 0.1) else []}, list(entries.items()), [])
+
+
+def file(chance):
+    """A journal's file, mostly whole."""
+    longest = chance.choice([42, 42, 43, 60])
+    messages = [message(chance, longest) for _ in range(chance.choice([0, 1, 2, 9, 9, 400]))]
+    if has(chance, 0.02):
+        messages.append(bytes(chance.choice([4096, 65534, 65535])))
+    session = chance.choice([NAME.encode(), chance.randbytes(10)])
+    if has(chance, 0.4):
+        drawn = apart.old_journal_file(session, messages)
+    else:
+        drawn = apart.journal_file(session, messages, has(chance, 0.5))
+        if has(chance, 0.1):
+            drawn = drawn[:19] + number(chance).to_bytes(8, "big") + drawn[27:]
+        if has(chance, 0.03):
+            drawn = drawn[:18] + chance.randbytes(1) + drawn[19:]
+    return damaged(chance, drawn) if has(chance, 0.5) else drawn
+
+
+def upgrade(chance):
+    others = {"close": has(chance, 0.5), "former": chance.choice([None, b"", b"what was there before"])}
+    return Case(others, [(file(chance),)], ["--close"] if others["close"] else [])
+
+
+def serve(chance):
+    options = {"limit": chance.choice([64, 65, 100, 1400, 65507]), "burst": chance.choice(BURSTS)}
+    drawn = file(chance)
+    while len(drawn) > 3000:
+        drawn = file(chance)
+    sessions, behind = [drawn[8:18]] * 9 + [NAME.encode()], chance.choice([1, 2, 3, 10])
+    requests = [(request(chance, chance.choice(sessions), behind),) for _ in range(chance.randint(1, 8))]
+    return case_of(chance, options, requests, file=drawn)
+
+
+def told(view, way, datagram):
+    """The view of a listener that is told a datagram; none where it isn't: behind its end, an answer where it doesn't
+    ask, or one of numbers so far off that it couldn't be brought to its end."""
+    now = apart.hear(view, datagram, [])
+    is_heard = not view.is_finished() and (way != b"answer" or view.wanted())
+    return now if is_heard and now.known <= now.next + FARTHEST else None
+
+
+def listen(chance):
+    """Datagrams on two lines and as answers, some of which no publisher sends."""
+    options = {"session": session_text(chance), "next": chance.choice([1, 1, 1, 2, 65534, (1 << 63) - 1])}
+    options |= {"window": chance.choice(WINDOWS), "burst": chance.choice(BURSTS)}
+    session = apart.padded(options["session"])
+    view, items = apart.fresh(session, options["next"], options["window"]), []
+    for _ in range(chance.choice([1, 4, 12])):
+        sequence = chance.choice([view.next, view.next, view.known]) + chance.choice([-2, -1, 0, 0, 0, 1, 2, 3, 60])
+        if has(chance, 0.05) or not 0 <= sequence <= apart.GREATEST:
+            sequence = chance.choice([0, apart.GREATEST])
+        drawn = apart.spelling(packet(chance, session if has(chance, 0.95) else some_session(chance), sequence))
+        drawn = damaged(chance, drawn) if has(chance, 0.1) else drawn
+        items.append((chance.choice([b"a", b"a", b"b", b"b", b"answer"]), drawn))
+        view = told(view, *items[-1]) or view
+    return case_of(chance, options, items)
