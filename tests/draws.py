@@ -12,7 +12,8 @@ WINDOWS = [1, 2, 3, 4, 5, 8, 64, 1024, 65535, 65536]
 BURSTS = [1, 2, 3, 63, 64]
 NAME = "SESSION001"
 # How many numbers a listener is brought over to its end.
-FARTHEST = 200
+FARTHEST = 70000
+FAR = [1023, 1024, 65533, 65534, 65535, 65536, 65537]
 # Lines of a script that are no event, or one that is refused.
 NO_EVENTS = [b"", b"publish", b"publish 4", b"publish  ", b"publish", b"request 0g", b"restart 0 +1", b"\xc3\xa9"]
 NO_EVENTS += [b"ask -1", b"ask 18446744073709551615", b"ask 18446744073709551616", b"deliver 0 c 0", b"deliver 0 A 0"]
@@ -237,7 +238,18 @@ def other_line(chance, line):
     return chance.choice(changed + NO_EVENTS)
 
 
+def great_script(chance):
+    """So many messages that a receiver can't ask for all of them at once, and that it does."""
+    events = ["publish -"] * chance.randint(65533, 65537) + ["datagram"] * 3 + ["heartbeat", "deliver 0 a 3", "ask 0"]
+    events += ["deliver 0 answer 6", "ask 0", "deliver 0 answer 4", "ask 0", "deliver 0 b 1", "deliver 0 b 2"]
+    return [(it.encode(),) for it in events]
+
+
 def sim(chance):
+    if has(chance, 0.002):
+        options = {"session": NAME, "limit": 65507, "server-limit": 65507, "burst": chance.choice([1, 2, 3, 64])}
+        options |= {"window": chance.choice([32743, 32744, 65535, 65536]), "receivers": 1}
+        return case_of(chance, options, great_script(chance))
     options = {"session": session_text(chance), "limit": chance.choice([64, 64, 65, 85, 100, 1400])}
     options["server-limit"] = chance.choice([it for it in LIMITS if it >= options["limit"]])
     options |= {"window": chance.choice(WINDOWS), "burst": chance.choice(BURSTS)}
@@ -264,10 +276,13 @@ def captured(chance, session, messages):
     first = chance.randint(1, behind)
     carried = messages[first - 1 : first - 1 + chance.choice([1, 2, 5, 99])]
     if has(chance, 0.15):
-        drawn = apart.spelling(packet(chance, session, chance.choice([first, behind, number(chance)])))
+        sequence = chance.choice([first, behind, number(chance), apart.GREATEST - chance.randrange(3)])
+        drawn = apart.spelling(packet(chance, session, sequence))
         return damaged(chance, drawn) if has(chance, 0.3) else drawn
     if has(chance, 0.02):
         return datagram(chance)
+    if has(chance, 0.08):
+        carried = [chance.choice([it, b"another"]) for it in carried]
     if carried and has(chance, 0.8):
         return apart.spelling(apart.Packet("data", session, first, tuple(carried)))
     return apart.spelling(apart.Packet("heartbeat", session, first))
@@ -339,7 +354,8 @@ def listen(chance):
     session = apart.padded(options["session"])
     view, items = apart.fresh(session, options["next"], options["window"]), []
     for _ in range(chance.choice([1, 4, 12])):
-        sequence = chance.choice([view.next, view.next, view.known]) + chance.choice([-2, -1, 0, 0, 0, 1, 2, 3, 60])
+        sequence = chance.choice([view.next, view.next, view.known])
+        sequence += chance.choice(FAR) if has(chance, 0.01) else chance.choice([-2, -1, 0, 0, 0, 1, 2, 3, 60])
         if has(chance, 0.05) or not 0 <= sequence <= apart.GREATEST:
             sequence = chance.choice([0, apart.GREATEST])
         drawn = apart.spelling(packet(chance, session if has(chance, 0.95) else some_session(chance), sequence))

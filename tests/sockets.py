@@ -15,6 +15,8 @@ PAUSE = 0.0002
 LIES = 0.002
 # Seconds that something may take.
 PATIENCE = 20
+# How many messages of a byte fit a datagram.
+MOST_TOLD = 21000
 
 
 def own_host():
@@ -172,8 +174,8 @@ class Listening:
     def bring_to_end(self):
         """Tells what is missing, and the end."""
         while self.view.wanted():
-            first, count = self.view.next, self.view.wanted().count
-            messages = tuple(b"%d" % it for it in range(first, first + count))
+            first, count = self.view.next, min(self.view.wanted().count, MOST_TOLD)
+            messages = tuple(b"%d" % (it % 10) for it in range(first, first + count))
             self.tell(b"a", apart.spelling(apart.Packet("data", self.view.session, first, messages)))
         if not self.view.is_finished():
             self.tell(b"b", apart.spelling(apart.Packet("end", self.view.session, self.view.known)))
