@@ -10,8 +10,8 @@ from dataclasses import dataclass, field
 TOP = os.path.dirname(os.path.dirname(os.path.realpath(__file__)))
 # What the launcher `mold` has built. It isn't called itself, as each of its calls looks at all sources.
 PROGRAM = os.path.join(TOP, "out", "mold")
-# Seconds that a call may take.
-PATIENCE = 120
+# Seconds after which a program is killed that doesn't end.
+PATIENCE = 60
 OWN = threading.local()
 
 
@@ -43,25 +43,25 @@ def filled(file, some_bytes):
 
 @contextmanager
 def running(words, some_bytes=b"", environment=None):
-    """A program over the files of this thread, which has one at a time. It doesn't outlive what is done with it."""
+    """A program over the files of this thread, which has one at a time. It outlives neither what is done with it nor the
+    patience with it."""
     given, told, complained = streams()
     for file, content in zip(streams(), (some_bytes, b"", b"")):
         filled(file, content)
     process = subprocess.Popen(words, stdin=given, stdout=told, stderr=complained, env=environment)
+    watch = threading.Timer(PATIENCE, process.kill)
+    watch.start()
     try:
         yield process
     finally:
+        watch.cancel()
         process.kill()
         process.wait()
 
 
-def finish(process, patience=PATIENCE):
-    """The outcome of the program that this thread has started. One that doesn't end is killed, as its status says."""
-    try:
-        status = process.wait(patience)
-    except subprocess.TimeoutExpired:
-        process.kill()
-        status = process.wait()
+def finish(process):
+    """The outcome of the program that this thread has started, once it has ended."""
+    status = process.wait()
     return Outcome(status if status >= 0 else 128 - status, *[read_all(it) for it in streams()[1:]])
 
 
@@ -102,6 +102,15 @@ def put_folder(path, entries):
             os.mkdir(os.path.join(path, name))
         else:
             put(os.path.join(path, name), some_bytes)
+
+
+def parsed(parser):
+    """The words of a script, whose option --mold names a program that is there."""
+    parser.add_argument("--mold", default=PROGRAM, metavar="PROGRAM")
+    order = parser.parse_args()
+    if not os.access(order.mold, os.X_OK):
+        parser.error(f"there is no program {order.mold}")
+    return order
 
 
 def processors():

@@ -193,4 +193,4 @@ def tell_listener(words, view, items, own):
                 if draws.told(listening.view, way, datagram):
                     listening.tell(way, datagram)
             listening.bring_to_end()
-        return calls.finish(process, PATIENCE), listening
+        return calls.finish(process), listening
