@@ -43,8 +43,8 @@ def filled(file, some_bytes):
 
 @contextmanager
 def running(words, some_bytes=b"", environment=None):
-    """A program over the files of this thread, which has one at a time. It outlives neither what is done with it nor the
-    patience with it."""
+    """A program over the files of this thread, which has one at a time. It outlives neither what is done with it nor
+    the patience with it."""
     given, told, complained = streams()
     for file, content in zip(streams(), (some_bytes, b"", b"")):
         filled(file, content)
