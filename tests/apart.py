@@ -132,6 +132,60 @@ def padded(session):
     return session.encode().ljust(10)
 
 
+# Words.
+
+LIMIT, NAME, ADDRESS = (64, 65507), "name", "address"
+# Each option's range, or what its value is.
+VALUES = {"session": "session", "limit": LIMIT, "server-limit": LIMIT, "window": (1, 65536), "receivers": (1, 8)}
+VALUES |= {"next": (1, (1 << 63) - 1), "turns": (1, 1000000), "beats": (0, 1000), "ends": (0, 1000), "burst": (1, 64)}
+VALUES |= {"drop-a": (0, 1000), "drop-b": (0, 1000), "a": ADDRESS, "b": ADDRESS, "server": ADDRESS, "bind": ADDRESS}
+VALUES |= {"journal": NAME, "to": NAME}
+DEFAULTS = {"limit": 1400, "server-limit": 1400, "window": 1024, "receivers": 2, "burst": 1, "next": 1, "turns": 1000}
+DEFAULTS |= {"beats": 1, "ends": 1, "drop-a": 0, "drop-b": 0}
+# The options of each command that has values; those without a default have to be there.
+COMMANDS = {
+    "pack": "session limit",
+    "sim": "session limit server-limit window receivers burst",
+    "publish": "session limit a b journal beats ends",
+    "serve": "journal limit burst bind turns",
+    "listen": "session next window a b server burst turns",
+    "loop": "session limit server-limit window burst drop-a drop-b turns",
+    "upgrade": "journal to",
+}
+
+
+def is_address(text):
+    """Whether a text is four numbers up to 255 and a port, without zeros before them."""
+    number = "(0|[1-9][0-9]*)"
+    found = re.fullmatch(rf"{number}\.{number}\.{number}\.{number}:{number}", text)
+    return found is not None and all(int(it) <= 255 for it in found.groups()[:4]) and int(found[5]) <= 65535
+
+
+def is_value(name, text):
+    """Whether a text is a value of an option."""
+    kind = VALUES[name]
+    if kind == "session":
+        return re.fullmatch(r"[\x20-\x7e]{1,10}", text) is not None
+    if isinstance(kind, tuple):
+        return re.fullmatch(r"[0-9]{1,20}", text) is not None and kind[0] <= int(text) <= kind[1]
+    return kind == NAME or is_address(text)
+
+
+def word_of_fault(command, values):
+    """The word behind `fault` where the texts of options are no order, else none. They are told by their names, and a
+    name that the command doesn't have is a usage fault."""
+    names = COMMANDS[command].split()
+    if set(values) - set(names) or set(names) - set(values) - set(DEFAULTS):
+        return "Usage"
+    bad = [name for name, text in values.items() if not is_value(name, text)]
+    if any(VALUES[name] == ADDRESS for name in bad):
+        return "Address"
+    numbers = DEFAULTS | {name: int(text) for name, text in values.items() if name in DEFAULTS and name not in bad}
+    is_below = "server-limit" in names and numbers["server-limit"] < numbers["limit"]
+    is_same = command == "upgrade" and values["journal"] == values["to"]
+    return "Usage" if bad or is_below or is_same else None
+
+
 # show
 
 

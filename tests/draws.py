@@ -17,8 +17,17 @@ FAR = [1023, 1024, 65533, 65534, 65535, 65536, 65537]
 # Lines of a script that are no event, or one that is refused.
 NO_EVENTS = [b"", b"publish", b"publish 4", b"publish  ", b"publish", b"request 0g", b"restart 0 +1", b"\xc3\xa9"]
 NO_EVENTS += [b"ask -1", b"ask 18446744073709551615", b"ask 18446744073709551616", b"deliver 0 c 0", b"deliver 0 A 0"]
-DEFAULTS = {"limit": 1400, "server-limit": 1400, "window": 1024, "receivers": 2, "burst": 1, "next": 1}
-DEFAULTS |= {"beats": 1, "ends": 1, "drop-a": 0, "drop-b": 0, "turns": 1000}
+# Texts that are values of an option, or nearly.
+SESSIONS = [NAME, "A", " ", "~", "a=b", "-x", "--to", "ten bytes.", "", "SESSION0012", "é", "a\x1fb", "a\x7f", "a\tb"]
+# The first is of no machine, so that nobody binds it.
+ADDRESSES = ["192.0.2.1:9", "127.0.0.1:9", "0.0.0.0:0", "255.255.255.255:65535", "1.2.3.4:5", "", "127.0.0.1", ":9"]
+ADDRESSES += ["127.0.0.1:", "nowhere:9", "127.0.0.1:09", "127.0.0.01:9", "127.0.01.1:9", "127.00.0.1:9", "0127.0.0.1:9"]
+ADDRESSES += ["256.0.0.1:9", "127.0.0.1:65536", "127.0.0.1:4294967305", "127.0.1:9", "1.2.3.4.5:6", "127..0.1:9"]
+ADDRESSES += ["127.0.0.1:9 ", " 127.0.0.1:9", "127.0.0.1:+9", "127.0.0.1:-1", "-1.0.0.1:9", "127.0.0.1:9:9", "[::1]:9"]
+ADDRESSES += ["127,0,0,1:9", "2130706433:9", "127.0.0.\uff11:9"]
+NO_NUMBERS = ["", "+64", "-1", " 64", "64 ", "0x40", "1e3", "64.0", "\uff16\uff14", "64\u0664", str((1 << 64) + 64)]
+NO_NUMBERS += [str(1 << 64)]
+NO_NUMBERS += ["9" * 20, "0" * 19 + "64", "sixty-four"]
 
 
 @dataclass
@@ -121,7 +130,7 @@ def option_words(chance, options):
     words = []
     for name in chance.sample(sorted(options), len(options)):
         value = options[name]
-        if value == DEFAULTS.get(name) and has(chance, 0.5):
+        if value == apart.DEFAULTS.get(name) and has(chance, 0.5):
             continue
         text = str(value)
         if isinstance(value, int) and has(chance, 0.2):
@@ -345,6 +354,38 @@ def told(view, way, datagram):
     now = apart.hear(view, datagram, [])
     is_heard = not view.is_finished() and (way != b"answer" or view.wanted())
     return now if is_heard and now.known <= now.next + FARTHEST else None
+
+
+def text_of_value(chance, name):
+    """A text for an option's value, which mostly is one."""
+    kind = apart.VALUES[name]
+    if kind == apart.NAME:
+        return chance.choice(["none", "nothing", "not there"])
+    texts = {"session": SESSIONS, apart.ADDRESS: ADDRESSES}.get(kind, NO_NUMBERS)
+    if has(chance, 0.1):
+        return chance.choice(texts)
+    if not isinstance(kind, tuple):
+        return texts[0]
+    least, most = kind
+    off = least - 1 if least and has(chance, 0.5) else most + 1
+    good = str(chance.choice([least, most, least + 1, most - 1, chance.randint(least, most)]))
+    return str(off) if has(chance, 0.05) else good.zfill(chance.choice([1, 1, 20]))
+
+
+def words(chance):
+    """Words of a command's options. One that has to be there may be left out, and one of another command be there."""
+    command = chance.choice(sorted(apart.COMMANDS))
+    names = [it for it in apart.COMMANDS[command].split() if it not in apart.DEFAULTS or has(chance, 0.6)]
+    if has(chance, 0.05):
+        names.remove(chance.choice(names))
+    if has(chance, 0.05):
+        names.append(chance.choice(sorted(set(apart.VALUES) - set(names))))
+    values = {name: text_of_value(chance, name) for name in chance.sample(names, len(names))}
+    drawn = []
+    for name, text in values.items():
+        joined = text[:1] in ("-", "") or has(chance, 0.4)
+        drawn += [f"--{name}={text}"] if joined else [f"--{name}", text]
+    return Case({"command": command, "values": values}, [], drawn)
 
 
 def listen(chance):
