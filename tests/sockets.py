@@ -125,7 +125,8 @@ class Listening:
     def __init__(self, process, own, view):
         self.feed = Feed(process, own)
         self.view = view
-        self.views = [view]
+        # The view at the last look.
+        self.before = view
         self.heard = []
         self.asking = None
         # What was asked that nobody wanted then.
@@ -137,8 +138,8 @@ class Listening:
 
     def look(self):
         """Takes the requests that came. Each is one that is wanted now, or was before the last datagram."""
-        wanted = [it.wanted().spelling() for it in (*self.views[-1:], self.view) if it.wanted()]
-        self.views.append(self.view)
+        wanted = [it.wanted().spelling() for it in (self.before, self.view) if it.wanted()]
+        self.before = self.view
         for asked, sender in self.feed.collect():
             self.asking = sender[1]
             if asked not in wanted:
