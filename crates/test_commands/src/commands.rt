@@ -610,7 +610,7 @@ fn expect_upgraded(
     sink.at_most(1);
     sink.fail_at(failing.tell);
     let outcome = run_upgrade(rt.alloc(), &mut source, &mut to, true, &mut sink);
-    let at = failing.read + failing.save + failing.tell;
+    let at = failing.read.max(failing.save).max(failing.tell);
     same_outcome(rt, outcome, wanted, at);
     same_bytes(rt, to.bytes(), journal, at);
     same_bytes(rt, sink.bytes(), text, at);
