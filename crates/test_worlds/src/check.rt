@@ -50,7 +50,33 @@ fn entries_of<'n, 'w>(
     Ok(made)
 }
 
-// Checks the entries, and compares what is told, and the status.
+fn same_outcome(
+    rt: &impl Abort,
+    found: Result<u8, CommandFault>,
+    wanted: Result<u8, CommandFault>,
+) {
+    assert_eq!(rt; found, wanted);
+}
+
+fn same_bytes(rt: &impl Abort, found: &[u8], wanted: &[u8]) {
+    assert_eq!(rt; found, wanted);
+}
+
+// Checks entries that are made, and compares what is told, and the status.
+fn expect_told(
+    rt: &(impl Abort + AllocGlobal),
+    entries: &[Entry],
+    text: &[u8],
+    status: u8,
+) -> Result<(), Fail> {
+    let mut sink = MemorySink::new(rt.alloc());
+    let answer = check_entries(rt.alloc(), entries, &mut sink)?;
+    same_bytes(rt, sink.bytes(), text);
+    same_outcome(rt, Ok(answer), Ok(status));
+    Ok(())
+}
+
+// Makes the entries and checks them.
 fn expect<'n, 'w>(
     rt: &(impl Abort + AllocGlobal),
     entries: &'w [(&'n str, &'static [u8])],
@@ -58,11 +84,7 @@ fn expect<'n, 'w>(
     status: u8,
 ) -> Result<(), Fail> {
     let entries = entries_of(rt.alloc(), entries)?;
-    let mut sink = MemorySink::new(rt.alloc());
-    let answer = check_entries(rt.alloc(), entries.as_slice(), &mut sink)?;
-    assert_eq!(rt; sink.bytes(), text);
-    assert_eq!(rt; answer, status);
-    Ok(())
+    expect_told(rt, entries.as_slice(), text, status)
 }
 
 #[test]
@@ -195,7 +217,27 @@ const REFUSED: &[u8] = b"files 2 skipped 1\nrefused b.pkt Conflict 2\n";
 
 const INCOMPLETE: &[u8] = b"files 2 skipped 0\nincomplete end 3\nmissing 2 2\n";
 
-// Each write fails in turn; what was written before stays.
+// The write of this number, of one byte, fails; what was written before stays.
+fn expect_write_fault(
+    rt: &(impl Abort + AllocGlobal),
+    entries: &[Entry],
+    text: &[u8],
+    call: usize,
+) {
+    let mut sink = MemorySink::new(rt.alloc());
+    sink.at_most(1);
+    sink.fail_at(call as u64);
+    let answer = check_entries(rt.alloc(), entries, &mut sink);
+    same_outcome(rt, answer, Err(CommandFault::Write));
+    same_bytes(
+        rt,
+        sink.bytes(),
+        text.get(..call.saturating_sub(1)).unwrap_or(text),
+    );
+    assert!(rt; sink.failures() == 1);
+}
+
+// Each write fails in turn.
 fn expect_write_faults<'n, 'w>(
     rt: &(impl Abort + AllocGlobal),
     entries: &'w [(&'n str, &'static [u8])],
@@ -203,13 +245,7 @@ fn expect_write_faults<'n, 'w>(
 ) -> Result<(), Fail> {
     let entries = entries_of(rt.alloc(), entries)?;
     for call in 1..=text.len() {
-        let mut sink = MemorySink::new(rt.alloc());
-        sink.at_most(1);
-        sink.fail_at(call as u64);
-        let answer = check_entries(rt.alloc(), entries.as_slice(), &mut sink);
-        assert_eq!(rt; answer, Err(CommandFault::Write), "write {call}");
-        assert_eq!(rt; Some(sink.bytes()), text.get(..call - 1), "write {call}");
-        assert_eq!(rt; sink.failures(), 1);
+        expect_write_fault(rt, entries.as_slice(), text, call);
     }
     Ok(())
 }
@@ -221,7 +257,30 @@ fn each_write_that_fails_leaves_a_beginning(rt: HostRuntime) -> Result<(), Fail>
     expect_write_faults(&rt, &[("a.pkt", ONE), ("b.pkt", END_3)], INCOMPLETE)
 }
 
-// Checks the entries, and once more where memory was refused: what was written then is a beginning.
+// The fault that a refused growth is: of the sink, where that failed.
+fn want_of_memory(sink: &MemorySink) -> CommandFault {
+    if sink.failures() > 0 {
+        CommandFault::Write
+    } else {
+        CommandFault::Memory
+    }
+}
+
+// Checks entries that are made, and answers whether memory was refused: what was written then is a beginning.
+fn is_refused(rt: &(impl Abort + AllocGlobal), entries: &[Entry], text: &[u8], status: u8) -> bool {
+    let mut sink = MemorySink::new(rt.alloc());
+    let answer = check_entries(rt.alloc(), entries, &mut sink);
+    assert!(rt; text.starts_with(sink.bytes()));
+    if answer.is_ok() {
+        same_outcome(rt, answer, Ok(status));
+        same_bytes(rt, sink.bytes(), text);
+        return false;
+    }
+    same_outcome(rt, answer, Err(want_of_memory(&sink)));
+    true
+}
+
+// Makes the entries and checks them, once more where memory was refused.
 fn expect_again<'n, 'w>(
     rt: &(impl Abort + AllocGlobal),
     entries: &'w [(&'n str, &'static [u8])],
@@ -229,22 +288,8 @@ fn expect_again<'n, 'w>(
     status: u8,
 ) -> Result<(), Fail> {
     let made = entries_of(rt.alloc(), entries)?;
-    let mut sink = MemorySink::new(rt.alloc());
-    match check_entries(rt.alloc(), made.as_slice(), &mut sink) {
-        Ok(answer) => {
-            assert_eq!(rt; answer, status);
-            assert_eq!(rt; sink.bytes(), text);
-        }
-        Err(fault) => {
-            let refused = if sink.failures() > 0 {
-                CommandFault::Write
-            } else {
-                CommandFault::Memory
-            };
-            assert_eq!(rt; fault, refused);
-            assert!(rt; text.starts_with(sink.bytes()));
-            expect(rt, entries, text, status)?;
-        }
+    if is_refused(rt, made.as_slice(), text, status) {
+        expect_told(rt, made.as_slice(), text, status)?;
     }
     Ok(())
 }
