@@ -1,11 +1,11 @@
-//! Why a receiver refuses.
+//! Why a datagram is refused.
 
 use mold_wire::DecodeError;
 use thiserror::Error;
 
 /// Why a datagram is refused. Where several refusals apply, the first in this order is answered.
 #[derive(Clone, Copy, Debug, PartialEq, Eq, Error)]
-pub enum Refused {
+pub enum Refusal {
     /// The bytes spell no packet.
     #[error("{0}")]
     Malformed(DecodeError),
@@ -21,30 +21,16 @@ pub enum Refused {
     /// An end packet whose number isn't the end that an earlier one told.
     #[error("the session ends at {end}, and the packet tells another end")]
     EndConflict { end: u64 },
-    /// An end packet whose number is below `known`.
+    /// An end packet whose number is below `known`, the greatest top that was heard of.
     #[error("the packet ends the session below {known}")]
     EndBelow { known: u64 },
     /// A data packet or a heartbeat that goes behind the session's end.
     #[error("the session ends at {end}, and the packet goes on behind it")]
     PastEnd { end: u64 },
-    /// The packet has another message at this number than the store; the least such number.
-    #[error("message {number} differs from the stored one")]
+    /// The packet has another message at this number than the one that is held; the least such number.
+    #[error("message {number} differs from the one that came before")]
     Conflict { number: u64 },
     /// The memory for what the packet brings was refused.
-    #[error("out of memory")]
-    Memory,
-}
-
-/// Why a receiver is not made, in order of precedence.
-#[derive(Clone, Copy, Debug, PartialEq, Eq, Error)]
-pub enum ReceiverError {
-    /// The first message of a session has number 1, so none has number 0.
-    #[error("the next message can't have number 0")]
-    NextZero,
-    /// A window outside 1 to 65,536 messages.
-    #[error("a window is 1 to 65,536 messages")]
-    Window,
-    /// The memory for the window was refused.
     #[error("out of memory")]
     Memory,
 }
