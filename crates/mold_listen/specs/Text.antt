@@ -5,7 +5,7 @@ use Rattle.mold_text.specs.Text.{refused_line}
 use Rattle.mold_refusals.specs.Words.{receiver_words}
 use Rattle.mold_receiver.specs.Receive.{Reception}
 use Rattle.mold_receiver.specs.Store.{Message}
-use Rattle.mold_receiver.specs.declared.refused.Refused.{Refused}
+use Rattle.mold_rule.specs.declared.refusal.Refusal.{Refusal as Refused}
 
 -- the line of a message that is handed on: its number and its bytes
 abbrev pub handed_line : ℕ → Message → List ℕ

@@ -9,7 +9,7 @@ ghost use Rattle.mold_turns.specs.Runs.{Moves};
 ghost use Rattle.mold_receiver.specs.Arbiter.{HasArbitrated, arbitrates};
 ghost use Rattle.mold_receiver.specs.Batch.{Follows};
 ghost use Rattle.mold_receiver.specs.Receive.{receive};
-ghost use Rattle.mold_receiver.specs.declared.refused.Refused.TheVariants.{Memory as OutOfMemory};
+ghost use Rattle.mold_rule.specs.declared.refusal.Refusal.TheVariants.{Memory as OutOfMemory};
 
 use crate::handed::push_handed;
 use crate::refusal::push_refusal;
