@@ -7,7 +7,6 @@ ghost use Rattle.mold_rule.specs.declared.refusal.Refusal.TheVariants.{Memory};
 
 /// A packet is refused by nothing exactly where nothing in its header speaks against it, and none of its messages
 /// differs.
-#[tactic(auto, using(crate::proofs::RefusalLemmas::none_refused, crate::proofs::RefusalLemmas::none_admitted, crate::proofs::RefusalLemmas::none_differs))]
 pub fn refusal_law()
     ensures none { (session : Option (List ℕ)) (known : ℕ) (ended : Option ℕ) (p : Packet) →
         IsAdmitted session known ended p → refusal_of session known ended None p ≡ None }
@@ -18,7 +17,6 @@ pub fn refusal_law()
 {}
 
 /// The rule never answers that memory is wanting.
-#[tactic(auto, using(crate::proofs::RefusalLemmas::never_memory))]
 pub fn cause_law()
     ensures { (session : Option (List ℕ)) (known : ℕ) (ended differs : Option ℕ) (p : Packet) →
         refusal_of session known ended differs p ≡ Some Memory → ⊥ }
