@@ -9,13 +9,12 @@ ghost use Rattle.mold_turns.specs.Runs.{Moves};
 ghost use Rattle.mold_receiver.specs.Arbiter.{HasArbitrated, arbitrates};
 ghost use Rattle.mold_receiver.specs.Batch.{Follows};
 ghost use Rattle.mold_receiver.specs.Receive.{receive};
-ghost use Rattle.mold_receiver.specs.declared.refused.Refused.TheVariants.{Memory as OutOfMemory};
+ghost use Rattle.mold_rule.specs.declared.refusal.Refusal.TheVariants.{Memory as OutOfMemory};
 
 use crate::handed::push_handed;
-use crate::refusal::push_refusal;
 use mold_devices::{CommandFault, Sink, send};
 use mold_receiver::{Arbiter, Batch, Line, Refused, Taken};
-use mold_text::{Word, push_line};
+use mold_text::{Word, push_line, push_refusal};
 use mold_turns::send_large;
 use std::alloc::{AllocError, Global};
 use std::marker::Model;
@@ -91,7 +90,7 @@ impl Desk {
         match take(arbiter, line, bytes, &mut self.batch) {
             Ok(_) => push_handed(&mut self.text, &self.batch),
             Err(Refused::Memory) => Err(AllocError),
-            Err(refused) => push_refusal(&mut self.text, refused),
+            Err(refused) => push_refusal(&mut self.text, &[Word::Text(b"refused")], refused),
         }
     }
 

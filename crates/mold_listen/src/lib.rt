@@ -5,7 +5,6 @@ mod desk;
 mod handed;
 mod hearing;
 mod listening;
-mod refusal;
 
 pub use desk::Desk;
 pub use hearing::{LONGEST, hear_port};

@@ -17,7 +17,7 @@ use Rattle.mold_receiver.specs.Receive.{IsTakenPacket, Reception, receive, view_
 use Rattle.mold_receiver.specs.View.{IsWellFormed, View}
 use Rattle.mold_receiver.specs.Wanted.{wanted}
 use Rattle.mold_receiver.specs.declared.line.Line.{Line}
-use Rattle.mold_receiver.specs.declared.refused.Refused.{Refused}
+use Rattle.mold_rule.specs.declared.refusal.Refusal.{Refusal as Refused}
 use Rattle.mold_session.specs.Journal.{append_refusal}
 use Rattle.mold_session.specs.Publisher.{IsPublisher, PublisherState, after_datagram, closed, next_datagram}
 use Rattle.mold_session.specs.Publisher.{next_end, next_front, next_heartbeat}
