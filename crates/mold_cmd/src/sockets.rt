@@ -3,7 +3,7 @@
 ghost use Rattle.std.specs.Prelude.{◌≡◌, ◌-◌};
 
 use mold_devices::{CommandFault, FromRead, IntoWrite, NewFile};
-use mold_loop::Wires;
+use mold_feed::Wires;
 use mold_ports::UdpPort;
 use mold_session::{FileError, Journal};
 use mold_wiring::{

@@ -5,8 +5,7 @@ ghost use Rattle.mold_wiring.specs.Wiring.{loop_arbiter_of, loop_publisher_of, l
 
 use crate::limits::longest_message;
 use mold_devices::{CommandFault, Sink, Source};
-use mold_listen::Desk;
-use mold_loop::{Drops, Ear, Wires, run_over};
+use mold_feed::{Desk, Drops, Ear, Wires, run_over};
 use mold_receiver::{Arbiter, Receiver};
 use mold_session::{Publisher, Server};
 use mold_wire::Session;

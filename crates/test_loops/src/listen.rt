@@ -5,7 +5,7 @@ ghost use Rattle.std.specs.Prelude.{◌≡◌, length};
 
 use crate::comparisons::{same_bytes, same_outcome, same_size};
 use mold_devices::{CommandFault, MemorySink, Sink};
-use mold_listen::{Desk, LONGEST, hear_port, listen_loop, push_last};
+use mold_feed::{Desk, LONGEST, hear_port, listen_loop, push_last};
 use mold_ports::{Datagrams, MemoryPort, Step};
 use mold_receiver::{Arbiter, Line, Receiver};
 use mold_wire::Session;

@@ -1,10 +1,10 @@
 //! The loop over ports in memory: the worked example, answers in bursts, and each send, receive and write
 //! that fails.
 
-use crate::comparisons::{same_bytes, same_outcome, same_size};
+use crate::comparisons::{same_bytes, same_number, same_outcome, same_size};
 use mold_devices::{CommandFault, MemorySink, Sink};
+use mold_feed::{Tally, answer_request, serve_loop};
 use mold_ports::{Datagrams, MemoryPort, Step};
-use mold_serve::{Tally, answer_request, serve_loop};
 use mold_session::{AppendError, Journal, Server};
 use mold_wire::Session;
 use std::alloc::{AllocError, Global};
@@ -150,10 +150,6 @@ fn serve(rt: &(impl Abort + AllocGlobal), desk: &mut Desk, turns: u64) -> Result
         turns,
         &mut desk.sink,
     )
-}
-
-fn same_number(rt: &impl Abort, found: u64, wanted: u64) {
-    assert_eq!(rt; found, wanted);
 }
 
 // So many turns print this text, and send so many datagrams.
