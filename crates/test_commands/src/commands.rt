@@ -1,5 +1,5 @@
-//! What no clause says: printed text, the worked examples by their names, and each read and write
-//! failing in turn.
+//! What no clause says: printed text, the worked examples by their names, each read and write failing in
+//! turn, and growths that `tests/growths` refuses.
 
 ghost use Rattle.std.specs.Prelude.{◌<◌, IfOk};
 ghost use Rattle.mold_commands.specs.Command.{IsStreamed};
@@ -484,6 +484,57 @@ fn each_write_that_fails_leaves_a_beginning_of_the_script(rt: HostRuntime) {
     }
 }
 
+// Does what the order says, and once more where memory was refused: a beginning was written then, and what failed
+// was the sink, by a growth of its own, or the command.
+fn expect_again(
+    rt: &(impl Abort + AllocGlobal),
+    order: &Order,
+    input: &[u8],
+    text: &[u8],
+    status: u8,
+) -> Result<(), Fail>
+    requires { IsStreamed order.now }
+{
+    let mut sink = MemorySink::new(rt.alloc());
+    let outcome = run_command(rt.alloc(), order, &mut MemorySource::new(input), &mut sink);
+    if outcome.is_ok() {
+        same_outcome(rt, outcome, Ok(status), 1);
+        same_bytes(rt, sink.bytes(), text, 1);
+        return Ok(());
+    }
+    same_outcome(rt, outcome, Err(want_of_memory(&sink)), 1);
+    begins_with(rt, text, sink.bytes(), 1);
+    let mut sink = MemorySink::new(rt.alloc());
+    let again = run_command(rt.alloc(), order, &mut MemorySource::new(input), &mut sink)?;
+    same_outcome(rt, Ok(again), Ok(status), 2);
+    same_bytes(rt, sink.bytes(), text, 2);
+    Ok(())
+}
+
+// The fault that a refused growth is: of the sink, where that failed.
+fn want_of_memory(sink: &MemorySink) -> CommandFault {
+    if sink.failures() > 0 {
+        CommandFault::Write
+    } else {
+        CommandFault::Memory
+    }
+}
+
+#[test]
+fn a_refused_growth_shows_a_beginning(rt: HostRuntime) -> Result<(), Fail> {
+    expect_again(&rt, &PACKETS, TWO, TWO_TEXT, 0)
+}
+
+#[test]
+fn a_refused_growth_packs_a_beginning(rt: HostRuntime) -> Result<(), Fail> {
+    expect_again(&rt, &pack_64(), b"4142\n\n", TWO_AND_END, 0)
+}
+
+#[test]
+fn a_refused_growth_runs_a_beginning(rt: HostRuntime) -> Result<(), Fail> {
+    expect_again(&rt, &two_receivers(), SCRIPT, SCRIPT_TEXT, 2)
+}
+
 /// The journal of `AB` and a message without bytes: the file of version 1, which is open, and that of
 /// version 2 where it is closed.
 const JOURNAL_1: &[u8] = b"MOLDJNL1SESSION001\0\x02AB\0\0";
@@ -533,32 +584,72 @@ fn files_that_are_not_upgraded(rt: HostRuntime) {
     expect_refused_file(&rt, flag, b"refused BadFlag 2\n");
 }
 
-// The read of this number fails, and no journal is written.
-fn expect_unread_upgrade(rt: &(impl Abort + AllocGlobal), call: u64) {
-    let mut source = MemorySource::new(JOURNAL_1);
-    source.fail_at(call);
-    let mut journal = MemorySink::new(rt.alloc());
-    let mut sink = MemorySink::new(rt.alloc());
-    let outcome = run_upgrade(rt.alloc(), &mut source, &mut journal, true, &mut sink);
-    same_outcome(rt, outcome, Err(CommandFault::Read), call);
-    same_bytes(rt, journal.bytes(), b"", call);
+// Devices of one byte a call, of which a read, a write of the journal or a write of the text fails: 0 is none.
+#[derive(Clone, Copy)]
+struct Failing {
+    read: u64,
+    save: u64,
+    tell: u64,
 }
 
-// The write of the journal fails, and nothing is told.
-fn expect_unwritten_upgrade(rt: &(impl Abort + AllocGlobal)) {
+// Upgrades the file byte by byte with a failure, and compares the journal and what is told.
+fn expect_upgraded(
+    rt: &(impl Abort + AllocGlobal),
+    failing: Failing,
+    wanted: Result<u8, CommandFault>,
+    journal: &[u8],
+    text: &[u8],
+) {
     let mut source = MemorySource::new(JOURNAL_1);
-    let mut journal = MemorySink::new(rt.alloc());
-    journal.fail_at(1);
+    source.at_most(1);
+    source.fail_at(failing.read);
+    let mut to = MemorySink::new(rt.alloc());
+    to.at_most(1);
+    to.fail_at(failing.save);
     let mut sink = MemorySink::new(rt.alloc());
-    let outcome = run_upgrade(rt.alloc(), &mut source, &mut journal, true, &mut sink);
-    same_outcome(rt, outcome, Err(CommandFault::Write), 1);
-    same_bytes(rt, sink.bytes(), b"", 1);
+    sink.at_most(1);
+    sink.fail_at(failing.tell);
+    let outcome = run_upgrade(rt.alloc(), &mut source, &mut to, true, &mut sink);
+    let at = failing.read + failing.save + failing.tell;
+    same_outcome(rt, outcome, wanted, at);
+    same_bytes(rt, to.bytes(), journal, at);
+    same_bytes(rt, sink.bytes(), text, at);
+}
+
+const UPGRADED: &[u8] = b"upgraded 2 closed\n";
+
+const SOUND: Failing = Failing {
+    read: 0,
+    save: 0,
+    tell: 0,
+};
+
+// Each of the 24 bytes is a read, and so is the end.
+#[test]
+fn each_read_of_an_upgrade_that_fails_is_told(rt: HostRuntime) {
+    expect_upgraded(&rt, SOUND, Ok(0), CLOSED_2, UPGRADED);
+    for read in 1..=25u64 {
+        let failing = Failing { read, ..SOUND };
+        expect_upgraded(&rt, failing, Err(CommandFault::Read), b"", b"");
+    }
 }
 
 #[test]
-fn each_device_of_an_upgrade_that_fails_is_told(rt: HostRuntime) {
-    for call in 1..=2 {
-        expect_unread_upgrade(&rt, call);
+fn each_write_of_an_upgrade_that_fails_leaves_a_beginning(rt: HostRuntime) {
+    for k in 1..=CLOSED_2.len() {
+        let failing = Failing {
+            save: k as u64,
+            ..SOUND
+        };
+        let written = &CLOSED_2[..k - 1];
+        expect_upgraded(&rt, failing, Err(CommandFault::Write), written, b"");
     }
-    expect_unwritten_upgrade(&rt);
+    for k in 1..=UPGRADED.len() {
+        let failing = Failing {
+            tell: k as u64,
+            ..SOUND
+        };
+        let written = &UPGRADED[..k - 1];
+        expect_upgraded(&rt, failing, Err(CommandFault::Write), CLOSED_2, written);
+    }
 }

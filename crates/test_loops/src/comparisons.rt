@@ -39,3 +39,7 @@ pub fn same_bytes_at(rt: &impl Abort, found: &[u8], wanted: &[u8], at: u64) {
 pub fn same_number_at(rt: &impl Abort, found: u64, wanted: u64, at: u64) {
     assert_eq!(rt; found, wanted, "at {at}");
 }
+
+pub fn begins_with_at(rt: &impl Abort, text: &[u8], found: &[u8], at: u64) {
+    assert!(rt; text.starts_with(found), "at {at}");
+}

@@ -1,12 +1,12 @@
-//! What no clause says: the worked example over a port in memory, and each send, read and write failing in
-//! turn.
+//! What no clause says: the worked example over a port in memory, each send, read and write failing in turn,
+//! and growths that `tests/growths` refuses.
 
 ghost use Rattle.std.specs.Prelude.{◌≡◌, [], false, IfOk};
 
-use crate::comparisons::{same_bytes_at, same_number_at, same_outcome_at};
-use mold_devices::{CommandFault, MemorySink, MemorySource};
+use crate::comparisons::{begins_with_at, same_bytes_at, same_number_at, same_outcome_at};
+use mold_devices::{CommandFault, MemorySink, MemorySource, Sink};
 use mold_feed::publish_loop;
-use mold_ports::MemoryPort;
+use mold_ports::{Datagrams, MemoryPort};
 use mold_session::Publisher;
 use mold_wire::Session;
 use std::alloc::Global;
@@ -22,6 +22,8 @@ const BEAT: &[u8] = b"SESSION001\0\0\0\0\0\0\0\x03\0\0";
 const END: &[u8] = b"SESSION001\0\0\0\0\0\0\0\x03\xff\xff";
 
 const JOURNAL: &[u8] = b"MOLDJNL2SESSION001\x01\0\0\0\0\0\0\0\x02\0\x02AB\0\0";
+
+const PUBLISHED: &[u8] = b"published 2 datagrams 1 failed 0\n";
 
 // An open publisher without messages.
 fn empty(alloc: Global) -> Result<Publisher, Fail>
@@ -50,24 +52,27 @@ fn devices_for(alloc: Global, lines: &[u8]) -> Devices<'_> {
     }
 }
 
-/// What fails: nothing, the send or the read of a number, the journal's first write or the text's.
+/// What fails: nothing, or the send, the read, or the write of the journal or of the text of this number.
 #[derive(Clone, Copy)]
 enum Failure {
     Nothing,
     Send(u64),
     Read(u64),
-    Save,
-    Tell,
+    Save(u64),
+    Tell(u64),
 }
 
-// Lets a device fail.
+// Lets a device fail. Reads and writes are of one byte.
 fn plan(devices: &mut Devices<'_>, failure: Failure) {
+    devices.source.at_most(1);
+    devices.journal.at_most(1);
+    devices.sink.at_most(1);
     match failure {
         Failure::Nothing => {}
         Failure::Send(k) => devices.port.fail_send(k),
         Failure::Read(k) => devices.source.fail_at(k),
-        Failure::Save => devices.journal.fail_at(1),
-        Failure::Tell => devices.sink.fail_at(1),
+        Failure::Save(k) => devices.journal.fail_at(k),
+        Failure::Tell(k) => devices.sink.fail_at(k),
     }
 }
 
@@ -149,7 +154,7 @@ const ALL: [(u32, &[u8]); 6] = [
 fn two_lines_are_published_on_both(rt: HostRuntime) -> Result<(), Fail> {
     let wanted = Wanted {
         outcome: Ok(0),
-        text: b"published 2 datagrams 1 failed 0\n",
+        text: PUBLISHED,
         journal: JOURNAL,
         letters: &ALL,
     };
@@ -191,29 +196,89 @@ fn a_refused_line_ends_it(rt: HostRuntime) -> Result<(), Fail> {
     expect_published(&rt, b"4142\nx\n", Failure::Nothing, &wanted, 0)
 }
 
-// Publishes the lines with a failure of a read or a write. Nothing is told.
+// Publishes the lines with a failure of a read or a write.
 fn expect_fault(
     rt: &(impl Abort + AllocGlobal),
     failure: Failure,
     fault: CommandFault,
+    text: &[u8],
     journal: &[u8],
     letters: &[(u32, &[u8])],
-    at: u64,
+    at: usize,
 ) -> Result<(), Fail> {
     let wanted = Wanted {
         outcome: Err(fault),
-        text: b"",
+        text,
         journal,
         letters,
     };
-    expect_published(rt, LINES, failure, &wanted, at)
+    expect_published(rt, LINES, failure, &wanted, at as u64)
+}
+
+// Each of the six bytes is a read, and so is the end.
+#[test]
+fn each_read_fails_in_turn(rt: HostRuntime) -> Result<(), Fail> {
+    for k in 1..=LINES.len() + 1 {
+        let failure = Failure::Read(k as u64);
+        expect_fault(&rt, failure, CommandFault::Read, b"", b"", &[], k)?;
+    }
+    Ok(())
 }
 
 #[test]
-fn each_read_and_write_fails_in_turn(rt: HostRuntime) -> Result<(), Fail> {
-    for k in 1..=2 {
-        expect_fault(&rt, Failure::Read(k), CommandFault::Read, b"", &[], k)?;
+fn each_write_fails_in_turn(rt: HostRuntime) -> Result<(), Fail> {
+    for k in 1..=JOURNAL.len() {
+        let (failure, saved) = (Failure::Save(k as u64), &JOURNAL[..k - 1]);
+        expect_fault(&rt, failure, CommandFault::Write, b"", saved, &ALL, k)?;
     }
-    expect_fault(&rt, Failure::Save, CommandFault::Write, b"", &ALL, 3)?;
-    expect_fault(&rt, Failure::Tell, CommandFault::Write, JOURNAL, &ALL, 4)
+    for k in 1..=PUBLISHED.len() {
+        let (failure, told) = (Failure::Tell(k as u64), &PUBLISHED[..k - 1]);
+        expect_fault(&rt, failure, CommandFault::Write, told, JOURNAL, &ALL, k)?;
+    }
+    Ok(())
+}
+
+// The fault that a refused growth is: of a sink, where one failed.
+fn want_of_memory(devices: &Devices<'_>) -> CommandFault {
+    if devices.sink.failures() > 0 || devices.journal.failures() > 0 {
+        CommandFault::Write
+    } else {
+        CommandFault::Memory
+    }
+}
+
+// What was sent where no send failed: a beginning of all.
+fn expect_sent_first(rt: &impl Abort, port: &MemoryPort) {
+    match ALL.get(..port.sent().len()) {
+        Some(letters) => expect_sent(rt, port, letters, 0),
+        None => assert!(rt; false, "too many are sent"),
+    }
+}
+
+// All came of publishing, or beginnings, with a growth refused. A letter that the port has no memory for is a failed
+// send.
+fn expect_beginnings(rt: &impl Abort, devices: &Devices<'_>, outcome: Result<u8, CommandFault>) {
+    let text = if devices.port.failures() > 0 {
+        b"published 2 datagrams 1 failed 1\n".as_slice()
+    } else {
+        expect_sent_first(rt, &devices.port);
+        PUBLISHED
+    };
+    begins_with_at(rt, text, devices.sink.bytes(), 0);
+    begins_with_at(rt, JOURNAL, devices.journal.bytes(), 0);
+    if outcome.is_ok() {
+        same_outcome_at(rt, outcome, Ok(0), 0);
+        same_bytes_at(rt, devices.sink.bytes(), text, 0);
+        same_bytes_at(rt, devices.journal.bytes(), JOURNAL, 0);
+    } else {
+        same_outcome_at(rt, outcome, Err(want_of_memory(devices)), 0);
+    }
+}
+
+#[test]
+fn a_refused_growth_publishes_beginnings(rt: HostRuntime) -> Result<(), Fail> {
+    let mut devices = devices_for(rt.alloc(), LINES);
+    let outcome = publish(rt.alloc(), &mut devices)?;
+    expect_beginnings(&rt, &devices, outcome);
+    Ok(())
 }

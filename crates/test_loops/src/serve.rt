@@ -261,26 +261,21 @@ fn a_failed_send_leaves_the_others_of_its_burst(rt: HostRuntime) -> Result<(), F
     Ok(())
 }
 
-// The write of this number fails, and what was written before are pieces of ten bytes.
-fn expect_broken_off(rt: &(impl Abort + AllocGlobal), desk: &mut Desk, writes: u64) {
-    desk.sink.at_most(10);
-    desk.sink.fail_at(writes);
+// The write of this number, of one byte, fails.
+fn expect_broken_off(rt: &(impl Abort + AllocGlobal), desk: &mut Desk, k: usize) {
+    desk.sink.at_most(1);
+    desk.sink.fail_at(k as u64);
     same_outcome(rt, serve(rt, desk, 4), Err(CommandFault::Write));
-    let written = desk.sink.bytes();
-    same_number(
-        rt,
-        written.len() as u64,
-        writes.saturating_sub(1).saturating_mul(10),
-    );
-    assert!(rt; TEXT.starts_with(written), "another beginning");
+    same_size(rt, desk.sink.bytes().len(), k.saturating_sub(1));
+    assert!(rt; TEXT.starts_with(desk.sink.bytes()), "another beginning");
     same_size(rt, desk.port.sent().len(), 1);
 }
 
 #[test]
 fn after_a_failed_write_a_beginning_is_written(rt: HostRuntime) -> Result<(), Fail> {
-    for writes in 1..8u64 {
+    for k in 1..=TEXT.len() {
         let mut desk = make_desk(rt.alloc(), 1, &EXAMPLE)?;
-        expect_broken_off(&rt, &mut desk, writes);
+        expect_broken_off(&rt, &mut desk, k);
     }
     Ok(())
 }
@@ -348,7 +343,7 @@ fn fault_of(failed: bool) -> CommandFault {
     }
 }
 
-/// To be run with each allocation refused in turn.
+/// `tests/growths` refuses each growth in turn.
 #[test]
 fn a_refused_growth_leaves_a_beginning(rt: HostRuntime) -> Result<(), Fail> {
     let mut desk = make_desk(rt.alloc(), 1, &EXAMPLE)?;

@@ -139,13 +139,17 @@ fn each_front_of_two_messages_has_its_fault(rt: HostRuntime) {
     }
 }
 
-// In this order: the limits, before any packet, a heartbeat, up to the limit, and the end.
 #[test]
-fn the_table_of_the_packer(rt: HostRuntime) -> Result<(), Fail> {
+fn limits_of_a_packer(rt: HostRuntime) {
     expect_limit(&rt, 63, Some(PackerError::Limit));
     expect_limit(&rt, 64, None);
     expect_limit(&rt, 65507, None);
     expect_limit(&rt, 65508, Some(PackerError::Limit));
+}
+
+// In this order: before any packet, a heartbeat, up to the limit, and the end.
+#[test]
+fn the_table_of_the_packer(rt: HostRuntime) -> Result<(), Fail> {
     let mut packer = Packer::new(rt.alloc(), 64)?;
     expect_packed(&rt, &mut packer);
     Ok(())
@@ -218,16 +222,23 @@ fn requests_are_read_and_written(rt: HostRuntime) -> Result<(), Fail> {
         };
         assert_eq!(rt; request.encode(), *bytes);
         assert_eq!(rt; Request::decode(bytes)?, request);
-        assert_eq!(rt;
-            Request::decode(&bytes[..19]),
-            Err(RequestError::RequestLength { len: 19 })
-        );
     }
-    assert_eq!(rt;
-        Request::decode(TWO_MESSAGES),
-        Err(RequestError::RequestLength {
-            len: TWO_MESSAGES.len()
-        })
-    );
     Ok(())
+}
+
+// A request, and 20 bytes behind it.
+const LONGER: [u8; 40] = *b"SESSION001\0\0\0\0\0\0\0\x05\0\x01SESSION001\0\0\0\0\0\0\0\x05\0\x01";
+
+// Of 0 to 40 bytes that begin as a request just the 20 of one are read.
+#[test]
+fn requests_of_other_lengths_are_refused(rt: HostRuntime) {
+    for len in 0..41usize {
+        let refusal = if len == 20 {
+            None
+        } else {
+            Some(RequestError::RequestLength { len })
+        };
+        let found = Request::decode(&LONGER[..len]).err();
+        assert_eq!(rt; found, refusal);
+    }
 }

@@ -1,5 +1,6 @@
 //! The lists of the examples by their names, which reason comes first, and what is left after a growth was
-//! refused. Each kind of comparison stands once, and what is owned is lent: the proof of a test grows with both.
+//! refused: `tests/growths` refuses each growth of the tests that are made for it. Each kind of comparison stands
+//! once, and what is owned is lent: the proof of a test grows with both.
 
 use mold_capture::{Checker, Memory, Range, Reason, Verdict, check};
 use mold_wire::DecodeError;
@@ -58,12 +59,9 @@ fn ranges_of(alloc: Global, ranges: &[(u64, u64)]) -> Result<Vec<Range>, AllocEr
     Ok(made)
 }
 
-/// The verdict that isn't whole, with these ranges; made once more where memory was refused.
+/// The verdict that isn't whole, with these ranges.
 fn incomplete(alloc: Global, ranges: &[(u64, u64)], end: Option<u64>) -> Result<Verdict, Fail> {
-    let missing = match ranges_of(alloc, ranges) {
-        Ok(missing) => missing,
-        Err(_) => ranges_of(alloc, ranges)?,
-    };
+    let missing = ranges_of(alloc, ranges)?;
     Ok(Verdict::Incomplete { missing, end })
 }
 
@@ -209,19 +207,13 @@ fn same_verdict(rt: &impl Abort, found: &Verdict, wanted: &Verdict) {
     assert!(rt; *found == *wanted);
 }
 
-fn expect_verdict(rt: &impl Abort, checker: &Checker, wanted: &Verdict) {
-    match checker.verdict() {
-        Ok(verdict) => same_verdict(rt, &verdict, wanted),
-        Err(Memory) => assert!(rt; false, "no verdict"),
-    }
-}
-
 /// A verdict, made once more where memory was refused.
-fn verdict_again(rt: &impl Abort, checker: &Checker, wanted: &Verdict) {
+fn verdict_again(rt: &impl Abort, checker: &Checker, wanted: &Verdict) -> Result<(), Memory> {
     match checker.verdict() {
         Ok(verdict) => same_verdict(rt, &verdict, wanted),
-        Err(Memory) => expect_verdict(rt, checker, wanted),
+        Err(Memory) => same_verdict(rt, &checker.verdict()?, wanted),
     }
+    Ok(())
 }
 
 fn same_answer(rt: &impl Abort, found: Result<(), Reason>, wanted: Result<(), Reason>) {
@@ -235,45 +227,60 @@ fn add(rt: &impl Abort, checker: &mut Checker, bytes: &[u8], wanted: Result<(), 
 }
 
 /// Adds a datagram, once more where memory was refused: the verdict was then as before.
-fn add_again(rt: &impl Abort, checker: &mut Checker, bytes: &[u8], before: &Verdict) {
+fn add_again(
+    rt: &impl Abort,
+    checker: &mut Checker,
+    bytes: &[u8],
+    before: &Verdict,
+) -> Result<(), Fail> {
     let answer = checker.add(bytes);
     if !matches!(answer, Err(Reason::Memory)) {
         same_answer(rt, answer, Ok(()));
-        return;
+        return Ok(());
     }
-    verdict_again(rt, checker, before);
-    add(rt, checker, bytes, Ok(()));
-}
-
-/// Messages 1, 2 and 5, then all six and the end; `hole` lacks messages 3 and 4.
-fn expect_growth(rt: &impl Abort, checker: &mut Checker, nothing: &Verdict, hole: &Verdict) {
-    add_again(rt, checker, DATA_1, nothing);
-    verdict_again(rt, checker, nothing);
-    add_again(rt, checker, DATA_2, nothing);
-    verdict_again(rt, checker, nothing);
-    add_again(rt, checker, DATA_5, nothing);
-    verdict_again(rt, checker, hole);
-    add_again(rt, checker, DATA_1_TO_6, hole);
-    verdict_again(rt, checker, nothing);
-    add_again(rt, checker, END_7, nothing);
-    verdict_again(rt, checker, &Verdict::Whole { messages: 6 });
-}
-
-/// It passes whichever growth is refused. The gate refuses none; `rt try test_sessions --test --fail-alloc N`
-/// refuses the Nth one of each test.
-#[test]
-fn a_refused_growth_changes_nothing(rt: HostRuntime) -> Result<(), Fail> {
-    let nothing = incomplete(rt.alloc(), &[], None)?;
-    let hole = incomplete(rt.alloc(), &[(3, 4)], None)?;
-    let mut checker = Checker::new(rt.alloc());
-    expect_growth(&rt, &mut checker, &nothing, &hole);
+    verdict_again(rt, checker, before)?;
+    checker.add(bytes)?;
     Ok(())
 }
 
-/// It passes whichever growth is refused: want of memory is told at the datagram that brings something new, or
-/// behind the last one.
+/// Adds a datagram, with these verdicts before and after.
+fn expect_added(
+    rt: &impl Abort,
+    checker: &mut Checker,
+    bytes: &[u8],
+    before: &Verdict,
+    after: &Verdict,
+) -> Result<(), Fail> {
+    add_again(rt, checker, bytes, before)?;
+    verdict_again(rt, checker, after)?;
+    Ok(())
+}
+
+/// Messages 1, 2 and 5, then all six and the end; `hole` lacks messages 3 and 4.
+fn expect_growth(
+    rt: &impl Abort,
+    checker: &mut Checker,
+    nothing: &Verdict,
+    hole: &Verdict,
+) -> Result<(), Fail> {
+    expect_added(rt, checker, DATA_1, nothing, nothing)?;
+    expect_added(rt, checker, DATA_2, nothing, nothing)?;
+    expect_added(rt, checker, DATA_5, nothing, hole)?;
+    expect_added(rt, checker, DATA_1_TO_6, hole, nothing)?;
+    expect_added(rt, checker, END_7, nothing, &Verdict::Whole { messages: 6 })
+}
+
 #[test]
-fn a_check_tells_where_memory_was_refused(rt: HostRuntime) -> Result<(), Fail> {
+fn a_refused_growth_adds_nothing(rt: HostRuntime) -> Result<(), Fail> {
+    let nothing = incomplete(rt.alloc(), &[], None)?;
+    let hole = incomplete(rt.alloc(), &[(3, 4)], None)?;
+    let mut checker = Checker::new(rt.alloc());
+    expect_growth(&rt, &mut checker, &nothing, &hole)
+}
+
+/// Want of memory is told at the datagram that brings something new, or behind the last one.
+#[test]
+fn a_refused_growth_is_told_by_a_check(rt: HostRuntime) -> Result<(), Fail> {
     let list = [BEAT_5, DATA_2, DATA_2];
     let wanted = incomplete(rt.alloc(), &[(1, 1), (3, 4)], None)?;
     match check(rt.alloc(), &list) {
@@ -281,16 +288,16 @@ fn a_check_tells_where_memory_was_refused(rt: HostRuntime) -> Result<(), Fail> {
         Err((index, reason)) => {
             same_answer(&rt, Err(reason), Err(Reason::Memory));
             assert!(rt; index == 1 || index == list.len(), "refused at {index}");
-            expect(&rt, rt.alloc(), &list, Ok(wanted));
+            same_verdict(&rt, &check(rt.alloc(), &list)?, &wanted);
         }
     }
     Ok(())
 }
 
 /// Messages 1 to 4 and the end, and then nothing new.
-fn expect_nothing_new(rt: &impl Abort, checker: &mut Checker, empty: &Verdict) {
-    add_again(rt, checker, DATA_1_TO_2, empty);
-    add_again(rt, checker, DATA_3_TO_4, empty);
+fn expect_nothing_new(rt: &impl Abort, checker: &mut Checker, empty: &Verdict) -> Result<(), Fail> {
+    add_again(rt, checker, DATA_1_TO_2, empty)?;
+    add_again(rt, checker, DATA_3_TO_4, empty)?;
     let known: [&[u8]; 7] = [
         DATA_1_TO_2,
         DATA_3_TO_4,
@@ -306,15 +313,15 @@ fn expect_nothing_new(rt: &impl Abort, checker: &mut Checker, empty: &Verdict) {
     let differs = b"SESSION001\0\0\0\0\0\0\0\x03\0\x02\0\x01C\0\x01x";
     add(rt, checker, differs, Err(Reason::Conflict { number: 4 }));
     add(rt, checker, DATA_5, Err(Reason::PastEnd { end: 5 }));
-    verdict_again(rt, checker, &Verdict::Whole { messages: 4 });
+    verdict_again(rt, checker, &Verdict::Whole { messages: 4 })?;
+    Ok(())
 }
 
-/// It passes whichever growth is refused: a datagram that brings nothing new takes no memory, so it is never
-/// refused for want of it, nor is one that is refused for another reason.
+/// A datagram that brings nothing new takes no memory, so it is never refused for want of it, nor is one that is
+/// refused for another reason.
 #[test]
-fn what_brings_nothing_new_takes_no_memory(rt: HostRuntime) -> Result<(), Fail> {
+fn a_refused_growth_is_of_something_new(rt: HostRuntime) -> Result<(), Fail> {
     let empty = incomplete(rt.alloc(), &[], None)?;
     let mut checker = Checker::new(rt.alloc());
-    expect_nothing_new(&rt, &mut checker, &empty);
-    Ok(())
+    expect_nothing_new(&rt, &mut checker, &empty)
 }

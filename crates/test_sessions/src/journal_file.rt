@@ -1,12 +1,13 @@
-//! The file of a journal: worked examples, and devices that give and take one byte a call and fail.
+//! The file of a journal: worked examples, devices that give and take one byte a call and fail, and growths that
+//! are refused.
 
 use crate::comparisons::{same_bytes, same_message, same_number};
-use mold_devices::{FromRead, MemorySink, MemorySource, Source};
+use mold_devices::{FromRead, IntoWrite, MemorySink, MemorySource, Source};
 use mold_session::{FileError, Journal, Upgraded, upgrade};
 use mold_wire::Session;
 use std::alloc::Global;
 use std::io;
-use std::io::Read;
+use std::io::{Error, ErrorKind, Read, Write};
 use std::process::Abort;
 use std::test::Fail;
 
@@ -78,11 +79,39 @@ fn expect_begun(rt: &impl Abort, alloc: Global, journal: &Journal, fails_at: u64
 /// A sink that takes one byte a call and fails at a call has taken the bytes before it.
 #[test]
 fn a_failed_save_has_written_a_beginning(rt: HostRuntime) -> Result<(), Fail> {
-    let mut journal = two_messages(rt.alloc())?;
-    journal.close();
+    let journal = two_messages(rt.alloc())?;
     for k in 1..=33usize {
-        expect_begun(&rt, rt.alloc(), &journal, k as u64, &CLOSED[..k - 1]);
+        expect_begun(&rt, rt.alloc(), &journal, k as u64, &OPEN[..k - 1]);
     }
+    Ok(())
+}
+
+/// What is still to be written. It fails where something else is, and takes no memory.
+#[derive(Drop)]
+struct Awaiting<'a> {
+    left: &'a [u8],
+}
+
+impl Write for Awaiting<'_> {
+    fn write(&mut self, bytes: &[u8]) -> io::Result<usize> {
+        match self.left.strip_prefix(bytes) {
+            Some(left) => self.left = left,
+            None => return Err(Error::from(ErrorKind::InvalidData)),
+        }
+        Ok(bytes.len())
+    }
+
+    fn flush(&mut self) -> io::Result<()> {
+        Ok(())
+    }
+}
+
+#[test]
+fn no_growth_of_save(rt: HostRuntime) -> Result<(), Fail> {
+    let journal = two_messages(rt.alloc())?;
+    let mut sink = IntoWrite::new(Awaiting { left: &OPEN });
+    same_saved(&rt, journal.save(&mut sink), Ok(()));
+    same_bytes(&rt, sink.into_inner().left, b"");
     Ok(())
 }
 
@@ -210,6 +239,29 @@ fn a_failed_read_is_told(rt: HostRuntime) {
     for k in 1..=34u64 {
         expect_failed_read(&rt, rt.alloc(), k);
     }
+}
+
+/// Loads a file, and once more from a new source where memory was refused.
+fn load_again(
+    rt: &impl Abort,
+    alloc: Global,
+    file: &[u8],
+    wanted: (u64, bool),
+) -> Result<(), Fail> {
+    let found = load(alloc, 42, &mut MemorySource::new(file));
+    if found != Err(FileError::Memory) {
+        same_loaded(rt, found, Ok(wanted));
+        return Ok(());
+    }
+    let again = load(alloc, 42, &mut MemorySource::new(file))?;
+    same_loaded(rt, Ok(again), Ok(wanted));
+    Ok(())
+}
+
+#[test]
+fn a_refused_growth_loads_nothing(rt: HostRuntime) -> Result<(), Fail> {
+    load_again(&rt, rt.alloc(), &FIRST, (2, false))?;
+    load_again(&rt, rt.alloc(), &CLOSED, (2, true))
 }
 
 fn long_messages(alloc: Global) -> Result<Journal, Fail> {

@@ -1,5 +1,5 @@
 //! The worked examples by their names, each public call on its happy path, and what is left after a growth
-//! was refused.
+//! was refused. `tests/growths` refuses each growth of the tests that are made for it.
 
 use crate::comparisons::{same_message, same_number, same_truth};
 use mold_receiver::{Arbiter, Batch, Line, LineReport, Receiver, ReceiverError, Refused, Taken};
@@ -29,6 +29,22 @@ const DATA_1_3: &[u8] = b"SESSION001\0\0\0\0\0\0\0\x01\0\x03\0\x01A\0\x01B\0\x01
 const END_3: &[u8] = b"SESSION001\0\0\0\0\0\0\0\x03\xff\xff";
 
 const END_4: &[u8] = b"SESSION001\0\0\0\0\0\0\0\x04\xff\xff";
+
+/// Packets that a receiver refuses which handed on messages 1 to 3 and has stored 5.
+const REFUSED: [(&[u8], Refused); 6] = [
+    (b"", Refused::Malformed(DecodeError::Short { len: 0 })),
+    (b"SESSION002\0\0\0\0\0\0\0\x01\0\0", Refused::WrongSession),
+    (b"SESSION001\0\0\0\0\0\0\0\0\0\0", Refused::SequenceZero),
+    (
+        b"SESSION001\xff\xff\xff\xff\xff\xff\xff\xff\0\x01\0\x01A",
+        Refused::PastLast,
+    ),
+    (END_4, Refused::EndBelow { known: 6 }),
+    (
+        b"SESSION001\0\0\0\0\0\0\0\x04\0\x02\0\x01D\0\x01X",
+        Refused::Conflict { number: 5 },
+    ),
+];
 
 fn same_maybe(rt: &impl Abort, found: Option<u64>, wanted: Option<u64>) {
     assert_eq!(rt; found, wanted);
@@ -119,13 +135,23 @@ impl Reception {
         self.expect_state(rt, before);
     }
 
-    /// Takes a packet, once more where memory was refused: receiver and batch were then as before.
-    fn take_again(&mut self, rt: &impl Abort, packet: &[u8]) {
-        let before = self.state();
-        if self.take(rt, packet) == Err(Refused::Memory) {
-            self.expect_state(rt, before);
-            assert!(rt; self.take(rt, packet).is_ok());
+    /// Takes a packet, once more where memory was refused: receiver and batch were then in this state.
+    fn take_again(
+        &mut self,
+        rt: &impl Abort,
+        packet: &[u8],
+        counts: (u32, u32, u32),
+        state: State,
+    ) -> Result<(), Fail> {
+        let found = self.take(rt, packet);
+        if found != Err(Refused::Memory) {
+            same_outcome(rt, found, handed_kept_beyond(counts));
+            return Ok(());
         }
+        self.expect_state(rt, state);
+        let again = self.take(rt, packet)?;
+        same_outcome(rt, Ok(again), handed_kept_beyond(counts));
+        Ok(())
     }
 
     fn expect_next(&self, rt: &impl Abort, wanted: u64) {
@@ -432,26 +458,92 @@ fn a_full_window_is_handed_on_at_once(rt: HostRuntime) -> Result<(), Fail> {
     Ok(())
 }
 
-/// A receiver at message 1 with a window of 8, made once more where memory was refused.
+/// A receiver at message 1 with a window of 4, made once more where memory was refused.
 fn receiver_again(rt: &impl Abort, alloc: Global) -> Result<Receiver, Fail> {
-    match Receiver::new(alloc, SESSION, 1, 8) {
+    match Receiver::new(alloc, SESSION, 1, 4) {
         Ok(receiver) => Ok(receiver),
         Err(error) => {
             same_error(rt, error, ReceiverError::Memory);
-            Ok(Receiver::new(alloc, SESSION, 1, 8)?)
+            Ok(Receiver::new(alloc, SESSION, 1, 4)?)
         }
     }
 }
 
-/// It passes whichever growth is refused. The gate refuses none; `rt try test_sessions --test --fail-alloc N`
-/// refuses the Nth one of each test.
+/// `receiver-backwards`: messages 3 and 2 are stored, and 1 hands on all three, or nothing.
 #[test]
-fn a_refused_growth_changes_nothing(rt: HostRuntime) -> Result<(), Fail> {
+fn a_refused_growth_takes_nothing(rt: HostRuntime) -> Result<(), Fail> {
     let receiver = receiver_again(&rt, rt.alloc())?;
     let mut reception = Reception::of(rt.alloc(), receiver);
-    reception.take_again(&rt, DATA_3_4);
-    reception.expect_stored(&rt, 2);
-    reception.take_again(&rt, DATA_1_2);
-    reception.expect_batch(&rt, 1, &[b"A", b"B", b"C", b"D"]);
+    reception.take_again(&rt, DATA_3, (0, 1, 0), (1, 1, 0, 0, None))?;
+    reception.take_again(&rt, DATA_2, (0, 1, 0), (1, 4, 1, 0, None))?;
+    reception.take_again(&rt, DATA_1, (3, 0, 0), (1, 4, 2, 0, None))?;
+    reception.expect_batch(&rt, 1, &[b"A", b"B", b"C"]);
+    reception.expect_numbers(&rt, 4, 4, 0);
+    Ok(())
+}
+
+/// Want of memory is on no report of a line.
+#[test]
+fn a_refused_growth_is_not_reported(rt: HostRuntime) -> Result<(), Fail> {
+    let mut arbitration = Arbitration::new(rt.alloc())?;
+    if arbitration.take(&rt, Some(Line::A), DATA_1_3) == Err(Refused::Memory) {
+        arbitration.expect_lines(&rt, (0, 0, 1), (0, 0, 1));
+        arbitration.take(&rt, Some(Line::A), DATA_1_3)?;
+    }
+    arbitration.expect_lines(&rt, (1, 0, 4), (0, 0, 1));
+    expect_batch(&rt, &arbitration.batch, 1, &[b"A", b"B", b"C"]);
+    Ok(())
+}
+
+/// A receiver that handed on messages 1 to 3 and has stored 5.
+fn with_three_and_five(rt: &impl Abort, alloc: Global) -> Result<Reception, Fail> {
+    let mut reception = Reception::new(alloc, 1, 4)?;
+    reception.take(rt, DATA_1_3)?;
+    reception.take(rt, b"SESSION001\0\0\0\0\0\0\0\x05\0\x01\0\x01E")?;
+    Ok(reception)
+}
+
+/// No memory is taken where nothing is handed on or stored, nor by what a batch loses.
+#[test]
+fn no_growth_where_nothing_comes(rt: HostRuntime) -> Result<(), Fail> {
+    let mut reception = with_three_and_five(&rt, rt.alloc())?;
+    let heartbeat = b"SESSION001\0\0\0\0\0\0\0\x06\0\0";
+    reception.expect_taken(&rt, heartbeat, (0, 0, 0));
+    reception.expect_taken(&rt, DATA_2_3, (0, 0, 0));
+    let end = b"SESSION001\0\0\0\0\0\0\0\x06\xff\xff";
+    reception.expect_taken(&rt, end, (0, 0, 0));
+    reception.expect_wanted(&rt, Some((4, 1)));
+    reception.batch.truncate(1);
+    reception.expect_batch(&rt, 1, &[b"A"]);
+    reception.batch.clear();
+    expect_empty(&rt, &reception.batch);
+    Ok(())
+}
+
+/// Nor by any refusal of a packet, the last of which stands behind a known end.
+#[test]
+fn no_growth_of_what_is_refused(rt: HostRuntime) -> Result<(), Fail> {
+    let mut reception = with_three_and_five(&rt, rt.alloc())?;
+    for (packet, refused) in REFUSED {
+        reception.expect_refused(&rt, packet, refused);
+    }
+    let end = b"SESSION001\0\0\0\0\0\0\0\x06\xff\xff";
+    reception.expect_taken(&rt, end, (0, 0, 0));
+    let past_end = b"SESSION001\0\0\0\0\0\0\0\x06\0\x01\0\x01F";
+    reception.expect_refused(&rt, past_end, Refused::PastEnd { end: 6 });
+    reception.expect_refused(&rt, END_4, Refused::EndConflict { end: 6 });
+    Ok(())
+}
+
+/// Nor by an answer that brings nothing.
+#[test]
+fn no_growth_of_an_answer_of_nothing_new(rt: HostRuntime) -> Result<(), Fail> {
+    let mut arbitration = Arbitration::new(rt.alloc())?;
+    arbitration.take(&rt, None, DATA_1_3)?;
+    arbitration.expect_taken(&rt, None, DATA_2_3, (0, 0, 0));
+    let heartbeat = b"SESSION001\0\0\0\0\0\0\0\x04\0\0";
+    arbitration.expect_taken(&rt, None, heartbeat, (0, 0, 0));
+    arbitration.expect_taken(&rt, None, END_4, (0, 0, 0));
+    arbitration.expect_lines(&rt, (0, 0, 1), (0, 0, 1));
     Ok(())
 }

@@ -1,9 +1,10 @@
-//! The worked examples by their names, and what is left after a growth was refused.
+//! The worked examples by their names, and what is left after a growth was refused. `tests/growths` refuses each
+//! growth of the test that is made for it.
 
 ghost use Rattle.std.specs.Prelude.{IsTrue};
 
 use crate::comparisons::same_number;
-use mold_receiver::{Batch, Receiver};
+use mold_receiver::{Batch, Receiver, Refused};
 use mold_rounds::{Memory, catch_up};
 use mold_session::{AppendError, Journal, Server};
 use mold_wire::Session;
@@ -72,21 +73,24 @@ fn holds(rt: &impl Abort, fact: bool)
     assert!(rt; fact);
 }
 
-// The receiver takes a packet, where memory was refused once more.
-fn hear(rt: &impl Abort, parts: &mut Parts, packet: &[u8]) {
+// The receiver takes a packet.
+fn hear(rt: &impl Abort, parts: &mut Parts, packet: &[u8]) -> Result<(), Memory> {
     holds(rt, parts.batch.follows(parts.receiver.next()));
-    if parts.receiver.take(packet, &mut parts.batch).is_err() {
-        holds(rt, parts.receiver.take(packet, &mut parts.batch).is_ok());
+    match parts.receiver.take(packet, &mut parts.batch) {
+        Err(Refused::Memory) => Err(Memory),
+        taken => {
+            holds(rt, taken.is_ok());
+            Ok(())
+        }
     }
 }
 
 // The receiver takes these packets, and hears of messages up to 5.
-fn hear_all(rt: &impl Abort, parts: &mut Parts, packets: &[&[u8]]) {
+fn hear_all(rt: &impl Abort, parts: &mut Parts, packets: &[&[u8]]) -> Result<(), Memory> {
     for packet in packets {
-        hear(rt, parts, packet);
+        hear(rt, parts, packet)?;
     }
-    holds(rt, parts.batch.follows(parts.receiver.next()));
-    holds(rt, parts.receiver.take(HEARTBEAT, &mut parts.batch).is_ok());
+    hear(rt, parts, HEARTBEAT)
 }
 
 fn catch_up_checked(rt: &impl Abort, parts: &mut Parts) -> Result<u64, Memory> {
@@ -153,7 +157,7 @@ fn expect_caught_up(
     rounds: u64,
 ) -> Result<(), Memory> {
     let mut parts = make_parts(rt.alloc(), window, burst)?;
-    hear_all(rt, &mut parts, packets);
+    hear_all(rt, &mut parts, packets)?;
     expect_catching_up(rt, &mut parts, lacking, rounds);
     Ok(())
 }
@@ -186,8 +190,8 @@ fn catching_up_follows_gaps_limit_and_burst(rt: HostRuntime) -> Result<(), Fail>
     Ok(())
 }
 
-// Catching up takes two rounds, or stops in a round where memory is refused and then goes on.
-fn expect_going_on(rt: &impl Abort, parts: &mut Parts) {
+// Catching up takes two rounds, or stops in a round where memory is refused, and another call goes on from there.
+fn expect_going_on(rt: &impl Abort, parts: &mut Parts) -> Result<(), Memory> {
     match catch_up_checked(rt, parts) {
         Ok(rounds) => {
             same_number(rt, rounds, 2);
@@ -202,21 +206,17 @@ fn expect_going_on(rt: &impl Abort, parts: &mut Parts) {
             expect_view(rt, &parts.receiver, next);
             expect_first(rt, &parts.batch, count);
             same_number(rt, parts.server.answered(), 3u64.saturating_sub(left));
-            expect_rounds(rt, parts, left);
+            same_number(rt, catch_up_checked(rt, parts)?, left);
             expect_end(rt, parts, 3);
         }
     }
+    Ok(())
 }
 
-/// It passes whichever growth is refused. The gate refuses none; `rt try test_sessions --test --fail-alloc N`
-/// refuses the Nth one of each test.
 #[test]
 fn a_refused_growth_stops_in_a_round(rt: HostRuntime) -> Result<(), Fail> {
-    let mut parts = match make_parts(rt.alloc(), 8, 1) {
-        Ok(parts) => parts,
-        Err(Memory) => make_parts(rt.alloc(), 8, 1)?,
-    };
-    hear_all(&rt, &mut parts, &[THIRD]);
-    expect_going_on(&rt, &mut parts);
+    let mut parts = make_parts(rt.alloc(), 8, 1)?;
+    hear_all(&rt, &mut parts, &[THIRD])?;
+    expect_going_on(&rt, &mut parts)?;
     Ok(())
 }

@@ -1,4 +1,5 @@
-//! Each public call on its happy path, and the examples of a journal and a publisher.
+//! Each public call on its happy path, the examples of a journal and a publisher, and what is left after a growth
+//! was refused. `tests/growths` refuses each growth of the tests that are made for it.
 
 use crate::comparisons::{same_bytes, same_number, same_truth};
 use mold_session::{AppendError, Journal, Publisher, PublisherError, Unsent};
@@ -61,12 +62,42 @@ fn messages_are_appended_and_got_by_number(rt: HostRuntime) -> Result<(), Fail> 
     Ok(())
 }
 
-/// A thousand messages, so that what keeps them grows several times.
+/// Appends a message, once more where memory was refused: the journal was then as before.
+fn append_again(
+    rt: &impl Abort,
+    journal: &mut Journal,
+    message: &[u8],
+    number: u64,
+) -> Result<(), Fail> {
+    let answer = journal.append(message);
+    if answer != Err(AppendError::Memory) {
+        same_added(rt, answer, Ok(number));
+        return Ok(());
+    }
+    same_number(rt, journal.next(), number);
+    expect_none(rt, journal.get(number));
+    same_number(rt, journal.append(message)?, number);
+    Ok(())
+}
+
 #[test]
-fn a_thousand_messages_are_appended(rt: HostRuntime) -> Result<(), Fail> {
+fn a_refused_growth_appends_nothing(rt: HostRuntime) -> Result<(), Fail> {
+    let mut journal = Journal::new(rt.alloc(), SESSION, 42);
+    append_again(&rt, &mut journal, b"AB", 1)?;
+    append_again(&rt, &mut journal, &[3; 42], 2)?;
+    append_again(&rt, &mut journal, b"", 3)?;
+    expect_bytes(&rt, journal.get(1), b"AB");
+    expect_bytes(&rt, journal.get(2), &[3; 42]);
+    expect_bytes(&rt, journal.get(3), b"");
+    Ok(())
+}
+
+/// A thousand messages, so that what keeps them grows several times, and far fewer than 500 times.
+#[test]
+fn a_refused_growth_of_a_thousand_appends(rt: HostRuntime) -> Result<(), Fail> {
     let mut journal = Journal::new(rt.alloc(), SESSION, 1);
-    for _ in 0..1000u16 {
-        journal.append(b"x")?;
+    for number in 1..1001u64 {
+        append_again(&rt, &mut journal, b"x", number)?;
     }
     same_number(&rt, journal.next(), 1001);
     expect_bytes(&rt, journal.get(1000), b"x");
@@ -106,18 +137,26 @@ fn expect_heartbeat(rt: &impl Abort, publisher: &mut Publisher, want: &[u8]) {
     expect_bytes(rt, publisher.heartbeat(), want);
 }
 
+/// The session of two messages is closed, and its end is lent.
+fn expect_end(rt: &impl Abort, publisher: &mut Publisher) {
+    expect_none(rt, publisher.datagram());
+    same_closed(rt, publisher.close(), Ok(()));
+    let end = b"SESSION001\0\0\0\0\0\0\0\x03\xff\xff";
+    expect_bytes(rt, publisher.end(), end);
+}
+
 /// A publisher with a limit of 64 bytes, which published messages of 20 bytes and of so many as `second`.
-fn with_two(rt: &impl Abort, alloc: Global, second: &[u8]) -> Result<Publisher, Fail> {
+fn with_two(alloc: Global, second: &[u8]) -> Result<Publisher, Fail> {
     let mut publisher = Publisher::new(alloc, SESSION, 64)?;
-    same_added(rt, publisher.publish(&[1; 20]), Ok(1));
-    same_added(rt, publisher.publish(second), Ok(2));
+    publisher.publish(&[1; 20])?;
+    publisher.publish(second)?;
     Ok(publisher)
 }
 
 /// `publisher-limit-64`: messages of 20 and 20 bytes go in one datagram of exactly 64.
 #[test]
 fn twenty_and_twenty_bytes_fill_a_datagram_of_64(rt: HostRuntime) -> Result<(), Fail> {
-    let mut publisher = with_two(&rt, rt.alloc(), &[2; 20])?;
+    let mut publisher = with_two(rt.alloc(), &[2; 20])?;
     same_truth(&rt, publisher.is_full(), false);
     same_number(&rt, publisher.unsent(), 2);
     expect_datagram(&rt, &mut publisher, 64);
@@ -128,7 +167,7 @@ fn twenty_and_twenty_bytes_fill_a_datagram_of_64(rt: HostRuntime) -> Result<(), 
 /// `publisher-limit-64`: messages of 20 and 21 bytes take two datagrams.
 #[test]
 fn twenty_and_twenty_one_bytes_take_two_datagrams(rt: HostRuntime) -> Result<(), Fail> {
-    let mut publisher = with_two(&rt, rt.alloc(), &[2; 21])?;
+    let mut publisher = with_two(rt.alloc(), &[2; 21])?;
     same_truth(&rt, publisher.is_full(), true);
     expect_datagram(&rt, &mut publisher, 42);
     same_truth(&rt, publisher.is_full(), false);
@@ -137,6 +176,7 @@ fn twenty_and_twenty_one_bytes_take_two_datagrams(rt: HostRuntime) -> Result<(),
     expect_heartbeat(&rt, &mut publisher, heartbeat);
     same_closed(&rt, publisher.close(), Err(Unsent { count: 1 }));
     expect_datagram(&rt, &mut publisher, 43);
+    expect_end(&rt, &mut publisher);
     Ok(())
 }
 
@@ -147,6 +187,40 @@ fn forty_two_bytes_are_published(rt: HostRuntime) -> Result<(), Fail> {
     same_added(&rt, publisher.publish(&[1; 42]), Ok(1));
     let too_long = Err(AppendError::TooLong { len: 43 });
     same_added(&rt, publisher.publish(&[1; 43]), too_long);
+    Ok(())
+}
+
+/// Publishes a message, once more where memory was refused: nothing more was then published or unsent.
+fn publish_again(
+    rt: &impl Abort,
+    publisher: &mut Publisher,
+    message: &[u8],
+    number: u64,
+) -> Result<(), Fail> {
+    let (next, unsent) = (publisher.journal().next(), publisher.unsent());
+    let answer = publisher.publish(message);
+    if answer != Err(AppendError::Memory) {
+        same_added(rt, answer, Ok(number));
+        return Ok(());
+    }
+    same_number(rt, publisher.journal().next(), next);
+    same_number(rt, publisher.unsent(), unsent);
+    same_number(rt, publisher.publish(message)?, number);
+    Ok(())
+}
+
+/// `publisher-limit-64`: messages of 20 and 20 bytes, and of 20 and 21.
+#[test]
+fn a_refused_growth_publishes_nothing(rt: HostRuntime) -> Result<(), Fail> {
+    let mut publisher = Publisher::new(rt.alloc(), SESSION, 64)?;
+    publish_again(&rt, &mut publisher, &[1; 20], 1)?;
+    publish_again(&rt, &mut publisher, &[2; 20], 2)?;
+    expect_datagram(&rt, &mut publisher, 64);
+    publish_again(&rt, &mut publisher, &[3; 20], 3)?;
+    publish_again(&rt, &mut publisher, &[4; 21], 4)?;
+    same_number(&rt, publisher.unsent(), 2);
+    expect_datagram(&rt, &mut publisher, 42);
+    expect_datagram(&rt, &mut publisher, 43);
     Ok(())
 }
 

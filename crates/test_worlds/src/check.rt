@@ -1,5 +1,5 @@
-//! The folders of the example and the lists of the checker, by what is printed; names and their order; and
-//! writes and growths that fail.
+//! The folders of the example and the lists of the checker, by what is printed; names and their order; writes
+//! that fail, and growths that `tests/growths` refuses.
 
 use mold_check::{Entry, check_entries};
 use mold_devices::{CommandFault, MemorySink, Sink};
@@ -221,7 +221,7 @@ fn each_write_that_fails_leaves_a_beginning(rt: HostRuntime) -> Result<(), Fail>
     expect_write_faults(&rt, &[("a.pkt", ONE), ("b.pkt", END_3)], INCOMPLETE)
 }
 
-// Checks the entries, once more where memory was refused: what was written then is a beginning.
+// Checks the entries, and once more where memory was refused: what was written then is a beginning.
 fn expect_again<'n, 'w>(
     rt: &(impl Abort + AllocGlobal),
     entries: &'w [(&'n str, &'static [u8])],
@@ -249,16 +249,19 @@ fn expect_again<'n, 'w>(
     Ok(())
 }
 
-/// To be run with each allocation refused in turn.
 #[test]
-fn a_refused_growth_leaves_a_beginning(rt: HostRuntime) -> Result<(), Fail> {
+fn a_refused_growth_leaves_a_beginning_of_a_refusal(rt: HostRuntime) -> Result<(), Fail> {
     let folder = [("b.pkt", TWO_Y), ("c.txt", b""), ("a.pkt", TWO_X)];
-    expect_again(&rt, &folder, REFUSED, 2)?;
-    expect_again(&rt, &[("a.pkt", ONE), ("b.pkt", END_3)], INCOMPLETE, 1)?;
-    expect_again(
-        &rt,
-        &[("b.pkt", END_1), ("a.pkt", HEARTBEAT_1)],
-        b"files 2 skipped 0\nwhole 0\n",
-        0,
-    )
+    expect_again(&rt, &folder, REFUSED, 2)
+}
+
+#[test]
+fn a_refused_growth_leaves_a_beginning_of_ranges(rt: HostRuntime) -> Result<(), Fail> {
+    expect_again(&rt, &[("a.pkt", ONE), ("b.pkt", END_3)], INCOMPLETE, 1)
+}
+
+#[test]
+fn a_refused_growth_leaves_a_beginning_of_whole(rt: HostRuntime) -> Result<(), Fail> {
+    let folder = [("b.pkt", END_1), ("a.pkt", HEARTBEAT_1)];
+    expect_again(&rt, &folder, b"files 2 skipped 0\nwhole 0\n", 0)
 }

@@ -1,12 +1,12 @@
 //! The world: its examples, by `apply` and by `run`, and why it is not made. Where a growth is refused nothing
-//! changes, and a second call does what the first was to do: each test passes whichever growth is refused. The
-//! gate refuses none; `rt try test_worlds --test --fail-alloc N` refuses the Nth one.
+//! changes, and a second call does what the first was to do: each test passes whichever growth is refused, and
+//! `tests/growths` refuses each.
 
 use mold_receiver::{Line, LineReport, Refused, Taken};
 use mold_session::{AppendError, Unsent};
 use mold_wire::{DecodeError, Session};
 use mold_world::{Event, Report, SessionError, Stopped, Way, World, WorldError};
-use std::alloc::Global;
+use std::alloc::{AllocError, Global};
 use std::process::Abort;
 use std::test::Fail;
 
@@ -130,6 +130,16 @@ const TWO_ANSWERS: [Answer; 16] = [
     Ok(Report::NoiseRefused(Refused::Malformed(DecodeError::Short { len: 1 }))),
 ];
 
+// The messages that these events publish, and the datagrams that they send.
+const TWO_MESSAGES: [&[u8]; 2] = [b"\x41", b"\x42"];
+
+const TWO_SENT: [&[u8]; 4] = [
+    b"SESSION001\0\0\0\0\0\0\0\x01\0\x01\0\x01\x41",
+    b"SESSION001\0\0\0\0\0\0\0\x02\0\x01\0\x01\x42",
+    b"SESSION001\0\0\0\0\0\0\0\x03\xff\xff",
+    b"SESSION001\0\0\0\0\0\0\0\x01\0\x02\0\x01\x41\0\x01\x42",
+];
+
 // Events of a world of one receiver without messages.
 const LACKING: [Event<'static>; 8] = [
     Event::Deliver {
@@ -241,7 +251,7 @@ const FIVE: [Event<'static>; 22] = [
 ];
 
 // The session's messages.
-const MESSAGES: [[u8; 20]; 5] = [[1; 20], [2; 20], [3; 20], [4; 20], [5; 20]];
+const MESSAGES: [&[u8]; 5] = [&[1; 20], &[2; 20], &[3; 20], &[4; 20], &[5; 20]];
 
 const ONE_AND_TWO: &[u8] = b"SESSION001\0\0\0\0\0\0\0\x01\0\x02\
     \0\x14\x01\x01\x01\x01\x01\x01\x01\x01\x01\x01\x01\x01\x01\x01\x01\x01\x01\x01\x01\x01\
@@ -383,62 +393,121 @@ fn same_refusal(rt: &impl Abort, found: Option<WorldError>, wanted: WorldError) 
 }
 
 /// An event, once more where memory was refused: the world was then as before.
-fn apply_again(rt: &impl Abort, world: &mut World, event: &Event<'_>) -> Answer {
+fn apply_again(
+    rt: &impl Abort,
+    world: &mut World,
+    event: &Event<'_>,
+) -> Result<Answer, WorldError> {
     let before = count(world);
+    let answer = world.apply(event);
+    if answer != Err(WorldError::Memory) {
+        return Ok(answer);
+    }
+    same_counts(rt, count(world), before);
     match world.apply(event) {
-        Err(WorldError::Memory) => {
-            same_counts(rt, count(world), before);
-            world.apply(event)
-        }
-        answer => answer,
+        Err(WorldError::Memory) => Err(WorldError::Memory),
+        answer => Ok(answer),
     }
 }
 
-fn expect(rt: &impl Abort, world: &mut World, event: &Event<'_>, want: Answer) {
-    assert_eq!(rt; apply_again(rt, world, event), want);
+fn expect(
+    rt: &impl Abort,
+    world: &mut World,
+    event: &Event<'_>,
+    want: Answer,
+) -> Result<(), WorldError> {
+    assert_eq!(rt; apply_again(rt, world, event)?, want);
+    Ok(())
 }
 
-fn expect_all(rt: &impl Abort, world: &mut World, events: &[Event<'_>], answers: &[Answer]) {
+fn expect_all(
+    rt: &impl Abort,
+    world: &mut World,
+    events: &[Event<'_>],
+    answers: &[Answer],
+) -> Result<(), WorldError> {
     for (event, want) in events.iter().zip(answers) {
-        expect(rt, world, event, *want);
+        expect(rt, world, event, *want)?;
     }
+    Ok(())
 }
 
 /// No event of the session of five messages is refused.
-fn expect_session(rt: &impl Abort, world: &mut World) {
+fn expect_session(rt: &impl Abort, world: &mut World) -> Result<(), WorldError> {
     for event in &FIVE[..SESSION_LENGTH] {
-        holds(rt, apply_again(rt, world, event).is_ok());
+        holds(rt, apply_again(rt, world, event)?.is_ok());
     }
+    Ok(())
 }
 
-fn run_whole(rt: &impl Abort, world: &mut World, events: &[Event<'_>]) {
-    holds(rt, world.run(events).is_ok());
+fn run_whole(world: &mut World, events: &[Event<'_>]) -> Result<(), WorldError> {
+    match world.run(events) {
+        Ok(()) => Ok(()),
+        Err(Stopped { at: _ }) => Err(WorldError::Memory),
+    }
 }
 
 /// What can be counted of a world with bursts of one datagram after these events.
 fn counts_after(
-    rt: &(impl Abort + AllocGlobal),
+    alloc: Global,
     windows: &[u32],
     events: &[Event<'_>],
 ) -> Result<Counts, WorldError> {
-    let mut twin = World::new(rt.alloc(), SESSION, 64, 64, 1, windows)?;
-    run_whole(rt, &mut twin, events);
+    let mut twin = World::new(alloc, SESSION, 64, 64, 1, windows)?;
+    run_whole(&mut twin, events)?;
     Ok(count(&twin))
 }
 
+/// What was sent are the first of these datagrams.
+fn expect_sent<'w, 'd>(rt: &impl Abort, world: &World, sent: &'w [&'d [u8]]) {
+    let count = world.sent_len();
+    holds(rt, count <= sent.len());
+    for (i, bytes) in sent.iter().enumerate() {
+        let want = if i < count { Some(*bytes) } else { None };
+        same_bytes(rt, world.sent_at(i), want);
+    }
+}
+
+/// A book has the first of these messages.
+fn expect_front<'w, 'm>(rt: &impl Abort, world: &World, r: usize, messages: &'w [&'m [u8]]) {
+    for (i, message) in messages.iter().enumerate() {
+        if let Some(found) = message_of(world, r, i) {
+            same_bytes(rt, Some(found), Some(*message));
+        }
+    }
+    holds(rt, message_of(world, r, messages.len()).is_none());
+}
+
+/// Both books and what was sent are beginnings of these.
+fn expect_fronts<'w, 'd>(
+    rt: &impl Abort,
+    world: &World,
+    sent: &'w [&'d [u8]],
+    messages: &'w [&'d [u8]],
+) {
+    expect_sent(rt, world, sent);
+    expect_front(rt, world, 0, messages);
+    expect_front(rt, world, 1, messages);
+}
+
 /// A run in a world with bursts of one datagram, which where memory was refused goes on from the event at
-/// which it stopped: the world was then as after the events before that one.
-fn run_again(
+/// which it stopped: the world was then as after the events before that one, by its counts, and by the bytes of
+/// its books and datagrams, which are beginnings of all of them.
+fn run_again<'w, 'd>(
     rt: &(impl Abort + AllocGlobal),
     world: &mut World,
     windows: &[u32],
     events: &[Event<'_>],
+    sent: &'w [&'d [u8]],
+    messages: &'w [&'d [u8]],
 ) -> Result<(), WorldError> {
     if let Err(Stopped { at }) = world.run(events) {
         let (before, rest) = events.split_at(at);
-        same_counts(rt, count(world), counts_after(rt, windows, before)?);
-        run_whole(rt, world, rest);
+        expect_fronts(rt, world, sent, messages);
+        same_counts(rt, count(world), counts_after(rt.alloc(), windows, before)?);
+        run_whole(world, rest)?;
     }
+    expect_fronts(rt, world, sent, messages);
     Ok(())
 }
 
@@ -455,7 +524,7 @@ fn expect_report(rt: &impl Abort, world: &World, r: usize, line: Line, want: (u6
 fn expect_five(rt: &impl Abort, world: &World, r: usize) {
     holds(rt, first_of(world, r) == Some(1));
     for (i, message) in MESSAGES.iter().enumerate() {
-        same_bytes(rt, message_of(world, r, i), Some(message.as_slice()));
+        same_bytes(rt, message_of(world, r, i), Some(*message));
     }
 }
 
@@ -479,17 +548,18 @@ fn expect_two_standings(rt: &impl Abort, world: &World) {
     expect_receiver(rt, world, 1, (1, 1, 0, 0, false));
 }
 
-fn expect_two_receivers(rt: &impl Abort, world: &mut World) {
-    expect_all(rt, world, &TWO_RECEIVERS, &TWO_ANSWERS);
+fn expect_two_receivers(rt: &impl Abort, world: &mut World) -> Result<(), WorldError> {
+    expect_all(rt, world, &TWO_RECEIVERS, &TWO_ANSWERS)?;
     expect_two_standings(rt, world);
     expect_report(rt, world, 1, Line::A, (0, 1, 1));
+    Ok(())
 }
 
 /// `sim-two-receivers`
 #[test]
 fn two_receivers(rt: HostRuntime) -> Result<(), Fail> {
     let mut world = world(rt.alloc(), 1, &[4, 4])?;
-    expect_two_receivers(&rt, &mut world);
+    expect_two_receivers(&rt, &mut world)?;
     Ok(())
 }
 
@@ -501,47 +571,50 @@ fn expect_one_receiver(rt: &impl Abort, world: &World) {
     holds(rt, world.report(1, Line::A).is_none());
 }
 
-fn expect_lacking(rt: &impl Abort, world: &mut World) {
-    expect_all(rt, world, &LACKING, &LACKING_ANSWERS);
+fn expect_lacking(rt: &impl Abort, world: &mut World) -> Result<(), WorldError> {
+    expect_all(rt, world, &LACKING, &LACKING_ANSWERS)?;
     same_bytes(rt, world.sent_at(0), Some(OWN));
     same_bytes(rt, world.sent_at(1), None);
     expect_one_receiver(rt, world);
+    Ok(())
 }
 
 /// Refusals of events, and what is not there.
 #[test]
 fn what_is_not_there(rt: HostRuntime) -> Result<(), Fail> {
     let mut world = world(rt.alloc(), 1, &[4])?;
-    expect_lacking(&rt, &mut world);
+    expect_lacking(&rt, &mut world)?;
     Ok(())
 }
 
 /// The session's deliveries, and how the receivers stand after each.
-fn expect_deliveries(rt: &impl Abort, world: &mut World) {
+fn expect_deliveries(rt: &impl Abort, world: &mut World) -> Result<(), WorldError> {
     let deliveries = &FIVE[SESSION_LENGTH..];
     for (event, (want, r, stands)) in deliveries.iter().zip(&DELIVERED) {
-        expect(rt, world, event, *want);
+        expect(rt, world, event, *want)?;
         expect_receiver(rt, world, *r, *stands);
     }
+    Ok(())
 }
 
-fn expect_event_by_event(rt: &impl Abort, world: &mut World) {
-    expect_session(rt, world);
+fn expect_event_by_event(rt: &impl Abort, world: &mut World) -> Result<(), WorldError> {
+    expect_session(rt, world)?;
     same_size(rt, world.sent_len(), 4);
-    expect_deliveries(rt, world);
+    expect_deliveries(rt, world)?;
     expect_end(rt, world);
+    Ok(())
 }
 
 /// Five messages come to two receivers, one event at a time.
 #[test]
 fn five_messages_event_by_event(rt: HostRuntime) -> Result<(), Fail> {
     let mut world = world(rt.alloc(), 1, &[4, 1])?;
-    expect_event_by_event(&rt, &mut world);
+    expect_event_by_event(&rt, &mut world)?;
     Ok(())
 }
 
 fn expect_run(rt: &(impl Abort + AllocGlobal), world: &mut World) -> Result<(), WorldError> {
-    run_again(rt, world, &[4, 1], &FIVE)?;
+    run_again(rt, world, &[4, 1], &FIVE, &SENT, &MESSAGES)?;
     expect_end(rt, world);
     Ok(())
 }
@@ -554,69 +627,26 @@ fn five_messages_in_one_run(rt: HostRuntime) -> Result<(), Fail> {
     Ok(())
 }
 
-/// What was sent are the first of the session's datagrams.
-fn expect_sent(rt: &impl Abort, world: &World) {
-    let count = world.sent_len();
-    holds(rt, count <= SENT.len());
-    for (i, bytes) in SENT.iter().enumerate() {
-        let want = if i < count { Some(*bytes) } else { None };
-        same_bytes(rt, world.sent_at(i), want);
-    }
-}
-
-/// A book has the first of the session's messages.
-fn expect_front(rt: &impl Abort, world: &World, r: usize) {
-    for (i, message) in MESSAGES.iter().enumerate() {
-        if let Some(found) = message_of(world, r, i) {
-            same_bytes(rt, Some(found), Some(message.as_slice()));
-        }
-    }
-    holds(rt, message_of(world, r, MESSAGES.len()).is_none());
-}
-
-fn expect_fronts(rt: &impl Abort, world: &World) {
-    expect_sent(rt, world);
-    expect_front(rt, world, 0);
-    expect_front(rt, world, 1);
-}
-
-fn expect_run_on(rt: &impl Abort, world: &mut World) {
-    if let Err(Stopped { at }) = world.run(&FIVE) {
-        expect_fronts(rt, world);
-        run_whole(rt, world, FIVE.split_at(at).1);
-    }
-    expect_end(rt, world);
-    expect_sent(rt, world);
-}
-
-/// A run that a refused growth stops leaves books and datagrams that are, byte by byte, the first of the
-/// session's; and one more from where it stopped leaves all of them, as a run without a stop does.
-#[test]
-fn a_run_that_stops_goes_on(rt: HostRuntime) -> Result<(), Fail> {
-    let mut world = world(rt.alloc(), 1, &[4, 1])?;
-    expect_run_on(&rt, &mut world);
-    Ok(())
-}
-
-fn expect_burst(rt: &impl Abort, world: &mut World) {
-    expect_session(rt, world);
+fn expect_burst(rt: &impl Abort, world: &mut World) -> Result<(), WorldError> {
+    expect_session(rt, world)?;
     let want = Ok(Report::Burst { first: 4, count: 2 });
-    expect(rt, world, &Event::Request(FROM_TWO), want);
+    expect(rt, world, &Event::Request(FROM_TWO), want)?;
     same_size(rt, world.sent_len(), 6);
     same_bytes(rt, world.sent_at(4), Some(TWO_AND_THREE));
     same_bytes(rt, world.sent_at(5), Some(FOUR_AND_FIVE));
+    Ok(())
 }
 
 /// A burst of three has the two datagrams that there are.
 #[test]
 fn a_burst_is_sent_whole_or_not_at_all(rt: HostRuntime) -> Result<(), Fail> {
     let mut world = world(rt.alloc(), 3, &[4])?;
-    expect_burst(&rt, &mut world);
+    expect_burst(&rt, &mut world)?;
     Ok(())
 }
 
 fn expect_skipped(rt: &(impl Abort + AllocGlobal), world: &mut World) -> Result<(), WorldError> {
-    run_again(rt, world, &[4, 4], &TWO_RECEIVERS)?;
+    run_again(rt, world, &[4, 4], &TWO_RECEIVERS, &TWO_SENT, &TWO_MESSAGES)?;
     same_size(rt, world.sent_len(), 4);
     expect_two_standings(rt, world);
     Ok(())
@@ -627,6 +657,49 @@ fn expect_skipped(rt: &(impl Abort + AllocGlobal), world: &mut World) -> Result<
 fn a_run_skips_what_is_refused(rt: HostRuntime) -> Result<(), Fail> {
     let mut world = world(rt.alloc(), 1, &[4, 4])?;
     expect_skipped(&rt, &mut world)?;
+    Ok(())
+}
+
+// A world of one receiver whose session of one message was sent.
+fn with_one_sent(alloc: Global) -> Result<World, WorldError> {
+    let mut world = World::new(alloc, SESSION, 64, 64, 1, &[4])?;
+    run_whole(&mut world, &TWO_RECEIVERS[..2])?;
+    Ok(world)
+}
+
+const WITHOUT_MEMORY: [Event<'static>; 4] = [
+    Event::Noise {
+        r: 0,
+        way: A,
+        bytes: b"\0",
+    },
+    Event::Noise {
+        r: 0,
+        way: Way::Answer,
+        bytes: OWN,
+    },
+    Event::Close,
+    Event::Close,
+];
+
+const WITHOUT_MEMORY_ANSWERS: [Answer; 4] = [
+    Ok(Report::NoiseRefused(Refused::Malformed(DecodeError::Short { len: 1 }))),
+    Err(WorldError::NotNoise),
+    Ok(Report::Closed),
+    Ok(Report::Closed),
+];
+
+fn expect_applied(rt: &impl Abort, world: &mut World) {
+    for (event, want) in WITHOUT_MEMORY.iter().zip(&WITHOUT_MEMORY_ANSWERS) {
+        assert_eq!(rt; world.apply(event), *want);
+    }
+}
+
+/// These events take no memory.
+#[test]
+fn no_growth_of_close_and_noise(rt: HostRuntime) -> Result<(), Fail> {
+    let mut world = with_one_sent(rt.alloc())?;
+    expect_applied(&rt, &mut world);
     Ok(())
 }
 
@@ -647,4 +720,80 @@ fn worlds_are_refused_in_order(rt: HostRuntime) {
         Ok(count) => same_size(&rt, count, 0),
         Err(why) => same_refusal(&rt, Some(why), WorldError::Memory),
     }
+}
+
+const RECEIVERS: usize = 1000;
+
+// How many datagrams come to each of them. With ten times as many the test is a load of a million deliveries.
+const DATAGRAMS: usize = 100;
+
+// Whether a receiver hears nothing of this datagram, one in twenty. The last one is never lost.
+fn is_lost(r: usize, datagram: usize) -> bool {
+    datagram.saturating_add(1) < DATAGRAMS && datagram.wrapping_add(r) % 20 == 5
+}
+
+// A datagram comes to a receiver, which asks for the one before where that was lost. `sent` counts the datagrams.
+fn push_delivery(
+    events: &mut Vec<Event<'static>>,
+    r: usize,
+    datagram: usize,
+    place: usize,
+    sent: &mut usize,
+) -> Result<(), AllocError> {
+    if is_lost(r, datagram) {
+        return Ok(());
+    }
+    events.push(Event::Deliver {
+        r,
+        way: A,
+        sent: place,
+    })?;
+    if datagram > 0 && is_lost(r, datagram.saturating_sub(1)) {
+        events.push(Event::Ask(r))?;
+        events.push(Event::Deliver {
+            r,
+            way: Way::Answer,
+            sent: *sent,
+        })?;
+        *sent = sent.saturating_add(1);
+    }
+    Ok(())
+}
+
+// Datagrams of one message, each of which comes to all receivers.
+fn events_for_all(alloc: Global) -> Result<Vec<Event<'static>>, AllocError> {
+    let mut events = Vec::new(alloc);
+    let mut sent = 0usize;
+    for datagram in 0..DATAGRAMS {
+        events.push(Event::Publish(MESSAGES[datagram % 5]))?;
+        events.push(Event::Datagram)?;
+        let place = sent;
+        sent = sent.saturating_add(1);
+        for r in 0..RECEIVERS {
+            push_delivery(&mut events, r, datagram, place, &mut sent)?;
+        }
+    }
+    Ok(events)
+}
+
+// The receiver has all messages, and has not heard of an end.
+fn expect_all_heard(rt: &impl Abort, world: &World, r: usize) {
+    let behind = (DATAGRAMS as u64).saturating_add(1);
+    expect_receiver(rt, world, r, (behind, behind, 0, DATAGRAMS, false));
+    for i in 0..DATAGRAMS {
+        same_bytes(rt, message_of(world, r, i), Some(MESSAGES[i % 5]));
+    }
+}
+
+/// Deliveries to a thousand receivers by one run, after which each has all messages.
+#[test]
+fn a_thousand_receivers(rt: HostRuntime) -> Result<(), Fail> {
+    let windows = vec![in rt.alloc(); 4u32; RECEIVERS]?;
+    let events = events_for_all(rt.alloc())?;
+    let mut world = World::new(rt.alloc(), SESSION, 64, 64, 1, windows.as_slice())?;
+    run_whole(&mut world, events.as_slice())?;
+    for r in 0..RECEIVERS {
+        expect_all_heard(&rt, &world, r);
+    }
+    Ok(())
 }
