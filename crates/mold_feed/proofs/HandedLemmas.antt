@@ -41,18 +41,18 @@ pub handed_more : (number first : ℕ) (ms : List Message) (message : Message) (
     first ≤ number → Some message ≡ slice_get ms (number - first) →
     old ++ handed_text number (drop (number - first) ms) ≡ whole → new ≡ old ++ handed_line number message →
     new ++ handed_text (number + 1) (drop (number + 1 - first) ms) ≡ whole
-handed_more number first ms message old new whole low is told written =
+handed_more number first ms message old new whole low is printed written =
     let rest : List ℕ = handed_text (number + 1) (drop (number + 1 - first) ms) in
     ap (λ (t : List ℕ). t ++ rest) written ∙ append_assoc old (handed_line number message) rest
-    ∙ ap (λ (t : List ℕ). old ++ t) (sym (handed_step number first ms message low is)) ∙ told
+    ∙ ap (λ (t : List ℕ). old ++ t) (sym (handed_step number first ms message low is)) ∙ printed
 
 pub handed_all : (number first : ℕ) (ms : List Message) (old whole : List ℕ) → first + length ms ≤ number →
     old ++ handed_text number (drop (number - first) ms) ≡ whole → old ≡ whole
 unfolding handed_text
-handed_all number first ms old whole high told =
+handed_all number first ms old whole high printed =
     sym (append-nil old)
     ∙ ap (λ (l : List Message). old ++ handed_text number l) (sym (drop_of_length-le ms (omega arith)))
-    ∙ told
+    ∙ printed
 
 pub handed_init : (first : ℕ) (ms : List Message) (old : List ℕ) →
     old ++ handed_text first (drop (first - first) ms) ≡ old ++ handed_text first ms

@@ -21,8 +21,8 @@ use Rattle.mold_feed.specs.Runs.{Begins}
 use Rattle.mold_feed.proofs.RunLemmas.{begins_more, begins_trans, begins_whole, none_answered, none_ok}
 use Rattle.mold_publish.specs.Sending.{all_but_last, packets_behind}
 use Rattle.mold_publish.specs.Publishing.{packed_status}
-use Rattle.mold_feed.specs.PublishLoop.{Outbox, PublishRun, Saves, Sends, SendsLines, all_datagrams, behind_data, both, close_datagrams}
-use Rattle.mold_feed.specs.PublishLoop.{data_behind, last_line, offer, outbox_of, packets_to_send, published_text}
+use Rattle.mold_feed.specs.PublishLoop.{PublicationState, PublishRun, Saves, Sends, SendsLines, all_datagrams, behind_data, both, close_datagrams}
+use Rattle.mold_feed.specs.PublishLoop.{data_behind, last_line, offer, publication_of, packets_to_send, published_text}
 use Rattle.mold_feed.specs.PublishLoop.{closed_unless, left_journal, saved_bytes, spelled_some}
 use Rattle.mold_publish.specs.Publishing.{PublishedLines, lines_published, published_from, line_outcome, refused_text, HasRoom, IsJustFull, Fills}
 use Rattle.mold_publish.specs.declared.line_refusal.LineRefusal.{LineRefusal}
@@ -33,9 +33,9 @@ use Rattle.mold_publish.proofs.DatagramLemmas.{more_packets, list_of, room_packe
 -- ---- sendings
 
 -- one after the other
-pub sends_more : {P : Type 0} (a b : P) (xs ys : List (List ℕ)) (old mid new : Outbox P) → Sends (both a b xs) old mid →
+pub sends_more : {P : Type 0} (a b : P) (xs ys : List (List ℕ)) (old mid new : PublicationState P) → Sends (both a b xs) old mid →
     Sends (both a b ys) mid new → Sends (both a b (xs ++ ys)) old new
-sends_more a b [] ys old mid new first second = subst (λ (o : Outbox _). Sends (both a b ys) o new) first second
+sends_more a b [] ys old mid new first second = subst (λ (o : PublicationState _). Sends (both a b ys) o new) first second
 sends_more a b (x ∷ xs) ys old mid new first second =
     (first.0, (first.1.0, sends_more a b xs ys (offer first.1.0 b x (offer first.0 a x old)) mid new first.1.1 second))
 
@@ -45,18 +45,18 @@ replicate_push {A} (suc n) x =
     ap (λ (l : List A). x ∷ l) (replicate_push n x)
     ∙ ap (λ (m : ℕ). replicate m x) (let same : suc (n + 1) ≡ suc n + 1 = omega arith in same)
 
-offer_sends : {P : Type 0} (fails : Bool) (to : P) (bytes : List ℕ) (outbox : Outbox P) →
-    Begins outbox.port.sent (offer fails to bytes outbox).port.sent
-offer_sends true to bytes outbox = begins_whole outbox.port.sent
-offer_sends false to bytes outbox = begins_more outbox.port.sent _
+offer_sends : {P : Type 0} (fails : Bool) (to : P) (bytes : List ℕ) (publication : PublicationState P) →
+    Begins publication.port.sent (offer fails to bytes publication).port.sent
+offer_sends true to bytes publication = begins_whole publication.port.sent
+offer_sends false to bytes publication = begins_more publication.port.sent _
 
 -- where nothing fails any more
-pub record Ended {P : Type 0} (a b : P) (datagrams : List (List ℕ)) (start : Outbox P) : Type 0 where
-  pub end : Outbox P
+pub record Ended {P : Type 0} (a b : P) (datagrams : List (List ℕ)) (start : PublicationState P) : Type 0 where
+  pub end : PublicationState P
   pub sends : Sends (both a b datagrams) start end
   pub sent : Begins start.port.sent end.port.sent
 
-pub ended : {P : Type 0} (a b : P) (datagrams : List (List ℕ)) (start : Outbox P) → Ended a b datagrams start
+pub ended : {P : Type 0} (a b : P) (datagrams : List (List ℕ)) (start : PublicationState P) → Ended a b datagrams start
 ended a b [] start = record { end = start; sends = refl; sent = begins_whole start.port.sent }
 ended a b (datagram ∷ datagrams) start =
     let one = offer false a datagram start in
@@ -136,7 +136,7 @@ LeftToSend start now (Some input) (Some left) front =
     × (lines_published start.journal (lines_of input) ≡ lines_published now.journal (lines_of left))
 
 pub record SentSoFar {P : Type 0} (a b : P) (start now : PublisherState) (known left : Option (List ℕ))
-    (old new : Outbox P) (count : ℕ) : Type 0 where
+    (old new : PublicationState P) (count : ℕ) : Type 0 where
   pub front : List (List ℕ)
   pub sends : Sends (both a b front) old new
   pub counted : count ≡ length front
@@ -146,9 +146,9 @@ left_same : (start : PublisherState) (known : Option (List ℕ)) → LeftToSend 
 left_same start None = tt
 left_same start (Some input) = (refl, refl)
 
-pub sent_none : {P : Type 0} (a b : P) (start : PublisherState) (known : Option (List ℕ)) (outbox : Outbox P)
-    (count : ℕ) → count ≡ 0 → SentSoFar a b start start known known outbox outbox count
-sent_none a b start known outbox count none =
+pub sent_none : {P : Type 0} (a b : P) (start : PublisherState) (known : Option (List ℕ)) (publication : PublicationState P)
+    (count : ℕ) → count ≡ 0 → SentSoFar a b start start known known publication publication count
+sent_none a b start known publication count none =
     record { front = []; sends = refl; counted = none; behind = left_same start known }
 
 -- the same data by another publisher of the same limit and the same messages sent
@@ -178,7 +178,7 @@ left_full laws start before now (Some input) (Some xs) (Some ys) front so_far fi
 
 -- a datagram more was offered
 pub sent_full : {P : Type 0} → PackingLaws → (a b : P) (start before now after : PublisherState)
-    (known left behind : Option (List ℕ)) (old mid new : Outbox P) (count counted : ℕ) →
+    (known left behind : Option (List ℕ)) (old mid new : PublicationState P) (count counted : ℕ) →
     SentSoFar a b start before known left old mid count → Fills before now left behind Full →
     after ≡ after_datagram now → Sends (both a b (spelled_some (next_datagram now))) mid new →
     counted ≡ count + length (spelled_some (next_datagram now)) →
@@ -206,7 +206,7 @@ any_known None Q all = tt
 any_known (Some input) Q all = all input
 
 pub sent_cut : {P E : Type 0} (a b : P) (start now last : PublisherState) (known left : Option (List ℕ))
-    (result : Result (Option LineRefusal) E) (old new : Outbox P) (count : ℕ) →
+    (result : Result (Option LineRefusal) E) (old new : PublicationState P) (count : ℕ) →
     SentSoFar a b start now known left old new count → IsErr result →
     SendsLines a b start last known result old new count
 sent_cut a b start now last known left result old new count so_far failed = record {
@@ -219,7 +219,7 @@ sent_cut a b start now last known left result old new count so_far failed = reco
 
 -- nothing was offered yet
 pub sent_not : {P E : Type 0} (a b : P) (start last : PublisherState) (known : Option (List ℕ))
-    (result : Result (Option LineRefusal) E) (old : Outbox P) (count : ℕ) → IsErr result →
+    (result : Result (Option LineRefusal) E) (old : PublicationState P) (count : ℕ) → IsErr result →
     SendsLines a b start last known result old old count
 sent_not a b start last known result old count failed = record {
   front = [];
@@ -276,7 +276,7 @@ left_refused laws start before now (Some input) (Some xs) (Some ys) why front so
     )
 
 pub sent_end : {P E : Type 0} → PackingLaws → (a b : P) (start before now after : PublisherState)
-    (known left behind : Option (List ℕ)) (old mid new : Outbox P) (count counted : ℕ) →
+    (known left behind : Option (List ℕ)) (old mid new : PublicationState P) (count counted : ℕ) →
     SentSoFar a b start before known left old mid count → Fills before now left behind End →
     after ≡ after_datagram now → Sends (both a b (spelled_some (next_datagram now))) mid new →
     counted ≡ count + length (spelled_some (next_datagram now)) →
@@ -295,7 +295,7 @@ sent_end {P} {E} laws a b start before now after known left behind old mid new c
     })
 
 pub sent_refused : {P E : Type 0} → PackingLaws → (a b : P) (start before now : PublisherState)
-    (known left behind : Option (List ℕ)) (why : LineRefusal) (old new : Outbox P) (count : ℕ) →
+    (known left behind : Option (List ℕ)) (why : LineRefusal) (old new : PublicationState P) (count : ℕ) →
     SentSoFar a b start before known left old new count → Fills before now left behind (Refused why) →
     SendsLines {E = E} a b start now known (Ok (Some why)) old new count
 sent_refused {P} {E} laws a b start before now known left behind why old new count so_far filled =
@@ -328,12 +328,12 @@ full_more laws now count counted full few more =
 
 -- before the first line
 pub sent_begun : {P : Type 0} (a b : P) (start : PublisherState) (known : Option (List ℕ)) (rest : List ℕ)
-    (outbox : Outbox P) (count : ℕ) → rest ≡ [] → count ≡ 0 →
-    SentSoFar a b start start known (prepend_known rest known) outbox outbox count
-sent_begun a b start known rest outbox count empty none =
-    subst (λ (l : Option (List ℕ)). SentSoFar a b start start known l outbox outbox count)
+    (publication : PublicationState P) (count : ℕ) → rest ≡ [] → count ≡ 0 →
+    SentSoFar a b start start known (prepend_known rest known) publication publication count
+sent_begun a b start known rest publication count empty none =
+    subst (λ (l : Option (List ℕ)). SentSoFar a b start start known l publication publication count)
     (sym (ap (λ (xs : List ℕ). prepend_known xs known) empty ∙ prepend_known-nil known))
-    (sent_none a b start known outbox count none)
+    (sent_none a b start known publication count none)
 
 -- a session closes where all is sent
 pub close_done : {T E : Type 0} (result : Result T E) (sent all : ℕ) (Q : Type 0) → OnErr result (sent + 1 ≤ all) →
@@ -384,8 +384,8 @@ no_front known text = record { front = []; rest = text; parts = refl; appended =
 
 -- after a fault
 pub run_cut : {P : Type 0} (a b : P) (beats ends limit : ℕ) (published : PublishedLines) (result : Result ℕ CommandFault)
-    (before : Port P) (mid : Outbox P) (text_old text_new file_old file_new : Option (List ℕ))
-    (front : List (List ℕ)) → IsErr result → Sends (both a b front) (outbox_of before 0) mid →
+    (before : Port P) (mid : PublicationState P) (text_old text_new file_old file_new : Option (List ℕ))
+    (front : List (List ℕ)) → IsErr result → Sends (both a b front) (publication_of before 0) mid →
     Begins front (all_datagrams limit beats ends published) →
     ((failed : ℕ) → AppendsFront text_old text_new (published_text limit published failed)) →
     AppendsFront file_old file_new (saved_bytes published.journal published.refused) →
@@ -395,8 +395,8 @@ run_cut {P} a b beats ends limit published result before mid text_old text_new f
     record {
       end = rest.end;
       sends =
-          subst (λ (ds : List (List ℕ)). Sends (both a b ds) (outbox_of before 0) rest.end) (sym begins.parts)
-          (sends_more a b front begins.rest (outbox_of before 0) mid rest.end sends rest.sends);
+          subst (λ (ds : List (List ℕ)). Sends (both a b ds) (publication_of before 0) rest.end) (sym begins.parts)
+          (sends_more a b front begins.rest (publication_of before 0) mid rest.end sends rest.sends);
       port = none_ok result _ failed;
       text = none_answered result _ failed;
       file = none_ok result _ failed;
@@ -407,18 +407,18 @@ run_cut {P} a b beats ends limit published result before mid text_old text_new f
 
 -- a fault while lines were read
 pub run_unread : {P E : Type 0} (a b : P) (beats ends : ℕ) (start now : PublisherState) (known : Option (List ℕ))
-    (told : Result (Option LineRefusal) E) (result : Result ℕ CommandFault) (before : Port P) (none failed count : ℕ)
+    (report : Result (Option LineRefusal) E) (result : Result ℕ CommandFault) (before : Port P) (none failed count : ℕ)
     (after : Port P) (text file : Option (List ℕ)) → none ≡ 0 → start.sent ≡ 0 → IsErr result →
-    SendsLines a b start now known told (outbox_of before none) (outbox_of after failed) count →
+    SendsLines a b start now known report (publication_of before none) (publication_of after failed) count →
     IfSome known (λ input. PublishRun a b beats ends start.limit (lines_published start.journal (lines_of input)) result
     before after text text file file)
-run_unread a b beats ends start now None told result before none failed count after text file zeroed unsent bad sent = tt
-run_unread {P} {E} a b beats ends start now (Some input) told result before none failed count after text file zeroed unsent bad sent =
+run_unread a b beats ends start now None report result before none failed count after text file zeroed unsent bad sent = tt
+run_unread {P} {E} a b beats ends start now (Some input) report result before none failed count after text file zeroed unsent bad sent =
     let published = lines_published start.journal (lines_of input) in
     let begins =
     subst (λ (n : ℕ). Begins sent.front (data_behind start.limit n published)) unsent sent.begins in
-    run_cut a b beats ends start.limit published result before (outbox_of after failed) text text file file sent.front bad
-    (subst (λ (n : ℕ). Sends (both a b sent.front) (outbox_of before n) (outbox_of after failed)) zeroed sent.sends)
+    run_cut a b beats ends start.limit published result before (publication_of after failed) text text file file sent.front bad
+    (subst (λ (n : ℕ). Sends (both a b sent.front) (publication_of before n) (publication_of after failed)) zeroed sent.sends)
     (begins_trans begins
     (begins_more (data_behind start.limit 0 published) (behind_data beats ends published.journal published.refused)))
     (λ lost. no_front text (published_text start.limit published lost))
@@ -430,9 +430,9 @@ ok_so (Err _) q = tt
 
 -- all was offered
 pub run_whole : {P : Type 0} (a b : P) (beats ends limit : ℕ) (published : PublishedLines)
-    (result : Result ℕ CommandFault) (before : Port P) (end : Outbox P)
+    (result : Result ℕ CommandFault) (before : Port P) (end : PublicationState P)
     (text_old text_new file_old file_new : Option (List ℕ)) →
-    Sends (both a b (all_datagrams limit beats ends published)) (outbox_of before 0) end →
+    Sends (both a b (all_datagrams limit beats ends published)) (publication_of before 0) end →
     IfOk result (λ status. Appends text_old text_new (published_text limit published end.failed)
     × (status ≡ packed_status published.refused)) →
     OnOk result (Saves published.journal published.refused file_old file_new) →
@@ -453,55 +453,55 @@ run_whole a b beats ends limit published result before end text_old text_new fil
 
 -- the data and what is behind them, one after the other
 pub all_sends : {P : Type 0} (a b : P) (beats ends limit : ℕ) (journal : JournalState) (front : List (List ℕ))
-    (before : Port P) (none : ℕ) (mid end : Outbox P) → none ≡ 0 →
+    (before : Port P) (none : ℕ) (mid end : PublicationState P) → none ≡ 0 →
     data_behind limit 0 (record { journal = journal; refused = None }) ≡ front →
-    Sends (both a b front) (outbox_of before none) mid →
+    Sends (both a b front) (publication_of before none) mid →
     Sends (both a b (close_datagrams beats ends journal)) mid end →
     Sends (both a b (all_datagrams limit beats ends (record { journal = journal; refused = None })))
-    (outbox_of before 0) end
+    (publication_of before 0) end
 all_sends {P} a b beats ends limit journal front before none mid end zeroed whole_data sends closes =
     subst (λ (n : ℕ). Sends (both a b (all_datagrams limit beats ends (record { journal = journal; refused = None })))
-    (outbox_of before n) end) zeroed
-    (subst (λ (ds : List (List ℕ)). Sends (both a b (ds ++ close_datagrams beats ends journal)) (outbox_of before none) end)
+    (publication_of before n) end) zeroed
+    (subst (λ (ds : List (List ℕ)). Sends (both a b (ds ++ close_datagrams beats ends journal)) (publication_of before none) end)
     (sym whole_data)
-    (sends_more a b front (close_datagrams beats ends journal) (outbox_of before none) mid end sends closes))
+    (sends_more a b front (close_datagrams beats ends journal) (publication_of before none) mid end sends closes))
 
 pub refused_sends : {P : Type 0} (a b : P) (beats ends limit : ℕ) (journal : JournalState) (why : LineRefusal)
-    (front : List (List ℕ)) (before : Port P) (none : ℕ) (end : Outbox P) → none ≡ 0 →
+    (front : List (List ℕ)) (before : Port P) (none : ℕ) (end : PublicationState P) → none ≡ 0 →
     data_behind limit 0 (record { journal = journal; refused = Some why }) ≡ front →
-    Sends (both a b front) (outbox_of before none) end →
+    Sends (both a b front) (publication_of before none) end →
     Sends (both a b (all_datagrams limit beats ends (record { journal = journal; refused = Some why })))
-    (outbox_of before 0) end
+    (publication_of before 0) end
 refused_sends {P} a b beats ends limit journal why front before none end zeroed whole_data sends =
     subst (λ (n : ℕ). Sends (both a b (all_datagrams limit beats ends (record { journal = journal; refused = Some why })))
-    (outbox_of before n) end) zeroed
-    (subst (λ (ds : List (List ℕ)). Sends (both a b ds) (outbox_of before none) end)
+    (publication_of before n) end) zeroed
+    (subst (λ (ds : List (List ℕ)). Sends (both a b ds) (publication_of before none) end)
     (sym (append-nil _ ∙ whole_data))
     sends)
 
--- a line is refused, and that is told
+-- a line is refused, and that is printed
 pub run_refused : {P E : Type 0} (a b : P) (beats ends : ℕ) (start now : PublisherState) (known : Option (List ℕ))
     (why : LineRefusal) (result : Result ℕ CommandFault) (before : Port P) (none failed count : ℕ) (after : Port P)
     (text_old text_new file : Option (List ℕ)) (number : ℕ) (items : List ℕ) → none ≡ 0 → start.sent ≡ 0 →
     start.journal.closed ≡ false →
-    SendsLines {E = E} a b start now known (Ok (Some why)) (outbox_of before none) (outbox_of after failed) count →
+    SendsLines {E = E} a b start now known (Ok (Some why)) (publication_of before none) (publication_of after failed) count →
     number ≡ length now.journal.messages + 1 → items ≡ refused_text number why →
     AppendsFront text_old text_new items →
     IfOk result (λ status. Appends text_old text_new items × (status ≡ 2)) →
     IfSome known (λ input. PublishRun a b beats ends start.limit (lines_published start.journal (lines_of input)) result
     before after text_old text_new file file)
 run_refused {P} {E} a b beats ends start now known why result before none failed count after text_old text_new file
-    number items zeroed unsent unclosed sent numbered is text told =
+    number items zeroed unsent unclosed sent numbered is text report =
     let same : items ≡ refused_text (length now.journal.messages + 1) why =
     is ∙ ap (λ (n : ℕ). refused_text n why) numbered in
     run_from a b beats ends start known now.journal (Some why) sent.front result before after text_old text_new file
     file unsent unclosed sent.whole
     (λ whole_data shut.
     run_whole a b beats ends start.limit (record { journal = now.journal; refused = Some why }) result before
-    (outbox_of after failed) text_old text_new file file
-    (refused_sends a b beats ends start.limit now.journal why sent.front before none (outbox_of after failed) zeroed
+    (publication_of after failed) text_old text_new file file
+    (refused_sends a b beats ends start.limit now.journal why sent.front before none (publication_of after failed) zeroed
     whole_data sent.sends)
-    (subst (λ (t : List ℕ). IfOk result (λ status. Appends text_old text_new t × (status ≡ 2))) same told)
+    (subst (λ (t : List ℕ). IfOk result (λ status. Appends text_old text_new t × (status ≡ 2))) same report)
     (ok_so result refl)
     (subst (λ (t : List ℕ). AppendsFront text_old text_new t) same text)
     (no_front file []))
@@ -511,9 +511,9 @@ pub run_closed : {P E : Type 0} (a b : P) (beats ends : ℕ) (start now : Publis
     (result : Result ℕ CommandFault) (before : Port P) (none failed count : ℕ) (mid after : Port P) (lost : ℕ)
     (text_old text_new file_old file_new : Option (List ℕ)) → none ≡ 0 → start.sent ≡ 0 →
     start.journal.closed ≡ false →
-    SendsLines {E = E} a b start now known (Ok None) (outbox_of before none) (outbox_of mid failed) count →
+    SendsLines {E = E} a b start now known (Ok None) (publication_of before none) (publication_of mid failed) count →
     (now.journal.closed ≡ false →
-    Sends (both a b (close_datagrams beats ends now.journal)) (outbox_of mid failed) (outbox_of after lost)) →
+    Sends (both a b (close_datagrams beats ends now.journal)) (publication_of mid failed) (publication_of after lost)) →
     IfOk result (λ status. Appends text_old text_new (last_line (length now.journal.messages) count lost)
     × (status ≡ 0)) →
     OnOk result (AppendsFile file_old file_new now.journal.session now.journal.messages true) →
@@ -522,25 +522,25 @@ pub run_closed : {P E : Type 0} (a b : P) (beats ends : ℕ) (start now : Publis
     IfSome known (λ input. PublishRun a b beats ends start.limit (lines_published start.journal (lines_of input)) result
     before after text_old text_new file_old file_new)
 run_closed {P} {E} a b beats ends start now known result before none failed count mid after lost text_old text_new
-    file_old file_new zeroed unsent unclosed sent closes told saved text file =
+    file_old file_new zeroed unsent unclosed sent closes report saved text file =
     run_from a b beats ends start known now.journal None sent.front result before after text_old text_new file_old
     file_new unsent unclosed sent.whole
     (λ whole_data shut.
     let same : count ≡ length (data_behind start.limit 0 (record { journal = now.journal; refused = None })) =
     sent.counted ∙ ap (λ (ds : List (List ℕ)). length ds) (sym whole_data) in
     run_whole a b beats ends start.limit (record { journal = now.journal; refused = None }) result before
-    (outbox_of after lost) text_old text_new file_old file_new
-    (all_sends a b beats ends start.limit now.journal sent.front before none (outbox_of mid failed)
-    (outbox_of after lost) zeroed whole_data sent.sends (closes shut))
+    (publication_of after lost) text_old text_new file_old file_new
+    (all_sends a b beats ends start.limit now.journal sent.front before none (publication_of mid failed)
+    (publication_of after lost) zeroed whole_data sent.sends (closes shut))
     (subst (λ (n : ℕ). IfOk result (λ status.
-    Appends text_old text_new (last_line (length now.journal.messages) n lost) × (status ≡ 0))) same told)
+    Appends text_old text_new (last_line (length now.journal.messages) n lost) × (status ≡ 0))) same report)
     saved
     (subst (λ (n : ℕ). AppendsFront text_old text_new (last_line (length now.journal.messages) n lost)) same text)
     file)
 
 -- the journal that is left
 pub left_behind : {P E : Type 0} (a b : P) (start now : PublisherState) (known : Option (List ℕ))
-    (refused : Option LineRefusal) (old new : Outbox P) (count : ℕ) (journal : JournalState) →
+    (refused : Option LineRefusal) (old new : PublicationState P) (count : ℕ) (journal : JournalState) →
     SendsLines {E = E} a b start now known (Ok refused) old new count → journal ≡ closed_unless refused now.journal →
     IfSome known (λ input. journal ≡ left_journal (lines_published start.journal (lines_of input)))
 left_behind a b start now None refused old new count journal sent is = tt

@@ -1,5 +1,6 @@
 -- What a publisher whose messages are the lines of a source sends on two lines, prints and saves.
-use Rattle.std.specs.Prelude.{◌≡◌, ◌⊎◌, ℕ, ◌+◌, Bool, true, false, List, [], ◌∷◌, ◌++◌, codes, decimal, length, map, replicate}
+use Rattle.std.specs.Prelude.{◌≡◌, ◌⊎◌, ℕ, ◌+◌, Bool, true, false, List, []}
+use Rattle.std.specs.Prelude.{◌∷◌, ◌++◌, codes, decimal, length, map, replicate}
 use Rattle.std.specs.Prelude.{Option, None, Some, Result, Ok, Err, IfOk, OnOk, IfSome}
 use Rattle.std.specs.Io.KnownBytes.{Appends}
 use Rattle.mold_wire.specs.Block.{blocks}
@@ -22,27 +23,27 @@ use Rattle.mold_publish.specs.Publishing.{PublishedLines, lines_published, refus
 use Rattle.mold_publish.specs.declared.line_refusal.LineRefusal.{LineRefusal}
 
 -- a port, and how many sends failed of those that were made so far
-pub record Outbox (P : Type 0) : Type 0 where
+pub record PublicationState (P : Type 0) : Type 0 where
   pub port : Port P
   pub failed : ℕ
 
-abbrev pub outbox_of : {P : Type 0} → Port P → ℕ → Outbox P
-outbox_of port failed = record { port = port; failed = failed }
+abbrev pub publication_of : {P : Type 0} → Port P → ℕ → PublicationState P
+publication_of port failed = record { port = port; failed = failed }
 
 -- one failure more where a send fails
 abbrev pub failed_after : Bool → ℕ → ℕ
 failed_after true failed = one_more failed
 failed_after false failed = failed
 
--- the outbox behind a send
-abbrev pub offer : {P : Type 0} → Bool → P → List ℕ → Outbox P → Outbox P
-offer fails to bytes outbox = record {
-  port = offered fails to bytes outbox.port;
-  failed = failed_after fails outbox.failed;
+-- the publication behind a send
+abbrev pub offer : {P : Type 0} → Bool → P → List ℕ → PublicationState P → PublicationState P
+offer fails to bytes publication = record {
+  port = offered fails to bytes publication.port;
+  failed = failed_after fails publication.failed;
 }
 
 -- the datagrams are offered, each to whom it is for, one after the other; which sends fail is free
-abbrev pub Sends : {P : Type 0} → List (P × List ℕ) → Outbox P → Outbox P → Type 0
+abbrev pub Sends : {P : Type 0} → List (P × List ℕ) → PublicationState P → PublicationState P → Type 0
 Sends [] old new = new ≡ old
 Sends (letter ∷ letters) old new = (fails : Bool) × Sends letters (offer fails letter.0 letter.1 old) new
 
@@ -93,13 +94,13 @@ last_line messages datagrams failed = line_of
     ∷ codes "failed" ∷ decimal failed ∷ [])
 
 -- the text: the last line, or the line of the refusal
-abbrev pub told_text : JournalState → Option LineRefusal → ℕ → ℕ → List ℕ
-told_text journal None datagrams failed = last_line (length journal.messages) datagrams failed
-told_text journal (Some why) datagrams failed = refused_text (length journal.messages + 1) why
+abbrev pub report_text : JournalState → Option LineRefusal → ℕ → ℕ → List ℕ
+report_text journal None datagrams failed = last_line (length journal.messages) datagrams failed
+report_text journal (Some why) datagrams failed = refused_text (length journal.messages + 1) why
 
 abbrev pub published_text : ℕ → PublishedLines → ℕ → List ℕ
 published_text limit published failed =
-    told_text published.journal published.refused (length (data_behind limit 0 published)) failed
+    report_text published.journal published.refused (length (data_behind limit 0 published)) failed
 
 -- the file of the closed journal; nothing where a line is refused
 abbrev pub saved_bytes : JournalState → Option LineRefusal → List ℕ
@@ -123,7 +124,7 @@ Saves journal (Some why) old new = new ≡ old
 -- what was offered. At an answer that is all the data, and the answer is why the line behind the messages is
 -- refused; after a fault it is a beginning.
 pub record SendsLines {P E : Type 0} (a b : P) (start now : PublisherState) (known : Option (List ℕ))
-    (result : Result (Option LineRefusal) E) (old new : Outbox P) (count : ℕ) : Type 0 where
+    (result : Result (Option LineRefusal) E) (old new : PublicationState P) (count : ℕ) : Type 0 where
   pub front : List (List ℕ)
   pub sends : Sends (both a b front) old new
   pub counted : OnOk result (count ≡ length front)
@@ -134,14 +135,14 @@ pub record SendsLines {P E : Type 0} (a b : P) (start now : PublisherState) (kno
       × (lines_published start.journal (lines_of input) ≡ record { journal = now.journal; refused = refused })))
 
 -- What publishing the lines of an input leaves. All its datagrams are offered to a and then to b, from the port
--- as it was, with some choice of which sends fail, and `end` is the outbox behind them. At an answer the port
+-- as it was, with some choice of which sends fail, and `end` is the publication behind them. At an answer the port
 -- stands so, the text and the journal's file are written, and the answer is the status; after a fault what was
 -- sent, written and saved are beginnings of these.
 pub record PublishRun {P : Type 0} (a b : P) (beats ends limit : ℕ) (published : PublishedLines)
     (result : Result ℕ CommandFault) (before after : Port P) (text_old text_new file_old file_new : Option (List ℕ)) :
     Type 0 where
-  pub end : Outbox P
-  pub sends : Sends (both a b (all_datagrams limit beats ends published)) (outbox_of before 0) end
+  pub end : PublicationState P
+  pub sends : Sends (both a b (all_datagrams limit beats ends published)) (publication_of before 0) end
   pub port : OnOk result (after ≡ end.port)
   pub text : IfOk result (λ status.
       Appends text_old text_new (published_text limit published end.failed)
@@ -158,7 +159,8 @@ CountsPublishFault source_old source_new sink_old sink_new file_old file_new Rea
     (source_new ≡ one_more source_old) × (sink_new ≡ sink_old) × (file_new ≡ file_old)
 CountsPublishFault source_old source_new sink_old sink_new file_old file_new Write =
     (source_new ≡ source_old)
-    × (((sink_new ≡ one_more sink_old) × (file_new ≡ file_old)) ⊎ ((sink_new ≡ sink_old) × (file_new ≡ one_more file_old)))
+    × (((sink_new ≡ one_more sink_old) × (file_new ≡ file_old))
+    ⊎ ((sink_new ≡ sink_old) × (file_new ≡ one_more file_old)))
 CountsPublishFault source_old source_new sink_old sink_new file_old file_new Memory =
     (source_new ≡ source_old) × (sink_new ≡ sink_old) × (file_new ≡ file_old)
 

@@ -36,33 +36,33 @@ abbrev pub reply : Service → List ℕ → Result (List Packet) AnswerError
 reply service bytes = reply_to service (asking service.journal bytes)
 
 -- how far a serving is: its port, what it has printed and counted, and how many requests its server has answered
-pub record Stall (P : Type 0) : Type 0 where
+pub record ResponderState (P : Type 0) : Type 0 where
   pub port : Port P
   pub tally : TallyState
   pub requests : ℕ
 
-abbrev pub stall_of : {P : Type 0} → Port P → TallyState → ServerState → Stall P
-stall_of port tally server = record {
+abbrev pub responder_of : {P : Type 0} → Port P → TallyState → ServerState → ResponderState P
+responder_of port tally server = record {
   port = port;
   tally = tally;
   requests = server.answered;
 }
 
 -- the server at the end of a serving
-abbrev pub served_by : {P : Type 0} → ServerState → Stall P → ServerState
-served_by server stall = record server { answered = stall.requests }
+abbrev pub served_by : {P : Type 0} → ServerState → ResponderState P → ServerState
+served_by server responder = record server { answered = responder.requests }
 
 -- a packet of an answer is offered to who asked: its send fails, or it doesn't
-abbrev pub offer : {P : Type 0} → P → Bool → Packet → Stall P → Stall P
-offer to true packet stall = record {
-  port = offered true to (spelling_of packet) stall.port;
-  tally = with_failed stall.tally;
-  requests = stall.requests;
+abbrev pub offer : {P : Type 0} → P → Bool → Packet → ResponderState P → ResponderState P
+offer to true packet responder = record {
+  port = offered true to (spelling_of packet) responder.port;
+  tally = with_failed responder.tally;
+  requests = responder.requests;
 }
-offer to false packet stall = record {
-  port = offered false to (spelling_of packet) stall.port;
-  tally = with_answered packet.sequence (count_of packet.body) stall.tally;
-  requests = stall.requests;
+offer to false packet responder = record {
+  port = offered false to (spelling_of packet) responder.port;
+  tally = with_answered packet.sequence (count_of packet.body) responder.tally;
+  requests = responder.requests;
 }
 
 -- whether the first of some sends fails; it doesn't where nothing is said of it
@@ -71,63 +71,64 @@ fails_first [] = false
 fails_first (fails ∷ more) = fails
 
 -- packets are offered one after the other; which of the sends fail is said in their order
-unfoldable pub offer_all : {P : Type 0} → P → List Packet → List Bool → Stall P → Stall P
-offer_all to [] fails stall = stall
-offer_all to (packet ∷ packets) fails stall =
-    offer_all to packets (drop 1 fails) (offer to (fails_first fails) packet stall)
+unfoldable pub offer_all : {P : Type 0} → P → List Packet → List Bool → ResponderState P → ResponderState P
+offer_all to [] fails responder = responder
+offer_all to (packet ∷ packets) fails responder =
+    offer_all to packets (drop 1 fails) (offer to (fails_first fails) packet responder)
 
 -- a request is met
-abbrev pub replied : {P : Type 0} → P → List Bool → Result (List Packet) AnswerError → Stall P → Stall P
-replied to fails (Ok packets) stall =
+abbrev pub replied : {P : Type 0} → P → List Bool → Result (List Packet) AnswerError → ResponderState P →
+    ResponderState P
+replied to fails (Ok packets) responder =
     offer_all to packets fails
     (record {
-      port = stall.port;
-      tally = stall.tally;
-      requests = min 18446744073709551615 (stall.requests + 1);
+      port = responder.port;
+      tally = responder.tally;
+      requests = min 18446744073709551615 (responder.requests + 1);
     })
-replied to fails (Err why) stall = record {
-  port = stall.port;
-  tally = with_refused why stall.tally;
-  requests = stall.requests;
+replied to fails (Err why) responder = record {
+  port = responder.port;
+  tally = with_refused why responder.tally;
+  requests = responder.requests;
 }
 
 -- what a receive gave is met
-abbrev pub met : {P : Type 0} → Service → List Bool → Receipt P → Stall P → Stall P
-met service fails (Datagram from bytes) stall = replied from fails (reply service bytes) stall
-met service fails Quiet stall = record {
-  port = stall.port;
-  tally = with_quiet stall.tally;
-  requests = stall.requests;
+abbrev pub met : {P : Type 0} → Service → List Bool → Receipt P → ResponderState P → ResponderState P
+met service fails (Datagram from bytes) responder = replied from fails (reply service bytes) responder
+met service fails Quiet responder = record {
+  port = responder.port;
+  tally = with_quiet responder.tally;
+  requests = responder.requests;
 }
-met service fails Failure stall = record {
-  port = stall.port;
-  tally = with_failed stall.tally;
-  requests = stall.requests;
+met service fails Failure responder = record {
+  port = responder.port;
+  tally = with_failed responder.tally;
+  requests = responder.requests;
 }
 
 -- a turn: one receive, and what it gave is met
-unfoldable pub serve_turn : {P : Type 0} → Service → List Bool → Stall P → Stall P
-serve_turn service fails stall =
-    met service fails (cut 65507 (next_of stall.port))
+unfoldable pub serve_turn : {P : Type 0} → Service → List Bool → ResponderState P → ResponderState P
+serve_turn service fails responder =
+    met service fails (cut 65507 (next_of responder.port))
     (record {
-      port = received stall.port;
-      tally = stall.tally;
-      requests = stall.requests;
+      port = received responder.port;
+      tally = responder.tally;
+      requests = responder.requests;
     })
 
 -- the loop over turns, which are as many as it is given
-abbrev pub serving : {P : Type 0} → Service → Loop (List Bool) (Stall P) (P × List ℕ)
+abbrev pub serving : {P : Type 0} → Service → Loop (List Bool) (ResponderState P) (P × List ℕ)
 serving service = record {
   turn = serve_turn service;
-  over = λ stall. false;
-  text = λ stall. stall.tally.text;
-  sent = λ stall. stall.port.sent;
+  over = λ responder. false;
+  text = λ responder. responder.tally.text;
+  sent = λ responder. responder.port.sent;
 }
 
 -- with a text in front of what it has printed
-abbrev pub behind : {P : Type 0} → List ℕ → Stall P → Stall P
-behind front stall = record {
-  port = stall.port;
-  tally = with_text (front ++ stall.tally.text) stall.tally;
-  requests = stall.requests;
+abbrev pub behind : {P : Type 0} → List ℕ → ResponderState P → ResponderState P
+behind front responder = record {
+  port = responder.port;
+  tally = with_text (front ++ responder.tally.text) responder.tally;
+  requests = responder.requests;
 }

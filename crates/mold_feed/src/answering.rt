@@ -2,7 +2,7 @@
 
 ghost use Rattle.std.specs.Prelude.{◌≡◌, ◌+◌, ◌≤◌, ◌<◌, true, List, Bool, length, IfOk, MatchResult};
 ghost use Rattle.mold_feed.specs.Answering.{OffersNext, OffersOne, Reaches, left_of};
-ghost use Rattle.mold_feed.specs.Serving.{offer_all, replied, reply, service_of, stall_of};
+ghost use Rattle.mold_feed.specs.Serving.{offer_all, replied, reply, service_of, responder_of};
 
 use crate::tally::Tally;
 use mold_ports::Datagrams;
@@ -27,11 +27,11 @@ fn offer_next<D: Datagrams>(
         (λ more. OffersNext to result more
         (left_of (service_of journal.now server.old) plan.old)
         (left_of (service_of journal.now server.old) plan.new)
-        (stall_of (D.port port.old) tally.old server.old) (stall_of (D.port port.new) tally.new server.new))
+        (responder_of (D.port port.old) tally.old server.old) (responder_of (D.port port.new) tally.new server.new))
         (λ _. OffersOne to result
         (left_of (service_of journal.now server.old) plan.old)
         (left_of (service_of journal.now server.old) plan.new)
-        (stall_of (D.port port.old) tally.old server.old) (stall_of (D.port port.new) tally.new server.new)) }
+        (responder_of (D.port port.old) tally.old server.old) (responder_of (D.port port.new) tally.new server.new)) }
     ensures less { IfOk result (λ more. more ≡ true → plan.new.left < plan.old.left) }
     ensures session { plan.new.session ≡ plan.old.session }
     ensures to { plan.new.to ≡ plan.old.to }
@@ -63,9 +63,9 @@ fn offer_all<D: Datagrams>(
     requires session { plan.old.session ≡ journal.now.session }
     requires to { plan.old.to ≤ length journal.now.messages + 1 }
     ensures offered { D.tells ≡ true → (fails : List Bool) × Reaches result
-        (stall_of (D.port port.new) tally.new server.new)
+        (responder_of (D.port port.new) tally.new server.new)
         (offer_all to (left_of (service_of journal.now server.old) plan.old) fails
-        (stall_of (D.port port.old) tally.old server.old)) }
+        (responder_of (D.port port.old) tally.old server.old)) }
     ensures server { server.new ≡ server.old }
 {
     'packets: while offer_next(port, server, journal, plan, to, tally)? {}
@@ -85,9 +85,9 @@ pub fn answer_request<D: Datagrams>(
 ) -> Result<(), AllocError>
     requires { journal.now.max_message ≤ server.old.max_message }
     ensures replied { D.tells ≡ true → (fails : List Bool) × Reaches result
-        (stall_of (D.port port.new) tally.new server.new)
+        (responder_of (D.port port.new) tally.new server.new)
         (replied from fails (reply (service_of journal.now server.old) request.now)
-        (stall_of (D.port port.old) tally.old server.old)) }
+        (responder_of (D.port port.old) tally.old server.old)) }
     ensures server { server.new ≡ record server.old { answered = server.new.answered } }
 {
     answered_law();

@@ -1,11 +1,11 @@
 //! One receive of a port, and asking for what is lacking.
 
 ghost use Rattle.std.specs.Prelude.{◌≡◌, true, length, IfOk, OnOk};
-ghost use Rattle.mold_feed.specs.Listening.{HasAsked, asking, ear, hear, hear_answers, is_datagram, receives};
+ghost use Rattle.mold_feed.specs.Listening.{HasAsked, asking, hearing, hear, hear_answers, is_datagram, receives};
 ghost use Rattle.mold_ports.specs.Ports.{next_of, received};
 ghost use Rattle.mold_receiver.specs.Wanted.{wanted};
 
-use crate::desk::Desk;
+use crate::report::Report;
 use mold_ports::Datagrams;
 use mold_receiver::{Arbiter, Line};
 use std::alloc::AllocError;
@@ -20,22 +20,22 @@ pub fn hear_port<D: Datagrams>(
     line: Option<Line>,
     place: &mut [u8],
     arbiter: &mut Arbiter,
-    desk: &mut Desk,
+    report: &mut Report,
 ) -> Result<bool, AllocError>
     requires { length place.old ≡ 65507 }
     ensures port { D.tells ≡ true → D.port port.new ≡ received (D.port port.old) }
     ensures came { D.tells ≡ true → IfOk result (λ came. came ≡ is_datagram (next_of (D.port port.old))) }
     ensures heard { D.tells ≡ true →
-        OnOk result (ear arbiter.new desk.new ≡ hear line (D.port port.old) (ear arbiter.old desk.old)) }
+        OnOk result (hearing arbiter.new report.new ≡ hear line (D.port port.old) (hearing arbiter.old report.old)) }
 {
     match port.receive(place) {
         Ok(Some((len, _))) => {
-            desk.take(arbiter, line, &place[..len])?;
+            report.take(arbiter, line, &place[..len])?;
             Ok(true)
         }
         Ok(None) => Ok(false),
         Err(_) => {
-            desk.count_failure();
+            report.count_failure();
             Ok(false)
         }
     }
@@ -48,17 +48,17 @@ pub(crate) fn hear_answers<D: Datagrams>(
     most: u16,
     place: &mut [u8],
     arbiter: &mut Arbiter,
-    desk: &mut Desk,
+    report: &mut Report,
 ) -> Result<(), AllocError>
     requires { length place.old ≡ 65507 }
     ensures sent { D.tells ≡ true → (D.port requests.new).sent ≡ (D.port requests.old).sent }
     ensures heard { D.tells ≡ true → OnOk result
-        (asking (D.port requests.new) arbiter.new desk.new
+        (asking (D.port requests.new) arbiter.new report.new
         ≡ hear_answers (receives most (D.port requests.old).comes)
-        (asking (D.port requests.old) arbiter.old desk.old)) }
+        (asking (D.port requests.old) arbiter.old report.old)) }
 {
     for _ in 0..most {
-        if !hear_port(requests, None, place, arbiter, desk)? {
+        if !hear_port(requests, None, place, arbiter, report)? {
             break;
         }
     }
@@ -73,18 +73,18 @@ pub(crate) fn ask<D: Datagrams>(
     burst: u16,
     place: &mut [u8],
     arbiter: &mut Arbiter,
-    desk: &mut Desk,
+    report: &mut Report,
 ) -> Result<(), AllocError>
     requires { length place.old ≡ 65507 }
     ensures { D.tells ≡ true → HasAsked (wanted arbiter.old.view) server burst result
-        (asking (D.port requests.old) arbiter.old desk.old) (asking (D.port requests.new) arbiter.new desk.new) }
+        (asking (D.port requests.old) arbiter.old report.old) (asking (D.port requests.new) arbiter.new report.new) }
 {
     let Some(request) = arbiter.receiver().wanted() else {
         return Ok(());
     };
     if requests.send(server, &request.encode()).is_err() {
-        desk.count_failure();
+        report.count_failure();
         return Ok(());
     }
-    hear_answers(requests, burst, place, arbiter, desk)
+    hear_answers(requests, burst, place, arbiter, report)
 }

@@ -3,7 +3,6 @@
 #![tactic(auto)]
 
 mod answering;
-mod desk;
 mod handed;
 mod hearing;
 mod large;
@@ -11,16 +10,17 @@ mod listening;
 mod looping;
 mod publishing;
 mod refusal;
+mod report;
 mod sending;
 mod serving;
 mod tally;
 
 pub use answering::answer_request;
-pub use desk::Desk;
 pub use hearing::{LONGEST, hear_port};
 pub use large::send_large;
 pub use listening::{listen_loop, push_last};
-pub use looping::{Drops, Ear, Wires, run_over};
+pub use looping::{Drops, Listener, LoopPeers, LoopPorts, session_loop};
 pub use publishing::publish_loop;
+pub use report::Report;
 pub use serving::serve_loop;
 pub use tally::Tally;

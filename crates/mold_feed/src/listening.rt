@@ -1,13 +1,14 @@
 //! The loop that listens.
 
 ghost use Rattle.std.specs.Prelude.{◌≡◌, ◌++◌, [], true, length, IfOk, IfErr, OnOk};
-ghost use Rattle.mold_feed.specs.Listening.{Agrees, HasTurned, Told, beginning, ear, ear_line, ear_status, last_line, listening};
-ghost use Rattle.mold_feed.specs.Listening.{post, put_before, status};
+ghost use Rattle.mold_feed.specs.Listening.{Agrees, HasTurned, ReportState, beginning, hearing};
+ghost use Rattle.mold_feed.specs.Listening.{hearing_line, hearing_status, last_line, listening};
+ghost use Rattle.mold_feed.specs.Listening.{listener, put_before, status};
 ghost use Rattle.mold_feed.specs.Faults.{CountsSink};
 ghost use Rattle.mold_feed.specs.Runs.{Ran, Rests};
 
-use crate::desk::Desk;
 use crate::hearing::{LONGEST, ask, hear_port};
+use crate::report::Report;
 use mold_devices::{CommandFault, Sink};
 use mold_ports::Datagrams;
 use mold_receiver::{Arbiter, Line};
@@ -22,16 +23,16 @@ fn take_turn<D: Datagrams>(
     burst: u16,
     place: &mut [u8],
     arbiter: &mut Arbiter,
-    desk: &mut Desk,
+    report: &mut Report,
 ) -> Result<(), AllocError>
     requires { length place.old ≡ 65507 }
     ensures { D.tells ≡ true → HasTurned server burst result
-        (post (D.port a.old) (D.port b.old) (D.port requests.old) arbiter.old desk.old)
-        (post (D.port a.new) (D.port b.new) (D.port requests.new) arbiter.new desk.new) }
+        (listener (D.port a.old) (D.port b.old) (D.port requests.old) arbiter.old report.old)
+        (listener (D.port a.new) (D.port b.new) (D.port requests.new) arbiter.new report.new) }
 {
-    hear_port(a, Some(Line::A), place, arbiter, desk)?;
-    hear_port(b, Some(Line::B), place, arbiter, desk)?;
-    ask(requests, server, burst, place, arbiter, desk)
+    hear_port(a, Some(Line::A), place, arbiter, report)?;
+    hear_port(b, Some(Line::B), place, arbiter, report)?;
+    ask(requests, server, burst, place, arbiter, report)
 }
 
 // At most so many turns, up to the first at whose end the receiver is finished. What is less than a large
@@ -45,22 +46,22 @@ fn take_turns<D: Datagrams, K: Sink>(
     burst: u16,
     turns: u64,
     place: &mut [u8],
-    desk: &mut Desk,
+    report: &mut Report,
     sink: &mut K,
 ) -> Result<(), CommandFault>
     requires { length place.old ≡ 65507 }
     ensures run { D.tells ≡ true → Rests (listening server burst) put_before turns
-        (post (D.port a.old) (D.port b.old) (D.port requests.old) arbiter.old desk.old)
+        (listener (D.port a.old) (D.port b.old) (D.port requests.old) arbiter.old report.old)
         result (K.held sink.old) (K.held sink.new)
-        (post (D.port a.new) (D.port b.new) (D.port requests.new) arbiter.new desk.new) }
+        (listener (D.port a.new) (D.port b.new) (D.port requests.new) arbiter.new report.new) }
     ensures sink { CountsSink (K.failed sink.old) (K.failed sink.new) result }
 {
     for _turn in 0..turns {
-        take_turn(a, b, requests, server, burst, place, arbiter, desk)?;
+        take_turn(a, b, requests, server, burst, place, arbiter, report)?;
         if arbiter.receiver().finished() {
             return Ok(());
         }
-        desk.send_large(sink)?;
+        report.send_large(sink)?;
     }
     Ok(())
 }
@@ -68,19 +69,19 @@ fn take_turns<D: Datagrams, K: Sink>(
 /// Writes the last line behind the text: whether all of the session was handed on, the number of the next
 /// message, what is known beside it where the session is open, and how often a port failed. Answers the
 /// status: 0 finished, 1 open.
-pub fn push_last(arbiter: &Arbiter, desk: &mut Desk) -> Result<u8, AllocError>
-    ensures status { IfOk result (λ status. status ≡ ear_status (ear arbiter.now desk.old)) }
-    ensures line { OnOk result (desk.new ≡ record {
-      text = desk.old.text ++ ear_line (ear arbiter.now desk.old);
-      failures = desk.old.failures;
+pub fn push_last(arbiter: &Arbiter, report: &mut Report) -> Result<u8, AllocError>
+    ensures status { IfOk result (λ status. status ≡ hearing_status (hearing arbiter.now report.old)) }
+    ensures line { OnOk result (report.new ≡ record {
+      text = report.old.text ++ hearing_line (hearing arbiter.now report.old);
+      failures = report.old.failures;
     }) }
 {
     let receiver = arbiter.receiver();
     if receiver.finished() {
-        desk.push_finished(receiver.next())?;
+        report.push_finished(receiver.next())?;
         return Ok(0);
     }
-    desk.push_open(receiver.next(), receiver.known())?;
+    report.push_open(receiver.next(), receiver.known())?;
     Ok(1)
 }
 
@@ -108,7 +109,7 @@ pub fn listen_loop<D: Datagrams, K: Sink>(
     ensures sink { CountsSink (K.failed sink.old) (K.failed sink.new) result }
 {
     let mut place = vec![in alloc; 0; LONGEST]?;
-    let mut desk = Desk::new(alloc);
+    let mut report = Report::new(alloc);
     take_turns(
         a,
         b,
@@ -118,10 +119,10 @@ pub fn listen_loop<D: Datagrams, K: Sink>(
         burst,
         turns,
         place.as_mut_slice(),
-        &mut desk,
+        &mut report,
         sink,
     )?;
-    let status = push_last(arbiter, &mut desk)?;
-    desk.send(sink)?;
+    let status = push_last(arbiter, &mut report)?;
+    report.send(sink)?;
     Ok(status)
 }

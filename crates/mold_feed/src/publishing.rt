@@ -1,8 +1,10 @@
 //! A publisher whose messages are the lines of a source, on two lines.
 
-ghost use Rattle.std.specs.Prelude.{◌≡◌, ◌+◌, ◌≤◌, ◌++◌, [], true, false, None, length, IfErr, IfOk, IfSome, OnErr, OnOk};
+ghost use Rattle.std.specs.Prelude.{◌≡◌, ◌+◌, ◌≤◌, ◌++◌, [], true, false, None};
+ghost use Rattle.std.specs.Prelude.{length, IfErr, IfOk, IfSome, OnErr, OnOk};
 ghost use Rattle.std.specs.Io.KnownBytes.{prepend_known};
-ghost use Rattle.mold_feed.specs.PublishLoop.{CountsPublish, PublishRun, SendsLines, last_line, left_journal, outbox_of, saved_bytes};
+ghost use Rattle.mold_feed.specs.PublishLoop.{CountsPublish, PublishRun, SendsLines, last_line};
+ghost use Rattle.mold_feed.specs.PublishLoop.{left_journal, publication_of, saved_bytes};
 ghost use Rattle.mold_publish.specs.Publishing.{HasRoom, lines_published};
 ghost use Rattle.mold_devices.specs.Devices.{AppendsFront, Counts};
 ghost use Rattle.mold_devices.specs.Faults.{CountsRead};
@@ -34,7 +36,7 @@ fn send_lines<D: Datagrams, S: Source>(
     requires room { HasRoom publisher.old }
     requires none { datagrams.old ≡ 0 }
     ensures sends { D.tells ≡ true → SendsLines a b publisher.old publisher.new (S.left source.old) result
-        (outbox_of (D.port port.old) failed.old) (outbox_of (D.port port.new) failed.new) datagrams.new }
+        (publication_of (D.port port.old) failed.old) (publication_of (D.port port.new) failed.new) datagrams.new }
     ensures all { IfOk result (λ refused. refused ≡ None →
         publisher.new.sent ≡ length publisher.new.journal.messages) }
     ensures failures { CountsRead (S.failed source.old) (S.failed source.new) result }

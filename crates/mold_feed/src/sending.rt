@@ -2,7 +2,7 @@
 
 ghost use Rattle.std.specs.Prelude.{◌≡◌, ◌+◌, ◌≤◌, [], ◌∷◌, true, false, length, replicate};
 ghost use Rattle.mold_publish.specs.Sending.{end_packet};
-ghost use Rattle.mold_feed.specs.PublishLoop.{Sends, beat_packet, both, close_datagrams, outbox_of, spelled_some};
+ghost use Rattle.mold_feed.specs.PublishLoop.{Sends, beat_packet, both, close_datagrams, publication_of, spelled_some};
 ghost use Rattle.mold_wire.specs.Packet.{spelling_of};
 ghost use Rattle.mold_session.specs.Publisher.{IsPublisher, after_datagram, closed, next_datagram};
 
@@ -12,7 +12,7 @@ use mold_session::Publisher;
 // Sends a datagram, and counts where it failed.
 fn send_one<D: Datagrams>(port: &mut D, to: D::Peer, bytes: &[u8], failed: &mut u64)
     ensures { D.tells ≡ true → Sends ((to, bytes.now) ∷ [])
-        (outbox_of (D.port port.old) failed.old) (outbox_of (D.port port.new) failed.new) }
+        (publication_of (D.port port.old) failed.old) (publication_of (D.port port.new) failed.new) }
 {
     if port.send(to, bytes).is_err() {
         *failed = failed.saturating_add(1);
@@ -22,7 +22,7 @@ fn send_one<D: Datagrams>(port: &mut D, to: D::Peer, bytes: &[u8], failed: &mut 
 // Sends a datagram to `a` and then to `b`.
 fn send_both<D: Datagrams>(port: &mut D, a: D::Peer, b: D::Peer, bytes: &[u8], failed: &mut u64)
     ensures { D.tells ≡ true → Sends (both a b (bytes.now ∷ []))
-        (outbox_of (D.port port.old) failed.old) (outbox_of (D.port port.new) failed.new) }
+        (publication_of (D.port port.old) failed.old) (publication_of (D.port port.new) failed.new) }
 {
     send_one(port, a, bytes, failed);
     send_one(port, b, bytes, failed);
@@ -38,7 +38,7 @@ fn send_often<D: Datagrams>(
     failed: &mut u64,
 )
     ensures { D.tells ≡ true → Sends (both a b (replicate times bytes.now))
-        (outbox_of (D.port port.old) failed.old) (outbox_of (D.port port.new) failed.new) }
+        (publication_of (D.port port.old) failed.old) (publication_of (D.port port.new) failed.new) }
 {
     for _time in 0..times {
         send_both(port, a, b, bytes, failed);
@@ -64,7 +64,7 @@ pub fn send_next<D: Datagrams>(
 )
     requires { datagrams.old ≤ publisher.old.sent }
     ensures sends { D.tells ≡ true → Sends (both a b (spelled_some (next_datagram publisher.old)))
-        (outbox_of (D.port port.old) failed.old) (outbox_of (D.port port.new) failed.new) }
+        (publication_of (D.port port.old) failed.old) (publication_of (D.port port.new) failed.new) }
     ensures counted { datagrams.new ≡ datagrams.old + length (spelled_some (next_datagram publisher.old)) }
     ensures sent { publisher.new ≡ after_datagram publisher.old }
 {
@@ -87,7 +87,7 @@ fn send_beats<D: Datagrams>(
     requires sent { publisher.old.sent ≡ length publisher.old.journal.messages }
     ensures sends { D.tells ≡ true → publisher.old.journal.closed ≡ false →
         Sends (both a b (replicate beats (spelling_of (beat_packet publisher.old.journal))))
-        (outbox_of (D.port port.old) failed.old) (outbox_of (D.port port.new) failed.new) }
+        (publication_of (D.port port.old) failed.old) (publication_of (D.port port.new) failed.new) }
     ensures same { publisher.new ≡ publisher.old }
 {
     if let Some(beat) = publisher.heartbeat() {
@@ -107,7 +107,7 @@ fn send_ends<D: Datagrams>(
     requires closed { publisher.old.journal.closed ≡ true }
     ensures sends { D.tells ≡ true →
         Sends (both a b (replicate ends (spelling_of (end_packet publisher.old.journal))))
-        (outbox_of (D.port port.old) failed.old) (outbox_of (D.port port.new) failed.new) }
+        (publication_of (D.port port.old) failed.old) (publication_of (D.port port.new) failed.new) }
     ensures same { publisher.new ≡ publisher.old }
 {
     if let Some(end) = publisher.end() {
@@ -129,7 +129,7 @@ pub fn send_close<D: Datagrams>(
     requires { publisher.old.sent ≡ length publisher.old.journal.messages }
     ensures sends { D.tells ≡ true → publisher.old.journal.closed ≡ false →
         Sends (both a b (close_datagrams beats ends publisher.old.journal))
-        (outbox_of (D.port port.old) failed.old) (outbox_of (D.port port.new) failed.new) }
+        (publication_of (D.port port.old) failed.old) (publication_of (D.port port.new) failed.new) }
     ensures closed { publisher.new ≡ closed publisher.old }
 {
     send_beats(port, a, b, publisher, beats, failed);

@@ -2,7 +2,7 @@
 
 ghost use Rattle.std.specs.Prelude.{◌≡◌, ◌≤◌, true, List, Bool, length};
 ghost use Rattle.mold_feed.specs.Answering.{Reaches};
-ghost use Rattle.mold_feed.specs.Serving.{behind, serve_turn, served_by, service_of, serving, stall_of};
+ghost use Rattle.mold_feed.specs.Serving.{behind, serve_turn, served_by, service_of, serving, responder_of};
 ghost use Rattle.mold_feed.specs.Tally.{last_line, no_tally};
 ghost use Rattle.mold_feed.specs.Faults.{CountsSink};
 ghost use Rattle.mold_feed.specs.Runs.{Ran, Rests};
@@ -26,8 +26,8 @@ fn take_turn<D: Datagrams>(
     requires longest { journal.now.max_message ≤ server.old.max_message }
     requires place { length place.old ≡ 65507 }
     ensures turn { D.tells ≡ true → (fails : List Bool) × Reaches result
-        (stall_of (D.port port.new) tally.new server.new)
-        (serve_turn (service_of journal.now server.old) fails (stall_of (D.port port.old) tally.old server.old)) }
+        (responder_of (D.port port.new) tally.new server.new)
+        (serve_turn (service_of journal.now server.old) fails (responder_of (D.port port.old) tally.old server.old)) }
     ensures server { server.new ≡ record server.old { answered = server.new.answered } }
 {
     match port.receive(place) {
@@ -58,8 +58,8 @@ fn take_turns<D: Datagrams, K: Sink>(
     requires longest { journal.now.max_message ≤ server.old.max_message }
     requires place { length place.old ≡ 65507 }
     ensures rests { D.tells ≡ true → Rests (serving (service_of journal.now server.old)) behind turns
-        (stall_of (D.port port.old) tally.old server.old) result (K.held sink.old) (K.held sink.new)
-        (stall_of (D.port port.new) tally.new server.new) }
+        (responder_of (D.port port.old) tally.old server.old) result (K.held sink.old) (K.held sink.new)
+        (responder_of (D.port port.new) tally.new server.new) }
     ensures server { server.new ≡ record server.old { answered = server.new.answered } }
     ensures sink { CountsSink (K.failed sink.old) (K.failed sink.new) result }
 {
@@ -85,8 +85,8 @@ pub fn serve_loop<D: Datagrams, K: Sink>(
 ) -> Result<u8, CommandFault>
     requires { journal.now.max_message ≤ server.old.max_message }
     ensures run { D.tells ≡ true → Ran (serving (service_of journal.now server.old)) turns
-        (stall_of (D.port port.old) no_tally server.old) (λ stall. last_line stall.tally) (λ stall. 0)
-        (λ stall. (D.port port.new ≡ stall.port) × (server.new ≡ served_by server.old stall))
+        (responder_of (D.port port.old) no_tally server.old) (λ responder. last_line responder.tally) (λ responder. 0)
+        (λ responder. (D.port port.new ≡ responder.port) × (server.new ≡ served_by server.old responder))
         result (K.held sink.old) (K.held sink.new) (D.port port.new).sent }
     ensures sink { CountsSink (K.failed sink.old) (K.failed sink.new) result }
 {

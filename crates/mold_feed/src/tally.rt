@@ -41,7 +41,8 @@ impl Model for Tally {
 impl Tally {
     ghost use Rattle.std.specs.Prelude.{◌++◌, [], IfErr};
     ghost use Rattle.mold_devices.specs.declared.fault.CommandFault.{CommandFault};
-    ghost use Rattle.mold_feed.specs.Tally.{last_line, no_tally, with_answered, with_failed, with_quiet, with_refused, with_text};
+    ghost use Rattle.mold_feed.specs.Tally.{last_line, no_tally, with_answered, with_failed};
+    ghost use Rattle.mold_feed.specs.Tally.{with_quiet, with_refused, with_text};
 
     /// Nothing is printed or counted. It takes no memory yet.
     pub fn new(alloc: Global) -> Tally

@@ -11,3 +11,5 @@ mod listen;
 mod publish;
 #[cfg(test)]
 mod serve;
+#[cfg(test)]
+mod session;

@@ -104,7 +104,7 @@ struct Wanted<'a> {
 }
 
 // These were sent, each to its peer.
-fn expect_sent(rt: &impl Abort, port: &MemoryPort, letters: &[(u32, &[u8])], at: u64) {
+pub fn expect_sent(rt: &impl Abort, port: &MemoryPort, letters: &[(u32, &[u8])], at: u64) {
     same_number_at(rt, port.sent().len() as u64, letters.len() as u64, at);
     for (sent, letter) in port.sent().iter().zip(letters) {
         same_number_at(rt, u64::from(sent.0), u64::from(letter.0), at);

@@ -1,6 +1,6 @@
 use Rattle.std.proofs.Common.{◌≡◌, true}
 use Rattle.mold_feed.specs.Answering.{left_of}
-use Rattle.mold_feed.specs.Serving.{service_of, stall_of}
+use Rattle.mold_feed.specs.Serving.{service_of, responder_of}
 use Rattle.mold_feed.proofs.AnsweringLemmas.{Offering}
 use Rattle.mold_feed.proofs.answering.offer_all.Given as goal
 
@@ -15,8 +15,8 @@ invariant-packets g l =
           Offering l.fn.to
           (left_of service l.fn.plan)
           (left_of service l.plan)
-          (stall_of (known l.fn.port) l.fn.tally l.fn.server)
-          (stall_of (known l.port) l.tally l.server);
+          (responder_of (known l.fn.port) l.fn.tally l.fn.server)
+          (responder_of (known l.port) l.tally l.server);
       session : l.plan.session ≡ l.fn.plan.session;
       to : l.plan.to ≡ l.fn.plan.to;
       server : l.server ≡ l.fn.server;

@@ -1,7 +1,7 @@
 use Rattle.std.proofs.lemmas.Result.{MatchResult-from_err}
 use Rattle.mold_feed.specs.Serving.{service_of}
 use Rattle.mold_session.specs.Answer.{SendsNext}
-use Rattle.mold_feed.proofs.AnsweringLemmas.{offered_in_vain, offered_untold, offered_well}
+use Rattle.mold_feed.proofs.AnsweringLemmas.{offered_in_vain, offered_unprinted, offered_well}
 use Rattle.mold_feed.proofs.answering.offer_next.Goals as goal
 use Rattle.mold_feed.proofs.answering.offer_next.Given.{Over}
 use Rattle.mold_feed.proofs.answering.offer_next.Goals.{In-Some}
@@ -20,7 +20,7 @@ next g c =
 pub returns-in_err-add_answered-in-Ok-clause-offered : goal.returns-in_err-add_answered-in-Ok-clause-offered
 returns-in_err-add_answered-in-Ok-clause-offered g c tells =
     MatchResult-from_err c.from_residual.result _ _ c.from_residual.ensures.0
-    (λ refused. offered_untold c.args.to c.from_residual.result (service_of c.args.journal.now c.args.server.now)
+    (λ refused. offered_unprinted c.args.to c.from_residual.result (service_of c.args.journal.now c.args.server.now)
     c.args.plan.now c.datagram.new.plan c.in-Some.datagram.now _ _ c.args.tally.now _ c.args.server.now _
     (next g (goal.at.returns-in_err-add_answered-in-Ok-clause-offered g c).In-Some)
     c.in-Some.ensures.moved

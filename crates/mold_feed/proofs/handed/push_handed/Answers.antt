@@ -10,7 +10,7 @@ loop-number-init c =
     let all = take_all c.len-at.result c.args.out.now.items (omega arith) in
     record {
       within = omega arith;
-      told = ap (λ (t : List ℕ). t ++ handed_text c.in-Some-Some.first
+      printed = ap (λ (t : List ℕ). t ++ handed_text c.in-Some-Some.first
           (drop (c.in-Some-Some.first - c.in-Some-Some.first) c.args.batch.now.messages)) all
           ∙ handed_init c.in-Some-Some.first c.args.batch.now.messages c.args.out.now.items;
     }
@@ -32,7 +32,7 @@ loop-number-preserved c =
           rw (w.out-is, w.at-is, whole)
           (record {
             within = w.write_line-at.ensures.within;
-            told = handed_more _ _ _ _ _ _ _ c.loop-number.auto.number w.in-Some.ensures c.loop-number.invariant.told
+            printed = handed_more _ _ _ _ _ _ _ c.loop-number.auto.number w.in-Some.ensures c.loop-number.invariant.printed
                 (line.front ∙ ap (λ (t : List ℕ). t ++ handed_line c.loop-number.number w.in-Some.message.now) before);
           })
       | in_default-get w ↦
@@ -49,5 +49,5 @@ returns c =
     (sym c.in-Some-Some.is-0 ∙ c.first.ensures) in
     c.truncate.ensures.items
     ∙ handed_all c.loop-number.number c.in-Some-Some.first c.args.batch.now.messages _ _
-    (omega (arith, after, first, c.loop-number-test.false)) c.loop-number.invariant.told
+    (omega (arith, after, first, c.loop-number-test.false)) c.loop-number.invariant.printed
     ∙ ap (λ (n : ℕ). c.args.out.now.items ++ handed_text n c.args.batch.now.messages) first

@@ -6,7 +6,7 @@ use Rattle.mold_feed.proofs.handed.push_handed.Given as goal
 abbrev pub invariant-loop-number : goal.invariant-loop-number
 invariant-loop-number l = record {
   within : l.at ≤ length l.out.items;
-  told :
+  printed :
       take l.at l.out.items ++ handed_text l.number (drop (l.number - l.first) l.batch.messages)
       ≡ l.fn.out.items ++ handed_text l.first l.batch.messages;
 }

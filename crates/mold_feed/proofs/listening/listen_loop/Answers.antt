@@ -1,7 +1,7 @@
 use Rattle.std.proofs.Common.{◌∙◌, ap, false, refl}
 use Rattle.mold_feed.proofs.FaultLemmas.{counts_memory, counts_same, counts_write}
 use Rattle.mold_feed.proofs.RunLemmas.{ran_cut, ran_front, ran_none, ran_whole}
-use Rattle.mold_feed.specs.Listening.{Agrees, Told, beginning, last_line, post, status}
+use Rattle.mold_feed.specs.Listening.{Agrees, ReportState, beginning, last_line, listener, status}
 use Rattle.mold_feed.proofs.TurnLemmas.{is_loop}
 use Rattle.mold_feed.proofs.listening.listen_loop.Goals as goal
 
@@ -21,7 +21,7 @@ returns-in_err-take_turns-clause-run g c = λ t.
     (beginning (g.D.Datagrams.port c.args.a.now) (g.D.Datagrams.port c.args.b.now)
     (g.D.Datagrams.port c.args.requests.now) c.args.arbiter.now)
     last_line status _ c.take_turns.result c.from_residual-in_err-take_turns.result
-    (rw c.new-desk.ensures at c.take_turns.ensures.run t)
+    (rw c.new-report.ensures at c.take_turns.ensures.run t)
     c.from_residual-in_err-take_turns.ensures.0
 
 pub returns-in_err-take_turns-clause-sink : goal.returns-in_err-take_turns-clause-sink
@@ -35,7 +35,7 @@ returns-in_err-status-clause-run g c = λ t.
     (beginning (g.D.Datagrams.port c.args.a.now) (g.D.Datagrams.port c.args.b.now)
     (g.D.Datagrams.port c.args.requests.now) c.args.arbiter.now)
     last_line status _ c.take_turns.result c.from_residual-in_err-status.result
-    (rw c.new-desk.ensures at c.take_turns.ensures.run t)
+    (rw c.new-report.ensures at c.take_turns.ensures.run t)
     c.from_residual-in_err-status.ensures.0
 
 pub returns-in_err-status-clause-sink : goal.returns-in_err-status-clause-sink
@@ -49,11 +49,11 @@ returns-in_err-send-clause-run g c = λ t.
     (beginning (g.D.Datagrams.port c.args.a.now) (g.D.Datagrams.port c.args.b.now)
     (g.D.Datagrams.port c.args.requests.now) c.args.arbiter.now)
     last_line status _ (λ front s. refl) c.in_ok-take_turns.field-0
-    (post (g.D.Datagrams.port c.take_turns.new.a) (g.D.Datagrams.port c.take_turns.new.b)
-    (g.D.Datagrams.port c.take_turns.new.requests) c.take_turns.new.arbiter c.take_turns.new.desk)
-    (rw c.new-desk.ensures at c.in_ok-take_turns.ensures.run t)
-    c.from_residual-in_err-send.result c.push_last.new.desk.text
-    (ap (λ (told : Told). told.text) c.in_ok-status.ensures.line) c.send.ensures.front
+    (listener (g.D.Datagrams.port c.take_turns.new.a) (g.D.Datagrams.port c.take_turns.new.b)
+    (g.D.Datagrams.port c.take_turns.new.requests) c.take_turns.new.arbiter c.take_turns.new.report)
+    (rw c.new-report.ensures at c.in_ok-take_turns.ensures.run t)
+    c.from_residual-in_err-send.result c.push_last.new.report.text
+    (ap (λ (report : ReportState). report.text) c.in_ok-status.ensures.line) c.send.ensures.front
     c.from_residual-in_err-send.ensures.0
 
 pub returns-in_err-send-clause-sink : goal.returns-in_err-send-clause-sink
@@ -71,11 +71,11 @@ returns-clause-run g c = λ t.
     (Agrees (g.D.Datagrams.port c.take_turns.new.a) (g.D.Datagrams.port c.take_turns.new.b)
     (g.D.Datagrams.port c.take_turns.new.requests) c.take_turns.new.arbiter)
     (λ front s. refl) c.in_ok-take_turns.field-0
-    (post (g.D.Datagrams.port c.take_turns.new.a) (g.D.Datagrams.port c.take_turns.new.b)
-    (g.D.Datagrams.port c.take_turns.new.requests) c.take_turns.new.arbiter c.take_turns.new.desk)
-    (rw c.new-desk.ensures at c.in_ok-take_turns.ensures.run t)
-    c.in_ok-status.status c.push_last.new.desk.text
-    (ap (λ (told : Told). told.text) c.in_ok-status.ensures.line) c.in_ok-send.ensures.whole
+    (listener (g.D.Datagrams.port c.take_turns.new.a) (g.D.Datagrams.port c.take_turns.new.b)
+    (g.D.Datagrams.port c.take_turns.new.requests) c.take_turns.new.arbiter c.take_turns.new.report)
+    (rw c.new-report.ensures at c.in_ok-take_turns.ensures.run t)
+    c.in_ok-status.status c.push_last.new.report.text
+    (ap (λ (report : ReportState). report.text) c.in_ok-status.ensures.line) c.in_ok-send.ensures.whole
     c.in_ok-status.ensures.status
     (record { a_left = refl; b_left = refl; requests_left = refl; arbiter_left = refl })
 

@@ -1,4 +1,6 @@
+use Rattle.std.proofs.Common.{◌∙◌, ap, refl}
 use Rattle.mold_publish.proofs.DatagramLemmas.{PackingLaws, full_room}
+use Rattle.mold_session.specs.Publisher.{PublisherState}
 use Rattle.mold_feed.proofs.looping.pass_lines.Given.{Over}
 use Rattle.mold_feed.proofs.looping.pass_lines.Goals as goal
 use Rattle.mold_feed.proofs.looping.pass_lines.Goals.{After-packing_law}
@@ -15,9 +17,12 @@ laws g c = record {
 }
 
 pub lines-init : goal.lines-init
-lines-init g c = c.requires.room
+lines-init g c = record { room = c.requires.room; limit = refl }
 
 pub lines-preserved : goal.lines-preserved
 lines-preserved g c =
     let filled = rw c.in-Full.is at c.in_ok-fill.ensures.filled in
-    rw c.pass_next.ensures (full_room (laws g (goal.at.lines-preserved g c).After-packing_law) _ filled.room)
+    record {
+      room = rw c.pass_next.ensures (full_room (laws g (goal.at.lines-preserved g c).After-packing_law) _ filled.room);
+      limit = ap (λ (p : PublisherState). p.limit) c.pass_next.ensures ∙ filled.limit ∙ c.lines.invariant.limit;
+    }

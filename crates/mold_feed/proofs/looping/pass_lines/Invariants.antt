@@ -1,10 +1,14 @@
+use Rattle.std.proofs.Common.{◌≡◌}
 use Rattle.mold_devices.specs.Lines.{work_left}
 use Rattle.mold_publish.specs.Publishing.{HasRoom}
 use Rattle.mold_feed.proofs.looping.pass_lines.Given as goal
 
--- what was published and not sent fits a datagram
+-- what was published and not sent fits a datagram, and the limit is the same
 abbrev pub invariant-lines : goal.invariant-lines
-invariant-lines g l = HasRoom l.publisher
+invariant-lines g l = record {
+  room : HasRoom l.publisher;
+  limit : l.publisher.limit ≡ l.fn.publisher.limit;
+}
 
 abbrev pub decreases-lines : goal.decreases-lines
 decreases-lines g l = work_left (g.S.Source.bound l.source) l.lines.rest

@@ -1,5 +1,5 @@
 use Rattle.std.proofs.Common.{◌≡◌, true, replicate}
-use Rattle.mold_feed.specs.PublishLoop.{Sends, both, outbox_of}
+use Rattle.mold_feed.specs.PublishLoop.{Sends, both, publication_of}
 use Rattle.mold_feed.proofs.sending.send_often.Given as goal
 
 -- so many were sent
@@ -8,6 +8,6 @@ invariant-loop-time g l = record {
   sends :
       g.D.Datagrams.tells ≡ true →
       Sends (both l.fn.a l.fn.b (replicate l._time l.fn.bytes))
-      (outbox_of (g.D.Datagrams.port l.fn.port) l.fn.failed)
-      (outbox_of (g.D.Datagrams.port l.port) l.failed);
+      (publication_of (g.D.Datagrams.port l.fn.port) l.fn.failed)
+      (publication_of (g.D.Datagrams.port l.port) l.failed);
 }

@@ -1,7 +1,7 @@
 use Rattle.std.proofs.Common.{◌≡◌, ◌≤◌, ◌∙◌, ℕ, refl, sym, ap, subst, Ok, arith}
 use Rattle.mold_devices.specs.declared.fault.CommandFault.{CommandFault}
 use Rattle.mold_devices.specs.Devices.{one_more}
-use Rattle.mold_feed.specs.Serving.{Service, behind, serve_turn, service_of, serving, stall_of}
+use Rattle.mold_feed.specs.Serving.{Service, behind, serve_turn, service_of, serving, responder_of}
 use Rattle.mold_feed.proofs.ServingLemmas.{counts_memory, counts_write, rests_as, same_service, serving_is, wrote}
 use Rattle.mold_session.specs.Server.{ServerState}
 use Rattle.mold_feed.specs.Runs.{Begins, Rests}
@@ -21,8 +21,8 @@ loop-turn-preserved g c = record {
   going = λ tells.
       let service = service_of c.args.journal.now c.args.server.now in
       let turned = c.in_ok-take_turn.ensures.turn tells in
-      let now = stall_of (g.D.Datagrams.port c.loop-turn.port) c.loop-turn.tally c.loop-turn.server in
-      let after = stall_of (g.D.Datagrams.port c.take_turn.new.port) c.take_turn.new.tally c.take_turn.new.server in
+      let now = responder_of (g.D.Datagrams.port c.loop-turn.port) c.loop-turn.tally c.loop-turn.server in
+      let after = responder_of (g.D.Datagrams.port c.take_turn.new.port) c.take_turn.new.tally c.take_turn.new.server in
       let same =
       same_service c.args.journal.now c.loop-turn.server c.args.server.now _ c.loop-turn.invariant.server in
       let made = turned.1.whole ∙ ap (λ (s : Service). serve_turn s turned.0 now) same in
@@ -48,11 +48,11 @@ pub returns-in_err-take_turn-clause-rests : goal.returns-in_err-take_turn-clause
 returns-in_err-take_turn-clause-rests g c tells =
     let service = service_of c.args.journal.now c.args.server.now in
     let turned = c.in_err-take_turn.ensures.turn tells in
-    let now = stall_of (g.D.Datagrams.port c.loop-turn.port) c.loop-turn.tally c.loop-turn.server in
+    let now = responder_of (g.D.Datagrams.port c.loop-turn.port) c.loop-turn.tally c.loop-turn.server in
     let same =
     same_service c.args.journal.now c.loop-turn.server c.args.server.now _ c.loop-turn.invariant.server in
     rests_failed (serving_is service) c.from_residual.result c.args.turns turned.0
-    (stall_of (g.D.Datagrams.port c.take_turn.new.port) c.take_turn.new.tally c.take_turn.new.server)
+    (responder_of (g.D.Datagrams.port c.take_turn.new.port) c.take_turn.new.tally c.take_turn.new.server)
     (c.loop-turn.invariant.going tells)
     c.loop-turn-test.true
     (subst
@@ -76,8 +76,8 @@ pub returns-in_err-write_large-clause-rests : goal.returns-in_err-write_large-cl
 returns-in_err-write_large-clause-rests g c tells =
     let service = service_of c.args.journal.now c.args.server.now in
     let turned = c.in_ok-take_turn.ensures.turn tells in
-    let now = stall_of (g.D.Datagrams.port c.loop-turn.port) c.loop-turn.tally c.loop-turn.server in
-    let after = stall_of (g.D.Datagrams.port c.take_turn.new.port) c.take_turn.new.tally c.take_turn.new.server in
+    let now = responder_of (g.D.Datagrams.port c.loop-turn.port) c.loop-turn.tally c.loop-turn.server in
+    let after = responder_of (g.D.Datagrams.port c.take_turn.new.port) c.take_turn.new.tally c.take_turn.new.server in
     let same =
     same_service c.args.journal.now c.loop-turn.server c.args.server.now _ c.loop-turn.invariant.server in
     let failed = c.from_residual-in_err-write_large.ensures.0 in
@@ -108,9 +108,9 @@ returns-clause-rests g c tells =
     subst
     (λ (n : ℕ).
     Rests {T = Unit {0}} {E = CommandFault} (serving service) behind n
-    (stall_of (g.D.Datagrams.port c.args.port.now) c.args.tally.now c.args.server.now) (Ok tt)
+    (responder_of (g.D.Datagrams.port c.args.port.now) c.args.tally.now c.args.server.now) (Ok tt)
     (g.K.Sink.held c.args.sink.now) (g.K.Sink.held c.loop-turn.sink)
-    (stall_of (g.D.Datagrams.port c.loop-turn.port) c.loop-turn.tally c.loop-turn.server))
+    (responder_of (g.D.Datagrams.port c.loop-turn.port) c.loop-turn.tally c.loop-turn.server))
     all
     (rests_end (serving_is service) (Ok tt) (c.loop-turn.invariant.going tells))
 

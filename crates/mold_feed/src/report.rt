@@ -1,9 +1,9 @@
-//! What a listener has told, and is still to tell.
+//! What a listener is still to print.
 
 ghost use Rattle.std.specs.Prelude.{◌≡◌, ◌⊎◌, ◌<◌, ◌≤◌, ◌++◌, [], Err, length, IfOk, IfErr, IsOk, OnOk};
 ghost use Rattle.std.specs.Io.KnownBytes.{Appends};
 ghost use Rattle.mold_devices.specs.Devices.{AppendsFront, Counts, one_more};
-ghost use Rattle.mold_feed.specs.Listening.{ear, taken};
+ghost use Rattle.mold_feed.specs.Listening.{hearing, taken};
 ghost use Rattle.mold_feed.specs.Text.{finished_line, open_line};
 ghost use Rattle.mold_feed.specs.Runs.{Moves};
 ghost use Rattle.mold_receiver.specs.Arbiter.{HasArbitrated, arbitrates};
@@ -41,27 +41,27 @@ fn take(
 /// The text that a listener has still to print, and how often its ports failed. The memory of a text that
 /// was printed is kept for the next one.
 #[derive(Drop)]
-pub struct Desk {
+pub struct Report {
     // What the last datagram handed on.
     batch: Batch,
     text: Vec<u8>,
     failures: u64,
 }
 
-impl Model for Desk {
-    ghost use Rattle.mold_feed.specs.Listening.{Told};
+impl Model for Report {
+    ghost use Rattle.mold_feed.specs.Listening.{ReportState};
 
-    ghost Value = { Told };
+    ghost Value = { ReportState };
 
     ghost view = { λ d. record { text = d.text.items; failures = d.failures } };
 }
 
-impl Desk {
+impl Report {
     /// Nothing to print and no failure. It takes no memory yet.
-    pub fn new(alloc: Global) -> Desk
+    pub fn new(alloc: Global) -> Report
         ensures { result ≡ record { text = []; failures = 0 } }
     {
-        Desk {
+        Report {
             batch: Batch::new(alloc),
             text: Vec::new(alloc),
             failures: 0,
@@ -84,7 +84,7 @@ impl Desk {
         line: Option<Line>,
         bytes: &[u8],
     ) -> Result<(), AllocError>
-        ensures { OnOk result (ear arbiter.new self.new ≡ taken line bytes.now (ear arbiter.old self.old)) }
+        ensures { OnOk result (hearing arbiter.new self.new ≡ taken line bytes.now (hearing arbiter.old self.old)) }
     {
         self.batch.clear();
         match take(arbiter, line, bytes, &mut self.batch) {
