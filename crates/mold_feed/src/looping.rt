@@ -1,6 +1,8 @@
 //! A publisher, its re-request server and a listener in one process.
 
 ghost use Rattle.std.specs.Prelude.{◌≡◌, ◌≤◌, length, OnOk};
+ghost use Rattle.mold_devices.specs.Faults.{CountsCommand};
+ghost use Rattle.mold_feed.specs.Faults.{CountsSink};
 ghost use Rattle.mold_session.specs.Publisher.{after_datagram};
 ghost use Rattle.mold_publish.specs.Publishing.{HasRoom};
 
@@ -152,6 +154,8 @@ fn pass_lines<D: Datagrams + Drop, S: Source, K: Sink>(
     requires room { HasRoom publisher.old }
     requires place { length place.old ≡ 65507 }
     ensures limit { OnOk result (publisher.new.limit ≡ publisher.old.limit) }
+    ensures failures { CountsCommand (S.failed source.old) (S.failed source.new) (K.failed sink.old) (K.failed sink.new)
+        result }
 {
     front_law();
     packing_law();
@@ -300,6 +304,7 @@ fn repair_all<D: Datagrams + Drop, K: Sink>(
 ) -> Result<(), CommandFault>
     requires place { length place.old ≡ 65507 }
     requires longest { journal.now.max_message ≤ server.old.max_message }
+    ensures sink { CountsSink (K.failed sink.old) (K.failed sink.new) result }
 {
     for _turn in 0..turns {
         let Some(request) = listener.arbiter.receiver().wanted() else {
@@ -318,7 +323,8 @@ fn repair_all<D: Datagrams + Drop, K: Sink>(
 /// is requested in at most `turns` rounds. What is handed on is printed as a listener prints it, with its last
 /// line and its status. A refused line ends it: what was handed on stays printed, then comes the refusal,
 /// and the status is 2. A failed send or receive is counted. The publisher's messages may have at most as many
-/// bytes as the server's, so that each request is answered.
+/// bytes as the server's, so that each request is answered. `Read` and `Write` come only where the source or the
+/// sink failed.
 pub fn session_loop<D: Datagrams + Drop, S: Source, K: Sink>(
     alloc: Global,
     ports: &mut LoopPorts<D>,
@@ -333,6 +339,8 @@ pub fn session_loop<D: Datagrams + Drop, S: Source, K: Sink>(
 ) -> Result<u8, CommandFault>
     requires room { HasRoom publisher.old }
     requires longest { publisher.old.journal.max_message ≤ server.old.max_message }
+    ensures failures { CountsCommand (S.failed source.old) (S.failed source.new) (K.failed sink.old) (K.failed sink.new)
+        result }
 {
     publisher_holds(publisher);
     let mut place = vec![in alloc; 0; LONGEST]?;

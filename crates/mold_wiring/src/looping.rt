@@ -1,6 +1,7 @@
 //! What `loop` is made of.
 
 ghost use Rattle.std.specs.Prelude.{◌≡◌, [], IfOk};
+ghost use Rattle.mold_devices.specs.Faults.{CountsCommand};
 ghost use Rattle.mold_wiring.specs.Wiring.{loop_arbiter_of, loop_publisher_of, loop_server_of};
 
 use crate::limits::longest_message;
@@ -75,6 +76,8 @@ fn run_made<D: Datagrams + Drop, S: Source, K: Sink>(
 ) -> Result<u8, CommandFault>
     requires publisher { publisher.old ≡ loop_publisher_of order.now }
     requires server { server.old ≡ loop_server_of order.now }
+    ensures failures { CountsCommand (S.failed source.old) (S.failed source.new) (K.failed sink.old) (K.failed sink.new)
+        result }
 {
     packet_length_law();
     let mut listener = make_listener(alloc, order)?;
@@ -92,8 +95,8 @@ fn run_made<D: Datagrams + Drop, S: Source, K: Sink>(
     )
 }
 
-/// Publishes the lines of the source, and serves and listens to them, in one process, as the order says. Nothing
-/// is known of what its ports, which are sockets, give.
+/// Publishes the lines of the source, and serves and listens to them, in one process, as the order says. `Read` and
+/// `Write` come only where the source or the sink failed.
 pub fn loop_over<D: Datagrams + Drop, S: Source, K: Sink>(
     alloc: Global,
     order: &LoopOrder,
@@ -101,7 +104,10 @@ pub fn loop_over<D: Datagrams + Drop, S: Source, K: Sink>(
     peers: &LoopPeers<D::Peer>,
     source: &mut S,
     sink: &mut K,
-) -> Result<u8, CommandFault> {
+) -> Result<u8, CommandFault>
+    ensures failures { CountsCommand (S.failed source.old) (S.failed source.new) (K.failed sink.old) (K.failed sink.new)
+        result }
+{
     let mut publisher = make_publisher(alloc, order)?;
     let mut server = make_server(alloc, order)?;
     run_made(

@@ -17,7 +17,7 @@ laws g c = record {
 }
 
 pub lines-init : goal.lines-init
-lines-init g c = record { room = c.requires.room; limit = refl }
+lines-init g c = record { room = c.requires.room; limit = refl; source = refl; sink = refl }
 
 pub lines-preserved : goal.lines-preserved
 lines-preserved g c =
@@ -25,4 +25,6 @@ lines-preserved g c =
     record {
       room = rw c.pass_next.ensures (full_room (laws g (goal.at.lines-preserved g c).After-packing_law) _ filled.room);
       limit = ap (λ (p : PublisherState). p.limit) c.pass_next.ensures ∙ filled.limit ∙ c.lines.invariant.limit;
+      source = c.in_ok-fill.ensures.failures ∙ c.lines.invariant.source;
+      sink = c.in_ok-send_large.ensures.sink ∙ c.lines.invariant.sink;
     }
