@@ -255,10 +255,18 @@ fn conflict(rt: HostRuntime) -> Result<(), Fail> {
     reception.expect_taken(&rt, stored, (0, 1, 0));
     let other = b"SESSION001\0\0\0\0\0\0\0\x03\0\x01\0\x01Y";
     reception.expect_refused(&rt, other, refused);
-    let three = b"SESSION001\0\0\0\0\0\0\0\x01\0\x03\0\x01A\0\x01B\0\x01Y";
-    reception.expect_refused(&rt, three, refused);
+    Ok(())
+}
+
+/// A datagram that no publisher sent: what it says of message 3 stays, and the true one is refused.
+#[test]
+fn a_forged_message_stays(rt: HostRuntime) -> Result<(), Fail> {
+    let mut reception = Reception::new(rt.alloc(), 1, 4)?;
+    let forged = b"SESSION001\0\0\0\0\0\0\0\x03\0\x01\0\x01Z";
+    reception.expect_taken(&rt, forged, (0, 1, 0));
+    reception.expect_refused(&rt, DATA_1_3, Refused::Conflict { number: 3 });
     reception.expect_taken(&rt, DATA_1_2, (3, 0, 0));
-    reception.expect_batch(&rt, 1, &[b"A", b"B", b"X"]);
+    reception.expect_batch(&rt, 1, &[b"A", b"B", b"Z"]);
     Ok(())
 }
 
