@@ -6,9 +6,9 @@ use Rattle.std.specs.Prelude.{None, Some}
 use Rattle.std.proofs.lemmas.Option.{none-some}
 use Rattle.mold_wire.specs.Packet.{Spells}
 use Rattle.mold_wire.specs.declared.packet.Packet.{Packet}
-use Rattle.mold_capture.specs.declared.reason.Reason.{Reason}
-use Rattle.mold_capture.specs.declared.reason.Reason.TheVariants.{Malformed, WrongSession, SequenceZero, PastLast}
-use Rattle.mold_capture.specs.declared.reason.Reason.TheVariants.{EndConflict, EndBelow, PastEnd, Conflict, Memory}
+use Rattle.mold_rule.specs.declared.refusal.Refusal.{Refusal as Reason}
+use Rattle.mold_rule.specs.declared.refusal.Refusal.TheVariants.{Malformed, WrongSession, SequenceZero, PastLast}
+use Rattle.mold_rule.specs.declared.refusal.Refusal.TheVariants.{EndConflict, EndBelow, PastEnd, Conflict, Memory}
 use Rattle.mold_capture.specs.declared.verdict.Verdict.{Verdict}
 use Rattle.mold_capture.specs.declared.verdict.Verdict.TheVariants.{Whole as IsWhole, Incomplete}
 use Rattle.mold_capture.specs.Check.{IsRefusedAt}
@@ -17,6 +17,7 @@ use Rattle.mold_capture.specs.Refusal.{reason, refusal, told}
 use Rattle.mold_capture.specs.Seen.{Seen, BringsNew, after, seen_of}
 use Rattle.mold_capture.specs.Verdict.{IsVerdict, IsVerdictOn}
 use Rattle.mold_capture.proofs.ListLemmas.{ReadsBack}
+use Rattle.mold_capture.proofs.RefusalLemmas.{RuleLaw}
 use Rattle.mold_capture.proofs.SumLemmas.{none_consistent, accepted, not_refused, after_more, heard_whole, whole_heard}
 
 -- one datagram more
@@ -26,52 +27,52 @@ front_more list i bytes within at =
     take_more list i [] within ∙ ap (λ (b : List ℕ). take i list ++ b ∷ []) at
 
 -- what holds where a datagram is refused for a reason
-pub refused_for : ReadsBack → (list : List (List ℕ)) (i : ℕ) (bytes : List ℕ) (why : Reason) → i < length list →
+pub refused_for : ReadsBack → RuleLaw → (list : List (List ℕ)) (i : ℕ) (bytes : List ℕ) (why : Reason) → i < length list →
     get_or list i [] ≡ bytes → Consistent (take i list) → reason (take i list) bytes ≡ Some why
     → (i < length list) × Consistent (take i list) × (Consistent (take (i + 1) list) → ⊥)
     × (reason (take i list) (get_or list i []) ≡ Some why)
-refused_for reads list i bytes why within at consistent is = (
+refused_for reads rule list i bytes why within at consistent is = (
   within,
   consistent,
   λ more.
       none-some why
-      (sym (not_refused reads (take i list) bytes (subst Consistent (front_more list i bytes within at) more)) ∙ is),
+      (sym (not_refused reads rule (take i list) bytes (subst Consistent (front_more list i bytes within at) more)) ∙ is),
   ap (reason (take i list)) at ∙ is,
 )
 
-refused_at : ReadsBack → (list : List (List ℕ)) (i : ℕ) (bytes : List ℕ) → i < length list → get_or list i [] ≡ bytes →
+refused_at : ReadsBack → RuleLaw → (list : List (List ℕ)) (i : ℕ) (bytes : List ℕ) → i < length list → get_or list i [] ≡ bytes →
     Consistent (take i list) → (why : Reason) → reason (take i list) bytes ≡ told why
     → (why ≡ Memory → BringsNew (seen_of (take i list)) bytes) → IsRefusedAt i why list
-refused_at reads list i bytes within at all Memory is new =
+refused_at reads rule list i bytes within at all Memory is new =
     (omega arith, all, λ below. subst (BringsNew (seen_of (take i list))) (sym at) (new refl))
-refused_at reads list i bytes within at all (Malformed e) is new = refused_for reads list i bytes _ within at all is
-refused_at reads list i bytes within at all WrongSession is new = refused_for reads list i bytes _ within at all is
-refused_at reads list i bytes within at all SequenceZero is new = refused_for reads list i bytes _ within at all is
-refused_at reads list i bytes within at all PastLast is new = refused_for reads list i bytes _ within at all is
-refused_at reads list i bytes within at all (EndConflict e) is new = refused_for reads list i bytes _ within at all is
-refused_at reads list i bytes within at all (EndBelow k) is new = refused_for reads list i bytes _ within at all is
-refused_at reads list i bytes within at all (PastEnd e) is new = refused_for reads list i bytes _ within at all is
-refused_at reads list i bytes within at all (Conflict n) is new = refused_for reads list i bytes _ within at all is
+refused_at reads rule list i bytes within at all (Malformed e) is new = refused_for reads rule list i bytes _ within at all is
+refused_at reads rule list i bytes within at all WrongSession is new = refused_for reads rule list i bytes _ within at all is
+refused_at reads rule list i bytes within at all SequenceZero is new = refused_for reads rule list i bytes _ within at all is
+refused_at reads rule list i bytes within at all PastLast is new = refused_for reads rule list i bytes _ within at all is
+refused_at reads rule list i bytes within at all (EndConflict e) is new = refused_for reads rule list i bytes _ within at all is
+refused_at reads rule list i bytes within at all (EndBelow k) is new = refused_for reads rule list i bytes _ within at all is
+refused_at reads rule list i bytes within at all (PastEnd e) is new = refused_for reads rule list i bytes _ within at all is
+refused_at reads rule list i bytes within at all (Conflict n) is new = refused_for reads rule list i bytes _ within at all is
 
 -- the datagrams so far are consistent, and what they have said is known
 pub record HasChecked (list : List (List ℕ)) (i : ℕ) (seen : Seen) : Type 0 where
   pub consistent : Consistent (take i list)
   pub said : seen ≡ seen_of (take i list)
 
-pub checked_refused : ReadsBack → (list : List (List ℕ)) (i : ℕ) (bytes : List ℕ) (seen : Seen) (why : Reason) →
+pub checked_refused : ReadsBack → RuleLaw → (list : List (List ℕ)) (i : ℕ) (bytes : List ℕ) (seen : Seen) (why : Reason) →
     HasChecked list i seen → i < length list → refusal seen bytes ≡ told why
     → (why ≡ Memory → BringsNew seen bytes) → get_or list i [] ≡ bytes → IsRefusedAt i why list
-checked_refused reads list i bytes seen why checked within is new at =
-    refused_at reads list i bytes within at checked.consistent why
+checked_refused reads rule list i bytes seen why checked within is new at =
+    refused_at reads rule list i bytes within at checked.consistent why
     (ap (λ (s : Seen). refusal s bytes) (sym checked.said) ∙ is)
     (λ memory. subst (λ (s : Seen). BringsNew s bytes) checked.said (new memory))
 
-pub checked_more : ReadsBack → (list : List (List ℕ)) (i : ℕ) (bytes : List ℕ) (seen now : Seen) (v : Packet) →
+pub checked_more : ReadsBack → RuleLaw → (list : List (List ℕ)) (i : ℕ) (bytes : List ℕ) (seen now : Seen) (v : Packet) →
     HasChecked list i seen → i < length list → now ≡ after seen bytes → get_or list i [] ≡ bytes → Spells v bytes
     → refusal seen bytes ≡ None → HasChecked list (i + 1) now
-checked_more reads list i bytes seen now v checked within is at spelled none =
+checked_more reads rule list i bytes seen now v checked within is at spelled none =
     let nothing = ap (λ (s : Seen). refusal s bytes) (sym checked.said) ∙ none in
-    let more = accepted reads (take i list) bytes v checked.consistent spelled nothing in
+    let more = accepted reads rule (take i list) bytes v checked.consistent spelled nothing in
     let front = front_more list i bytes within at in
     record {
       consistent = subst Consistent (sym front) more;

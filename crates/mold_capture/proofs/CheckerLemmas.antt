@@ -1,7 +1,7 @@
 -- What a checker holds, and what it answers.
-use Rattle.std.proofs.Common.{◌≡◌, ℕ, ◌-◌, max, true, false, List, [], ◌∷◌, ◌++◌, refl, sym, ap, ◌∙◌}
+use Rattle.std.proofs.Common.{◌≡◌, ℕ, ◌-◌, max, false, List, [], refl, sym, ap, ◌∙◌}
 use Rattle.std.proofs.Common.{arith}
-use Rattle.std.specs.Prelude.{Option, None, Some, is_some, is_none, Result, Ok, Err, IfOk}
+use Rattle.std.specs.Prelude.{Option, None, Some, is_none, Result, Ok, Err, IfOk}
 use Rattle.std.specs.FinMap as finite
 use Rattle.std.specs.Option.{option_map, option_or}
 use Rattle.std.proofs.lemmas.Bool.{true≢false}
@@ -9,49 +9,26 @@ use Rattle.mold_wire.specs.Packet.{messages_of, top_of}
 use Rattle.mold_wire.specs.Reading.{reading}
 use Rattle.mold_wire.specs.declared.packet.Packet.{Packet}
 use Rattle.mold_wire.specs.declared.session.Session.{Session}
-use Rattle.mold_capture.specs.declared.reason.Reason.{Reason}
-use Rattle.mold_capture.specs.Refusal.{conflict, header_refusals, refusal, refusal_read, refusals, first_some, told}
+use Rattle.mold_rule.specs.declared.refusal.Refusal.{Refusal as Reason}
+use Rattle.mold_rule.specs.declared.refusal.Refusal.TheVariants.{Malformed, WrongSession, SequenceZero, PastLast}
+use Rattle.mold_rule.specs.declared.refusal.Refusal.TheVariants.{EndConflict, EndBelow, PastEnd, Conflict, Memory}
+use Rattle.mold_rule.specs.Refusals.{conflict_at, refusal_of}
+use Rattle.mold_capture.specs.Refusal.{conflict, refusal, refusal_read, told}
 use Rattle.mold_capture.specs.Seen.{Pairs, Seen, IsSound, after, end_in, joined, joined_read, pairs_with, seen_by}
 use Rattle.mold_capture.specs.Verdict.{IsWholeSeen, lacks, missing_in}
 use Rattle.mold_capture.proofs.GapLemmas.{none_lacking, lacking_none}
 
-first_append : (one other : List (Option Reason)) → first_some (one ++ other) ≡ option_or (first_some one) (first_some other)
-first_append [] other = refl
-first_append (None ∷ one) other = first_append one other
-first_append (Some reason ∷ one) other = refl
-
-first_one : (o : Option Reason) → first_some (o ∷ []) ≡ o
-first_one None = refl
-first_one (Some reason) = refl
-
-split : (seen : Seen) (p : Packet) → first_some (refusals seen p)
-    ≡ option_or (first_some (header_refusals seen.session seen.known seen.ended p))
-    (conflict seen.pairs p.sequence (messages_of p.body))
-split seen p =
-    let c = conflict seen.pairs p.sequence (messages_of p.body) in
-    let header = header_refusals seen.session seen.known seen.ended p in
-    first_append header (c ∷ []) ∙ ap (option_or (first_some header)) (first_one c)
-
--- a refusal by the header is the first
-pub refused_early : (seen : Seen) (p : Packet) (reason : Reason) →
-    first_some (header_refusals seen.session seen.known seen.ended p) ≡ told reason → is_some (told reason) ≡ true
-    → first_some (refusals seen p) ≡ told reason
-refused_early seen p reason header some =
-    split seen p
-    ∙ ap (λ (o : Option Reason). option_or o (conflict seen.pairs p.sequence (messages_of p.body))) header
-    ∙ stays (told reason) (conflict seen.pairs p.sequence (messages_of p.body)) some
-  where
-    stays : (a b : Option Reason) → is_some a ≡ true → option_or a b ≡ a
-    stays None b none = absurd (true≢false (sym none))
-    stays (Some x) b some = refl
-
--- where the header isn't refused, a conflict decides
-pub refused_late : (seen : Seen) (p : Packet) →
-    first_some (header_refusals seen.session seen.known seen.ended p) ≡ None
-    → first_some (refusals seen p) ≡ conflict seen.pairs p.sequence (messages_of p.body)
-refused_late seen p header =
-    split seen p
-    ∙ ap (λ (o : Option Reason). option_or o (conflict seen.pairs p.sequence (messages_of p.body))) header
+-- another reason than memory tells itself
+told_other : (why : Reason) → (why ≡ Memory → ⊥) → told why ≡ Some why
+told_other Memory other = absurd (other refl)
+told_other (Malformed error) other = refl
+told_other WrongSession other = refl
+told_other SequenceZero other = refl
+told_other PastLast other = refl
+told_other (EndConflict end) other = refl
+told_other (EndBelow known) other = refl
+told_other (PastEnd end) other = refl
+told_other (Conflict number) other = refl
 
 session_or : (o : Option Session) (s : Session) →
     option_map (λ (x : Session). x.0) (option_or o (Some s)) ≡ option_or (option_map (λ (x : Session). x.0) o) (Some s.0)
@@ -105,19 +82,21 @@ ok_then (Ok x) P Q to holds = to x holds
 ok_then (Err e) P Q to holds = tt
 
 -- of a datagram that reads as the packet, what was said being given by its parts: its refusal by the header,
-pub read_early : (before seen : Seen) (bytes : List ℕ) (p : Packet) (reason : Reason) → before ≡ seen
-    → reading bytes ≡ Ok p → first_some (header_refusals before.session before.known before.ended p) ≡ told reason
-    → is_some (told reason) ≡ true → refusal seen bytes ≡ told reason
-read_early before seen bytes p reason same read header some =
+pub read_early : (before seen : Seen) (bytes : List ℕ) (p : Packet) (why : Reason) → before ≡ seen
+    → reading bytes ≡ Ok p
+    → ((other : Option ℕ) → refusal_of before.session before.known before.ended other p ≡ Some why)
+    → (why ≡ Memory → ⊥) → refusal seen bytes ≡ told why
+read_early before seen bytes p why same read header other =
     ap (λ (s : Seen). refusal s bytes) (sym same) ∙ ap (refusal_read before) read
-    ∙ refused_early before p reason header some
+    ∙ header (conflict before.pairs p.sequence (messages_of p.body)) ∙ sym (told_other why other)
 
 -- by a conflict,
 pub read_late : (before seen : Seen) (bytes : List ℕ) (p : Packet) → before ≡ seen → reading bytes ≡ Ok p
-    → first_some (header_refusals before.session before.known before.ended p) ≡ None
-    → refusal seen bytes ≡ conflict before.pairs p.sequence (messages_of p.body)
+    → ((other : Option ℕ) → refusal_of before.session before.known before.ended other p ≡ conflict_at other)
+    → refusal seen bytes ≡ conflict_at (conflict before.pairs p.sequence (messages_of p.body))
 read_late before seen bytes p same read header =
-    ap (λ (s : Seen). refusal s bytes) (sym same) ∙ ap (refusal_read before) read ∙ refused_late before p header
+    ap (λ (s : Seen). refusal s bytes) (sym same) ∙ ap (refusal_read before) read
+    ∙ header (conflict before.pairs p.sequence (messages_of p.body))
 
 -- and what was said with it
 pub read_joined : (before seen : Seen) (bytes : List ℕ) (p : Packet) → before ≡ seen → reading bytes ≡ Ok p

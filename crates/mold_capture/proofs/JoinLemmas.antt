@@ -10,6 +10,7 @@ use Rattle.mold_wire.specs.declared.packet.Packet.{Packet}
 use Rattle.mold_wire.specs.declared.packet.Body.{Body}
 use Rattle.mold_wire.specs.declared.packet.Body.TheVariants.{Data, Heartbeat, End}
 use Rattle.mold_wire.specs.declared.session.Session.{Session}
+use Rattle.mold_rule.specs.Refusals.{IsAdmitted}
 use Rattle.mold_capture.specs.Seen.{Pairs, Seen, end_in, joined, IsSound}
 use Rattle.mold_capture.proofs.PairLemmas.{option_cases, option_or_cases, option_or_first, option_or_second}
 use Rattle.mold_capture.proofs.PairLemmas.{message_bounds, message_there, message_none, message_within, get-with}
@@ -22,14 +23,9 @@ pub record Allows (seen : Seen) (session : List ℕ) (P : List (List ℕ)) : Typ
   pub ended : (number : ℕ) → seen.ended ≡ Some number → number ≡ length P + 1
   pub carried : (q : ℕ) (m : List ℕ) → finite.get seen.pairs q ≡ Some m → published_at P q ≡ Some m
 
--- nothing speaks against the packet
+-- nothing in the packet's header speaks against it, and its messages are those that were carried at their numbers
 pub record MayJoin (seen : Seen) (packet : Packet) : Type 0 where
-  pub named : (name : List ℕ) → seen.session ≡ Some name → name ≡ packet.session.0
-  pub first : 1 ≤ packet.sequence
-  pub last : top_of packet ≤ 18446744073709551615
-  pub same_end : packet.body ≡ End → (number : ℕ) → seen.ended ≡ Some number → packet.sequence ≡ number
-  pub above : packet.body ≡ End → seen.known ≤ packet.sequence
-  pub within : (number : ℕ) → seen.ended ≡ Some number → top_of packet ≤ number
+  pub admitted : IsAdmitted seen.session seen.known seen.ended packet
   pub agrees : (q : ℕ) (m other : List ℕ) → Carries packet q m → finite.get seen.pairs q ≡ Some other → other ≡ m
 
 -- a packet, by its parts
@@ -72,12 +68,14 @@ may_join seen packet session P allows named is_body truth =
     let n = packet.sequence in
     let top = true_top packet.body n P is_body truth.said in
     record {
-      named = λ name is. allows.named name is ∙ sym named;
-      first = true_first packet.body n P truth.said;
-      last = omega (arith, top, allows.few);
-      same_end = λ end number is. true_end packet.body n P truth.said end ∙ sym (allows.ended number is);
-      above = λ end. omega (arith, true_end packet.body n P truth.said end, allows.known);
-      within = λ number is. omega (arith, top, allows.ended number is);
+      admitted = record {
+        named = λ name is. named ∙ sym (allows.named name is);
+        first = true_first packet.body n P truth.said;
+        last = omega (arith, top, allows.few);
+        same_end = λ end number is. true_end packet.body n P truth.said end ∙ sym (allows.ended number is);
+        above = λ end. omega (arith, true_end packet.body n P truth.said end, allows.known);
+        within = λ number is. omega (arith, top, allows.ended number is);
+      };
       agrees = λ q m other carried is.
           same_Some other m
           (sym (allows.carried q other is) ∙ true_carried packet.body n P truth.said q m carried);
@@ -131,14 +129,14 @@ was_named seen packet session P may allows =
     elim (option_cases seen.session) [
       | inl none ↦ allows.named packet.session.0 (option_or_second seen.session (Some packet.session.0) none)
       | inr found ↦
-          sym (may.named found.0 found.1)
+          may.admitted.named found.0 found.1
           ∙ allows.named found.0 (option_or_first seen.session (Some packet.session.0) found.0 found.1)
     ]
 
 was_said : (seen : Seen) (s : Session) (n : ℕ) (body : Body) (session : List ℕ) (P : List (List ℕ)) →
     MayJoin seen (made s n body) → Allows (joined seen (made s n body)) session P → IsTrueBody body n P true
 was_said seen s n (Data ms) session P may allows = (
-  may.first,
+  may.admitted.first,
   λ q m is.
       elim (option_cases (finite.get seen.pairs q)) [
         | inl none ↦
@@ -151,13 +149,13 @@ was_said seen s n (Data ms) session P may allows = (
             (found.1 ∙ ap (λ (x : List ℕ). Some x) (may.agrees q m found.0 is found.1)))
       ],
 )
-was_said seen s n Heartbeat session P may allows = (may.first, omega (arith, allows.known))
+was_said seen s n Heartbeat session P may allows = (may.admitted.first, omega (arith, allows.known))
 was_said seen s n End session P may allows = (
   refl,
   elim (option_cases seen.ended) [
     | inl none ↦ allows.ended n (option_or_second seen.ended (Some n) none)
     | inr found ↦
-        may.same_end refl found.0 found.1
+        may.admitted.same_end refl found.0 found.1
         ∙ allows.ended found.0 (option_or_first seen.ended (Some n) found.0 found.1)
   ],
 )
@@ -180,13 +178,13 @@ pub still_sound : (seen : Seen) (packet : Packet) → IsSound seen → MayJoin s
 still_sound seen packet sound may =
     record {
       first = omega (arith, sound.first);
-      last = omega (arith, sound.last, may.last);
+      last = omega (arith, sound.last, may.admitted.last);
       ended = λ number is.
           elim (option_or_cases seen.ended (end_in packet.body packet.sequence) number is) [
-            | inl old ↦ omega (arith, sound.ended number old, may.within number old)
+            | inl old ↦ omega (arith, sound.ended number old, may.admitted.within number old)
             | inr new ↦
                 let told = end_is packet.body packet.sequence number new.1 in
-                omega (arith, told.1, end_top packet told.0, may.above told.0)
+                omega (arith, told.1, end_top packet told.0, may.admitted.above told.0)
           ];
       carried = λ q m is.
           elim (option_or_cases (finite.get seen.pairs q) (message_at packet.sequence (messages_of packet.body) q) m
@@ -194,7 +192,7 @@ still_sound seen packet sound may =
             | inl old ↦ (let lies = sound.carried q m old in (lies.0, omega (arith, lies.1)))
             | inr new ↦
                 let lies = message_bounds packet.sequence (messages_of packet.body) q m new.1 in
-                (omega (arith, lies.0, may.first), omega (arith, lies.1))
+                (omega (arith, lies.0, may.admitted.first), omega (arith, lies.1))
           ];
     }
 

@@ -11,9 +11,10 @@ use Rattle.std.proofs.lemmas.Bool.{cases_order, true≢false, cond-true, cond-fa
 use Rattle.std.proofs.lemmas.Option.{none-some}
 use Rattle.mold_wire.specs.Truth.{message_at}
 use Rattle.mold_capture.specs.declared.run.Run.{Run}
-use Rattle.mold_capture.specs.declared.reason.Reason.{Reason}
-use Rattle.mold_capture.specs.declared.reason.Reason.TheVariants.{Conflict, Memory}
-use Rattle.mold_capture.specs.Refusal.{conflict, differs, told}
+use Rattle.mold_rule.specs.declared.refusal.Refusal.{Refusal as Reason}
+use Rattle.mold_rule.specs.declared.refusal.Refusal.TheVariants.{Memory}
+use Rattle.mold_capture.specs.Refusal.{conflict, told}
+use Rattle.mold_rule.specs.Held.{differs}
 use Rattle.mold_capture.specs.Runs.{Runs, pairs_of, HasRun, AreRuns, AreFree}
 use Rattle.mold_capture.specs.Seen.{Pairs, BringNew, pairs_with}
 use Rattle.mold_capture.proofs.RefusalLemmas.{agrees_from}
@@ -124,12 +125,12 @@ pub conflict_next : (pairs : Pairs) (n k : ℕ) (m : List ℕ) (ms : List (List 
 conflict_next pairs n k m ms next same =
     let at : k ≡ suc n = omega arith in
     ap (λ (j : ℕ). conflict pairs j ms) at
-    ∙ sym (cond-false (differs (finite.get pairs n) m) (Some (Conflict n)) (conflict pairs (suc n) ms) same)
+    ∙ sym (cond-false (differs (finite.get pairs n) m) (Some n) (conflict pairs (suc n) ms) same)
 
 pub conflict_here : (pairs : Pairs) (n : ℕ) (m : List ℕ) (ms : List (List ℕ)) →
-    differs (finite.get pairs n) m ≡ true → conflict pairs n (m ∷ ms) ≡ Some (Conflict n)
+    differs (finite.get pairs n) m ≡ true → conflict pairs n (m ∷ ms) ≡ Some n
 conflict_here pairs n m ms other =
-    cond-true (differs (finite.get pairs n) m) (Some (Conflict n)) (conflict pairs (suc n) ms) other
+    cond-true (differs (finite.get pairs n) m) (Some n) (conflict pairs (suc n) ms) other
 
 pub copied_some : (o : Option (Bor (List ℕ))) → is_some o ≡ true → (x : List ℕ) × (option_copied o ≡ Some x)
 copied_some None some = absurd (true≢false (sym some))

@@ -14,17 +14,18 @@ use Rattle.mold_wire.specs.declared.packet.Packet.{Packet}
 use Rattle.mold_capture.specs.Consistent.{Consistent, Whole}
 use Rattle.mold_capture.specs.Check.{IsRefusedAt}
 use Rattle.mold_capture.specs.Outcome.{Outcome, whole, incomplete, refused, IsOutcome, outcome_in}
-use Rattle.mold_capture.specs.declared.reason.Reason.TheVariants.{Malformed, WrongSession, SequenceZero, PastLast}
-use Rattle.mold_capture.specs.declared.reason.Reason.TheVariants.{EndConflict, EndBelow, PastEnd, Conflict, Memory}
+use Rattle.mold_rule.specs.declared.refusal.Refusal.TheVariants.{Malformed, WrongSession, SequenceZero, PastLast}
+use Rattle.mold_rule.specs.declared.refusal.Refusal.TheVariants.{EndConflict, EndBelow, PastEnd, Conflict, Memory}
 use Rattle.mold_capture.specs.declared.verdict.Verdict.{Verdict}
 use Rattle.mold_capture.specs.declared.verdict.Verdict.TheVariants.{Whole as IsWhole, Incomplete}
 use Rattle.mold_capture.specs.Refusal.{reason}
 use Rattle.mold_capture.specs.Seen.{seen_of}
 use Rattle.mold_capture.specs.Verdict.{IsVerdictOn, IsWholeSeen, missing_in, ranges_of}
-use Rattle.mold_capture.specs.declared.reason.Reason.{Reason}
+use Rattle.mold_rule.specs.declared.refusal.Refusal.{Refusal as Reason}
 use Rattle.mold_capture.proofs.CheckLemmas.{front_more, refused_for}
 use Rattle.mold_capture.proofs.CheckerLemmas.{none_whole, whole_none}
 use Rattle.mold_capture.proofs.ListLemmas.{ReadsBack}
+use Rattle.mold_capture.proofs.RefusalLemmas.{RuleLaw}
 use Rattle.mold_capture.proofs.SumLemmas.{sums_up, none_consistent, front_consistent, read_or_refused, accepted, one_whole, whole_heard, heard_whole}
 
 -- each front of consistent datagrams is consistent
@@ -82,25 +83,25 @@ Spelled = (packet : Packet) (bytes : List ℕ) → IsBytes bytes → reading byt
 abbrev Goes : List (List ℕ) → ℕ → Type 0
 Goes list i = Consistent (take i list) ⊎ ((outcome : Outcome) × IsOutcome list outcome)
 
-goes_by : ReadsBack → Spelled → (list : List (List ℕ)) (i : ℕ) → i < length list → IsBytes (get_or list i []) →
+goes_by : ReadsBack → RuleLaw → Spelled → (list : List (List ℕ)) (i : ℕ) → i < length list → IsBytes (get_or list i []) →
     Consistent (take i list) → (o : Option Reason) → reason (take i list) (get_or list i []) ≡ o → Goes list (i + 1)
-goes_by reads spelled list i within is_bytes consistent None is =
+goes_by reads rule spelled list i within is_bytes consistent None is =
     let bytes = get_or list i [] in
     let found = read_or_refused (take i list) bytes is in
     inl (subst Consistent (sym (front_more list i bytes within refl))
-    (accepted reads (take i list) bytes found.0 consistent (spelled found.0 bytes is_bytes found.1) is))
-goes_by reads spelled list i within is_bytes consistent (Some why) is =
-    inr (refused i why, refused_for reads list i (get_or list i []) why within refl consistent is)
+    (accepted reads rule (take i list) bytes found.0 consistent (spelled found.0 bytes is_bytes found.1) is))
+goes_by reads rule spelled list i within is_bytes consistent (Some why) is =
+    inr (refused i why, refused_for reads rule list i (get_or list i []) why within refl consistent is)
 
 one_more : (i : ℕ) → i + 1 ≡ suc i
 one_more i = omega arith
 
-goes_on : ReadsBack → Spelled → (list : List (List ℕ)) → All IsBytes list → (i : ℕ) → i ≤ length list → Goes list i
-goes_on reads spelled list all zero within = inl none_consistent
-goes_on reads spelled list all (suc i) within =
-    elim (goes_on reads spelled list all i (omega arith)) [
+goes_on : ReadsBack → RuleLaw → Spelled → (list : List (List ℕ)) → All IsBytes list → (i : ℕ) → i ≤ length list → Goes list i
+goes_on reads rule spelled list all zero within = inl none_consistent
+goes_on reads rule spelled list all (suc i) within =
+    elim (goes_on reads rule spelled list all i (omega arith)) [
       | inl consistent ↦ subst (Goes list) (one_more i)
-          (goes_by reads spelled list i (omega arith) (all i [] (omega arith)) consistent _ refl)
+          (goes_by reads rule spelled list i (omega arith) (all i [] (omega arith)) consistent _ refl)
       | inr outcome ↦ inr outcome
     ]
 
@@ -137,10 +138,10 @@ ends_by reads list consistent (Some end) (r ∷ missing) ends is =
     )
 
 -- an outcome
-pub some_outcome : ReadsBack → Spelled → (list : List (List ℕ)) → All IsBytes list →
+pub some_outcome : ReadsBack → RuleLaw → Spelled → (list : List (List ℕ)) → All IsBytes list →
     (outcome : Outcome) × IsOutcome list outcome
-some_outcome reads spelled list all =
-    elim (goes_on reads spelled list all (length list) (omega arith)) [
+some_outcome reads rule spelled list all =
+    elim (goes_on reads rule spelled list all (length list) (omega arith)) [
       | inl consistent ↦
           ends_by reads list (subst Consistent (take_all (length list) list (omega arith)) consistent) _ _ refl refl
       | inr outcome ↦ outcome

@@ -1,86 +1,30 @@
 -- Nothing is refused exactly where nothing speaks against the packet.
-use Rattle.std.proofs.Common.{◌≡◌, ℕ, suc, ◌≤◌, Bool, true, false, eqb, List, [], ◌∷◌, refl, sym, ap}
+use Rattle.std.proofs.Common.{◌≡◌, ℕ, suc, false, List, [], ◌∷◌, refl, sym, ap}
 use Rattle.std.proofs.Common.{◌∙◌, inl, inr, arith}
 use Rattle.std.specs.Prelude.{Option, None, Some}
 use Rattle.std.specs.FinMap as finite
 use Rattle.std.specs.Str.{bytes_eq}
-use Rattle.std.proofs.lemmas.Bool.{cases_Bool, cases_lt, cases_order, cond-true, cond-false, not-false, not_from_true}
-use Rattle.std.proofs.lemmas.Bool.{ltb-false, le-ltb, eqb-true, eqb-false, eq-eqb, ne_eqb}
+use Rattle.std.proofs.lemmas.Bool.{cases_Bool, cases_order, cond-true, cond-false, not-false, not_from_true}
 use Rattle.std.proofs.lemmas.Option.{none-some, same_Some}
 use Rattle.std.proofs.lemmas.Slice.Eq.{bytes_eq-Decides}
-use Rattle.mold_wire.specs.Packet.{messages_of, top_of}
+use Rattle.mold_wire.specs.Packet.{messages_of}
 use Rattle.mold_wire.specs.Truth.{message_at}
 use Rattle.mold_wire.specs.declared.packet.Packet.{Packet}
-use Rattle.mold_wire.specs.declared.packet.Body.{Body}
-use Rattle.mold_wire.specs.declared.packet.Body.TheVariants.{Data, Heartbeat, End}
-use Rattle.mold_capture.specs.declared.reason.Reason.{Reason}
+use Rattle.mold_rule.specs.Held.{differs}
+use Rattle.mold_rule.specs.Refusals.{IsAdmitted, refusal_of}
 use Rattle.mold_capture.specs.Seen.{Pairs, Seen}
-use Rattle.mold_capture.specs.Refusal.{refuse_if, wrong_session, end_conflict, end_below, past_end, differs, conflict, refusals, first_some}
+use Rattle.mold_capture.specs.Refusal.{conflict, packet_refusal}
 use Rattle.mold_capture.proofs.PairLemmas.{message_first, message_next, message_bounds}
 use Rattle.mold_capture.proofs.JoinLemmas.{MayJoin}
 
-pub first_none : (o : Option Reason) (rest : List (Option Reason)) → first_some (o ∷ rest) ≡ None →
-    (o ≡ None) × (first_some rest ≡ None)
-first_none None rest none = (refl, none)
-first_none (Some r) rest none = absurd (none-some r (sym none))
-
-pub none_first : (o : Option Reason) (rest : List (Option Reason)) → o ≡ None → first_some rest ≡ None →
-    first_some (o ∷ rest) ≡ None
-none_first o rest none behind = ap (λ (x : Option Reason). first_some (x ∷ rest)) none ∙ behind
-
-refuse_none : (b : Bool) (r : Reason) → refuse_if b r ≡ None → b ≡ false
-refuse_none true r none = absurd (none-some r (sym none))
-refuse_none false r none = refl
-
-none_refuse : (b : Bool) (r : Reason) → b ≡ false → refuse_if b r ≡ None
-none_refuse b r none = cond-false b (Some r) None none
-
-session_to : (o : Option (List ℕ)) (name : List ℕ) → wrong_session o name ≡ None →
-    (x : List ℕ) → o ≡ Some x → x ≡ name
-session_to None name none x is = absurd (none-some x is)
-session_to (Some y) name none x is =
-    sym (same_Some y x is) ∙ sym ((bytes_eq-Decides name y).0 (not-false (bytes_eq name y) (refuse_none _ _ none)))
-
-session_from : (o : Option (List ℕ)) (name : List ℕ) → ((x : List ℕ) → o ≡ Some x → x ≡ name) →
-    wrong_session o name ≡ None
-session_from None name same = refl
-session_from (Some y) name same =
-    none_refuse _ _ (not_from_true (bytes_eq name y) ((bytes_eq-Decides name y).1 (sym (same y refl))))
-
-same_end_to : (body : Body) (n : ℕ) (ended : Option ℕ) → end_conflict body n ended ≡ None → body ≡ End →
-    (number : ℕ) → ended ≡ Some number → n ≡ number
-same_end_to (Data ms) n ended none end number is = cc
-same_end_to Heartbeat n ended none end number is = cc
-same_end_to End n None none end number is = absurd (none-some number is)
-same_end_to End n (Some e) none end number is =
-    eqb-true n e (not-false (eqb n e) (refuse_none _ _ none)) ∙ same_Some e number is
-
-same_end_from : (body : Body) (n : ℕ) (ended : Option ℕ) →
-    (body ≡ End → (number : ℕ) → ended ≡ Some number → n ≡ number) → end_conflict body n ended ≡ None
-same_end_from (Data ms) n ended same = refl
-same_end_from Heartbeat n ended same = refl
-same_end_from End n None same = refl
-same_end_from End n (Some e) same = none_refuse _ _ (not_from_true (eqb n e) (eq-eqb n e (same refl e refl)))
-
-above_to : (body : Body) (n known : ℕ) → end_below body n known ≡ None → body ≡ End → known ≤ n
-above_to (Data ms) n known none end = absurd cc
-above_to Heartbeat n known none end = absurd cc
-above_to End n known none end = ltb-false n known (refuse_none _ _ none)
-
-above_from : (body : Body) (n known : ℕ) → (body ≡ End → known ≤ n) → end_below body n known ≡ None
-above_from (Data ms) n known above = refl
-above_from Heartbeat n known above = refl
-above_from End n known above = none_refuse _ _ (le-ltb n known (above refl))
-
-within_to : (ended : Option ℕ) (top : ℕ) → past_end ended top ≡ None → (number : ℕ) → ended ≡ Some number →
-    top ≤ number
-within_to None top none number is = absurd (none-some number is)
-within_to (Some e) top none number is = omega (arith, ltb-false e top (refuse_none _ _ none), same_Some e number is)
-
-within_from : (ended : Option ℕ) (top : ℕ) → ((number : ℕ) → ended ≡ Some number → top ≤ number) →
-    past_end ended top ≡ None
-within_from None top within = refl
-within_from (Some e) top within = none_refuse _ _ (le-ltb e top (within e refl))
+-- what the rule's law says
+pub record RuleLaw : Type 0 where
+  pub none : (session : Option (List ℕ)) (known : ℕ) (ended : Option ℕ) (p : Packet) →
+      IsAdmitted session known ended p → refusal_of session known ended None p ≡ None
+  pub admitted : (session : Option (List ℕ)) (known : ℕ) (ended number : Option ℕ) (p : Packet) →
+      refusal_of session known ended number p ≡ None → IsAdmitted session known ended p
+  pub same : (session : Option (List ℕ)) (known : ℕ) (ended number : Option ℕ) (p : Packet) →
+      refusal_of session known ended number p ≡ None → number ≡ None
 
 differs_not : (o : Option (List ℕ)) (m : List ℕ) → differs o m ≡ false → (other : List ℕ) → o ≡ Some other → other ≡ m
 differs_not None m not_so other is = absurd (none-some other is)
@@ -126,36 +70,19 @@ agrees_from pairs n (x ∷ ms) agrees =
     let bounds = message_bounds (suc n) ms q m carried in
     agrees q m other (message_next n x ms q (omega (arith, bounds.0)) ∙ carried) is)
 
-from_one : (n : ℕ) → (n ≡ 0 → ⊥) → 1 ≤ n
-from_one n some = elim (cases_lt 0 n) [ inl above ↦ above | inr none ↦ absurd (some (omega arith)) ]
-
 -- nothing is refused: nothing speaks against the packet
-pub joins_from : (seen : Seen) (packet : Packet) → first_some (refusals seen packet) ≡ None → MayJoin seen packet
-joins_from seen packet none =
-    let named = first_none _ _ none in
-    let first = first_none _ _ named.1 in
-    let last = first_none _ _ first.1 in
-    let same_end = first_none _ _ last.1 in
-    let above = first_none _ _ same_end.1 in
-    let within = first_none _ _ above.1 in
-    let agrees = first_none _ _ within.1 in
+pub joins_from : RuleLaw → (seen : Seen) (packet : Packet) → packet_refusal seen packet ≡ None → MayJoin seen packet
+joins_from rule seen packet none =
+    let other = conflict seen.pairs packet.sequence (messages_of packet.body) in
     record {
-      named = session_to seen.session packet.session.0 named.0;
-      first = from_one packet.sequence (eqb-false packet.sequence 0 (refuse_none _ _ first.0));
-      last = ltb-false 18446744073709551615 (top_of packet) (refuse_none _ _ last.0);
-      same_end = same_end_to packet.body packet.sequence seen.ended same_end.0;
-      above = above_to packet.body packet.sequence seen.known above.0;
-      within = within_to seen.ended (top_of packet) within.0;
-      agrees = agrees_to seen.pairs packet.sequence (messages_of packet.body) agrees.0;
+      admitted = rule.admitted seen.session seen.known seen.ended other packet none;
+      agrees = agrees_to seen.pairs packet.sequence (messages_of packet.body)
+          (rule.same seen.session seen.known seen.ended other packet none);
     }
 
 -- nothing speaks against the packet: nothing is refused
-pub joins_to : (seen : Seen) (packet : Packet) → MayJoin seen packet → first_some (refusals seen packet) ≡ None
-joins_to seen packet may =
-    none_first _ _ (session_from seen.session packet.session.0 may.named)
-    (none_first _ _ (none_refuse _ _ (ne_eqb packet.sequence 0 (λ e. omega (arith, e, may.first))))
-    (none_first _ _ (none_refuse _ _ (le-ltb 18446744073709551615 (top_of packet) may.last))
-    (none_first _ _ (same_end_from packet.body packet.sequence seen.ended may.same_end)
-    (none_first _ _ (above_from packet.body packet.sequence seen.known may.above)
-    (none_first _ _ (within_from seen.ended (top_of packet) may.within)
-    (none_first _ _ (agrees_from seen.pairs packet.sequence (messages_of packet.body) may.agrees) refl))))))
+pub joins_to : RuleLaw → (seen : Seen) (packet : Packet) → MayJoin seen packet → packet_refusal seen packet ≡ None
+joins_to rule seen packet may =
+    ap (λ (o : Option ℕ). refusal_of seen.session seen.known seen.ended o packet)
+    (agrees_from seen.pairs packet.sequence (messages_of packet.body) may.agrees)
+    ∙ rule.none seen.session seen.known seen.ended packet may.admitted

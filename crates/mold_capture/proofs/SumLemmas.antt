@@ -21,7 +21,7 @@ use Rattle.mold_capture.specs.Verdict.{IsWholeSeen}
 use Rattle.mold_capture.proofs.PairLemmas.{option_or_cases, published_in}
 use Rattle.mold_capture.proofs.JoinLemmas.{Allows, MayJoin, may_join, still_allowed, was_allowed, was_named, was_true}
 use Rattle.mold_capture.proofs.JoinLemmas.{still_sound, true_carried, filled, some_allowed}
-use Rattle.mold_capture.proofs.RefusalLemmas.{joins_from, joins_to}
+use Rattle.mold_capture.proofs.RefusalLemmas.{RuleLaw, joins_from, joins_to}
 use Rattle.mold_capture.proofs.ListLemmas.{ReadsBack, one_packet, seen-push, get_carried, carried_get, end_told, end_found}
 
 -- what was said fits together, and allows just the sessions that explain the list
@@ -135,17 +135,17 @@ pub some_session : (seen : Seen) (v : Packet) → MayJoin seen v → (name : Lis
     (joined seen v).session ≡ Some name → name ≡ v.session.0
 some_session seen v may name is =
     elim (option_or_cases seen.session (Some v.session.0) name is) [
-      | inl old ↦ may.named name old
+      | inl old ↦ sym (may.admitted.named name old)
       | inr new ↦ sym (same_Some v.session.0 name new.1)
     ]
 
 -- a datagram that nothing refuses joins a list that stays consistent
-pub accepted : ReadsBack → (list : List (List ℕ)) (bytes : List ℕ) (v : Packet) → Consistent list → Spells v bytes →
+pub accepted : ReadsBack → RuleLaw → (list : List (List ℕ)) (bytes : List ℕ) (v : Packet) → Consistent list → Spells v bytes →
     reason list bytes ≡ None → Consistent (list ++ bytes ∷ [])
-accepted reads list bytes v consistent spelled none =
+accepted reads rule list bytes v consistent spelled none =
     let seen = seen_of list in
     let read = reads v bytes spelled in
-    let may = joins_from seen v (sym (ap (refusal_read seen) read) ∙ none) in
+    let may = joins_from rule seen v (sym (ap (refusal_read seen) read) ∙ none) in
     let sums = sums_more reads list seen bytes v (sums_up reads list consistent) spelled may in
     let allows = some_allowed (joined seen v) v.session.0 sums.sound (some_session seen v may) in
     (v.session.0, filled (joined seen v).pairs 1 ((joined seen v).known - 1), sums.explains _ _ allows)
@@ -172,14 +172,14 @@ pub none_consistent : Consistent []
 none_consistent = ([], [], record { few = omega arith; each = All-nil (IsSaidBy [] []) })
 
 -- of a list that is consistent with a datagram, nothing refuses the datagram
-pub not_refused : ReadsBack → (list : List (List ℕ)) (bytes : List ℕ) → Consistent (list ++ bytes ∷ []) →
+pub not_refused : ReadsBack → RuleLaw → (list : List (List ℕ)) (bytes : List ℕ) → Consistent (list ++ bytes ∷ []) →
     reason list bytes ≡ None
-not_refused reads list bytes (session, P, explained) =
+not_refused reads rule list bytes (session, P, explained) =
     let seen = seen_of list in
     let said = explained_last session P list bytes explained in
     let sums = sums_up reads list (session, P, explained_front session P list bytes explained) in
     ap (refusal_read seen) (reads said.packet bytes said.spelled)
-    ∙ joins_to seen said.packet (explained_joins list seen bytes session P sums explained)
+    ∙ joins_to rule seen said.packet (explained_joins list seen bytes session P sums explained)
 
 pub front_consistent : (list more : List (List ℕ)) → Consistent (list ++ more) → Consistent list
 front_consistent list more (session, P, explained) = (session, P, explained_before session P list more explained)

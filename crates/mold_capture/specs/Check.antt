@@ -1,7 +1,7 @@
 -- What refuses a list of datagrams.
 use Rattle.std.specs.Prelude.{◌≡◌, ℕ, ◌+◌, ◌≤◌, ◌<◌, List, [], take, length, slice_index_or, Some}
-use Rattle.mold_capture.specs.declared.reason.Reason.{Reason}
-use Rattle.mold_capture.specs.declared.reason.Reason.TheVariants.{Memory}
+use Rattle.mold_rule.specs.declared.refusal.Refusal.{Refusal as Reason}
+use Rattle.mold_rule.specs.declared.refusal.Refusal.TheVariants.{Memory}
 use Rattle.mold_capture.specs.Consistent.{Consistent}
 use Rattle.mold_capture.specs.Refusal.{reason}
 use Rattle.mold_capture.specs.Seen.{BringsNew, seen_of}

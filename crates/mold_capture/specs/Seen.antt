@@ -1,5 +1,5 @@
 -- What datagrams have said, as one value.
-use Rattle.std.specs.Prelude.{◌≡◌, ℕ, suc, ◌<◌, ◌≤◌, max, List, [], ◌∷◌, ◌++◌, Option, None, Some, Result, Ok, Err, refl}
+use Rattle.std.specs.Prelude.{◌≡◌, ℕ, ◌<◌, ◌≤◌, max, List, [], ◌∷◌, ◌++◌, Option, None, Some, Result, Ok, Err, refl}
 use Rattle.std.specs.List.{flat_map}
 use Rattle.std.specs.Coded.{Coded, code_by, coded×, coded_list, coded_ℕ, coded_option}
 use Rattle.std.specs.FinMap as finite
@@ -12,15 +12,7 @@ use Rattle.mold_wire.specs.declared.packet.Body.{Body}
 use Rattle.mold_wire.specs.declared.packet.Body.TheVariants.{Data, Heartbeat, End}
 use Rattle.mold_wire.specs.declared.session.Session.{Session}
 use Rattle.mold_wire.specs.declared.error.DecodeError.{DecodeError}
-
--- messages by number
-abbrev pub Pairs : Type 0
-Pairs = finite.FinMap nat_cmp (List ℕ)
-
--- the messages with their numbers, which rise by one from the given one
-abbrev pub numbered : ℕ → List (List ℕ) → List (ℕ × List ℕ)
-numbered number [] = []
-numbered number (message ∷ messages) = (number, message) ∷ numbered (suc number) messages
+pub use Rattle.mold_rule.specs.Held.{Store as Pairs, numbered}
 
 pub record Seen : Type 0 where
   -- the name of the session

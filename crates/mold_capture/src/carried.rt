@@ -5,18 +5,19 @@ ghost use Rattle.std.specs.FinMap as finite;
 ghost use Rattle.std.specs.Ordering.{nat_cmp};
 ghost use Rattle.mold_ranges.specs.Ranges as lacking;
 ghost use Rattle.mold_capture.specs.Refusal.{conflict, told};
+ghost use Rattle.mold_rule.specs.Refusals.{conflict_at};
 ghost use Rattle.mold_capture.specs.Seen.{BringNew, pairs_with};
-ghost use Rattle.mold_capture.specs.declared.reason.Reason.TheVariants.{Memory};
+ghost use Rattle.mold_rule.specs.declared.refusal.Refusal.TheVariants.{Memory};
 ghost use Rattle.mold_capture.specs.Verdict.{lacks, ranges_of};
 
 use crate::compare::compare;
 use crate::keep::{add_all, add_each};
 use crate::missing::find_gaps;
-use crate::reason::Reason;
 use crate::run::{Run, is_free};
 use crate::verdict::Range;
 use mold_messages::MessageList;
 use mold_ranges::laws::ranges_walk_law;
+use mold_rule::Refusal as Reason;
 use mold_wire::Blocks;
 use std::alloc::{AllocError, Global};
 use std::collections::BTreeMap;
@@ -62,7 +63,7 @@ impl Carried {
     /// isn't stored again. After an error everything is as before. Memory is refused only where a message is new.
     pub(crate) fn join(&mut self, first: u64, blocks: &Blocks<'_>) -> Result<(), Reason>
         requires few { first + length blocks.now < 2 ^ 64 }
-        ensures refused { IfErr result (λ reason. conflict self.old first blocks.now ≡ told reason) }
+        ensures refused { IfErr result (λ reason. conflict_at (conflict self.old first blocks.now) ≡ told reason) }
         ensures taken { OnOk result (conflict self.old first blocks.now ≡ None) }
         ensures ok { OnOk result (self.new ≡ pairs_with self.old first blocks.now) }
         ensures err { OnErr result (self.new ≡ self.old) }

@@ -5,14 +5,16 @@ ghost use Rattle.std.specs.Option.{option_or};
 ghost use Rattle.mold_wire.specs.Packet.{Spells, messages_of, top_of};
 ghost use Rattle.mold_wire.specs.declared.packet.Packet.{Packet};
 ghost use Rattle.mold_capture.specs.Refusal.{conflict, refusal, told};
+ghost use Rattle.mold_rule.specs.Refusals.{conflict_at};
 ghost use Rattle.mold_capture.specs.Seen.{BringNew, BringsNew, after, end_in, pairs_with, seen_of};
 ghost use Rattle.mold_capture.specs.Verdict.{IsVerdict};
-ghost use Rattle.mold_capture.specs.declared.reason.Reason.TheVariants.{Memory as IsMemory};
+ghost use Rattle.mold_rule.specs.declared.refusal.Refusal.TheVariants.{Memory as IsMemory};
 
 use crate::carried::Carried;
-use crate::reason::{Memory, Reason};
-use crate::refusal::check_header;
+use crate::memory::Memory;
 use crate::verdict::Verdict;
+use mold_rule::laws::refusal_law;
+use mold_rule::{Refusal as Reason, check_header};
 use mold_wire::{Body, Packet, Session, decode};
 use std::alloc::Global;
 use std::marker::Model;
@@ -30,7 +32,8 @@ fn told_end(packet: &Packet<'_>, ended: Option<u64>) -> Option<u64>
 // Adds a packet's messages to those that were carried.
 fn join_messages(carried: &mut Carried, packet: &Packet<'_>) -> Result<(), Reason>
     requires { top_of packet.now < 2 ^ 64 }
-    ensures refused { IfErr result (λ reason. conflict carried.old packet.now.sequence (messages_of packet.now.body) ≡ told reason) }
+    ensures refused { IfErr result (λ reason.
+        conflict_at (conflict carried.old packet.now.sequence (messages_of packet.now.body)) ≡ told reason) }
     ensures taken { OnOk result (conflict carried.old packet.now.sequence (messages_of packet.now.body) ≡ None) }
     ensures ok { OnOk result (carried.new ≡ pairs_with carried.old packet.now.sequence (messages_of packet.now.body)) }
     ensures err { OnErr result (carried.new ≡ carried.old) }
@@ -93,6 +96,7 @@ impl Checker {
         ensures err { OnErr result (self.new ≡ self.old) }
         ensures new { IfErr result (λ reason. reason ≡ IsMemory → BringsNew self.old bytes.now) }
     {
+        refusal_law();
         let packet = match decode(bytes) {
             Ok(packet) => packet,
             Err(error) => return Err(Reason::Malformed(error)),

@@ -6,8 +6,9 @@ ghost use Rattle.mold_capture.specs.Outcome.{Answers, IsOutcome, Outcome};
 ghost use Rattle.mold_capture.specs.Verdict.{IsVerdictOn};
 
 use crate::checker::Checker;
-use crate::reason::Reason;
 use crate::verdict::Verdict;
+use mold_rule::Refusal as Reason;
+use mold_rule::laws::refusal_law;
 use mold_wire::laws::reading_law;
 use std::alloc::Global;
 
@@ -20,6 +21,7 @@ pub fn check(alloc: Global, list: &[&[u8]]) -> Result<Verdict, (usize, Reason)>
     ensures refused { IfErr result (λ refused. IsRefusedAt refused.0 refused.1 (map (λ bytes. bytes.now) list.now)) }
 {
     reading_law();
+    refusal_law();
     let mut checker = Checker::new(alloc);
     for (index, bytes) in list.iter().enumerate() {
         if let Err(reason) = checker.add(bytes) {

@@ -3,10 +3,10 @@
 ghost use Rattle.std.specs.Prelude.{◌≡◌, ◌+◌, ◌<◌, ◌^◌, false, length, Some, None, IsTrue, IfSome, IfOk, IfErr, OnOk};
 ghost use Rattle.std.specs.FinMap as finite;
 ghost use Rattle.std.specs.Option.{option_copied};
-ghost use Rattle.mold_capture.specs.Refusal.{conflict, differs};
+ghost use Rattle.mold_capture.specs.Refusal.{conflict};
 ghost use Rattle.mold_capture.specs.Runs.{AreRuns, HasRun, carried};
 ghost use Rattle.mold_capture.specs.Seen.{BringNew, pairs_with};
-ghost use Rattle.mold_capture.specs.declared.reason.Reason.TheVariants.{Conflict};
+ghost use Rattle.mold_rule.specs.Held.{differs};
 
 use crate::run::{Run, run_at};
 use mold_messages::MessageList;
@@ -52,7 +52,7 @@ pub(crate) fn compare(
 ) -> Result<bool, u64>
     requires are { AreRuns runs.now (length kept.now.messages) }
     requires few { first + length blocks.now < 2 ^ 64 }
-    ensures other { IfErr result (λ number. conflict (carried runs.now kept.now) first blocks.now ≡ Some (Conflict number)) }
+    ensures other { IfErr result (λ number. conflict (carried runs.now kept.now) first blocks.now ≡ Some number) }
     ensures same { OnOk result (conflict (carried runs.now kept.now) first blocks.now ≡ None) }
     ensures new { IfOk result (λ all. all ≡ false → BringNew (carried runs.now kept.now) first blocks.now) }
     ensures all { IfOk result (λ all. IsTrue all → pairs_with (carried runs.now kept.now) first blocks.now ≡ carried runs.now kept.now) }

@@ -3,11 +3,11 @@
 ghost use Rattle.std.specs.Prelude.{◌≡◌, ◌+◌, ◌<◌, ◌≤◌, ◌^◌, ◌++◌, ◌∷◌, [], length, take, IfErr, OnOk, OnErr};
 ghost use Rattle.mold_capture.specs.Runs.{AreFree, AreRuns, IsSince, Runs, carried};
 ghost use Rattle.mold_capture.specs.Seen.{pairs_with};
-ghost use Rattle.mold_capture.specs.declared.reason.Reason.TheVariants.{Memory};
+ghost use Rattle.mold_rule.specs.declared.refusal.Refusal.TheVariants.{Memory};
 
-use crate::reason::Reason;
 use crate::run::{Run, grown_run, put_run, run_at, take_back};
 use mold_messages::MessageList;
+use mold_rule::Refusal as Reason;
 use mold_wire::Blocks;
 use std::alloc::AllocError;
 use std::collections::BTreeMap;

@@ -12,6 +12,7 @@ ghost use Rattle.mold_capture.specs.Refusal.{reason};
 ghost use Rattle.mold_capture.specs.Seen.{after, seen_of};
 ghost use Rattle.mold_capture.specs.Verdict.{IsWholeSeen};
 
+use mold_rule::laws::refusal_law;
 use mold_wire::laws::reading_law;
 
 /// `reason` refuses exactly the datagrams that would make a consistent list inconsistent. No datagrams are
@@ -25,6 +26,7 @@ pub fn reason_law()
         Consistent (list ++ bytes ∷ []) → reason list bytes ≡ None }
 {
     reading_law();
+    refusal_law();
 }
 
 /// What was said is told datagram by datagram.
@@ -55,4 +57,5 @@ pub fn outcome_law()
         IsOutcome list one → IsOutcome list other → one ≡ other }
 {
     reading_law();
+    refusal_law();
 }

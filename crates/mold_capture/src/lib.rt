@@ -8,13 +8,13 @@ mod checking;
 mod compare;
 mod keep;
 pub mod laws;
+mod memory;
 mod missing;
-mod reason;
-mod refusal;
 mod run;
 mod verdict;
 
 pub use checker::Checker;
 pub use checking::check;
-pub use reason::{Memory, Reason};
+pub use memory::Memory;
+pub use mold_rule::Refusal as Reason;
 pub use verdict::{Range, Verdict};

@@ -3,11 +3,8 @@ use Rattle.std.specs.Prelude.{◌≡◌, ℕ, ◌-◌, List, [], ◌∷◌, ◌+
 use Rattle.std.specs.List.{flat_map}
 use Rattle.mold_ranges.specs.Ranges.{Range}
 use Rattle.mold_text.specs.Line.{line_of}
-use Rattle.mold_text.specs.Text.{fault_words, refused_line}
+use Rattle.mold_text.specs.Text.{refusal_words, refused_line}
 use Rattle.mold_capture.specs.Outcome.{Outcome, whole, incomplete, refused, IsOutcome}
-use Rattle.mold_capture.specs.declared.reason.Reason.{Reason}
-use Rattle.mold_capture.specs.declared.reason.Reason.TheVariants.{Malformed, WrongSession, SequenceZero, PastLast}
-use Rattle.mold_capture.specs.declared.reason.Reason.TheVariants.{EndConflict, EndBelow, PastEnd, Conflict, Memory}
 use Rattle.mold_devices.specs.Devices.{one_more}
 use Rattle.mold_devices.specs.declared.fault.CommandFault.{CommandFault}
 use Rattle.mold_devices.specs.declared.fault.CommandFault.TheVariants as fault
@@ -34,23 +31,11 @@ missing_text missing = flat_map missing_line missing
 abbrev pub incomplete_line : Option ℕ → List ℕ
 incomplete_line end = line_of (codes "incomplete" ∷ codes "end" ∷ end_word end ∷ [])
 
--- why a datagram is refused: a name, and what goes with it
-abbrev pub reason_words : Reason → List (List ℕ)
-reason_words (Malformed error) = codes "Malformed" ∷ fault_words error
-reason_words WrongSession = codes "WrongSession" ∷ []
-reason_words SequenceZero = codes "SequenceZero" ∷ []
-reason_words PastLast = codes "PastLast" ∷ []
-reason_words (EndConflict end) = codes "EndConflict" ∷ decimal end ∷ []
-reason_words (EndBelow known) = codes "EndBelow" ∷ decimal known ∷ []
-reason_words (PastEnd end) = codes "PastEnd" ∷ decimal end ∷ []
-reason_words (Conflict number) = codes "Conflict" ∷ decimal number ∷ []
-reason_words Memory = codes "Memory" ∷ []
-
 -- the lines of the outcome of datagrams with these names
 abbrev pub outcome_text : List (List ℕ) → Outcome → List ℕ
 outcome_text names (whole messages) = line_of (codes "whole" ∷ decimal messages ∷ [])
 outcome_text names (incomplete missing end) = incomplete_line end ++ missing_text missing
-outcome_text names (refused index why) = refused_line (slice_index_or names index [] ∷ reason_words why)
+outcome_text names (refused index why) = refused_line (slice_index_or names index [] ∷ refusal_words why)
 
 -- the status: 0 whole, 1 not whole, 2 a datagram was refused
 abbrev pub outcome_status : Outcome → ℕ

@@ -6,17 +6,17 @@ ghost use Rattle.mold_capture.specs.Outcome.{incomplete, outcome_in, whole};
 ghost use Rattle.mold_capture.specs.Verdict.{ranges_of};
 ghost use Rattle.mold_check.specs.Entries.{NamesDiffer};
 ghost use Rattle.mold_check.specs.Report.{Checked, CountsWrite, counts_line, incomplete_line, missing_line};
-ghost use Rattle.mold_check.specs.Report.{missing_text, outcome_status, outcome_text, reason_words, report};
+ghost use Rattle.mold_check.specs.Report.{missing_text, outcome_status, outcome_text, report};
 ghost use Rattle.mold_devices.specs.Devices.{AppendsFront};
 ghost use Rattle.mold_ranges.specs.Ranges as lacking;
-ghost use Rattle.mold_text.specs.Text.{refused_line};
+ghost use Rattle.mold_text.specs.Text.{refusal_words, refused_line};
 
 use crate::datagrams::{lend_bytes, sorted_datagrams};
 use crate::entry::Entry;
 use mold_capture::laws::outcome_law;
 use mold_capture::{Range, Reason, Verdict, check};
 use mold_devices::{CommandFault, LARGE, Sink, send};
-use mold_text::{Word, packet_fault_words, push_line, push_refused};
+use mold_text::{Word, push_line, push_refusal};
 use std::alloc::{AllocError, Global};
 
 fn push_counts(text: &mut Vec<u8>, files: usize, skipped: usize) -> Result<(), AllocError>
@@ -61,35 +61,6 @@ fn push_missing(text: &mut Vec<u8>, range: Range) -> Result<(), AllocError>
             Word::Number(range.last),
         ],
     )
-}
-
-fn push_refusal(text: &mut Vec<u8>, name: &[u8], reason: Reason) -> Result<(), AllocError>
-    ensures { OnOk result (text.new.items ≡ text.old.items ++ refused_line (name.now ∷ reason_words reason)) }
-{
-    let name = Word::Text(name);
-    match reason {
-        Reason::Malformed(error) => {
-            let [kind, number] = packet_fault_words(error);
-            push_refused(text, &[name, Word::Text(b"Malformed"), kind, number])
-        }
-        Reason::WrongSession => push_refused(text, &[name, Word::Text(b"WrongSession")]),
-        Reason::SequenceZero => push_refused(text, &[name, Word::Text(b"SequenceZero")]),
-        Reason::PastLast => push_refused(text, &[name, Word::Text(b"PastLast")]),
-        Reason::EndConflict { end } => push_refused(
-            text,
-            &[name, Word::Text(b"EndConflict"), Word::Number(end)],
-        ),
-        Reason::EndBelow { known } => {
-            push_refused(text, &[name, Word::Text(b"EndBelow"), Word::Number(known)])
-        }
-        Reason::PastEnd { end } => {
-            push_refused(text, &[name, Word::Text(b"PastEnd"), Word::Number(end)])
-        }
-        Reason::Conflict { number } => {
-            push_refused(text, &[name, Word::Text(b"Conflict"), Word::Number(number)])
-        }
-        Reason::Memory => push_refused(text, &[name, Word::Text(b"Memory")]),
-    }
 }
 
 // Writes the text, and behind it the lines of what is missing, in pieces of 65,536 bytes or more.
@@ -173,12 +144,12 @@ fn tell_refusal<K: Sink>(
     reason: Reason,
 ) -> Result<u8, CommandFault>
     ensures whole { IfOk result (λ status. Appends (K.held sink.old) (K.held sink.new)
-        (text.old.items ++ refused_line (name.now ∷ reason_words reason)) × (status ≡ 2)) }
+        (text.old.items ++ refused_line (name.now ∷ refusal_words reason)) × (status ≡ 2)) }
     ensures front { AppendsFront (K.held sink.old) (K.held sink.new)
-        (text.old.items ++ refused_line (name.now ∷ reason_words reason)) }
+        (text.old.items ++ refused_line (name.now ∷ refusal_words reason)) }
     ensures failures { CountsWrite (K.failed sink.old) (K.failed sink.new) result }
 {
-    push_refusal(text, name, reason)?;
+    push_refusal(text, &[Word::Text(b"refused"), Word::Text(name)], reason)?;
     send(sink, text)?;
     Ok(2)
 }

@@ -3,7 +3,7 @@
 ghost use Rattle.std.specs.Prelude.{◌≡◌, ◌-◌};
 
 use mold_devices::{CommandFault, FromRead, IntoWrite, NewFile};
-use mold_loop::Wires;
+use mold_feed::{LoopPeers, LoopPorts};
 use mold_ports::UdpPort;
 use mold_session::{FileError, Journal};
 use mold_wiring::{
@@ -138,8 +138,8 @@ fn publish_on(
 }
 
 // The five ports of a loop.
-fn open_wires(rt: &HostRuntime) -> Result<Wires, ProgramFault> {
-    Ok(Wires {
+fn open_loop_ports(rt: &HostRuntime) -> Result<LoopPorts<UdpPort>, ProgramFault> {
+    Ok(LoopPorts {
         publisher: open_port(rt, OWN)?,
         server: open_port(rt, OWN)?,
         a: open_port(rt, OWN)?,
@@ -150,14 +150,23 @@ fn open_wires(rt: &HostRuntime) -> Result<Wires, ProgramFault> {
 
 /// Publishes, serves and listens in one process, over five ports of this machine that the system gives.
 pub fn run_loop(rt: &HostRuntime, order: &LoopOrder) -> Result<u8, ProgramFault> {
-    let mut wires = open_wires(rt)?;
-    Ok(loop_on(rt, order, &mut wires)?)
+    let mut ports = open_loop_ports(rt)?;
+    Ok(loop_on(rt, order, &mut ports)?)
 }
 
 // Runs the loop over the ports, from standard input to standard output.
-fn loop_on(rt: &HostRuntime, order: &LoopOrder, wires: &mut Wires) -> Result<u8, CommandFault> {
+fn loop_on(
+    rt: &HostRuntime,
+    order: &LoopOrder,
+    ports: &mut LoopPorts<UdpPort>,
+) -> Result<u8, CommandFault> {
+    let peers = LoopPeers {
+        a: ports.a.address(),
+        b: ports.b.address(),
+        server: ports.server.address(),
+    };
     let mut source = FromRead::new(rt.stdin());
     let mut sink = IntoWrite::new(rt.stdout());
-    let outcome = loop_over(rt.alloc(), order, wires, &mut source, &mut sink);
+    let outcome = loop_over(rt.alloc(), order, ports, &peers, &mut source, &mut sink);
     flushed(outcome, sink.into_inner().flush())
 }

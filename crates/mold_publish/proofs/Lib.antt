@@ -1,3 +1,2 @@
 pub mod DatagramLemmas
 pub mod PublishingLemmas
-pub mod PublishLoopLemmas

@@ -1,3 +1,2 @@
 pub mod Publishing
-pub mod PublishLoop
 pub mod Sending

@@ -10,51 +10,59 @@ use Rattle.std.proofs.lemmas.Bool.{and_right}
 use Rattle.std.proofs.lemmas.Option.{slice_get_within}
 use Rattle.mold_wire.specs.Packet.{top_of}
 use Rattle.mold_wire.specs.Reading.{reading}
+use Rattle.mold_wire.specs.declared.packet.Body.{Body}
+use Rattle.mold_wire.specs.declared.packet.Body.TheVariants.{Data, End}
 use Rattle.mold_wire.specs.declared.packet.Packet.{Packet}
 use Rattle.mold_ranges.specs.Ranges.{lacking}
-use Rattle.mold_receiver.specs.declared.refused.Refused.{Refused}
+use Rattle.mold_rule.specs.declared.refusal.Refusal.{Refusal as Refused}
 use Rattle.mold_receiver.specs.Gap.{HandsOn, IsTakenInGap, Took, messages_from}
-use Rattle.mold_receiver.specs.Receive.{conflict, conflict_at, data_packet, decide, end_below, end_conflict, first_some}
-use Rattle.mold_receiver.specs.Receive.{handed_on}
-use Rattle.mold_receiver.specs.Receive.{past_end, past_last, receive_read, reception, refusals, sequence_zero}
-use Rattle.mold_receiver.specs.Receive.{view_after, wrong_session}
+use Rattle.mold_receiver.specs.Receive.{data_packet, decide, handed_on, receive_read, reception, refusal, view_after}
 use Rattle.mold_receiver.specs.Store.{Message, available}
 use Rattle.mold_receiver.specs.View.{View, IsWellFormed}
 use Rattle.mold_receiver.specs.Wanted.{IsGap, lacks, missing}
-use Rattle.mold_receiver.proofs.LawLemmas.{goes_through, handed_reads, next_lacks, takes_well}
+use Rattle.mold_receiver.proofs.LawLemmas.{goes_through, handed_reads, next_lacks, some_same, takes_well}
 use Rattle.mold_receiver.proofs.MissingLemmas.{CountsLacking, missing_is}
-use Rattle.mold_receiver.proofs.RefusalLemmas.{no_first_conflict, none_of_them, not_past_end, not_past_last, not_wrong}
-use Rattle.mold_receiver.proofs.RefusalLemmas.{not_zero}
+use Rattle.mold_receiver.proofs.RefusalLemmas.{Admits, admitted_none, no_first_conflict}
 use Rattle.mold_receiver.proofs.RuleLemmas.{available_cases, available_from, message_bounds, message_past}
 use Rattle.mold_receiver.proofs.RuleLemmas.{message_within, stored_past}
 use Rattle.mold_receiver.proofs.StoreLemmas.{get-cut, none_some, run_had}
 use Rattle.mold_receiver.proofs.ViewLemmas.{between_of}
 
--- a packet of so many messages, in the gap up to `end`
+-- a packet of so many messages that begins with the message `next`
+abbrev pub packet : View → List Message → Packet
+packet v ms = data_packet v.session v.next ms
+
+-- a packet of so many messages, in the gap up to `end`; nothing refuses it
 pub record IsInGap (v : View) (ms : List Message) (end : ℕ) : Type 0 where
   pub well : IsWellFormed v
   pub gap : IsGap v end
   pub fits : v.next + length ms ≤ end
+  pub none : refusal v (packet v ms) ≡ None
 
--- it begins with the message `next`
-abbrev pub packet : View → List Message → Packet
-packet v ms = data_packet v.session v.next ms
+no_end : {messages : List Message} → ◌≡◌ {A = Body} (Data messages) End → ⊥
+no_end e = cc
 
-accepted : (v : View) (ms : List Message) (end : ℕ) → IsInGap v ms end → first_some (refusals v (packet v ms)) ≡ None
-accepted v ms end is =
+pub in_gap : Admits → (v : View) (ms : List Message) (end : ℕ) → IsWellFormed v → IsGap v end →
+    v.next + length ms ≤ end → IsInGap v ms end
+in_gap admits v ms end well gap fits =
     let p = packet v ms in
-    let top : top_of p ≤ v.known = omega (arith, is.fits, is.gap.within) in
+    let top : top_of p ≤ v.known = omega (arith, fits, gap.within) in
     let agree = no_first_conflict v.store v.next v.next ms (λ i m x at stored.
-    absurd (none_some (sym (is.gap.lacked (v.next + i) (omega (arith, is.fits, slice_get_within ms i m at)))
+    absurd (none_some (sym (gap.lacked (v.next + i) (omega (arith, fits, slice_get_within ms i m at)))
     ∙ stored))) in
-    none_of_them (wrong_session v.session p) (sequence_zero p) (past_last p) (end_conflict p.body p.sequence v.ended)
-    (end_below p.body p.sequence v.known) (past_end v.ended p.body (top_of p)) (conflict v p.sequence ms)
-    (not_wrong v p refl)
-    (not_zero p is.well.first)
-    (not_past_last p (omega (arith, top, is.well.last)))
-    refl refl
-    (not_past_end v.ended p.body (top_of p) (λ e ending. omega (arith, top, is.well.ends e ending)))
-    (ap conflict_at agree)
+    record {
+      well = well;
+      gap = gap;
+      fits = fits;
+      none = admitted_none admits v p (record {
+        named = λ name is. some_same is;
+        first = well.first;
+        last = omega (arith, top, well.last);
+        same_end = λ ending e is. absurd (no_end ending);
+        above = λ ending. absurd (no_end ending);
+        within = λ e is. omega (arith, top, well.ends e is);
+      }) agree;
+    }
 
 -- what is available behind the packet was stored
 behind : (v : View) (ms : List Message) (q : ℕ) → v.next + length ms ≤ q →
@@ -69,7 +77,7 @@ took v ms end is =
     let w = view_after v p in
     let look = finite.get (available v.store v.next v.next ms) in
     let low = goes_through v p is.well (omega arith) in
-    let well = takes_well v p is.well (accepted v ms end is) in
+    let well = takes_well v p is.well is.none in
     let none : (q : ℕ) → q ≤ w.next → finite.get w.store q ≡ None = λ q below.
     get-cut (available v.store v.next v.next ms) w.next v.window q
     ∙ cond-false (ltb w.next q && ltb q (w.next + v.window)) (look q) None
@@ -168,14 +176,14 @@ fewer counts v ms end is =
     let all : lacking (lacks v.store) v.next (v.known - v.next) ≡ lacking (lacks v.store) v.next
     (count + (ran + (w.known - w.next))) =
     ap (lacking (lacks v.store) v.next) whole in
-    let well = takes_well v (packet v ms) is.well (accepted v ms end is) in
+    let well = takes_well v (packet v ms) is.well is.none in
     omega (arith, missing_is counts v is.well, missing_is counts w well, all, parts, rest, front, run, moved)
 
 pub taken_in_gap : CountsLacking → (v : View) (ms : List Message) (end : ℕ) (bytes : List ℕ) → IsInGap v ms end →
     reading bytes ≡ Ok (packet v ms) → IsTakenInGap v ms bytes
 taken_in_gap counts v ms end bytes is read =
     let p = packet v ms in
-    let none = accepted v ms end is in
+    let none = is.none in
     record {
       reception = reception v p;
       received = ap (receive_read v) read ∙ ap (λ (o : Option Refused). decide o (reception v p)) none;

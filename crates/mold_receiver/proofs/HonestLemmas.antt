@@ -12,17 +12,14 @@ use Rattle.mold_wire.specs.declared.packet.Packet.{Packet}
 use Rattle.mold_wire.specs.declared.packet.Body.{Body}
 use Rattle.mold_wire.specs.declared.packet.Body.TheVariants.{Data, Heartbeat, End}
 use Rattle.mold_wire.specs.declared.session.Session.{Session}
-use Rattle.mold_receiver.specs.declared.refused.Refused.{Refused}
+use Rattle.mold_rule.specs.declared.refusal.Refusal.{Refusal as Refused}
 use Rattle.mold_receiver.specs.Honest.{IsHonest, IsTakenHonestly}
-use Rattle.mold_receiver.specs.Receive.{conflict, conflict_at, decide, end_below, end_conflict, ended_after, first_some}
-use Rattle.mold_receiver.specs.Receive.{past_end, past_last, receive_read, reception, refusals, sequence_zero}
-use Rattle.mold_receiver.specs.Receive.{view_after, wrong_session}
+use Rattle.mold_receiver.specs.Receive.{decide, ended_after, receive_read, reception, refusal, view_after}
 use Rattle.mold_receiver.specs.Store.{Message}
 use Rattle.mold_receiver.specs.View.{View, fresh}
 use Rattle.mold_receiver.proofs.CaseLemmas.{get-append_left}
 use Rattle.mold_receiver.proofs.LawLemmas.{handed_had, some_same, stored_had, takes_well}
-use Rattle.mold_receiver.proofs.RefusalLemmas.{not_wrong, not_zero, not_past_last, no_end_conflict, not_below}
-use Rattle.mold_receiver.proofs.RefusalLemmas.{not_past_end, no_first_conflict, none_of_them}
+use Rattle.mold_receiver.proofs.RefusalLemmas.{Admits, admitted_none, no_first_conflict}
 use Rattle.mold_receiver.proofs.StoreLemmas.{none_some}
 
 -- what a true packet says
@@ -58,12 +55,11 @@ true_ends Heartbeat sequence published closed ended said ends end is = ends end 
 true_ends End sequence published closed ended said ends end is = (said.0, sym (some_same is) ∙ said.1)
 
 -- a view that is honest meets no refusal of what is true
-pub refuses_nothing : (v : View) (p : Packet) (published : List Message) (closed : Bool) →
+pub refuses_nothing : Admits → (v : View) (p : Packet) (published : List Message) (closed : Bool) →
     IsHonest v published closed → IsTold p published → p.session ≡ v.session → IsTrue p published closed
-    → first_some (refusals v p) ≡ None
-refuses_nothing v p published closed honest told same is_true =
+    → refusal v p ≡ None
+refuses_nothing admits v p published closed honest told same is_true =
     let top = told.top in
-    let ends : (end : ℕ) → v.ended ≡ Some end → top_of p ≤ end = λ end is. omega (arith, top, (honest.ends end is).1) in
     let agree = no_first_conflict v.store v.next p.sequence (messages_of p.body) (λ i m x is stored.
     let at = p.sequence + i in
     let place : at - p.sequence ≡ i = omega arith in
@@ -73,24 +69,21 @@ refuses_nothing v p published closed honest told same is_true =
     in
     some_same (sym (honest.stored at x stored) ∙ told.carried at m carried))
     in
-    none_of_them (wrong_session v.session p) (sequence_zero p) (past_last p) (end_conflict p.body p.sequence v.ended)
-    (end_below p.body p.sequence v.known) (past_end v.ended p.body (top_of p))
-    (conflict v p.sequence (messages_of p.body))
-    (not_wrong v p same)
-    (not_zero p (told.first))
-    (not_past_last p (omega (arith, top, is_true.few)))
-    (no_end_conflict p.body p.sequence v.ended
-    (λ end is ending. omega
-    (arith, true_end p.body p.sequence published closed is_true.said ending, (honest.ends end is).1)))
-    (not_below p.body p.sequence v.known
-    (λ ending. omega (arith, true_end p.body p.sequence published closed is_true.said ending, honest.known)))
-    (not_past_end v.ended p.body (top_of p) ends)
-    (ap conflict_at agree)
+    admitted_none admits v p (record {
+      named = λ name is. (λ i. (same i).0) ∙ some_same is;
+      first = told.first;
+      last = omega (arith, top, is_true.few);
+      same_end = λ ending end is.
+          omega (arith, true_end p.body p.sequence published closed is_true.said ending, (honest.ends end is).1);
+      above = λ ending.
+          omega (arith, true_end p.body p.sequence published closed is_true.said ending, honest.known);
+      within = λ end is. omega (arith, top, (honest.ends end is).1);
+    }) agree
 
 -- and is honest when it has taken it
 pub stays_honest : (v : View) (p : Packet) (published : List Message) (closed : Bool) →
     IsHonest v published closed → IsTold p published → IsTrue p published closed
-    → first_some (refusals v p) ≡ None → IsHonest (view_after v p) published closed
+    → refusal v p ≡ None → IsHonest (view_after v p) published closed
 stays_honest v p published closed honest told is_true none = record {
   well_formed = takes_well v p honest.well_formed none;
   stored = λ number m is.
@@ -102,12 +95,12 @@ stays_honest v p published closed honest told is_true none = record {
   ends = true_ends p.body p.sequence published closed v.ended is_true.said honest.ends;
 }
 
-pub takes_honestly : (v : View) (p : Packet) (bytes : List ℕ) (published : List Message) (closed : Bool) →
+pub takes_honestly : Admits → (v : View) (p : Packet) (bytes : List ℕ) (published : List Message) (closed : Bool) →
     reading bytes ≡ Ok p → IsHonest v published closed → IsTold p published → p.session ≡ v.session →
     IsTrue p published closed
     → IsTakenHonestly v bytes published closed
-takes_honestly v p bytes published closed read honest told same is_true =
-    let none = refuses_nothing v p published closed honest told same is_true in
+takes_honestly admits v p bytes published closed read honest told same is_true =
+    let none = refuses_nothing admits v p published closed honest told same is_true in
     record {
       reception = reception v p;
       received = ap (receive_read v) read ∙ ap (λ (o : Option Refused). decide o (reception v p)) none;

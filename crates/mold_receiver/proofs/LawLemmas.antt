@@ -15,17 +15,19 @@ use Rattle.mold_wire.specs.Reading.{reading}
 use Rattle.mold_wire.specs.declared.packet.Packet.{Packet}
 use Rattle.mold_wire.specs.declared.request.Request.{Request}
 use Rattle.mold_wire.specs.declared.session.Session.{Session}
-use Rattle.mold_receiver.specs.declared.refused.Refused.{Refused}
-use Rattle.mold_receiver.specs.declared.refused.Refused.TheVariants.{WrongSession}
-use Rattle.mold_receiver.specs.Receive.{IsTakenPacket, Reception, decide, first_some, handed_on, past_last, receive}
-use Rattle.mold_receiver.specs.Receive.{receive_read, reception, refusals, view_after, wrong_session}
+use Rattle.mold_rule.specs.declared.refusal.Refusal.{Refusal as Refused}
+use Rattle.mold_rule.specs.declared.refusal.Refusal.TheVariants.{WrongSession}
+use Rattle.mold_receiver.specs.Receive.{IsTakenPacket, Reception, decide, handed_on, receive, receive_read}
+use Rattle.mold_receiver.specs.Receive.{reception, refusal, view_after}
+use Rattle.mold_rule.specs.Refusals.{past_last, wrong_session}
 use Rattle.mold_receiver.specs.Store.{Message, Store, available, cut}
 use Rattle.mold_receiver.specs.View.{View, IsWellFormed}
 use Rattle.mold_receiver.specs.Wanted.{IsGap, gap_end, lacking_run, wanted}
 use Rattle.mold_receiver.proofs.RuleLemmas.{available_cases, available_from, none_unless, message_bounds}
 use Rattle.mold_receiver.proofs.RuleLemmas.{message_within}
 use Rattle.mold_receiver.proofs.StoreLemmas.{get-cut, none_some, run_reads, run_ends}
-use Rattle.mold_receiver.proofs.ViewLemmas.{stays_well, all_none}
+use Rattle.mold_receiver.proofs.ViewLemmas.{stays_well}
+use Rattle.mold_receiver.proofs.RefusalLemmas.{each_none}
 use Rattle.mold_receiver.proofs.WantedLemmas.{lacking_short, lacking_long, lacking_ends}
 
 pub some_same : {X : Type 0} {x y : X} → ◌≡◌ {A = Option X} (Some x) (Some y) → x ≡ y
@@ -99,7 +101,8 @@ stored_had v p q m is =
     had_or_carried v p q m
     (cut_had (available v.store v.next p.sequence (messages_of p.body)) (view_after v p).next v.window q m is).0
 
-own_session : (session : Session) (p : Packet) → wrong_session session p ≡ None → p.session ≡ session
+own_session : (session : Session) (p : Packet) → wrong_session (Some session.0) p.session.0 ≡ None →
+    p.session ≡ session
 own_session session p none =
     elim (cases_Bool (bytes_eq p.session.0 session.0)) [
       | inl same ↦ (let e = (bytes_eq-Decides p.session.0 session.0).0 same in λ i. record { 0 = e i })
@@ -108,14 +111,14 @@ own_session session p none =
     ]
 
 taken_packet : (v : View) (bytes : List ℕ) (p : Packet) (r : Reception) → reading bytes ≡ Ok p →
-    decide (first_some (refusals v p)) (reception v p) ≡ Ok r → IsTakenPacket v bytes r
+    decide (refusal v p) (reception v p) ≡ Ok r → IsTakenPacket v bytes r
 taken_packet v bytes p r read is =
-    elim (first_some (refusals v p)) as (λ o. first_some (refusals v p) ≡ o → decide o (reception v p) ≡ Ok r →
+    elim (refusal v p) as (λ o. refusal v p ≡ o → decide o (reception v p) ≡ Ok r →
     IsTakenPacket v bytes r) [
       | None ↦ λ e is. record {
         packet = p;
         read = read;
-        session = own_session v.session p (all_none (refusals v p) e).0;
+        session = own_session v.session p (each_none v p e).0;
         accepted = e;
         taken = same_ok (sym is);
       }
@@ -138,10 +141,10 @@ not_past p none =
       | inr within ↦ omega arith
     ]
 
-pub takes_well : (v : View) (p : Packet) → IsWellFormed v → first_some (refusals v p) ≡ None →
+pub takes_well : (v : View) (p : Packet) → IsWellFormed v → refusal v p ≡ None →
     IsWellFormed (view_after v p)
 takes_well v p well none =
-    let each = all_none (refusals v p) none in
+    let each = each_none v p none in
     stays_well v p well (not_past p each.1.1.0) each.1.1.1.1.0 each.1.1.1.1.1.0
 
 pub receives_well : (v : View) (bytes : List ℕ) (r : Reception) → IsWellFormed v → receive v bytes ≡ Ok r →

@@ -1,59 +1,76 @@
--- When none of the refusals applies.
-use Rattle.std.proofs.Common.{◌≡◌, ℕ, suc, ◌+◌, ◌<◌, ◌≤◌, ◌^◌, Bool, false, not, cond, eqb, leb, ltb, List, [], ◌∷◌}
-use Rattle.std.proofs.Common.{refl, sym, ap, subst, ◌∙◌, inl, inr, arith}
-use Rattle.std.specs.Prelude.{Option, None, Some, slice_get}
+-- What the rule refuses of a packet by a view.
+use Rattle.std.proofs.Common.{◌≡◌, ℕ, suc, ◌+◌, false, not, leb, List, [], ◌∷◌, refl, sym, ap, subst, ◌∙◌}
+use Rattle.std.proofs.Common.{inl, inr, arith}
+use Rattle.std.specs.Prelude.{Option, None, Some, Result, Ok, Err, slice_get}
 use Rattle.std.specs.FinMap as finite
-use Rattle.std.proofs.lemmas.Bool.{cases_Bool, cond-true, cond-false, le-ltb, eq-eqb, ne_eqb}
+use Rattle.std.proofs.lemmas.Bool.{cases_Bool, cond-true, cond-false}
 use Rattle.std.proofs.lemmas.Slice.Eq.{bytes_eq-Decides}
-use Rattle.mold_wire.specs.Packet.{top_of}
+use Rattle.mold_wire.specs.Packet.{messages_of}
+use Rattle.mold_wire.specs.declared.error.DecodeError.{DecodeError}
 use Rattle.mold_wire.specs.declared.packet.Packet.{Packet}
-use Rattle.mold_wire.specs.declared.packet.Body.{Body}
-use Rattle.mold_wire.specs.declared.packet.Body.TheVariants.{Data, Heartbeat, End}
-use Rattle.mold_receiver.specs.declared.refused.Refused.{Refused}
-use Rattle.mold_receiver.specs.declared.refused.Refused.TheVariants.{WrongSession, SequenceZero, PastLast, EndConflict}
-use Rattle.mold_receiver.specs.declared.refused.Refused.TheVariants.{EndBelow, PastEnd}
-use Rattle.mold_receiver.specs.Receive.{end_below, end_conflict, first_some, past_end, past_last, sequence_zero}
-use Rattle.mold_receiver.specs.Receive.{wrong_session}
+use Rattle.mold_rule.specs.Refusals.{IsAdmitted, first_some, refusal_of, refusals}
+use Rattle.mold_rule.specs.declared.refusal.Refusal.{Refusal as Refused}
+use Rattle.mold_rule.specs.declared.refusal.Refusal.TheVariants.{Malformed, Memory}
+use Rattle.mold_receiver.specs.Receive.{Reception, decide, receive_read, reception, refusal}
 use Rattle.mold_receiver.specs.Store.{Message, Store, differs, first_conflict, from_next}
 use Rattle.mold_receiver.specs.View.{View}
+use Rattle.mold_receiver.proofs.StoreLemmas.{none_some}
 
-pub not_wrong : (v : View) (p : Packet) → p.session ≡ v.session → wrong_session v.session p ≡ None
-not_wrong v p same =
-    let equal = (bytes_eq-Decides p.session.0 v.session.0).1 (λ i. (same i).0) in
-    ap (λ (b : Bool). cond (not b) (Some WrongSession) None) equal
+-- what the rule's law says of packets that it admits
+abbrev pub Admits : Type 0
+Admits = (session : Option (List ℕ)) (known : ℕ) (ended : Option ℕ) (p : Packet) →
+    IsAdmitted session known ended p → refusal_of session known ended None p ≡ None
 
-pub not_zero : (p : Packet) → 1 ≤ p.sequence → sequence_zero p ≡ None
-not_zero p first =
-    cond-false (eqb p.sequence 0) (Some SequenceZero) None (ne_eqb p.sequence 0 (λ same. omega (arith, first, same)))
+-- a packet that is admitted, and differs from the store at no number, is refused by nothing
+pub admitted_none : Admits → (v : View) (p : Packet) → IsAdmitted (Some v.session.0) v.known v.ended p →
+    first_conflict v.store (from_next v.next p.sequence (messages_of p.body)) ≡ None → refusal v p ≡ None
+admitted_none admits v p is same =
+    ap (λ (o : Option ℕ). refusal_of (Some v.session.0) v.known v.ended o p) same
+    ∙ admits (Some v.session.0) v.known v.ended p is
 
-pub not_past_last : (p : Packet) → top_of p < 2 ^ 64 → past_last p ≡ None
-not_past_last p within =
-    cond-false (ltb 18446744073709551615 (top_of p)) (Some PastLast) None
-    (le-ltb 18446744073709551615 (top_of p) (omega (arith, within)))
+-- each of some refusals is none
+abbrev pub AllNone : List (Option Refused) → Type 0
+AllNone [] = Unit {0}
+AllNone (r ∷ rs) = (r ≡ None) × AllNone rs
 
-pub no_end_conflict : (body : Body) (sequence : ℕ) (ended : Option ℕ) →
-    ((end : ℕ) → ended ≡ Some end → body ≡ End → sequence ≡ end) → end_conflict body sequence ended ≡ None
-no_end_conflict (Data messages) sequence ended same = refl
-no_end_conflict Heartbeat sequence ended same = refl
-no_end_conflict End sequence None same = refl
-no_end_conflict End sequence (Some end) same =
-    ap (λ (b : Bool). cond (not b) (Some (EndConflict end)) None) (eq-eqb sequence end (same end refl refl))
+all_none : (rs : List (Option Refused)) → first_some rs ≡ None → AllNone rs
+all_none [] none = tt
+all_none (None ∷ rs) none = (refl, all_none rs none)
+all_none (Some r ∷ rs) none = absurd (none_some (sym none))
 
-pub not_below : (body : Body) (sequence known : ℕ) → (body ≡ End → known ≤ sequence) →
-    end_below body sequence known ≡ None
-not_below (Data messages) sequence known above = refl
-not_below Heartbeat sequence known above = refl
-not_below End sequence known above =
-    cond-false (ltb sequence known) (Some (EndBelow known)) None (le-ltb sequence known (above refl))
+-- of a packet that nothing refuses, each refusal is none
+pub each_none : (v : View) (p : Packet) → refusal v p ≡ None →
+    AllNone (refusals (Some v.session.0) v.known v.ended
+    (first_conflict v.store (from_next v.next p.sequence (messages_of p.body))) p)
+each_none v p none =
+    all_none (refusals (Some v.session.0) v.known v.ended
+    (first_conflict v.store (from_next v.next p.sequence (messages_of p.body))) p) none
 
-pub not_past_end : (ended : Option ℕ) (body : Body) (top : ℕ) → ((end : ℕ) → ended ≡ Some end → top ≤ end) →
-    past_end ended body top ≡ None
-not_past_end None body top within = refl
-not_past_end (Some end) (Data messages) top within =
-    cond-false (ltb end top) (Some (PastEnd end)) None (le-ltb end top (within end refl))
-not_past_end (Some end) Heartbeat top within =
-    cond-false (ltb end top) (Some (PastEnd end)) None (le-ltb end top (within end refl))
-not_past_end (Some end) End top within = refl
+-- what the rule's law says of memory
+abbrev pub NamesNoMemory : Type 0
+NamesNoMemory = (session : Option (List ℕ)) (known : ℕ) (ended number : Option ℕ) (p : Packet) →
+    refusal_of session known ended number p ≡ Some Memory → ⊥
+
+same_refused : {r s : Refused} → ◌≡◌ {A = Result Reception Refused} (Err r) (Err s) → r ≡ s
+same_refused e = cc
+
+ok_err : {r : Reception} {s : Refused} → ◌≡◌ {A = Result Reception Refused} (Ok r) (Err s) → ⊥
+ok_err e = cc
+
+malformed_memory : {e : DecodeError} → ◌≡◌ {A = Refused} (Malformed e) Memory → ⊥
+malformed_memory e = cc
+
+decided : (o : Option Refused) (r : Reception) (x : Refused) → decide o r ≡ Err x → o ≡ Some x
+decided None r x is = absurd (ok_err is)
+decided (Some y) r x is = ap (λ (z : Refused). Some z) (same_refused is)
+
+-- so the receiving rule never answers it
+pub never_memory : NamesNoMemory → (v : View) (read : Result Packet DecodeError) → receive_read v read ≡ Err Memory → ⊥
+never_memory never v (Ok p) is =
+    never (Some v.session.0) v.known v.ended
+    (first_conflict v.store (from_next v.next p.sequence (messages_of p.body))) p
+    (decided (refusal v p) (reception v p) Memory is)
+never_memory never v (Err error) is = malformed_memory (same_refused is)
 
 same_message : (o : Option Message) (m : Message) → ((x : Message) → o ≡ Some x → x ≡ m) → differs o m ≡ false
 same_message None m same = refl
@@ -82,10 +99,3 @@ no_first_conflict s next n (m ∷ ms) agree =
           ap (first_conflict s)
           (cond-false (leb next n) ((n, m) ∷ from_next next (suc n) ms) (from_next next (suc n) ms) below) ∙ rest
     ]
-
--- refusals of which none applies
-pub none_of_them : (a b c d e f g : Option Refused) → a ≡ None → b ≡ None → c ≡ None → d ≡ None → e ≡ None → f ≡ None →
-    g ≡ None
-    → first_some (a ∷ b ∷ c ∷ d ∷ e ∷ f ∷ g ∷ []) ≡ None
-none_of_them a b c d e f g no_a no_b no_c no_d no_e no_f no_g =
-    λ i. first_some (no_a i ∷ no_b i ∷ no_c i ∷ no_d i ∷ no_e i ∷ no_f i ∷ no_g i ∷ [])

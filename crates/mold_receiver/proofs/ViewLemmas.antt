@@ -16,11 +16,10 @@ use Rattle.mold_wire.specs.declared.packet.Body.{Body}
 use Rattle.mold_wire.specs.declared.packet.Body.TheVariants.{Data, Heartbeat, End}
 use Rattle.mold_wire.specs.declared.session.Session.{Session}
 use Rattle.mold_wire.specs.Truth.{message_at}
-use Rattle.mold_receiver.specs.declared.refused.Refused.{Refused}
 use Rattle.mold_receiver.specs.Handing.{run_in, run_of}
 use Rattle.mold_receiver.specs.Keeping.{is_fresh, fresh, put_pairs}
-use Rattle.mold_receiver.specs.Receive.{refusals, header_refusals, conflict, end_below, past_end, first_some, handed_on}
-use Rattle.mold_receiver.specs.Receive.{count_kept, count_beyond, ended_after, view_at, view_after, taken_of}
+use Rattle.mold_rule.specs.Refusals.{end_below, past_end}
+use Rattle.mold_receiver.specs.Receive.{handed_on, count_kept, count_beyond, ended_after, view_at, view_after, taken_of}
 use Rattle.mold_receiver.specs.Receive.{data_packet}
 use Rattle.mold_receiver.specs.Slots.{Slot, slot_at, store_of, count_held}
 use Rattle.mold_receiver.specs.Store.{Message, Store, differs, numbered, from_next, available, cut, first_conflict}
@@ -537,39 +536,6 @@ empty_no_conflict s (pair ∷ pairs) empty =
 
 pub none_held : (next : ℕ) (slots : List Slot) → count_held slots ≡ 0 → store_of next slots ≡ finite.empty
 none_held next slots none = finite.empty_of_len (store_of next slots) (len-slots next slots ∙ none)
-
--- the refusals in their order
-first_before : (refusals : List (Option Refused)) (last : Option Refused) → first_some refusals ≡ None →
-    first_some (refusals ++ last ∷ []) ≡ first_some (last ∷ [])
-first_before [] last none = refl
-first_before (None ∷ refusals) last none = first_before refusals last none
-first_before (Some r ∷ refusals) last none = absurd (none_some (sym none))
-
-first_found : (refusals : List (Option Refused)) (last : Option Refused) (r : Refused) →
-    first_some refusals ≡ Some r → first_some (refusals ++ last ∷ []) ≡ Some r
-first_found [] last r found = absurd (none_some found)
-first_found (None ∷ refusals) last r found = first_found refusals last r found
-first_found (Some x ∷ refusals) last r found = found
-
-pub refused_by_header : (v : View) (p : Packet) (r : Refused) →
-    first_some (header_refusals v.session v.known v.ended p) ≡ Some r → first_some (refusals v p) ≡ Some r
-refused_by_header v p r found =
-    first_found (header_refusals v.session v.known v.ended p) (conflict v p.sequence (messages_of p.body)) r found
-
-pub refused_by_conflict : (v : View) (p : Packet) → first_some (header_refusals v.session v.known v.ended p) ≡ None
-    → first_some (refusals v p) ≡ first_some (conflict v p.sequence (messages_of p.body) ∷ [])
-refused_by_conflict v p none =
-    first_before (header_refusals v.session v.known v.ended p) (conflict v p.sequence (messages_of p.body)) none
-
--- each of some refusals is none
-abbrev pub AllNone : List (Option Refused) → Type 0
-AllNone [] = Unit {0}
-AllNone (r ∷ rs) = (r ≡ None) × AllNone rs
-
-pub all_none : (refusals : List (Option Refused)) → first_some refusals ≡ None → AllNone refusals
-all_none [] none = tt
-all_none (None ∷ refusals) none = (refl, all_none refusals none)
-all_none (Some r ∷ refusals) none = absurd (none_some (sym none))
 
 pub above_handed : (v : View) (n : ℕ) (ms : List Message) → IsWellFormed v → v.next < n → handed_on v n ms ≡ []
 above_handed v n ms well above =

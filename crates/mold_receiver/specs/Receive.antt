@@ -1,9 +1,8 @@
 -- The receiving rule: what any datagram does to a view, as a function of whole maps.
-use Rattle.std.specs.Prelude.{◌≡◌, ◌<◌, ℕ, ◌+◌, ◌-◌, max, Bool, ◌&&◌, nat_le, nat_lt, not, List, [], ◌∷◌, length}
-use Rattle.std.specs.Prelude.{Option, None, Some, is_some, is_none, Result, Ok, Err, ◌==◌, if◌then◌else◌}
+use Rattle.std.specs.Prelude.{◌≡◌, ◌⊎◌, ◌<◌, ℕ, ◌+◌, ◌-◌, max, ◌&&◌, nat_le, List, length, Option, None, Some}
+use Rattle.std.specs.Prelude.{is_some, is_none, Result, Ok, Err}
 use Rattle.std.specs.List.{filter}
 use Rattle.std.specs.FinMap as finite
-use Rattle.std.specs.Str.{bytes_eq}
 use Rattle.mold_wire.specs.Packet.{messages_of, top_of}
 use Rattle.mold_wire.specs.Reading.{reading}
 use Rattle.mold_wire.specs.declared.packet.Packet.{Packet}
@@ -11,85 +10,20 @@ use Rattle.mold_wire.specs.declared.packet.Body.{Body}
 use Rattle.mold_wire.specs.declared.packet.Body.TheVariants.{Data, Heartbeat, End}
 use Rattle.mold_wire.specs.declared.session.Session.{Session}
 use Rattle.mold_wire.specs.declared.error.DecodeError.{DecodeError}
+use Rattle.mold_rule.specs.Refusals.{refusal_of}
+use Rattle.mold_rule.specs.declared.refusal.Refusal.{Refusal as Refused}
+use Rattle.mold_rule.specs.declared.refusal.Refusal.TheVariants.{Malformed, Memory}
 use Rattle.mold_receiver.specs.declared.taken.Taken.{Taken}
-use Rattle.mold_receiver.specs.declared.refused.Refused.{Refused}
-use Rattle.mold_receiver.specs.declared.refused.Refused.TheVariants.{Malformed, WrongSession, SequenceZero, PastLast}
-use Rattle.mold_receiver.specs.declared.refused.Refused.TheVariants.{EndConflict, EndBelow, PastEnd, Conflict}
 use Rattle.mold_receiver.specs.Batch.{Handed, followed_by}
 use Rattle.mold_receiver.specs.Store.{Message, Store, numbered, from_next, available, run_from, cut, first_conflict}
 use Rattle.mold_receiver.specs.View.{View}
 
--- the refusal, where the test says so
-abbrev pub refuse_if : Bool → Refused → Option Refused
-refuse_if refused refusal = if refused then Some refusal else None
-
--- the packet is of another session
-abbrev pub wrong_session : Session → Packet → Option Refused
-wrong_session session p = refuse_if (not (bytes_eq p.session.0 session.0)) WrongSession
-
-abbrev pub sequence_zero : Packet → Option Refused
-sequence_zero p = refuse_if (p.sequence == 0) SequenceZero
-
-abbrev pub past_last : Packet → Option Refused
-past_last p = refuse_if (nat_lt 18446744073709551615 (top_of p)) PastLast
-
--- an end packet, and another end is known
-abbrev pub end_conflict : Body → ℕ → Option ℕ → Option Refused
-end_conflict (Data messages) sequence ended = None
-end_conflict Heartbeat sequence ended = None
-end_conflict End sequence None = None
-end_conflict End sequence (Some end) = refuse_if (not (sequence == end)) (EndConflict end)
-
--- an end packet below what is known
-abbrev pub end_below : Body → ℕ → ℕ → Option Refused
-end_below (Data messages) sequence known = None
-end_below Heartbeat sequence known = None
-end_below End sequence known = refuse_if (nat_lt sequence known) (EndBelow known)
-
--- a data packet or a heartbeat, and a known end is below its top
-abbrev pub past_end : Option ℕ → Body → ℕ → Option Refused
-past_end None body top = None
-past_end (Some end) (Data messages) top = refuse_if (nat_lt end top) (PastEnd end)
-past_end (Some end) Heartbeat top = refuse_if (nat_lt end top) (PastEnd end)
-past_end (Some end) End top = None
-
--- a refusal that carries the number, where there is one
-abbrev pub conflict_at : Option ℕ → Option Refused
-conflict_at None = None
-conflict_at (Some number) = Some (Conflict number)
-
--- packet and store have different messages at a number not below `next`; the least such number
-abbrev pub conflict : View → ℕ → List Message → Option Refused
-conflict v number messages = conflict_at (first_conflict v.store (from_next v.next number messages))
-
--- the refusals of a packet in order of precedence, each where it applies
-abbrev pub refusals : View → Packet → List (Option Refused)
-refusals v p =
-    wrong_session v.session p
-    ∷ sequence_zero p
-    ∷ past_last p
-    ∷ end_conflict p.body p.sequence v.ended
-    ∷ end_below p.body p.sequence v.known
-    ∷ past_end v.ended p.body (top_of p)
-    ∷ conflict v p.sequence (messages_of p.body)
-    ∷ []
-
--- those of them that the store has no part in
-abbrev pub header_refusals : Session → ℕ → Option ℕ → Packet → List (Option Refused)
-header_refusals session known ended p =
-    wrong_session session p
-    ∷ sequence_zero p
-    ∷ past_last p
-    ∷ end_conflict p.body p.sequence ended
-    ∷ end_below p.body p.sequence known
-    ∷ past_end ended p.body (top_of p)
-    ∷ []
-
--- the first that is there
-abbrev pub first_some : List (Option Refused) → Option Refused
-first_some [] = None
-first_some (None ∷ refusals) = first_some refusals
-first_some (Some refusal ∷ refusals) = Some refusal
+-- why a packet is refused, if it is: the first refusal of the rule. Messages differ where packet and store have
+-- different ones at a number not below `next`
+abbrev pub refusal : View → Packet → Option Refused
+refusal v p =
+    refusal_of (Some v.session.0) v.known v.ended
+    (first_conflict v.store (from_next v.next p.sequence (messages_of p.body))) p
 
 -- what is handed on of a packet that is taken: what is available from `next` on up to the first number
 -- that is lacking. No number from the greater of `known` and the packet's top on is available.
@@ -143,12 +77,16 @@ taken_of v p new = record {
 abbrev pub view_after : View → Packet → View
 view_after v p = view_at v p (v.next + length (handed_on v p.sequence (messages_of p.body)))
 
+-- and the counts that are told of it
+abbrev pub taken_after : View → Packet → Taken
+taken_after v p = taken_of v p (view_after v p)
+
 -- a packet is taken
 abbrev pub reception : View → Packet → Reception
 reception v p = record {
   view = view_after v p;
   handed = handed_on v p.sequence (messages_of p.body);
-  taken = taken_of v p (view_after v p);
+  taken = taken_after v p;
 }
 
 -- a data packet
@@ -158,10 +96,10 @@ data_packet session sequence messages = record { session = session; sequence = s
 -- a packet is refused or taken
 abbrev pub decide : Option Refused → Reception → Result Reception Refused
 decide None taken = Ok taken
-decide (Some refusal) taken = Err refusal
+decide (Some refused) taken = Err refused
 
 abbrev pub receive_packet : View → Packet → Result Reception Refused
-receive_packet v p = decide (first_some (refusals v p)) (reception v p)
+receive_packet v p = decide (refusal v p) (reception v p)
 
 abbrev pub receive_read : View → Result Packet DecodeError → Result Reception Refused
 receive_read v (Ok packet) = receive_packet v packet
@@ -181,7 +119,7 @@ pub record IsTakenPacket (v : View) (bytes : List ℕ) (r : Reception) : Type 0 
   pub packet : Packet
   pub read : reading bytes ≡ Ok packet
   pub session : packet.session ≡ v.session
-  pub accepted : first_some (refusals v packet) ≡ None
+  pub accepted : refusal v packet ≡ None
   pub taken : r ≡ reception v packet
 
 -- a receiver took a datagram: its view and the batch are what the rule says, and so is what it tells
@@ -198,3 +136,7 @@ pub record IsCopied (v : View) (bytes : List ℕ) : Type 0 where
   pub reception : Reception
   pub received : receive v bytes ≡ Ok reception
   pub some : 0 < reception.taken.handed + reception.taken.kept
+
+-- why a datagram is refused: the rule refuses it, or the memory for a copy was refused
+abbrev pub IsRefusedFor : View → List ℕ → Refused → Type 0
+IsRefusedFor v bytes refused = ((refused ≡ Memory) × IsCopied v bytes) ⊎ (receive v bytes ≡ Err refused)

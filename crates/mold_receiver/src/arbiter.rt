@@ -3,14 +3,14 @@
 ghost use Rattle.std.specs.Prelude.{◌≡◌, ◌⊎◌, ◌-◌, ◌≤◌, None, Some, Err, IfOk, IfErr, OnErr};
 ghost use Rattle.mold_receiver.specs.Arbiter.{HasArbitrated, arbitrates, report_on};
 ghost use Rattle.mold_receiver.specs.Batch.{Follows};
-ghost use Rattle.mold_receiver.specs.Receive.{IsCopied, receive};
-ghost use Rattle.mold_receiver.specs.declared.refused.Refused.TheVariants.{Memory as OutOfMemory};
+ghost use Rattle.mold_receiver.specs.Receive.{IsCopied, IsRefusedFor, receive};
+ghost use Rattle.mold_rule.specs.declared.refusal.Refusal.TheVariants.{Memory as OutOfMemory};
 
 use crate::batch::Batch;
 use crate::line::{Line, LineReport, LineReports};
 use crate::receiver::Receiver;
-use crate::refused::Refused;
 use crate::taken::Taken;
+use mold_rule::Refusal as Refused;
 use std::marker::Model;
 
 /// A receiver of packets that come on two lines, and what came on each of these. It doesn't matter which
@@ -76,8 +76,7 @@ impl Arbiter {
         ensures taken { IfOk result
             (λ taken. HasArbitrated None self.old bytes.now batch.old self.new batch.new taken) }
         ensures refused { IfErr result
-            (λ refused. ((refused ≡ OutOfMemory) × IsCopied self.old.view bytes.now) ⊎
-            (receive self.old.view bytes.now ≡ Err refused)) }
+            (λ refused. IsRefusedFor self.old.view bytes.now refused) }
         ensures same { OnErr result (self.new ≡ self.old) }
         ensures batch { OnErr result (batch.new ≡ batch.old) }
     {

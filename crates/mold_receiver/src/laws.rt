@@ -9,12 +9,12 @@ ghost use Rattle.mold_wire.specs.Packet.{Spells, messages_of, top_of};
 ghost use Rattle.mold_wire.specs.declared.packet.Packet.{Packet};
 ghost use Rattle.mold_wire.specs.declared.request.Request.{Request};
 ghost use Rattle.mold_wire.specs.declared.session.Session.{Session};
-ghost use Rattle.mold_receiver.specs.declared.refused.Refused.TheVariants.{Memory};
+ghost use Rattle.mold_rule.specs.declared.refusal.Refusal.TheVariants.{Memory};
 ghost use Rattle.mold_receiver.specs.Batch.{Handed, Follows, followed_by};
 ghost use Rattle.mold_wire.specs.Truth.{Carries, IsTrue};
 ghost use Rattle.mold_receiver.specs.Honest.{IsHonest, IsTakenHonestly};
-ghost use Rattle.mold_receiver.specs.Receive.{IsTakenPacket, Reception, data_packet, first_some, handed_on, receive};
-ghost use Rattle.mold_receiver.specs.Receive.{refusals, view_after};
+ghost use Rattle.mold_receiver.specs.Receive.{IsTakenPacket, Reception, data_packet, handed_on, receive};
+ghost use Rattle.mold_receiver.specs.Receive.{view_after};
 ghost use Rattle.mold_receiver.specs.Store.{Message, available};
 ghost use Rattle.mold_receiver.specs.View.{View, IsWellFormed, fresh};
 ghost use Rattle.mold_receiver.specs.Wanted.{IsGap, gap_end, gaps, lacks, missing, wanted};
@@ -22,6 +22,7 @@ ghost use Rattle.mold_receiver.specs.Gap.{IsTakenInGap};
 ghost use Rattle.mold_ranges.specs.Ranges.{lacking, size};
 
 use mold_ranges::laws::{lacking_law, ranges_size_law};
+use mold_rule::laws::{cause_law, refusal_law};
 use mold_wire::laws::{reading_law, true_packet_law};
 
 /// The new `next` of a packet that is taken is the least number from the old one on that is lacking in what
@@ -61,6 +62,7 @@ pub fn honest_take_law()
 {
     reading_law();
     true_packet_law();
+    refusal_law();
 }
 
 /// A view stays honest while messages are published, and when the session is closed. The view of a receiver
@@ -84,7 +86,9 @@ pub fn taken_law()
 /// The receiving rule never answers that memory is wanting.
 pub fn no_memory_law()
     ensures { (v : View) (bytes : List ℕ) → receive v bytes ≡ Err Memory → ⊥ }
-{}
+{
+    cause_law();
+}
 
 /// A packet that is taken and doesn't begin above `next` is handed on to its end.
 pub fn through_law()
@@ -125,6 +129,7 @@ pub fn round_law()
 {
     reading_law();
     lacking_law();
+    refusal_law();
 }
 
 /// A batch that follows goes on to follow, and messages may join it in parts.

@@ -5,19 +5,19 @@
 mod arbiter;
 mod batch;
 mod conflict;
+mod error;
 mod hand;
 mod keep;
 pub mod laws;
 mod line;
 mod receiver;
-mod refusal;
-mod refused;
 mod slots;
 mod taken;
 
 pub use arbiter::Arbiter;
 pub use batch::Batch;
+pub use error::ReceiverError;
 pub use line::{Line, LineReport};
+pub use mold_rule::Refusal as Refused;
 pub use receiver::Receiver;
-pub use refused::{ReceiverError, Refused};
 pub use taken::Taken;

@@ -2,9 +2,9 @@
 
 ghost use Rattle.std.specs.Prelude.{◌≡◌};
 ghost use Rattle.mold_receiver.specs.Arbiter.{report_on, report_refused, report_taken, reports_refused, reports_taken};
-ghost use Rattle.mold_receiver.specs.declared.refused.Refused.TheVariants.{Memory};
+ghost use Rattle.mold_rule.specs.declared.refusal.Refusal.TheVariants.{Memory};
 
-use crate::refused::Refused;
+use mold_rule::Refusal as Refused;
 
 /// A line. Both carry the same packets, so that one stands in for what the other lost.
 #[derive(Clone, Copy, Debug, PartialEq, Eq)]

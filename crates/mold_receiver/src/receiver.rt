@@ -7,22 +7,22 @@ ghost use Rattle.mold_wire.specs.Packet.{IsBody, messages_of, top_of};
 ghost use Rattle.mold_wire.specs.Reading.{reading};
 ghost use Rattle.mold_wire.specs.declared.packet.Body.TheVariants.{Data};
 ghost use Rattle.mold_receiver.specs.Batch.{Follows, followed_by};
-ghost use Rattle.mold_receiver.specs.Receive.{HasTaken, IsCopied, data_packet, end_below, ended_after, first_some};
-ghost use Rattle.mold_receiver.specs.Receive.{handed_on, past_end, receive, refusals, taken_of, top_read, view_after};
+ghost use Rattle.mold_receiver.specs.Receive.{HasTaken, IsRefusedFor, data_packet, ended_after, handed_on};
+ghost use Rattle.mold_receiver.specs.Receive.{refusal, taken_after, top_read, view_after};
 ghost use Rattle.mold_receiver.specs.Store.{first_conflict, from_next};
 ghost use Rattle.mold_receiver.specs.Wanted.{wanted};
 ghost use Rattle.mold_receiver.specs.View.{View, IsWellFormed, IsWindow, fresh};
-ghost use Rattle.mold_receiver.specs.declared.refused.ReceiverError.TheVariants.{NextZero, Window, Memory};
-ghost use Rattle.mold_receiver.specs.declared.refused.Refused.TheVariants.{Memory as OutOfMemory};
+ghost use Rattle.mold_receiver.specs.declared.error.ReceiverError.TheVariants.{NextZero, Window, Memory};
+ghost use Rattle.mold_rule.specs.Refusals.{end_below, past_end};
 
 use crate::batch::Batch;
 use crate::conflict::conflict_of;
+use crate::error::ReceiverError;
 use crate::hand::hand_on;
 use crate::keep::{copy_fresh, put_copies};
-use crate::refusal::check_header;
-use crate::refused::{ReceiverError, Refused};
 use crate::slots::Slots;
 use crate::taken::{Accepted, Taken};
+use mold_rule::{Refusal as Refused, check_header};
 use mold_wire::{Blocks, Body, Packet, Request, Session, decode};
 use std::alloc::{AllocError, Global};
 use std::marker::Model;
@@ -119,12 +119,10 @@ impl Receiver {
         requires same { first_conflict self.old.store (from_next self.old.next first blocks.now) ≡ None }
         ensures view { OnOk result (self.new ≡ view_after self.old (data_packet self.old.session first blocks.now)) }
         ensures taken { IfOk result
-            (λ taken. taken ≡ taken_of self.old (data_packet self.old.session first blocks.now)
-            (view_after self.old (data_packet self.old.session first blocks.now))) }
+            (λ taken. taken ≡ taken_after self.old (data_packet self.old.session first blocks.now)) }
         ensures handed { handed_on self.old first blocks.now ≡ [] }
         ensures needed { OnErr result
-            (0 < (taken_of self.old (data_packet self.old.session first blocks.now)
-            (view_after self.old (data_packet self.old.session first blocks.now))).kept) }
+            (0 < (taken_after self.old (data_packet self.old.session first blocks.now)).kept) }
         ensures unchanged { OnErr result (self.new ≡ self.old) }
     {
         let copies = copy_fresh(self.alloc, &self.slots, first - self.next, blocks)?;
@@ -157,11 +155,9 @@ impl Receiver {
         ensures handed { OnOk result
             (batch.new ≡ followed_by batch.old self.old.next (handed_on self.old first blocks.now)) }
         ensures taken { IfOk result
-            (λ taken. taken ≡ taken_of self.old (data_packet self.old.session first blocks.now)
-            (view_after self.old (data_packet self.old.session first blocks.now))) }
+            (λ taken. taken ≡ taken_after self.old (data_packet self.old.session first blocks.now)) }
         ensures needed { OnErr result
-            (0 < (taken_of self.old (data_packet self.old.session first blocks.now)
-            (view_after self.old (data_packet self.old.session first blocks.now))).handed) }
+            (0 < (taken_after self.old (data_packet self.old.session first blocks.now)).handed) }
         ensures unchanged { OnErr result (self.new ≡ self.old) }
         ensures batch { OnErr result (batch.new ≡ batch.old) }
     {
@@ -187,7 +183,7 @@ impl Receiver {
         requires past { past_end self.old.ended packet.now.body top ≡ None }
         ensures view { self.new ≡ view_after self.old packet.now }
         ensures handed { handed_on self.old packet.now.sequence (messages_of packet.now.body) ≡ [] }
-        ensures taken { result ≡ taken_of self.old packet.now (view_after self.old packet.now) }
+        ensures taken { result ≡ taken_after self.old packet.now }
     {
         self.known = self.known.max(top);
         self.ended = told_end(packet, self.ended);
@@ -201,10 +197,10 @@ impl Receiver {
     // The packet's top, or the first refusal that it meets.
     fn check(&self, packet: &Packet<'_>) -> Result<u64, Refused>
         ensures top { IfOk result (λ top. top ≡ top_of packet.now) }
-        ensures taken { OnOk result (first_some (refusals self.now packet.now) ≡ None) }
-        ensures refused { IfErr result (λ refused. first_some (refusals self.now packet.now) ≡ Some refused) }
+        ensures taken { OnOk result (refusal self.now packet.now ≡ None) }
+        ensures refused { IfErr result (λ refused. refusal self.now packet.now ≡ Some refused) }
     {
-        let top = check_header(packet, &self.session, self.known, self.ended)?;
+        let top = check_header(packet, Some(self.session), self.known, self.ended)?;
         match conflict_of(&self.slots, self.next, packet, top) {
             Some(number) => Err(Refused::Conflict { number }),
             None => Ok(top),
@@ -221,15 +217,14 @@ impl Receiver {
         requires follows { Follows batch.old self.old.next }
         requires top { top_of packet.now ≡ top }
         requires body { IsBody packet.now.body }
-        requires taken { first_some (refusals self.old packet.now) ≡ None }
+        requires taken { refusal self.old packet.now ≡ None }
         ensures view { OnOk result (self.new ≡ view_after self.old packet.now) }
         ensures handed { OnOk result
             (batch.new ≡ followed_by batch.old self.old.next
             (handed_on self.old packet.now.sequence (messages_of packet.now.body))) }
-        ensures taken { IfOk result (λ taken. taken ≡ taken_of self.old packet.now (view_after self.old packet.now)) }
+        ensures taken { IfOk result (λ taken. taken ≡ taken_after self.old packet.now) }
         ensures needed { OnErr result
-            (0 < (taken_of self.old packet.now (view_after self.old packet.now)).handed +
-            (taken_of self.old packet.now (view_after self.old packet.now)).kept) }
+            (0 < (taken_after self.old packet.now).handed + (taken_after self.old packet.now).kept) }
         ensures unchanged { OnErr result (self.new ≡ self.old) }
         ensures batch { OnErr result (batch.new ≡ batch.old) }
     {
@@ -251,9 +246,7 @@ impl Receiver {
         ensures taken { IfOk result
             (λ accepted. HasTaken self.old bytes.now batch.old self.new batch.new accepted.taken) }
         ensures top { IfOk result (λ accepted. accepted.top ≡ top_read (reading bytes.now)) }
-        ensures refused { IfErr result
-            (λ refused. ((refused ≡ OutOfMemory) × IsCopied self.old bytes.now) ⊎
-            (receive self.old bytes.now ≡ Err refused)) }
+        ensures refused { IfErr result (λ refused. IsRefusedFor self.old bytes.now refused) }
         ensures view { OnErr result (self.new ≡ self.old) }
         ensures batch { OnErr result (batch.new ≡ batch.old) }
     {
@@ -274,9 +267,7 @@ impl Receiver {
     pub fn take(&mut self, bytes: &[u8], batch: &mut Batch) -> Result<Taken, Refused>
         requires { Follows batch.old self.old.next }
         ensures taken { IfOk result (λ taken. HasTaken self.old bytes.now batch.old self.new batch.new taken) }
-        ensures refused { IfErr result
-            (λ refused. ((refused ≡ OutOfMemory) × IsCopied self.old bytes.now) ⊎
-            (receive self.old bytes.now ≡ Err refused)) }
+        ensures refused { IfErr result (λ refused. IsRefusedFor self.old bytes.now refused) }
         ensures view { OnErr result (self.new ≡ self.old) }
         ensures batch { OnErr result (batch.new ≡ batch.old) }
     {

@@ -1,15 +1,12 @@
--- Why a publisher, a re-request server and a receiver refuse something, and why a file is no journal, as words: a
--- name, and the numbers that go with it.
+-- Why a publisher and a re-request server refuse something, and why a file is no journal, as words: a name, and the
+-- numbers that go with it.
 use Rattle.std.specs.Prelude.{List, [], ◌∷◌, ℕ, codes, decimal}
-use Rattle.mold_receiver.specs.declared.refused.Refused.{Refused}
-use Rattle.mold_receiver.specs.declared.refused.Refused.TheVariants as refused
 use Rattle.mold_session.specs.declared.error.AnswerError.{AnswerError}
 use Rattle.mold_session.specs.declared.error.AnswerError.TheVariants as answer
 use Rattle.mold_session.specs.declared.error.AppendError.{AppendError}
 use Rattle.mold_session.specs.declared.error.AppendError.TheVariants as append
 use Rattle.mold_session.specs.declared.error.FileError.{FileError}
 use Rattle.mold_session.specs.declared.error.FileError.TheVariants as file
-use Rattle.mold_text.specs.Text.{fault_words}
 
 -- why a message is not published
 abbrev pub append_words : AppendError → List (List ℕ)
@@ -25,18 +22,6 @@ answer_words answer.WrongSession = codes "WrongSession" ∷ []
 answer_words answer.SequenceZero = codes "SequenceZero" ∷ []
 answer_words answer.EmptyRequest = codes "EmptyRequest" ∷ []
 answer_words (answer.Ahead next) = codes "Ahead" ∷ decimal next ∷ []
-
--- why a receiver refuses a datagram; `Malformed` is followed by why the bytes spell no packet
-abbrev pub receiver_words : Refused → List (List ℕ)
-receiver_words (refused.Malformed fault) = codes "Malformed" ∷ fault_words fault
-receiver_words refused.WrongSession = codes "WrongSession" ∷ []
-receiver_words refused.SequenceZero = codes "SequenceZero" ∷ []
-receiver_words refused.PastLast = codes "PastLast" ∷ []
-receiver_words (refused.EndConflict end) = codes "EndConflict" ∷ decimal end ∷ []
-receiver_words (refused.EndBelow known) = codes "EndBelow" ∷ decimal known ∷ []
-receiver_words (refused.PastEnd end) = codes "PastEnd" ∷ decimal end ∷ []
-receiver_words (refused.Conflict number) = codes "Conflict" ∷ decimal number ∷ []
-receiver_words refused.Memory = codes "Memory" ∷ []
 
 -- why a file is no journal
 abbrev pub file_fault_words : FileError → List (List ℕ)

@@ -11,7 +11,7 @@ use Rattle.mold_receiver.specs.Receive.{HasTaken, Reception, data_packet, handed
 use Rattle.mold_receiver.specs.Store.{Message}
 use Rattle.mold_receiver.specs.View.{View, IsWellFormed}
 use Rattle.mold_receiver.specs.Wanted.{IsGap, missing}
-use Rattle.mold_receiver.specs.declared.refused.Refused.{Refused}
+use Rattle.mold_rule.specs.declared.refusal.Refusal.{Refusal as Refused}
 use Rattle.mold_receiver.specs.declared.taken.Taken.{Taken}
 use Rattle.mold_rounds.proofs.RoundsLemmas.{leaves_gap}
 use Rattle.mold_rounds.specs.CatchUp.{filled, message_of}

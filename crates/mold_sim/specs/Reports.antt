@@ -1,13 +1,14 @@
 -- What is printed of an event: what it did, or why it is refused; and of a receiver at the end.
 use Rattle.std.specs.Prelude.{ℕ, ◌+◌, ◌-◌, List, [], ◌∷◌, ◌++◌, length, codes, decimal, Bool, nat_lt, if◌then◌else◌, Option, None, Some}
-use Rattle.mold_refusals.specs.Words.{answer_words, append_words, receiver_words}
+use Rattle.mold_refusals.specs.Words.{answer_words, append_words}
+use Rattle.mold_session.specs.declared.error.SessionError.{SessionError}
+use Rattle.mold_session.specs.declared.error.SessionError.TheVariants as session
 use Rattle.mold_text.specs.Line.{line_of}
+use Rattle.mold_text.specs.Text.{refusal_words}
 use Rattle.mold_world.specs.Steps.{is_finished}
 use Rattle.mold_world.specs.World.{PlaceState}
 use Rattle.mold_world.specs.declared.report.Report.{Report}
 use Rattle.mold_world.specs.declared.report.Report.TheVariants as report
-use Rattle.mold_world.specs.declared.report.SessionError.{SessionError}
-use Rattle.mold_world.specs.declared.report.SessionError.TheVariants as session
 use Rattle.mold_world.specs.declared.report.WorldError.{WorldError}
 use Rattle.mold_world.specs.declared.report.WorldError.TheVariants as error
 
@@ -46,7 +47,7 @@ report_words report.Nothing = codes "nothing" ∷ []
 report_words report.Closed = codes "closed" ∷ []
 report_words (report.Delivered taken) =
     codes "delivered" ∷ decimal taken.handed ∷ decimal taken.kept ∷ decimal taken.beyond ∷ []
-report_words (report.NoiseRefused why) = codes "noise" ∷ receiver_words why
+report_words (report.NoiseRefused why) = codes "noise" ∷ refusal_words why
 report_words (report.Restarted next) = codes "restarted" ∷ decimal next ∷ []
 
 -- whether a receiver has the whole session

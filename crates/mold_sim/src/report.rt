@@ -6,8 +6,7 @@ ghost use Rattle.mold_text.specs.Line.{line_of};
 ghost use Rattle.mold_world.specs.declared.report.Report.TheVariants.{Delivered};
 
 use mold_receiver::Taken;
-use mold_refusals::push_receiver_refusal;
-use mold_text::{Word, push_line};
+use mold_text::{Word, push_line, push_refusal};
 use mold_world::{Report, World};
 use std::alloc::AllocError;
 
@@ -63,7 +62,7 @@ pub fn push_report(out: &mut Vec<u8>, report: Report) -> Result<(), AllocError>
         Report::Nothing => push_line(out, &[Word::Text(b"nothing")]),
         Report::Closed => push_line(out, &[Word::Text(b"closed")]),
         Report::Delivered(taken) => push_taken(out, taken),
-        Report::NoiseRefused(why) => push_receiver_refusal(out, &[Word::Text(b"noise")], why),
+        Report::NoiseRefused(why) => push_refusal(out, &[Word::Text(b"noise")], why),
         Report::Restarted { next } => push_numbered(out, b"restarted", next),
     }
 }

@@ -10,6 +10,9 @@ use Rattle.mold_wire.specs.declared.error.DecodeError.TheVariants.{Short, BlockC
 use Rattle.mold_wire.specs.declared.request.Request.{Request}
 use Rattle.mold_wire.specs.declared.error.RequestError.{RequestError}
 use Rattle.mold_wire.specs.declared.error.RequestError.TheVariants.{RequestLength}
+use Rattle.mold_rule.specs.declared.refusal.Refusal.{Refusal}
+use Rattle.mold_rule.specs.declared.refusal.Refusal.TheVariants.{Malformed, WrongSession, SequenceZero, PastLast}
+use Rattle.mold_rule.specs.declared.refusal.Refusal.TheVariants.{EndConflict, EndBelow, PastEnd, Conflict, Memory}
 
 -- the line of a message behind two spaces: its number, its length and its bytes
 abbrev pub message_line : ℕ → List ℕ → List ℕ
@@ -53,6 +56,18 @@ fault_words (Trailing at) = codes "Trailing" ∷ decimal at ∷ []
 -- why bytes spell no request
 abbrev pub request_fault_words : RequestError → List (List ℕ)
 request_fault_words (RequestLength len) = codes "RequestLength" ∷ decimal len ∷ []
+
+-- why a receiver or a checker refuses a datagram; `Malformed` is followed by why the bytes spell no packet
+abbrev pub refusal_words : Refusal → List (List ℕ)
+refusal_words (Malformed fault) = codes "Malformed" ∷ fault_words fault
+refusal_words WrongSession = codes "WrongSession" ∷ []
+refusal_words SequenceZero = codes "SequenceZero" ∷ []
+refusal_words PastLast = codes "PastLast" ∷ []
+refusal_words (EndConflict end) = codes "EndConflict" ∷ decimal end ∷ []
+refusal_words (EndBelow known) = codes "EndBelow" ∷ decimal known ∷ []
+refusal_words (PastEnd end) = codes "PastEnd" ∷ decimal end ∷ []
+refusal_words (Conflict number) = codes "Conflict" ∷ decimal number ∷ []
+refusal_words Memory = codes "Memory" ∷ []
 
 -- the line of what is refused, by the words of why
 abbrev pub refused_line : List (List ℕ) → List ℕ

@@ -10,6 +10,6 @@ mod word;
 
 pub use line::{push_line, push_line_behind, push_line_with};
 pub use packet::push_packet;
-pub use refusal::{packet_fault_words, push_refused, request_fault_words};
+pub use refusal::{packet_fault_words, push_refusal, push_refused, request_fault_words};
 pub use request::push_request;
 pub use word::Word;

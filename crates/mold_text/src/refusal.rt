@@ -1,11 +1,12 @@
 //! Why something is refused: a name, and the numbers that go with it.
 
-ghost use Rattle.std.specs.Prelude.{◌≡◌, ◌++◌, length, map, take, OnErr, OnOk};
-ghost use Rattle.mold_text.specs.Line.{word_text};
-ghost use Rattle.mold_text.specs.Text.{fault_words, refused_line, request_fault_words};
+ghost use Rattle.std.specs.Prelude.{◌≡◌, ◌++◌, ◌∷◌, [], decimal, length, map, take, OnErr, OnOk};
+ghost use Rattle.mold_text.specs.Line.{line_of, word_text};
+ghost use Rattle.mold_text.specs.Text.{fault_words, refusal_words, refused_line, request_fault_words};
 
-use crate::line::push_line_behind;
+use crate::line::{push_line_behind, push_line_with};
 use crate::word::Word;
+use mold_rule::Refusal;
 use mold_wire::{DecodeError, RequestError};
 use std::alloc::AllocError;
 
@@ -40,4 +41,50 @@ pub fn push_refused(out: &mut Vec<u8>, why: &[Word<'_>]) -> Result<(), AllocErro
     ensures kept { OnErr result (take (length out.old.items) out.new.items ≡ out.old.items) }
 {
     push_line_behind(out, &Word::Text(b"refused"), why)
+}
+
+// The line of a refusal that is a name.
+fn push_name(out: &mut Vec<u8>, before: &[Word<'_>], name: &[u8]) -> Result<(), AllocError>
+    ensures text { OnOk result (out.new.items ≡
+        out.old.items ++ line_of (map word_text before.now ++ name.now ∷ [])) }
+    ensures kept { OnErr result (take (length out.old.items) out.new.items ≡ out.old.items) }
+{
+    push_line_with(out, before, &[Word::Text(name)])
+}
+
+// The line of a refusal that is a name and a number.
+fn push_numbered(
+    out: &mut Vec<u8>,
+    before: &[Word<'_>],
+    name: &[u8],
+    number: u64,
+) -> Result<(), AllocError>
+    ensures text { OnOk result (out.new.items ≡
+        out.old.items ++ line_of (map word_text before.now ++ name.now ∷ decimal number ∷ [])) }
+    ensures kept { OnErr result (take (length out.old.items) out.new.items ≡ out.old.items) }
+{
+    push_line_with(out, before, &[Word::Text(name), Word::Number(number)])
+}
+
+/// Writes a line of the words before, and why a receiver or a checker refuses a datagram. After an error, which is want of
+/// memory, a part of it stands behind what was there.
+pub fn push_refusal(out: &mut Vec<u8>, before: &[Word<'_>], why: Refusal) -> Result<(), AllocError>
+    ensures text { OnOk result (out.new.items ≡
+        out.old.items ++ line_of (map word_text before.now ++ refusal_words why)) }
+    ensures kept { OnErr result (take (length out.old.items) out.new.items ≡ out.old.items) }
+{
+    match why {
+        Refusal::Malformed(fault) => {
+            let [name, number] = packet_fault_words(fault);
+            push_line_with(out, before, &[Word::Text(b"Malformed"), name, number])
+        }
+        Refusal::WrongSession => push_name(out, before, b"WrongSession"),
+        Refusal::SequenceZero => push_name(out, before, b"SequenceZero"),
+        Refusal::PastLast => push_name(out, before, b"PastLast"),
+        Refusal::EndConflict { end } => push_numbered(out, before, b"EndConflict", end),
+        Refusal::EndBelow { known } => push_numbered(out, before, b"EndBelow", known),
+        Refusal::PastEnd { end } => push_numbered(out, before, b"PastEnd", end),
+        Refusal::Conflict { number } => push_numbered(out, before, b"Conflict", number),
+        Refusal::Memory => push_name(out, before, b"Memory"),
+    }
 }

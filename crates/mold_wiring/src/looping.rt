@@ -1,12 +1,13 @@
 //! What `loop` is made of.
 
 ghost use Rattle.std.specs.Prelude.{◌≡◌, [], IfOk};
+ghost use Rattle.mold_devices.specs.Faults.{CountsCommand};
 ghost use Rattle.mold_wiring.specs.Wiring.{loop_arbiter_of, loop_publisher_of, loop_server_of};
 
 use crate::limits::longest_message;
 use mold_devices::{CommandFault, Sink, Source};
-use mold_listen::Desk;
-use mold_loop::{Drops, Ear, Wires, run_over};
+use mold_feed::{Drops, Listener, LoopPeers, LoopPorts, Report, session_loop};
+use mold_ports::Datagrams;
 use mold_receiver::{Arbiter, Receiver};
 use mold_session::{Publisher, Server};
 use mold_wire::Session;
@@ -38,14 +39,14 @@ fn make_server(alloc: Global, order: &LoopOrder) -> Result<Server, AllocError>
 
 // What listens to an order's session from its first message on, and has nothing to tell. The window is in its
 // range: so only memory can be wanting.
-fn make_ear(alloc: Global, order: &LoopOrder) -> Result<Ear, AllocError>
-    ensures arbiter { IfOk result (λ ear. ear.arbiter ≡ loop_arbiter_of order.now) }
-    ensures desk { IfOk result (λ ear. ear.desk ≡ record { text = []; failures = 0 }) }
+fn make_listener(alloc: Global, order: &LoopOrder) -> Result<Listener, AllocError>
+    ensures arbiter { IfOk result (λ listener. listener.arbiter ≡ loop_arbiter_of order.now) }
+    ensures report { IfOk result (λ listener. listener.report ≡ record { text = []; failures = 0 }) }
 {
     match Receiver::new(alloc, Session(order.session), 1, order.window) {
-        Ok(receiver) => Ok(Ear {
+        Ok(receiver) => Ok(Listener {
             arbiter: Arbiter::new(receiver),
-            desk: Desk::new(alloc),
+            report: Report::new(alloc),
         }),
         Err(_) => Err(AllocError),
     }
@@ -63,10 +64,11 @@ fn make_drops(order: &LoopOrder) -> Drops
 }
 
 // Runs the loop with the order's publisher and server.
-fn run_made<S: Source, K: Sink>(
+fn run_made<D: Datagrams + Drop, S: Source, K: Sink>(
     alloc: Global,
     order: &LoopOrder,
-    wires: &mut Wires,
+    ports: &mut LoopPorts<D>,
+    peers: &LoopPeers<D::Peer>,
     publisher: &mut Publisher,
     server: &mut Server,
     source: &mut S,
@@ -74,37 +76,45 @@ fn run_made<S: Source, K: Sink>(
 ) -> Result<u8, CommandFault>
     requires publisher { publisher.old ≡ loop_publisher_of order.now }
     requires server { server.old ≡ loop_server_of order.now }
+    ensures failures { CountsCommand (S.failed source.old) (S.failed source.new) (K.failed sink.old) (K.failed sink.new)
+        result }
 {
     packet_length_law();
-    let mut ear = make_ear(alloc, order)?;
-    run_over(
+    let mut listener = make_listener(alloc, order)?;
+    session_loop(
         alloc,
-        wires,
+        ports,
+        peers,
         publisher,
         server,
         make_drops(order),
         order.turns,
-        &mut ear,
+        &mut listener,
         source,
         sink,
     )
 }
 
-/// Publishes the lines of the source, and serves and listens to them, in one process, as the order says. Nothing
-/// is known of what its ports, which are sockets, give.
-pub fn loop_over<S: Source, K: Sink>(
+/// Publishes the lines of the source, and serves and listens to them, in one process, as the order says. `Read` and
+/// `Write` come only where the source or the sink failed.
+pub fn loop_over<D: Datagrams + Drop, S: Source, K: Sink>(
     alloc: Global,
     order: &LoopOrder,
-    wires: &mut Wires,
+    ports: &mut LoopPorts<D>,
+    peers: &LoopPeers<D::Peer>,
     source: &mut S,
     sink: &mut K,
-) -> Result<u8, CommandFault> {
+) -> Result<u8, CommandFault>
+    ensures failures { CountsCommand (S.failed source.old) (S.failed source.new) (K.failed sink.old) (K.failed sink.new)
+        result }
+{
     let mut publisher = make_publisher(alloc, order)?;
     let mut server = make_server(alloc, order)?;
     run_made(
         alloc,
         order,
-        wires,
+        ports,
+        peers,
         &mut publisher,
         &mut server,
         source,

@@ -3,20 +3,20 @@
 ghost use Rattle.std.specs.Prelude.{◌≡◌, ◌-◌, true, IfErr, IfOk};
 ghost use Rattle.std.specs.Io.KnownBytes.{Appends};
 ghost use Rattle.mold_refusals.specs.Words.{file_fault_words};
-ghost use Rattle.mold_serve.specs.Serving.{served_by, service_of, serving, stall_of};
-ghost use Rattle.mold_serve.specs.Tally.{last_line, no_tally};
+ghost use Rattle.mold_feed.specs.Serving.{served_by, service_of, serving, responder_of};
+ghost use Rattle.mold_feed.specs.Tally.{last_line, no_tally};
 ghost use Rattle.mold_session.specs.FileFault.{JournalFault};
 ghost use Rattle.mold_session.specs.Loading.{Refuses};
 ghost use Rattle.mold_text.specs.Text.{refused_line};
-ghost use Rattle.mold_turns.specs.Faults.{CountsSink};
-ghost use Rattle.mold_turns.specs.Runs.{Ran};
+ghost use Rattle.mold_feed.specs.Faults.{CountsSink};
+ghost use Rattle.mold_feed.specs.Runs.{Ran};
 ghost use Rattle.mold_wiring.specs.Wiring.{server_of};
 
 use crate::limits::longest_message;
 use mold_devices::{CommandFault, Sink, Source, send};
+use mold_feed::serve_loop;
 use mold_ports::Datagrams;
 use mold_refusals::push_file_refusal;
-use mold_serve::serve_loop;
 use mold_session::{FileError, Journal, Server};
 use mold_words::ServeOrder;
 use std::alloc::{AllocError, Global};
@@ -80,8 +80,8 @@ pub fn serve_over<D: Datagrams, K: Sink>(
     requires server { server.old ≡ server_of order.now }
     requires journal { journal.now.max_message ≡ order.now.limit - 22 }
     ensures run { D.tells ≡ true → Ran (serving (service_of journal.now (server_of order.now))) order.now.turns
-        (stall_of (D.port port.old) no_tally (server_of order.now)) (λ stall. last_line stall.tally) (λ stall. 0)
-        (λ stall. (D.port port.new ≡ stall.port) × (server.new ≡ served_by (server_of order.now) stall))
+        (responder_of (D.port port.old) no_tally (server_of order.now)) (λ s. last_line s.tally) (λ s. 0)
+        (λ responder. (D.port port.new ≡ responder.port) × (server.new ≡ served_by (server_of order.now) responder))
         result (K.held sink.old) (K.held sink.new) (D.port port.new).sent }
     ensures sink { CountsSink (K.failed sink.old) (K.failed sink.new) result }
 {

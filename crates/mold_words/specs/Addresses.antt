@@ -1,5 +1,5 @@
 -- Addresses of ports, as words say them.
-use Rattle.std.specs.Prelude.{ℕ, ◌==◌, ◌||◌, ◌&&◌, List, [], ◌∷◌, Bool, not, length, nat_le, nat_lt, if◌then◌else◌}
+use Rattle.std.specs.Prelude.{ℕ, ◌==◌, ◌||◌, List, [], ◌∷◌, Bool, not, length, nat_le, nat_lt, if◌then◌else◌}
 use Rattle.std.specs.Prelude.{Option, None, Some}
 use Rattle.std.specs.List.{after_first, before_first, position_or_len, slice_index}
 use Rattle.std.specs.Option.{option_and_then}

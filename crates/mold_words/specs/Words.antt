@@ -48,13 +48,15 @@ commands =
 abbrev pub is_command : Text → Bool
 is_command name = list_any (λ command. bytes_eq command.0 name) commands
 
--- an option of this name: a flag has no value, the value of another is a text; a word stands without the name
+-- an option of this name: a flag has no value; that of another is a text, which help calls by one name; a word
+-- stands without the name
 abbrev pub rule_for : Text → Kind → Rule
 rule_for name Flag = record (new_rule name) { long = Some name; action = Some SetTrue }
-rule_for name Optional = record (new_rule name) { long = Some name; action = Some Set }
+rule_for name Optional =
+    record (new_rule name) { long = Some name; action = Some Set; value_names = 1 }
 rule_for name Required =
-    record (new_rule name) { long = Some name; action = Some Set; required = true }
-rule_for name Word = record (new_rule name) { action = Some Set; required = true }
+    record (new_rule name) { long = Some name; action = Some Set; value_names = 1; required = true }
+rule_for name Word = record (new_rule name) { action = Some Set; value_names = 1; required = true }
 
 -- a command with one more option
 abbrev pub with_option : App → Text × Kind → App

@@ -6,7 +6,7 @@ ghost use Rattle.mold_words.specs.Words.{bare_app, command_app, mold_app, rule_f
 ghost use Rattle.mold_words.specs.Words.{with_option};
 ghost use Rattle.mold_words.specs.Table.{command_of, option_of};
 
-use crate::table::{COMMANDS, CommandRow, Kind, OptionRow};
+use crate::table::{COMMANDS, CommandRow, Kind, OptionRow, value_name};
 use clap::{Arg, ArgAction, Command};
 use std::alloc::{AllocError, Global};
 
@@ -23,14 +23,22 @@ fn argument_of<'a>(alloc: Global, option: OptionRow) -> Arg<'a>
     ensures local { result.global ≡ false }
 {
     let argument = Arg::new(alloc, option.name).help(option.help);
+    let value = value_name(option.name);
     match option.kind {
         Kind::Flag => argument.long(option.name).action(ArgAction::SetTrue),
-        Kind::Optional => argument.long(option.name).action(ArgAction::Set),
+        Kind::Optional => argument
+            .long(option.name)
+            .action(ArgAction::Set)
+            .value_name(value),
         Kind::Required => argument
             .long(option.name)
             .action(ArgAction::Set)
+            .value_name(value)
             .required(true),
-        Kind::Word => argument.action(ArgAction::Set).required(true),
+        Kind::Word => argument
+            .action(ArgAction::Set)
+            .value_name(value)
+            .required(true),
     }
 }
 
@@ -52,7 +60,9 @@ fn command_from<'a>(alloc: Global, row: CommandRow) -> Result<Command<'a>, Alloc
     ensures app { IfOk result (λ c. app_of c ≡ command_app (command_of row)) }
     ensures local { IfOk result (λ c. (fields_of c).has_globals ≡ false) }
 {
-    let mut command = Command::new(alloc, row.name).about(row.about);
+    let mut command = Command::new(alloc, row.name)
+        .about(row.about)
+        .after_help(row.example);
     for option in row.options {
         command = with_option(alloc, command, *option)?;
     }

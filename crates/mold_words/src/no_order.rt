@@ -2,6 +2,7 @@
 
 ghost use Rattle.std.specs.Prelude.{◌≡◌, is_err, true};
 
+use crate::table::value_name;
 use std::alloc::{AllocError, Global};
 
 /// Why words that `clap` takes give no order.
@@ -63,17 +64,27 @@ impl NoOrder {
         match self {
             NoOrder::Command => String::from_str(alloc, "error: no command of the program\n"),
             NoOrder::Missing { name } => {
-                format!(in alloc; "error: '--{name} <{name}>' has no value\n")
+                let value = value_name(name);
+                format!(in alloc; "error: '--{name} <{value}>' has no value\n")
             }
-            NoOrder::Session { name } => format!(in alloc;
-                "error: invalid value for '--{name} <{name}>': not 1 to 10 characters from space to ~\n"
-            ),
-            NoOrder::Number { name, least, most } => format!(in alloc;
-                "error: invalid value for '--{name} <{name}>': not a number from {least} to {most}\n"
-            ),
-            NoOrder::Address { name } => format!(in alloc;
-                "error: invalid value for '--{name} <{name}>': not an address such as 127.0.0.1:9000\n"
-            ),
+            NoOrder::Session { name } => {
+                let value = value_name(name);
+                format!(in alloc;
+                    "error: invalid value for '--{name} <{value}>': not 1 to 10 characters from space to ~\n"
+                )
+            }
+            NoOrder::Number { name, least, most } => {
+                let value = value_name(name);
+                format!(in alloc;
+                    "error: invalid value for '--{name} <{value}>': not a number from {least} to {most}\n"
+                )
+            }
+            NoOrder::Address { name } => {
+                let value = value_name(name);
+                format!(in alloc;
+                    "error: invalid value for '--{name} <{value}>': not an address such as 127.0.0.1:9000\n"
+                )
+            }
             NoOrder::ServerLimit => String::from_str(
                 alloc,
                 "error: '--server-limit' is below '--limit'\n",

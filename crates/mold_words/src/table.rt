@@ -21,12 +21,28 @@ pub struct OptionRow {
     pub help: &'static str,
 }
 
-/// A command and its options.
+/// A command and its options, and the text at the end of its help: how it is called.
 #[derive(Clone, Copy)]
 pub struct CommandRow {
     pub name: &'static str,
     pub about: &'static str,
     pub options: &'static [OptionRow],
+    pub example: &'static str,
+}
+
+/// What the value of an option is called in help and in faults.
+pub(crate) fn value_name(option: &str) -> &'static str {
+    match option {
+        "session" => "NAME",
+        "limit" | "server-limit" => "BYTES",
+        "window" => "MESSAGES",
+        "burst" => "PACKETS",
+        "a" | "b" | "server" | "bind" => "ADDRESS",
+        "journal" | "to" => "FILE",
+        "folder" => "FOLDER",
+        "next" => "NUMBER",
+        _ => "COUNT",
+    }
 }
 
 /// The commands, in the order in which help lists them.
@@ -39,6 +55,7 @@ pub static COMMANDS: [CommandRow; 9] = [
             kind: Kind::Flag,
             help: "Read each line as a request packet",
         }],
+        example: "Example:\n  echo 53455353494f4e30303100000000000000010002000241420000 | mold show",
     },
     CommandRow {
         name: "pack",
@@ -55,6 +72,7 @@ pub static COMMANDS: [CommandRow; 9] = [
                 help: "The most bytes of a packet, 64 to 65507 [default: 1400]",
             },
         ],
+        example: "Example:\n  printf '4142\\n4344\\n' | mold pack --session SESSION001",
     },
     CommandRow {
         name: "sim",
@@ -73,7 +91,8 @@ pub static COMMANDS: [CommandRow; 9] = [
             OptionRow {
                 name: "server-limit",
                 kind: Kind::Optional,
-                help: "The most bytes of an answer, 64 to 65507, not below the limit [default: 1400]",
+                help: "The most bytes of an answer, 64 to 65507 [default: 1400]\n\
+                    It is not below the limit",
             },
             OptionRow {
                 name: "window",
@@ -91,6 +110,7 @@ pub static COMMANDS: [CommandRow; 9] = [
                 help: "The most packets that answer a request, 1 to 64 [default: 1]",
             },
         ],
+        example: "Example:\n  printf '%s\\n' 'publish 41' datagram 'deliver 0 a 0' | mold sim --session SESSION001",
     },
     CommandRow {
         name: "check",
@@ -100,6 +120,7 @@ pub static COMMANDS: [CommandRow; 9] = [
             kind: Kind::Word,
             help: "The folder; each of its files whose name ends in .pkt is a datagram",
         }],
+        example: "Example:\n  mold check captures",
     },
     CommandRow {
         name: "publish",
@@ -141,6 +162,7 @@ pub static COMMANDS: [CommandRow; 9] = [
                 help: "How many end packets follow those, 0 to 1000 [default: 1]",
             },
         ],
+        example: "Example:\n  mold publish --session SESSION001 --a 127.0.0.1:9001 --b 127.0.0.1:9002 \\\n    --journal day.journal < messages",
     },
     CommandRow {
         name: "serve",
@@ -169,9 +191,11 @@ pub static COMMANDS: [CommandRow; 9] = [
             OptionRow {
                 name: "turns",
                 kind: Kind::Optional,
-                help: "How many turns are made, each of one receive that waits 100 ms at most, 1 to 1000000 [default: 1000]",
+                help: "How many turns are made, 1 to 1000000 [default: 1000]\n\
+                    A turn is one receive, which waits 100 ms at most",
             },
         ],
+        example: "Example:\n  mold serve --journal day.journal --bind 127.0.0.1:9003 --turns 1000000",
     },
     CommandRow {
         name: "listen",
@@ -215,10 +239,12 @@ pub static COMMANDS: [CommandRow; 9] = [
             OptionRow {
                 name: "turns",
                 kind: Kind::Optional,
-                help: "The most turns that are made, each of a receive on A, one on B and one request, \
-                    of 100 ms a receive at most, 1 to 1000000 [default: 1000]",
+                help: "The most turns that are made, 1 to 1000000 [default: 1000]\n\
+                    A turn is a receive on A, one on B, and one request where something\n\
+                    is missing; a receive waits 100 ms at most",
             },
         ],
+        example: "Example:\n  mold listen --session SESSION001 --a 127.0.0.1:9001 --b 127.0.0.1:9002 \\\n    --server 127.0.0.1:9003 --turns 1000000 > heard",
     },
     CommandRow {
         name: "loop",
@@ -237,7 +263,8 @@ pub static COMMANDS: [CommandRow; 9] = [
             OptionRow {
                 name: "server-limit",
                 kind: Kind::Optional,
-                help: "The most bytes of an answer, 64 to 65507, not below the limit [default: 1400]",
+                help: "The most bytes of an answer, 64 to 65507 [default: 1400]\n\
+                    It is not below the limit",
             },
             OptionRow {
                 name: "window",
@@ -252,19 +279,22 @@ pub static COMMANDS: [CommandRow; 9] = [
             OptionRow {
                 name: "drop-a",
                 kind: Kind::Optional,
-                help: "Each so many-th packet is not sent on line A, 0 to 1000; 0 drops none [default: 0]",
+                help: "Leave out every COUNT-th data packet on line A, 0 to 1000 [default: 0]\n\
+                    0 leaves out none",
             },
             OptionRow {
                 name: "drop-b",
                 kind: Kind::Optional,
-                help: "Each so many-th packet is not sent on line B, 0 to 1000; 0 drops none [default: 0]",
+                help: "Leave out every COUNT-th data packet on line B, 0 to 1000 [default: 0]\n\
+                    0 leaves out none",
             },
             OptionRow {
                 name: "turns",
                 kind: Kind::Optional,
-                help: "The most rounds of requests behind the messages, 1 to 1000000 [default: 1000]",
+                help: "The most rounds of requests, 1 to 1000000 [default: 1000]",
             },
         ],
+        example: "Example:\n  printf '4142\\n4344\\n' | mold loop --session SESSION001 --drop-a 1 --drop-b 1",
     },
     CommandRow {
         name: "upgrade",
@@ -286,5 +316,6 @@ pub static COMMANDS: [CommandRow; 9] = [
                 help: "Close the journal",
             },
         ],
+        example: "Example:\n  mold upgrade --journal old.journal --to new.journal",
     },
 ];

@@ -13,13 +13,15 @@ use Rattle.mold_wire.specs.declared.error.DecodeError.{DecodeError}
 use Rattle.mold_wire.specs.declared.packet.Packet.{Packet}
 use Rattle.mold_wire.specs.declared.request.Request.{Request as Asked}
 use Rattle.mold_wire.specs.declared.session.Session.{Session}
-use Rattle.mold_receiver.specs.Receive.{conflict, decide, end_below, end_conflict, first_some, past_end, past_last, receive_read}
-use Rattle.mold_receiver.specs.Receive.{reception, refuse_if, sequence_zero}
-use Rattle.mold_receiver.specs.declared.refused.Refused.TheVariants.{Malformed, WrongSession}
+use Rattle.mold_rule.specs.Held.{first_conflict}
+use Rattle.mold_rule.specs.Refusals.{conflict_at, end_below, end_conflict, first_some, past_end, past_last, refuse_if, sequence_zero}
+use Rattle.mold_receiver.specs.Receive.{decide, receive_read, reception}
+use Rattle.mold_receiver.specs.Store.{from_next}
+use Rattle.mold_rule.specs.declared.refusal.Refusal.TheVariants.{Malformed, WrongSession}
 use Rattle.mold_receiver.specs.View.{IsWellFormed, View}
 use Rattle.mold_receiver.specs.Wanted.{IsGap, gap_end, wanted}
 use Rattle.mold_receiver.specs.declared.line.Line.{Line}
-use Rattle.mold_receiver.specs.declared.refused.Refused.{Refused}
+use Rattle.mold_rule.specs.declared.refusal.Refusal.{Refusal as Refused}
 use Rattle.mold_session.specs.Answer.{IsPlan, PlanState, answer, plan_for, planned}
 use Rattle.mold_session.specs.Server.{IsAnswerable, asking}
 use Rattle.mold_session.specs.declared.error.AnswerError.{AnswerError}
@@ -40,7 +42,7 @@ use Rattle.mold_world.specs.Kept.{IsPlaceKept, IsWorld}
 use Rattle.mold_world.specs.World.{PlaceState, WorldState}
 use Rattle.mold_world.specs.declared.report.Report.{Report}
 use Rattle.mold_world.specs.declared.report.Report.TheVariants as report
-use Rattle.mold_world.specs.declared.report.SessionError.TheVariants as session
+use Rattle.mold_session.specs.declared.error.SessionError.TheVariants as session
 use Rattle.mold_world.specs.declared.report.WorldError.{WorldError}
 use Rattle.mold_world.specs.declared.report.WorldError.TheVariants.{NotReached, Layer as Refuses}
 
@@ -249,7 +251,7 @@ not_own view own (Ok packet) same other =
           ∷ end_conflict packet.body packet.sequence view.ended
           ∷ end_below packet.body packet.sequence view.known
           ∷ past_end view.ended packet.body (top_of packet)
-          ∷ conflict view packet.sequence (messages_of packet.body)
+          ∷ conflict_at (first_conflict view.store (from_next view.next packet.sequence (messages_of packet.body)))
           ∷ [])) (reception view packet)) differs,
     )
 

@@ -3,8 +3,8 @@ use Rattle.std.proofs.Common.{◌≡◌, ℕ, List, ap, inl, inr, ◌∙◌}
 use Rattle.std.specs.Prelude.{◌⊎◌, Err}
 use Rattle.mold_receiver.specs.Receive.{IsCopied, receive}
 use Rattle.mold_receiver.specs.View.{View}
-use Rattle.mold_receiver.specs.declared.refused.Refused.{Refused}
-use Rattle.mold_receiver.specs.declared.refused.Refused.TheVariants.{Memory}
+use Rattle.mold_rule.specs.declared.refusal.Refusal.{Refusal as Refused}
+use Rattle.mold_rule.specs.declared.refusal.Refusal.TheVariants.{Memory}
 
 -- the rule never answers that memory is wanting, so where it is, something is copied
 abbrev pub NeverWants : Type 0

@@ -17,7 +17,7 @@ use Rattle.mold_receiver.specs.Honest.{IsHonest, IsTakenHonestly}
 use Rattle.mold_receiver.specs.Receive.{Reception, receive}
 use Rattle.mold_receiver.specs.View.{View}
 use Rattle.mold_receiver.specs.declared.line.Line.{Line}
-use Rattle.mold_receiver.specs.declared.refused.Refused.{Refused}
+use Rattle.mold_rule.specs.declared.refusal.Refusal.{Refusal as Refused}
 use Rattle.mold_world.proofs.EventLemmas.{not_own}
 use Rattle.mold_world.proofs.PlaceLemmas.{view_refused}
 use Rattle.mold_world.specs.Effect.{Happening, Outcome, book_after, delivered, effect, given, is_own, noised, told}

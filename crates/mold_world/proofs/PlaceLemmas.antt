@@ -21,7 +21,7 @@ use Rattle.mold_receiver.specs.Honest.{IsHonest, IsTakenHonestly}
 use Rattle.mold_receiver.specs.Receive.{IsTakenPacket, Reception, ended_after, receive, view_after}
 use Rattle.mold_receiver.specs.View.{View, fresh}
 use Rattle.mold_receiver.specs.declared.line.Line.{Line}
-use Rattle.mold_receiver.specs.declared.refused.Refused.{Refused}
+use Rattle.mold_rule.specs.declared.refusal.Refusal.{Refusal as Refused}
 use Rattle.mold_session.specs.Journal.{JournalState, appended}
 use Rattle.mold_session.specs.Truthful.{TellsTruth}
 use Rattle.mold_world.proofs.MachineLemmas.{at_place, prefix_from}

@@ -7,7 +7,7 @@ use Rattle.std.proofs.lemmas.Option.{slice_get_past}
 use Rattle.mold_wire.specs.Reading.{reading}
 use Rattle.mold_receiver.specs.Receive.{IsCopied, Reception, receive}
 use Rattle.mold_receiver.specs.declared.line.Line.{Line}
-use Rattle.mold_receiver.specs.declared.refused.Refused.{Refused}
+use Rattle.mold_rule.specs.declared.refusal.Refusal.{Refusal as Refused}
 use Rattle.mold_world.proofs.EventLemmas.{not_own}
 use Rattle.mold_world.specs.Effect.{Outcome, delivered, effect, given, is_own, noised, renewed, restarted, told, with_place}
 use Rattle.mold_world.specs.Effect.Happening.{Deliver, Noise, Restart}

@@ -14,7 +14,7 @@ use Rattle.mold_receiver.specs.Receive.{Reception, handed_on, receive}
 use Rattle.mold_receiver.specs.View.{View}
 use Rattle.mold_receiver.specs.Wanted.{wanted}
 use Rattle.mold_receiver.specs.declared.line.Line.{Line}
-use Rattle.mold_receiver.specs.declared.refused.Refused.{Refused}
+use Rattle.mold_rule.specs.declared.refusal.Refusal.{Refusal as Refused}
 use Rattle.mold_session.specs.Answer.{answer, from_number}
 use Rattle.mold_session.specs.Datagrams.{packing}
 use Rattle.mold_session.specs.Journal.{JournalState, append_refusal}
@@ -43,7 +43,7 @@ use Rattle.mold_wire.specs.declared.session.Session.{Session}
 use Rattle.mold_world.specs.World.{PlaceState, WorldState, beginning, place_at}
 use Rattle.mold_world.specs.declared.report.Report.{Report}
 use Rattle.mold_world.specs.declared.report.Report.TheVariants as report
-use Rattle.mold_world.specs.declared.report.SessionError.TheVariants as session
+use Rattle.mold_session.specs.declared.error.SessionError.TheVariants as session
 use Rattle.mold_world.specs.declared.report.WorldError.TheVariants.{NotReached, Layer as Refuses}
 
 -- an event of a kind is its steps

@@ -15,7 +15,7 @@ use Rattle.mold_receiver.specs.Receive.{Reception, receive}
 use Rattle.mold_receiver.specs.View.{fresh}
 use Rattle.mold_receiver.specs.Wanted.{wanted}
 use Rattle.mold_receiver.specs.declared.line.Line.{Line}
-use Rattle.mold_receiver.specs.declared.refused.Refused.{Refused}
+use Rattle.mold_rule.specs.declared.refusal.Refusal.{Refusal as Refused}
 use Rattle.mold_session.specs.Answer.{answer}
 use Rattle.mold_session.specs.Journal.{append_refusal}
 use Rattle.mold_session.specs.Publisher.{PublisherState, after_datagram, closed, next_datagram, next_end, next_heartbeat, published}
@@ -25,7 +25,7 @@ use Rattle.mold_session.specs.declared.error.AppendError.{AppendError}
 use Rattle.mold_world.specs.World.{PlaceState, WorldState}
 use Rattle.mold_world.specs.declared.report.Report.{Report}
 use Rattle.mold_world.specs.declared.report.Report.TheVariants as report
-use Rattle.mold_world.specs.declared.report.SessionError.TheVariants as session
+use Rattle.mold_session.specs.declared.error.SessionError.TheVariants as session
 use Rattle.mold_world.specs.declared.report.WorldError.{WorldError}
 use Rattle.mold_world.specs.declared.report.WorldError.TheVariants.{NoReceiver, NoSuchDatagram, NotNoise, NotReached, Layer as Refuses}
 

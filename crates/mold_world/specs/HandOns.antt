@@ -2,7 +2,7 @@
 use Rattle.std.specs.Prelude.{ℕ, List, [], ◌∷◌, ◌++◌, Bool, true, false, Option, None, Some, Result, Ok, Err, slice_get}
 use Rattle.mold_wire.specs.Reading.{reading}
 use Rattle.mold_receiver.specs.Receive.{Reception, receive}
-use Rattle.mold_receiver.specs.declared.refused.Refused.{Refused}
+use Rattle.mold_rule.specs.declared.refusal.Refusal.{Refusal as Refused}
 use Rattle.mold_world.specs.Effect.{Happening, after_event, is_own}
 use Rattle.mold_world.specs.Effect.Happening.{Publish, Datagram, Heartbeat, Close, End, Request, Ask, Deliver, Noise, Restart}
 use Rattle.mold_world.specs.Headline.{HandOn, handed_from}

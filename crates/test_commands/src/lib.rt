@@ -1,4 +1,4 @@
-//! Tests of `mold_commands`, over sources, sinks and folders, and of `mold_publish`, over ports in memory.
+//! Tests of `mold_commands`, over sources, sinks and folders.
 #![tactic(auto)]
 
 #[cfg(test)]
@@ -7,5 +7,3 @@ mod commands;
 mod comparisons;
 #[cfg(test)]
 mod folder;
-#[cfg(test)]
-mod publishing;

@@ -1,9 +1,15 @@
-//! Tests of `mold_serve`, `mold_listen`.
+//! Tests of `mold_feed`, over ports in memory.
 #![tactic(auto)]
 
 #[cfg(test)]
 mod comparisons;
 #[cfg(test)]
+mod large;
+#[cfg(test)]
 mod listen;
 #[cfg(test)]
+mod publish;
+#[cfg(test)]
 mod serve;
+#[cfg(test)]
+mod session;

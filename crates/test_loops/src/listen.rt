@@ -5,7 +5,7 @@ ghost use Rattle.std.specs.Prelude.{◌≡◌, length};
 
 use crate::comparisons::{same_bytes, same_outcome, same_size};
 use mold_devices::{CommandFault, MemorySink, Sink};
-use mold_listen::{Desk, LONGEST, hear_port, listen_loop, push_last};
+use mold_feed::{LONGEST, Report, hear_port, listen_loop, push_last};
 use mold_ports::{Datagrams, MemoryPort, Step};
 use mold_receiver::{Arbiter, Line, Receiver};
 use mold_wire::Session;
@@ -59,7 +59,7 @@ fn step(alloc: Global, bytes: &[u8]) -> Result<Step, AllocError> {
 
 /// A port whose receives give these datagrams, `QUIET` and `FAILS` among them, and a failure before the one at
 /// this place.
-fn port(
+pub fn port(
     alloc: Global,
     datagrams: &[&[u8]],
     failure: Option<usize>,
@@ -382,23 +382,23 @@ open next 1 known 5 failed 0
 
 /// One line's port and the port of answers, with what hears them and what is told.
 #[derive(Drop)]
-struct Ear {
+struct Hearing {
     line: MemoryPort,
     answers: MemoryPort,
     arbiter: Arbiter,
-    desk: Desk,
+    report: Report,
     sink: MemorySink,
 }
 
-impl Ear {
+impl Hearing {
     fn new(alloc: Global) -> Result<Self, Fail> {
         let line = port(alloc, &[DATA_2, QUIET], Some(1))?;
         let answers = port(alloc, &[DATA_1], None)?;
-        Ok(Ear {
+        Ok(Hearing {
             line,
             answers,
             arbiter: Arbiter::new(Receiver::new(alloc, SESSION, 1, 4)?),
-            desk: Desk::new(alloc),
+            report: Report::new(alloc),
             sink: MemorySink::new(alloc),
         })
     }
@@ -407,19 +407,19 @@ impl Ear {
     fn expect_heard(&mut self, rt: &impl Abort, line: Option<Line>, place: &mut [u8], came: bool)
         requires { length place.old ≡ 65507 }
     {
-        let (arbiter, desk) = (&mut self.arbiter, &mut self.desk);
+        let (arbiter, report) = (&mut self.arbiter, &mut self.report);
         let heard = match line {
-            Some(_) => hear_port(&mut self.line, line, place, arbiter, desk),
-            None => hear_port(&mut self.answers, line, place, arbiter, desk),
+            Some(_) => hear_port(&mut self.line, line, place, arbiter, report),
+            None => hear_port(&mut self.answers, line, place, arbiter, report),
         };
         assert_eq!(rt; heard, Ok(came));
     }
 
     /// Prints the last line behind the text.
     fn expect_printed(&mut self, rt: &impl Abort, text: &[u8]) {
-        assert!(rt; self.desk.send_large(&mut self.sink).is_ok());
-        assert_eq!(rt; push_last(&self.arbiter, &mut self.desk), Ok(1));
-        assert!(rt; self.desk.send(&mut self.sink).is_ok());
+        assert!(rt; self.report.send_large(&mut self.sink).is_ok());
+        assert_eq!(rt; push_last(&self.arbiter, &mut self.report), Ok(1));
+        assert!(rt; self.report.send(&mut self.sink).is_ok());
         same_bytes(rt, self.sink.bytes(), text);
     }
 }
@@ -427,13 +427,13 @@ impl Ear {
 #[test]
 fn ports_are_heard_one_by_one(rt: HostRuntime) -> Result<(), Fail> {
     let mut place = vec![in rt.alloc(); 0; LONGEST]?;
-    let mut ear = Ear::new(rt.alloc())?;
+    let mut hearing = Hearing::new(rt.alloc())?;
     let place = place.as_mut_slice();
-    ear.expect_heard(&rt, Some(Line::B), place, true);
-    ear.expect_heard(&rt, Some(Line::B), place, false);
-    ear.expect_heard(&rt, None, place, true);
-    assert_eq!(rt; ear.arbiter.report(Line::B).datagrams, 1);
-    ear.desk.count_failure();
-    ear.expect_printed(&rt, b"1 41\n2 42\nopen next 3 known 3 failed 2\n");
+    hearing.expect_heard(&rt, Some(Line::B), place, true);
+    hearing.expect_heard(&rt, Some(Line::B), place, false);
+    hearing.expect_heard(&rt, None, place, true);
+    assert_eq!(rt; hearing.arbiter.report(Line::B).datagrams, 1);
+    hearing.report.count_failure();
+    hearing.expect_printed(&rt, b"1 41\n2 42\nopen next 3 known 3 failed 2\n");
     Ok(())
 }

@@ -1,10 +1,10 @@
 //! The loop over ports in memory: the worked example, answers in bursts, and each send, receive and write
 //! that fails.
 
-use crate::comparisons::{same_bytes, same_outcome, same_size};
+use crate::comparisons::{same_bytes, same_number, same_outcome, same_size};
 use mold_devices::{CommandFault, MemorySink, Sink};
+use mold_feed::{Tally, answer_request, serve_loop};
 use mold_ports::{Datagrams, MemoryPort, Step};
-use mold_serve::{Tally, answer_request, serve_loop};
 use mold_session::{AppendError, Journal, Server};
 use mold_wire::Session;
 use std::alloc::{AllocError, Global};
@@ -120,7 +120,7 @@ fn script(alloc: Global, given: &[Given]) -> Result<Vec<Step>, AllocError> {
 
 // A server of five messages, its port, and where its lines go.
 #[derive(Drop)]
-struct Desk {
+struct Fixture {
     journal: Journal,
     server: Server,
     port: MemoryPort,
@@ -128,11 +128,11 @@ struct Desk {
 }
 
 // Datagrams have at most 64 bytes, and so many at most answer a request.
-fn make_desk(alloc: Global, burst: u16, given: &[Given]) -> Result<Desk, Fail> {
+fn make_fixture(alloc: Global, burst: u16, given: &[Given]) -> Result<Fixture, Fail> {
     let journal = journal_of_five(alloc)?;
     let server = Server::new(alloc, 64, 42, burst)?;
     let steps = script(alloc, given)?;
-    Ok(Desk {
+    Ok(Fixture {
         journal,
         server,
         port: MemoryPort::new(alloc, steps),
@@ -140,33 +140,33 @@ fn make_desk(alloc: Global, burst: u16, given: &[Given]) -> Result<Desk, Fail> {
     })
 }
 
-fn serve(rt: &(impl Abort + AllocGlobal), desk: &mut Desk, turns: u64) -> Result<u8, CommandFault> {
-    assert!(rt; desk.journal.max_message() <= desk.server.max_message());
+fn serve(
+    rt: &(impl Abort + AllocGlobal),
+    fixture: &mut Fixture,
+    turns: u64,
+) -> Result<u8, CommandFault> {
+    assert!(rt; fixture.journal.max_message() <= fixture.server.max_message());
     serve_loop(
         rt.alloc(),
-        &mut desk.port,
-        &mut desk.server,
-        &desk.journal,
+        &mut fixture.port,
+        &mut fixture.server,
+        &fixture.journal,
         turns,
-        &mut desk.sink,
+        &mut fixture.sink,
     )
-}
-
-fn same_number(rt: &impl Abort, found: u64, wanted: u64) {
-    assert_eq!(rt; found, wanted);
 }
 
 // So many turns print this text, and send so many datagrams.
 fn expect_served(
     rt: &(impl Abort + AllocGlobal),
-    desk: &mut Desk,
+    fixture: &mut Fixture,
     turns: u64,
     text: &[u8],
     sent: usize,
 ) {
-    same_outcome(rt, serve(rt, desk, turns), Ok(0));
-    same_bytes(rt, desk.sink.bytes(), text);
-    same_size(rt, desk.port.sent().len(), sent);
+    same_outcome(rt, serve(rt, fixture, turns), Ok(0));
+    same_bytes(rt, fixture.sink.bytes(), text);
+    same_size(rt, fixture.port.sent().len(), sent);
 }
 
 // The letter of this number is to peer 7.
@@ -183,25 +183,25 @@ fn expect_letter<'a>(rt: &impl Abort, port: &'a MemoryPort, i: usize) -> &'a [u8
     }
 }
 
-fn expect_example(rt: &(impl Abort + AllocGlobal), desk: &mut Desk) {
-    expect_served(rt, desk, 4, TEXT, 1);
-    same_size(rt, desk.port.left(), 0);
-    same_number(rt, desk.port.failures(), 1);
-    same_bytes(rt, expect_letter(rt, &desk.port, 0), TWO_AND_THREE);
+fn expect_example(rt: &(impl Abort + AllocGlobal), fixture: &mut Fixture) {
+    expect_served(rt, fixture, 4, TEXT, 1);
+    same_size(rt, fixture.port.left(), 0);
+    same_number(rt, fixture.port.failures(), 1);
+    same_bytes(rt, expect_letter(rt, &fixture.port, 0), TWO_AND_THREE);
 }
 
 #[test]
 fn serve_over_memory(rt: HostRuntime) -> Result<(), Fail> {
-    let mut desk = make_desk(rt.alloc(), 1, &EXAMPLE)?;
-    expect_example(&rt, &mut desk);
+    let mut fixture = make_fixture(rt.alloc(), 1, &EXAMPLE)?;
+    expect_example(&rt, &mut fixture);
     Ok(())
 }
 
 fn expect_failing(rt: &(impl Abort + AllocGlobal), given: &[Given]) -> Result<(), Fail> {
     let text = b"answered 2 2\nrefused Ahead 6\nanswered 1 refused 1 quiet 1 failed 2\n";
-    let mut desk = make_desk(rt.alloc(), 1, given)?;
-    expect_served(rt, &mut desk, 5, text, 1);
-    same_number(rt, desk.port.failures(), 2);
+    let mut fixture = make_fixture(rt.alloc(), 1, given)?;
+    expect_served(rt, &mut fixture, 5, text, 1);
+    same_number(rt, fixture.port.failures(), 2);
     Ok(())
 }
 
@@ -218,8 +218,8 @@ fn refusals_are_printed_with_their_numbers(rt: HostRuntime) -> Result<(), Fail> 
     let text =
         b"refused EmptyRequest\nrefused SequenceZero\nrefused WrongSession\nrefused RequestLength 64\n\
         answered 0 refused 4 quiet 0 failed 0\n";
-    let mut desk = make_desk(rt.alloc(), 1, &REFUSED)?;
-    expect_served(&rt, &mut desk, 4, text, 0);
+    let mut fixture = make_fixture(rt.alloc(), 1, &REFUSED)?;
+    expect_served(&rt, &mut fixture, 4, text, 0);
     Ok(())
 }
 
@@ -231,11 +231,11 @@ fn all_asked(
     fails: u64,
     text: &[u8],
     sent: usize,
-) -> Result<Desk, Fail> {
-    let mut desk = make_desk(rt.alloc(), burst, &[Given::Bytes(ALL)])?;
-    desk.port.fail_send(fails);
-    expect_served(rt, &mut desk, 1, text, sent);
-    Ok(desk)
+) -> Result<Fixture, Fail> {
+    let mut fixture = make_fixture(rt.alloc(), burst, &[Given::Bytes(ALL)])?;
+    fixture.port.fail_send(fails);
+    expect_served(rt, &mut fixture, 1, text, sent);
+    Ok(fixture)
 }
 
 fn expect_two_letters(rt: &impl Abort, port: &MemoryPort) {
@@ -259,27 +259,27 @@ fn a_failed_send_leaves_the_others_of_its_burst(rt: HostRuntime) -> Result<(), F
     let second = b"answered 1 2\nanswered 5 1\nanswered 2 refused 0 quiet 0 failed 1\n";
     let third = b"answered 1 2\nanswered 3 2\nanswered 2 refused 0 quiet 0 failed 1\n";
     for (fails, text) in [(1, first), (2, second), (3, third)] {
-        let desk = all_asked(&rt, 3, fails, text, 2)?;
-        same_number(&rt, desk.port.failures(), 1);
+        let fixture = all_asked(&rt, 3, fails, text, 2)?;
+        same_number(&rt, fixture.port.failures(), 1);
     }
     Ok(())
 }
 
 // The write of this number, of one byte, fails.
-fn expect_broken_off(rt: &(impl Abort + AllocGlobal), desk: &mut Desk, k: usize) {
-    desk.sink.at_most(1);
-    desk.sink.fail_at(k as u64);
-    same_outcome(rt, serve(rt, desk, 4), Err(CommandFault::Write));
-    same_size(rt, desk.sink.bytes().len(), k.saturating_sub(1));
-    assert!(rt; TEXT.starts_with(desk.sink.bytes()), "another beginning");
-    same_size(rt, desk.port.sent().len(), 1);
+fn expect_broken_off(rt: &(impl Abort + AllocGlobal), fixture: &mut Fixture, k: usize) {
+    fixture.sink.at_most(1);
+    fixture.sink.fail_at(k as u64);
+    same_outcome(rt, serve(rt, fixture, 4), Err(CommandFault::Write));
+    same_size(rt, fixture.sink.bytes().len(), k.saturating_sub(1));
+    assert!(rt; TEXT.starts_with(fixture.sink.bytes()), "another beginning");
+    same_size(rt, fixture.port.sent().len(), 1);
 }
 
 #[test]
 fn after_a_failed_write_a_beginning_is_written(rt: HostRuntime) -> Result<(), Fail> {
     for k in 1..=TEXT.len() {
-        let mut desk = make_desk(rt.alloc(), 1, &EXAMPLE)?;
-        expect_broken_off(&rt, &mut desk, k);
+        let mut fixture = make_fixture(rt.alloc(), 1, &EXAMPLE)?;
+        expect_broken_off(&rt, &mut fixture, k);
     }
     Ok(())
 }
@@ -287,54 +287,60 @@ fn after_a_failed_write_a_beginning_is_written(rt: HostRuntime) -> Result<(), Fa
 #[test]
 fn no_turns_print_the_last_line(rt: HostRuntime) -> Result<(), Fail> {
     let text = b"answered 0 refused 0 quiet 0 failed 0\n";
-    let mut desk = make_desk(rt.alloc(), 1, &EXAMPLE)?;
-    expect_served(&rt, &mut desk, 0, text, 0);
-    same_size(&rt, desk.port.left(), 4);
+    let mut fixture = make_fixture(rt.alloc(), 1, &EXAMPLE)?;
+    expect_served(&rt, &mut fixture, 0, text, 0);
+    same_size(&rt, fixture.port.left(), 4);
     Ok(())
 }
 
-fn expect_counted(rt: &(impl Abort + AllocGlobal), desk: &mut Desk) -> Result<(), AllocError> {
+fn expect_counted(
+    rt: &(impl Abort + AllocGlobal),
+    fixture: &mut Fixture,
+) -> Result<(), AllocError> {
     let mut tally = Tally::new(rt.alloc());
-    assert!(rt; desk.journal.max_message() <= desk.server.max_message());
+    assert!(rt; fixture.journal.max_message() <= fixture.server.max_message());
     answer_request(
-        &mut desk.port,
-        &mut desk.server,
-        &desk.journal,
+        &mut fixture.port,
+        &mut fixture.server,
+        &fixture.journal,
         7,
         ALL,
         &mut tally,
     )?;
     same_number(rt, tally.answered(), 2);
     same_number(rt, tally.failed(), 1);
-    same_number(rt, desk.server.answered(), 1);
+    same_number(rt, fixture.server.answered(), 1);
     Ok(())
 }
 
 #[test]
 fn one_request_is_answered_and_counted(rt: HostRuntime) -> Result<(), Fail> {
-    let mut desk = make_desk(rt.alloc(), 3, &[])?;
-    desk.port.fail_send(2);
-    expect_counted(&rt, &mut desk)?;
+    let mut fixture = make_fixture(rt.alloc(), 3, &[])?;
+    fixture.port.fail_send(2);
+    expect_counted(&rt, &mut fixture)?;
     Ok(())
 }
 
 // All is written, or after a fault a beginning.
-fn expect_beginning(rt: &(impl Abort + AllocGlobal), desk: &mut Desk) {
-    let outcome = serve(rt, desk, 4);
+fn expect_beginning(rt: &(impl Abort + AllocGlobal), fixture: &mut Fixture) {
+    let outcome = serve(rt, fixture, 4);
     // A letter that the port has no memory for is a failed send.
-    let wanted = if desk.port.failures() > 1 {
+    let wanted = if fixture.port.failures() > 1 {
         b"refused Ahead 6\nanswered 0 refused 1 quiet 1 failed 2\n".as_slice()
     } else {
         TEXT
     };
     if outcome.is_err() {
-        let failed = desk.sink.failures() > 0;
+        let failed = fixture.sink.failures() > 0;
         same_outcome(rt, outcome, Err(fault_of(failed)));
-        assert!(rt; wanted.starts_with(desk.sink.bytes()), "another beginning");
-        assert!(rt; desk.port.sent().len() <= 1, "more letters");
+        assert!(rt;
+            wanted.starts_with(fixture.sink.bytes()),
+            "another beginning"
+        );
+        assert!(rt; fixture.port.sent().len() <= 1, "more letters");
     } else {
         same_outcome(rt, outcome, Ok(0));
-        same_bytes(rt, desk.sink.bytes(), wanted);
+        same_bytes(rt, fixture.sink.bytes(), wanted);
     }
 }
 
@@ -350,7 +356,7 @@ fn fault_of(failed: bool) -> CommandFault {
 /// `tests/growths` refuses each growth in turn.
 #[test]
 fn a_refused_growth_leaves_a_beginning(rt: HostRuntime) -> Result<(), Fail> {
-    let mut desk = make_desk(rt.alloc(), 1, &EXAMPLE)?;
-    expect_beginning(&rt, &mut desk);
+    let mut fixture = make_fixture(rt.alloc(), 1, &EXAMPLE)?;
+    expect_beginning(&rt, &mut fixture);
     Ok(())
 }

@@ -1,4 +1,4 @@
-//! Tests of `mold_wire`, `mold_devices`, `mold_messages`, `mold_digits`, `mold_text`, `mold_turns`, `mold_ports`.
+//! Tests of `mold_wire`, `mold_devices`, `mold_messages`, `mold_digits`, `mold_text`, `mold_ports`.
 #![tactic(auto)]
 
 #[cfg(test)]
@@ -13,7 +13,5 @@ mod messages;
 mod ports;
 #[cfg(test)]
 mod text;
-#[cfg(test)]
-mod turns;
 #[cfg(test)]
 mod wire;

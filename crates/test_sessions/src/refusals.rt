@@ -1,9 +1,9 @@
 //! Each public call on its happy path, with the line that it writes.
 
 use mold_receiver::Refused;
-use mold_refusals::{push_answer_refusal, push_append_refusal, push_receiver_refusal};
+use mold_refusals::{push_answer_refusal, push_append_refusal};
 use mold_session::{AnswerError, AppendError};
-use mold_text::Word;
+use mold_text::{Word, push_refusal};
 use mold_wire::DecodeError;
 use std::test::Fail;
 
@@ -15,8 +15,8 @@ fn refusals_are_words_behind_others(rt: HostRuntime) -> Result<(), Fail> {
     let refused = [Word::Text(b"refused")];
     push_answer_refusal(&mut out, &refused, AnswerError::Ahead { next: 6 })?;
     let fault = DecodeError::Short { len: 1 };
-    push_receiver_refusal(&mut out, &[Word::Text(b"noise")], Refused::Malformed(fault))?;
-    push_receiver_refusal(&mut out, &[], Refused::Conflict { number: 3 })?;
+    push_refusal(&mut out, &[Word::Text(b"noise")], Refused::Malformed(fault))?;
+    push_refusal(&mut out, &[], Refused::Conflict { number: 3 })?;
     let text = b"refused line 2 TooLong 43\nrefused Ahead 6\nnoise Malformed Short 1\nConflict 3\n";
     assert_eq!(rt; out.as_slice(), text.as_slice());
     Ok(())

@@ -270,7 +270,7 @@ fn expect_no_address(rt: &(impl Abort + AllocGlobal), word: &str) -> Result<(), 
     let line = format!(in rt.alloc(); "serve --journal J --limit 63 --bind {word}")?;
     let text = address_text(rt.alloc(), line.as_str())?;
     let wanted =
-        "error: invalid value for '--bind <bind>': not an address such as 127.0.0.1:9000\n";
+        "error: invalid value for '--bind <ADDRESS>': not an address such as 127.0.0.1:9000\n";
     same_text(rt, text.as_str(), wanted, word);
     Ok(())
 }
@@ -341,7 +341,7 @@ fn expect_usage(rt: &(impl Abort + AllocGlobal), line: &str, wanted: &str) -> Re
 #[test]
 fn texts_that_are_no_values(rt: HostRuntime) -> Result<(), Fail> {
     let wanted =
-        "error: invalid value for '--session <session>': not 1 to 10 characters from space to ~\n";
+        "error: invalid value for '--session <NAME>': not 1 to 10 characters from space to ~\n";
     for line in [
         "pack --session=",
         "pack --session SESSION0012",
@@ -350,7 +350,7 @@ fn texts_that_are_no_values(rt: HostRuntime) -> Result<(), Fail> {
     ] {
         expect_usage(&rt, line, wanted)?;
     }
-    let wanted = "error: invalid value for '--limit <limit>': not a number from 64 to 65507\n";
+    let wanted = "error: invalid value for '--limit <BYTES>': not a number from 64 to 65507\n";
     for line in [
         "pack --session A --limit 63",
         "pack --session A --limit 65508",
@@ -477,52 +477,68 @@ Usage: mold show [OPTIONS]
 Options:
       --request  Read each line as a request packet
   -h, --help     Print help
+
+Example:
+  echo 53455353494f4e30303100000000000000010002000241420000 | mold show
 ";
 
 const PACK_HELP: &str = "Print the packets of a session whose messages standard input gives
 
-Usage: mold pack [OPTIONS] --session <session>
+Usage: mold pack [OPTIONS] --session <NAME>
 
 Options:
-      --session <session>  The session's name, 1 to 10 characters from space to ~
-      --limit <limit>      The most bytes of a packet, 64 to 65507 [default: 1400]
-  -h, --help               Print help
+      --session <NAME>  The session's name, 1 to 10 characters from space to ~
+      --limit <BYTES>   The most bytes of a packet, 64 to 65507 [default: 1400]
+  -h, --help            Print help
+
+Example:
+  printf '4142\\n4344\\n' | mold pack --session SESSION001
 ";
 
 const SIM_HELP: &str = "Run the script of events that standard input gives, and print what each does
 
-Usage: mold sim [OPTIONS] --session <session>
+Usage: mold sim [OPTIONS] --session <NAME>
 
 Options:
-      --session <session>            The session's name, 1 to 10 characters from space to ~
-      --limit <limit>                The most bytes of a packet, 64 to 65507 [default: 1400]
-      --server-limit <server-limit>  The most bytes of an answer, 64 to 65507, not below the limit [default: 1400]
-      --window <window>              How many messages a receiver looks ahead, 1 to 65536 [default: 1024]
-      --receivers <receivers>        How many receivers there are, 1 to 8 [default: 2]
-      --burst <burst>                The most packets that answer a request, 1 to 64 [default: 1]
-  -h, --help                         Print help
+      --session <NAME>        The session's name, 1 to 10 characters from space to ~
+      --limit <BYTES>         The most bytes of a packet, 64 to 65507 [default: 1400]
+      --server-limit <BYTES>  The most bytes of an answer, 64 to 65507 [default: 1400]
+                              It is not below the limit
+      --window <MESSAGES>     How many messages a receiver looks ahead, 1 to 65536 [default: 1024]
+      --receivers <COUNT>     How many receivers there are, 1 to 8 [default: 2]
+      --burst <PACKETS>       The most packets that answer a request, 1 to 64 [default: 1]
+  -h, --help                  Print help
+
+Example:
+  printf '%s\\n' 'publish 41' datagram 'deliver 0 a 0' | mold sim --session SESSION001
 ";
 
 const CHECK_HELP: &str = "Say whether the datagrams of a folder come from one whole session
 
-Usage: mold check <folder>
+Usage: mold check <FOLDER>
 
 Arguments:
-  <folder>  The folder; each of its files whose name ends in .pkt is a datagram
+  <FOLDER>  The folder; each of its files whose name ends in .pkt is a datagram
 
 Options:
   -h, --help  Print help
+
+Example:
+  mold check captures
 ";
 
 const UPGRADE_HELP: &str = "Write the journal of a file in another one, in the newest version
 
-Usage: mold upgrade [OPTIONS] --journal <journal> --to <to>
+Usage: mold upgrade [OPTIONS] --journal <FILE> --to <FILE>
 
 Options:
-      --journal <journal>  The file that is read
-      --to <to>            The file that is made or replaced, another one
-      --close              Close the journal
-  -h, --help               Print help
+      --journal <FILE>  The file that is read
+      --to <FILE>       The file that is made or replaced, another one
+      --close           Close the journal
+  -h, --help            Print help
+
+Example:
+  mold upgrade --journal old.journal --to new.journal
 ";
 
 // The text of help.

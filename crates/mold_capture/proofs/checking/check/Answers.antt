@@ -11,7 +11,11 @@ loop-index-init c = none_checked (bytes_of c.args.list.now) c.new-checker.result
 
 pub returns-in-Err-clause-refused : goal.returns-in-Err-clause-refused
 returns-in-Err-clause-refused c =
-    checked_refused c.reading_law.ensures.read (bytes_of c.args.list.now) c.loop-index.index _ c.loop-index.checker
+    checked_refused c.reading_law.ensures.read (record {
+      none = c.refusal_law.ensures.none;
+      admitted = c.refusal_law.ensures.admitted;
+      same = c.refusal_law.ensures.same;
+    }) (bytes_of c.args.list.now) c.loop-index.index _ c.loop-index.checker
     c.in-Err.reason c.loop-index.invariant
     (omega (arith, length-bytes_of c.args.list.now, c.loop-index-test.true))
     c.in-Err.ensures.refused c.in-Err.ensures.new
@@ -20,7 +24,11 @@ returns-in-Err-clause-refused c =
 pub returns-in-Err-clause-outcome : goal.returns-in-Err-clause-outcome
 returns-in-Err-clause-outcome c =
     refused_answers c.reading_law.ensures.read (bytes_of c.args.list.now) c.loop-index.index c.in-Err.reason
-    (checked_refused c.reading_law.ensures.read (bytes_of c.args.list.now) c.loop-index.index _ c.loop-index.checker
+    (checked_refused c.reading_law.ensures.read (record {
+      none = c.refusal_law.ensures.none;
+      admitted = c.refusal_law.ensures.admitted;
+      same = c.refusal_law.ensures.same;
+    }) (bytes_of c.args.list.now) c.loop-index.index _ c.loop-index.checker
     c.in-Err.reason c.loop-index.invariant
     (omega (arith, length-bytes_of c.args.list.now, c.loop-index-test.true))
     c.in-Err.ensures.refused c.in-Err.ensures.new
@@ -28,7 +36,11 @@ returns-in-Err-clause-outcome c =
 
 pub loop-index-preserved : goal.loop-index-preserved
 loop-index-preserved c =
-    checked_more c.reading_law.ensures.read (bytes_of c.args.list.now) c.loop-index.index _ c.loop-index.checker
+    checked_more c.reading_law.ensures.read (record {
+      none = c.refusal_law.ensures.none;
+      admitted = c.refusal_law.ensures.admitted;
+      same = c.refusal_law.ensures.same;
+    }) (bytes_of c.args.list.now) c.loop-index.index _ c.loop-index.checker
     c.add.new.self c.in_default.ensures.spelled.0 c.loop-index.invariant
     (omega (arith, length-bytes_of c.args.list.now, c.loop-index-test.true))
     c.in_default.ensures.ok

@@ -1,6 +1,7 @@
 use Rattle.std.proofs.Common.{◌≡◌, ◌||◌, Bool, true, false, ℕ, ◌+◌, List, length, not, refl, sym, ap, ◌∙◌, inl, inr, arith}
 use Rattle.std.proofs.lemmas.Bool.{or_cases, or_parts, cases_Bool, true≢false, not-true, not-false}
-use Rattle.mold_capture.specs.Refusal.{conflict, differs}
+use Rattle.mold_capture.specs.Refusal.{conflict}
+use Rattle.mold_rule.specs.Held.{differs}
 use Rattle.mold_capture.specs.Runs.{carried}
 use Rattle.mold_capture.specs.Seen.{pairs_with}
 use Rattle.mold_capture.proofs.KeepLemmas.{with_none, with_held, brings_first, conflict_next, copied_some, copied_none}

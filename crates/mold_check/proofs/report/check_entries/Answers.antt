@@ -1,9 +1,9 @@
 use Rattle.std.proofs.Common.{◌≡◌, List, ℕ, Bor, [], ◌∷◌, get_or, map, arith, sym, ap, ◌∙◌, refl, rules}
 use Rattle.mold_capture.specs.Outcome.{outcome_in, refused}
-use Rattle.mold_capture.specs.declared.reason.Reason.TheVariants.{Memory}
-use Rattle.mold_text.specs.Text.{refused_line}
+use Rattle.mold_rule.specs.declared.refusal.Refusal.TheVariants.{Memory}
+use Rattle.mold_text.specs.Text.{refusal_words, refused_line}
 use Rattle.mold_check.specs.Entries.{bytes_of, name_of}
-use Rattle.mold_check.specs.Report.{outcome_text, reason_words}
+use Rattle.mold_check.specs.Report.{outcome_text}
 use Rattle.mold_check.specs.declared.entry.Entry.{Entry}
 use Rattle.mold_check.proofs.OrderLemmas.{lent, order_few}
 use Rattle.mold_check.proofs.CheckedLemmas.{verdict_outcome, verdict_text, refused_outcome, checked_of, bytes_lent}
@@ -84,10 +84,10 @@ returns g c =
     ∙ ap (λ (e : Bor Entry). name_of e.now) c.index.ensures
     ∙ sym (name_at order c.in-Err.index c.index.result.now (within_order order _ c.in-Err.index list told.0))
     in
-    let text = report_text c.args.entries.now order _ _ _ _ (refused_line (c.as_bytes-name.result.now ∷ reason_words why))
+    let text = report_text c.args.entries.now order _ _ _ _ (refused_line (c.as_bytes-name.result.now ∷ refusal_words why))
     (refused c.in-Err.index why) c.new-text.ensures.items c.in_ok-push_counts.ensures
     (c.len.ensures ∙ c.in_ok-order.order.ok.0) (c.len-2.ensures ∙ c.in_ok-order.order.ok.0)
-    (ap (λ n. refused_line (n ∷ reason_words why)) name)
+    (ap (λ n. refused_line (n ∷ refusal_words why)) name)
     in
     record {
       whole = told_whole _ _ c.args.entries.now checked c.tell_refusal.result _ _ text refl c.tell_refusal.ensures.whole;

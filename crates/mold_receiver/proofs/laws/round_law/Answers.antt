@@ -1,7 +1,7 @@
 use Rattle.std.proofs.Common.{arith}
 use Rattle.mold_receiver.specs.Receive.{data_packet}
 use Rattle.mold_receiver.specs.Wanted.{gap_end}
-use Rattle.mold_receiver.proofs.GapLemmas.{taken_in_gap}
+use Rattle.mold_receiver.proofs.GapLemmas.{in_gap, taken_in_gap}
 use Rattle.mold_receiver.proofs.LawLemmas.{gap_is, wanted_is}
 use Rattle.mold_receiver.proofs.laws.round_law.Goals as goal
 
@@ -12,7 +12,8 @@ returns-clause-gap c v end messages bytes well gap fits spelled =
       all = c.lacking_law.ensures.all;
       none = c.lacking_law.ensures.none;
       same = c.lacking_law.ensures.same;
-    }) v messages end bytes (record { well = well; gap = gap; fits = fits })
+    }) v messages end bytes
+    (in_gap c.refusal_law.ensures.none v messages end well gap fits)
     (c.reading_law.ensures.read (data_packet v.session v.next messages) bytes spelled)
 
 pub returns-clause-wanted : goal.returns-clause-wanted

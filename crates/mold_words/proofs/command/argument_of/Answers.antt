@@ -10,22 +10,42 @@ returns-in-Flag-clause-rule c =
 
 pub returns-in-Optional-clause-rule : goal.returns-in-Optional-clause-rule
 returns-in-Optional-clause-rule c =
-    rw (c.in-Optional.is, c.action-in-Optional.ensures, c.long-in-Optional.ensures, c.help-argument.ensures)
-    (ap (λ (rule : Rule). record rule { long = Some c.args.option.name.now; action = Some Set }) c.new.ensures.rule)
+    rw (
+      c.in-Optional.is,
+      c.value_name.ensures,
+      c.action-in-Optional.ensures,
+      c.long-in-Optional.ensures,
+      c.help-argument.ensures,
+    )
+    (ap (λ (rule : Rule). record rule { long = Some c.args.option.name.now; action = Some Set; value_names = 1 })
+    c.new.ensures.rule)
 
 pub returns-in-Required-clause-rule : goal.returns-in-Required-clause-rule
 returns-in-Required-clause-rule c =
     rw (
       c.in-Required.is,
       c.required.ensures,
+      c.value_name-in-Required.ensures,
       c.action-in-Required.ensures,
       c.long-in-Required.ensures,
       c.help-argument.ensures,
     )
-    (ap (λ (rule : Rule). record rule { long = Some c.args.option.name.now; action = Some Set; required = true })
+    (ap
+    (λ (rule : Rule). record rule {
+      long = Some c.args.option.name.now;
+      action = Some Set;
+      value_names = 1;
+      required = true;
+    })
     c.new.ensures.rule)
 
 pub returns-in-Word-clause-rule : goal.returns-in-Word-clause-rule
 returns-in-Word-clause-rule c =
-    rw (c.in-Word.is, c.required-in-Word.ensures, c.action-in-Word.ensures, c.help-argument.ensures)
-    (ap (λ (rule : Rule). record rule { action = Some Set; required = true }) c.new.ensures.rule)
+    rw (
+      c.in-Word.is,
+      c.required-in-Word.ensures,
+      c.value_name-in-Word.ensures,
+      c.action-in-Word.ensures,
+      c.help-argument.ensures,
+    )
+    (ap (λ (rule : Rule). record rule { action = Some Set; value_names = 1; required = true }) c.new.ensures.rule)

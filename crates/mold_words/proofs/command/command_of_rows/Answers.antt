@@ -12,6 +12,7 @@ no_row = record {
   name = record { ref_ptr = (0, 0); now = [] };
   about = record { ref_ptr = (0, 0); now = [] };
   options = record { ref_ptr = (0, 0); now = [] };
+  example = record { ref_ptr = (0, 0); now = [] };
 }
 
 pub loop-row-preserved : goal.loop-row-preserved

@@ -1,4 +1,5 @@
-use Rattle.std.proofs.Common.{◌≡◌, ◌+◌, length, None, subst, arith}
+use Rattle.std.proofs.Common.{◌≡◌, ◌+◌, length, None, ap, subst, arith}
+use Rattle.mold_rule.specs.Refusals.{conflict_at}
 use Rattle.mold_capture.specs.Refusal.{conflict}
 use Rattle.mold_capture.specs.Runs.{AreFree}
 use Rattle.mold_capture.specs.Seen.{Pairs, BringNew}
@@ -30,7 +31,7 @@ returns-then-is_free-clause-new c =
     c.len.ensures.range.0 free))
 
 pub returns-then-is_free-clause-refused : goal.returns-then-is_free-clause-refused
-returns-then-is_free-clause-refused c = memory_told c.add_all.result _ c.add_all.ensures.memory (none c)
+returns-then-is_free-clause-refused c = memory_told c.add_all.result _ c.add_all.ensures.memory (ap conflict_at (none c))
 
 pub returns-then-is_free-clause-taken : goal.returns-then-is_free-clause-taken
 returns-then-is_free-clause-taken c = always_ok c.add_all.result _ (none c)

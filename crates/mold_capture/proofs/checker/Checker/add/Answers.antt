@@ -1,8 +1,11 @@
 use Rattle.std.proofs.Common.{max, sym, ap, rules, subst, ◌∙◌}
+use Rattle.mold_wire.specs.Packet.{messages_of}
+use Rattle.mold_rule.specs.Refusals.{conflict_at}
+use Rattle.mold_capture.specs.Refusal.{conflict}
 use Rattle.mold_capture.specs.Seen.{IsSound, seen_by}
 use Rattle.mold_capture.proofs.JoinLemmas.{still_sound}
 use Rattle.mold_capture.proofs.RefusalLemmas.{joins_from}
-use Rattle.mold_capture.proofs.CheckerLemmas.{refused_late, Joins, joins_is, read_early, read_late, read_joined}
+use Rattle.mold_capture.proofs.CheckerLemmas.{Joins, joins_is, read_early, read_late, read_joined}
 use Rattle.mold_capture.proofs.checker.Checker.add.Goals as goal
 
 pub returns-in_err-top-clause-refused : goal.returns-in_err-top-clause-refused
@@ -10,14 +13,14 @@ returns-in_err-top-clause-refused c =
     let f = c.self.inside in
     let refused = read_early (seen_by f.session f.known f.ended f.carried) c.args.self.now c.args.bytes.now
     c.in-Ok.packet c.in_err-top.field-0.0 c.self.view_is (sym c.decode.ensures.exact ∙ c.in-Ok.is)
-    c.in_err-top.ensures.refused c.in_err-top.ensures.some in
+    c.in_err-top.ensures.refused c.in_err-top.ensures.cause in
     search (rules, refused)
 
 pub returns-in_err-join_messages-clause-refused : goal.returns-in_err-join_messages-clause-refused
 returns-in_err-join_messages-clause-refused c =
     let f = c.self.inside in
     let refused = read_late (seen_by f.session f.known f.ended f.carried) c.args.self.now c.args.bytes.now
-    c.in-Ok.packet c.self.view_is (sym c.decode.ensures.exact ∙ c.in-Ok.is) c.in_ok-top.ensures.ok
+    c.in-Ok.packet c.self.view_is (sym c.decode.ensures.exact ∙ c.in-Ok.is) c.in_ok-top.ensures.passed
     ∙ c.in_err-join_messages.ensures.refused in
     search (rules, refused)
 
@@ -36,9 +39,14 @@ pub invariant_of-self-2 : goal.invariant_of-self-2
 invariant_of-self-2 c =
     let f = c.self.inside in
     let before = seen_by f.session f.known f.ended f.carried in
-    let none = refused_late before c.in-Ok.packet c.in_ok-top.ensures.ok ∙ c.in_ok-join_messages.ensures.taken in
+    let other = conflict before.pairs c.in-Ok.packet.sequence (messages_of c.in-Ok.packet.body) in
+    let none = c.in_ok-top.ensures.passed other ∙ ap conflict_at c.in_ok-join_messages.ensures.taken in
     subst IsSound (sym (joins_is _ _ _ _ _ _ _ _ c.in-Ok.packet (joined_parts c)))
-    (still_sound before c.in-Ok.packet c.self.invariant (joins_from before c.in-Ok.packet none))
+    (still_sound before c.in-Ok.packet c.self.invariant (joins_from (record {
+      none = c.refusal_law.ensures.none;
+      admitted = c.refusal_law.ensures.admitted;
+      same = c.refusal_law.ensures.same;
+    }) before c.in-Ok.packet none))
 
 pub returns-clause-ok : goal.returns-clause-ok
 returns-clause-ok c =

@@ -1,7 +1,7 @@
 use Rattle.std.proofs.Common.{◌≡◌, sym, ap, ◌∙◌, refl, inl, Option}
 use Rattle.std.specs.Prelude.{Ok}
 use Rattle.mold_wire.specs.Reading.{reading}
-use Rattle.mold_receiver.specs.declared.refused.Refused.{Refused}
+use Rattle.mold_rule.specs.declared.refusal.Refusal.{Refusal as Refused}
 use Rattle.mold_receiver.specs.Receive.{receive_read, decide, reception}
 use Rattle.mold_receiver.proofs.receiver.Receiver.accept.Goals as goal
 

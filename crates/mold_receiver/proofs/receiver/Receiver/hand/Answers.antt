@@ -4,7 +4,8 @@ use Rattle.mold_wire.specs.declared.packet.Body.TheVariants.{Data}
 use Rattle.mold_receiver.specs.declared.taken.Taken.{Taken}
 use Rattle.mold_receiver.specs.Batch.{followed_by}
 use Rattle.mold_receiver.specs.Handing.{run_of}
-use Rattle.mold_receiver.specs.Receive.{data_packet, handed_on, past_end, view_after, taken_of}
+use Rattle.mold_receiver.specs.Receive.{data_packet, handed_on, view_after, taken_of}
+use Rattle.mold_rule.specs.Refusals.{past_end}
 use Rattle.mold_receiver.specs.View.{View, IsWellFormed, view_over}
 use Rattle.mold_receiver.proofs.ViewLemmas.{stays_well, handed_view, at_run, at_taken, run_few, slot_numbers}
 use Rattle.mold_receiver.proofs.ViewLemmas.{some_handed}

@@ -5,7 +5,8 @@ use Rattle.mold_wire.specs.declared.packet.Body.TheVariants.{Data}
 use Rattle.mold_receiver.specs.declared.keep.Copied.{Copied}
 use Rattle.mold_receiver.specs.declared.taken.Taken.{Taken}
 use Rattle.mold_receiver.specs.Keeping.{fresh, put_pairs}
-use Rattle.mold_receiver.specs.Receive.{data_packet, handed_on, past_end, view_after, taken_of}
+use Rattle.mold_receiver.specs.Receive.{data_packet, handed_on, view_after, taken_of}
+use Rattle.mold_rule.specs.Refusals.{past_end}
 use Rattle.mold_receiver.specs.Store.{Message, first_conflict, from_next}
 use Rattle.mold_receiver.specs.View.{View, IsWellFormed, view_over}
 use Rattle.mold_receiver.proofs.ViewLemmas.{above_handed, stays_well, kept_view, ahead_taken, fresh_short}

@@ -1,0 +1,27 @@
+-- Faults of a loop that reads no source, and the sink's count.
+use Rattle.std.proofs.Common.{◌≡◌, ℕ, Result, Ok, Err, ap, subst, sym, ◌∙◌}
+use Rattle.std.specs.Prelude.{IsErrAnd}
+use Rattle.mold_devices.specs.Devices.{one_more}
+use Rattle.mold_devices.specs.declared.fault.CommandFault.{CommandFault}
+use Rattle.mold_devices.specs.declared.fault.CommandFault.TheVariants.{Write, Memory}
+use Rattle.mold_feed.specs.Faults.{CountsSink, CountsSinkFault}
+
+-- memory was refused, and nothing failed so far
+pub counts_memory : {T : Type 0} (result : Result T CommandFault) (old new : ℕ) →
+    IsErrAnd result (λ fault. fault ≡ Memory) → new ≡ old → CountsSink old new result
+counts_memory (Ok _) old new is same = absurd is
+counts_memory (Err fault) old new is same = subst (CountsSinkFault old new) (sym is) same
+
+-- a write failed, and nothing before
+pub counts_write : {T : Type 0} (result : Result T CommandFault) (cause : CommandFault) (old mid new : ℕ) →
+    IsErrAnd result (λ fault. fault ≡ cause) → cause ≡ Write → new ≡ one_more mid → mid ≡ old →
+    CountsSink old new result
+counts_write (Ok _) cause old mid new is write counted same = absurd is
+counts_write (Err fault) cause old mid new is write counted same =
+    subst (CountsSinkFault old new) (sym (is ∙ write)) (counted ∙ ap one_more same)
+
+-- the fault is another call's
+pub counts_same : {T : Type 0} (result : Result T CommandFault) (cause : CommandFault) (old new : ℕ) →
+    IsErrAnd result (λ fault. fault ≡ cause) → CountsSinkFault old new cause → CountsSink old new result
+counts_same (Ok _) cause old new is counted = absurd is
+counts_same (Err fault) cause old new is counted = subst (CountsSinkFault old new) (sym is) counted

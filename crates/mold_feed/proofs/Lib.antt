@@ -1,0 +1,9 @@
+pub mod AnsweringLemmas
+pub mod FaultLemmas
+pub mod HandedLemmas
+pub mod ListenLemmas
+pub mod PublishLoopLemmas
+pub mod RunLemmas
+pub mod ServingLemmas
+pub mod TurnLemmas
+pub mod WritingLemmas

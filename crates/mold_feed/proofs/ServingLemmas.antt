@@ -1,0 +1,245 @@
+-- What turns of a serving do: a text in front of what was printed changes nothing else, and turns only print and send
+-- more.
+use Rattle.std.proofs.Common.{◌≡◌, ℕ, Bool, true, false, List, [], ◌∷◌, ◌++◌, drop, Option, Result, Ok, Err, refl, sym, ap, subst, ◌∙◌, append_assoc}
+use Rattle.std.specs.Prelude.{IsErr, IsErrAnd}
+use Rattle.mold_devices.specs.Devices.{one_more}
+use Rattle.mold_devices.specs.declared.fault.CommandFault.{CommandFault}
+use Rattle.mold_devices.specs.declared.fault.CommandFault.TheVariants.{Memory, Write}
+use Rattle.mold_ports.specs.Ports.{Port, Receipt, Datagram, Quiet, Failure, cut, next_of, received}
+use Rattle.mold_feed.specs.Answering.{Reaches}
+use Rattle.mold_feed.specs.Serving.{Service, ResponderState, behind, fails_first, met, offer, offer_all}
+use Rattle.mold_feed.specs.Serving.{replied, reply, serve_turn, service_of, serving, responder_of}
+use Rattle.mold_feed.specs.Tally.{TallyState, with_text}
+use Rattle.mold_session.specs.Journal.{JournalState}
+use Rattle.mold_session.specs.Server.{ServerState}
+use Rattle.mold_session.specs.declared.error.AnswerError.{AnswerError}
+use Rattle.mold_feed.specs.Faults.{CountsSink, CountsSinkFault}
+use Rattle.mold_feed.specs.Runs.{Begins, Rests, run}
+use Rattle.mold_feed.proofs.RunLemmas.{IsLoop, begins_more, begins_trans, begins_whole, none_ok}
+use Rattle.mold_wire.specs.declared.packet.Packet.{Packet}
+
+-- ---- a text in front
+
+offer_behind : {P : Type 0} (to : P) (fails : Bool) (packet : Packet) (front : List ℕ) (responder : ResponderState P) →
+    offer to fails packet (behind front responder) ≡ behind front (offer to fails packet responder)
+offer_behind to true packet front responder = refl
+offer_behind {P} to false packet front responder =
+    let after : ResponderState P = offer to false packet responder in
+    ap
+    (λ (text : List ℕ). record { port = after.port; tally = with_text text after.tally; requests = after.requests })
+    (append_assoc front responder.tally.text _)
+
+offer_all_behind : {P : Type 0} (to : P) (packets : List Packet) (fails : List Bool) (front : List ℕ)
+    (responder : ResponderState P) → offer_all to packets fails (behind front responder) ≡ behind front (offer_all to packets fails responder)
+unfolding offer_all
+offer_all_behind to [] fails front responder = refl
+offer_all_behind to (packet ∷ packets) fails front responder =
+    ap (offer_all to packets (drop 1 fails)) (offer_behind to (fails_first fails) packet front responder)
+    ∙ offer_all_behind to packets (drop 1 fails) front (offer to (fails_first fails) packet responder)
+
+replied_behind : {P : Type 0} (to : P) (fails : List Bool) (reply : Result (List Packet) AnswerError)
+    (front : List ℕ) (responder : ResponderState P) → replied to fails reply (behind front responder) ≡ behind front (replied to fails reply responder)
+replied_behind to fails (Ok packets) front responder = offer_all_behind to packets fails front _
+replied_behind {P} to fails (Err why) front responder =
+    let after : ResponderState P = replied to fails (Err why) responder in
+    ap
+    (λ (text : List ℕ). record { port = after.port; tally = with_text text after.tally; requests = after.requests })
+    (append_assoc front responder.tally.text _)
+
+met_behind : {P : Type 0} (service : Service) (fails : List Bool) (receipt : Receipt P) (front : List ℕ)
+    (responder : ResponderState P) → met service fails receipt (behind front responder) ≡ behind front (met service fails receipt responder)
+met_behind service fails (Datagram from bytes) front responder = replied_behind from fails (reply service bytes) front responder
+met_behind service fails Quiet front responder = refl
+met_behind service fails Failure front responder = refl
+
+turn_behind : {P : Type 0} (service : Service) (front : List ℕ) (fails : List Bool) (responder : ResponderState P) →
+    serve_turn service fails (behind front responder) ≡ behind front (serve_turn service fails responder)
+unfolding serve_turn
+turn_behind service front fails responder =
+    met_behind service fails (cut 65507 (next_of responder.port)) front
+    (record { port = received responder.port; tally = responder.tally; requests = responder.requests })
+
+-- ---- more is printed and sent
+
+offer_prints : {P : Type 0} (to : P) (fails : Bool) (packet : Packet) (responder : ResponderState P) →
+    Begins responder.tally.text (offer to fails packet responder).tally.text
+offer_prints to true packet responder = begins_whole responder.tally.text
+offer_prints to false packet responder = begins_more responder.tally.text _
+
+pub offer_sends : {P : Type 0} (to : P) (fails : Bool) (packet : Packet) (responder : ResponderState P) →
+    Begins responder.port.sent (offer to fails packet responder).port.sent
+offer_sends to true packet responder = begins_whole responder.port.sent
+offer_sends to false packet responder = begins_more responder.port.sent _
+
+offer_all_prints : {P : Type 0} (to : P) (packets : List Packet) (fails : List Bool) (responder : ResponderState P) →
+    Begins responder.tally.text (offer_all to packets fails responder).tally.text
+unfolding offer_all
+offer_all_prints to [] fails responder = begins_whole responder.tally.text
+offer_all_prints to (packet ∷ packets) fails responder =
+    begins_trans (offer_prints to (fails_first fails) packet responder)
+    (offer_all_prints to packets (drop 1 fails) (offer to (fails_first fails) packet responder))
+
+pub offer_all_sends : {P : Type 0} (to : P) (packets : List Packet) (fails : List Bool) (responder : ResponderState P) →
+    Begins responder.port.sent (offer_all to packets fails responder).port.sent
+unfolding offer_all
+offer_all_sends to [] fails responder = begins_whole responder.port.sent
+offer_all_sends to (packet ∷ packets) fails responder =
+    begins_trans (offer_sends to (fails_first fails) packet responder)
+    (offer_all_sends to packets (drop 1 fails) (offer to (fails_first fails) packet responder))
+
+replied_prints : {P : Type 0} (to : P) (fails : List Bool) (reply : Result (List Packet) AnswerError)
+    (responder : ResponderState P) → Begins responder.tally.text (replied to fails reply responder).tally.text
+replied_prints to fails (Ok packets) responder = offer_all_prints to packets fails _
+replied_prints to fails (Err why) responder = begins_more responder.tally.text _
+
+pub replied_sends : {P : Type 0} (to : P) (fails : List Bool) (reply : Result (List Packet) AnswerError)
+    (responder : ResponderState P) → Begins responder.port.sent (replied to fails reply responder).port.sent
+replied_sends to fails (Ok packets) responder = offer_all_sends to packets fails _
+replied_sends to fails (Err why) responder = begins_whole responder.port.sent
+
+met_prints : {P : Type 0} (service : Service) (fails : List Bool) (receipt : Receipt P) (responder : ResponderState P) →
+    Begins responder.tally.text (met service fails receipt responder).tally.text
+met_prints service fails (Datagram from bytes) responder = replied_prints from fails (reply service bytes) responder
+met_prints service fails Quiet responder = begins_whole responder.tally.text
+met_prints service fails Failure responder = begins_whole responder.tally.text
+
+met_sends : {P : Type 0} (service : Service) (fails : List Bool) (receipt : Receipt P) (responder : ResponderState P) →
+    Begins responder.port.sent (met service fails receipt responder).port.sent
+met_sends service fails (Datagram from bytes) responder = replied_sends from fails (reply service bytes) responder
+met_sends service fails Quiet responder = begins_whole responder.port.sent
+met_sends service fails Failure responder = begins_whole responder.port.sent
+
+turn_prints : {P : Type 0} (service : Service) (fails : List Bool) (responder : ResponderState P) →
+    Begins responder.tally.text (serve_turn service fails responder).tally.text
+unfolding serve_turn
+turn_prints service fails responder =
+    met_prints service fails (cut 65507 (next_of responder.port))
+    (record { port = received responder.port; tally = responder.tally; requests = responder.requests })
+
+turn_sends : {P : Type 0} (service : Service) (fails : List Bool) (responder : ResponderState P) →
+    Begins responder.port.sent (serve_turn service fails responder).port.sent
+unfolding serve_turn
+turn_sends service fails responder =
+    met_sends service fails (cut 65507 (next_of responder.port))
+    (record { port = received responder.port; tally = responder.tally; requests = responder.requests })
+
+-- so it is a loop that goes by turns
+pub serving_is : {P : Type 0} (service : Service) → IsLoop (serving {P = P} service) behind
+serving_is {P} service = record {
+  none = λ responder. refl;
+  twice = λ front back responder.
+      ap
+      (λ (text : List ℕ). record { port = responder.port; tally = with_text text responder.tally; requests = responder.requests })
+      (sym (append_assoc front back responder.tally.text));
+  turn = turn_behind service;
+  over = λ front responder. refl;
+  text = λ front responder. refl;
+  sent = λ front responder. refl;
+  prints = turn_prints service;
+  sends = turn_sends service;
+}
+
+-- ---- a turn by what was received
+
+-- what was received in a place of 65,507 bytes is met
+pub turn_by : {P : Type 0} (service : Service) (fails : List Bool) (responder : ResponderState P) (receipt : Receipt P) (place : ℕ) →
+    place ≡ 65507 → receipt ≡ cut place (next_of responder.port) →
+    serve_turn service fails responder
+    ≡ met service fails receipt
+    (record { port = received responder.port; tally = responder.tally; requests = responder.requests })
+unfolding serve_turn
+turn_by {P} service fails responder receipt place long is =
+    ap
+    (λ (r : Receipt P).
+    met service fails r (record { port = received responder.port; tally = responder.tally; requests = responder.requests }))
+    (ap (λ (n : ℕ). cut n (next_of responder.port)) (sym long) ∙ sym is)
+
+-- where what was received is met, a turn is made
+pub turn_met : {P T E : Type 0} (result : Result T E) (service : Service) (fails : List Bool) (old new : ResponderState P)
+    (receipt : Receipt P) (place : ℕ) (port : Port P) → place ≡ 65507 → receipt ≡ cut place (next_of old.port) →
+    port ≡ received old.port →
+    Reaches result new
+    (met service fails receipt (record { port = port; tally = old.tally; requests = old.requests })) →
+    Reaches result new (serve_turn service fails old)
+turn_met {P} {T} {E} result service fails old new receipt place port long is left reached =
+    subst (λ (s : ResponderState P). Reaches result new s) (sym (turn_by service fails old receipt place long is))
+    (subst
+    (λ (p : Port P).
+    Reaches result new
+    (met service fails receipt (record { port = p; tally = old.tally; requests = old.requests })))
+    left
+    reached)
+
+-- all was done
+pub reached : {P E : Type 0} {new wanted : ResponderState P} → new ≡ wanted →
+    Reaches {T = Unit {0}} {E = E} (Ok tt) new wanted
+reached {P} {E} {new} {wanted} same = record {
+  whole = same;
+  sent = subst (λ (s : ResponderState P). Begins new.port.sent s.port.sent) same (begins_whole new.port.sent);
+}
+
+-- a state with another tally
+abbrev responder_with : {P : Type 0} → Port P → ℕ → TallyState → ResponderState P
+responder_with port requests tally = record { port = port; tally = tally; requests = requests }
+
+pub tally_is : {P : Type 0} (port : Port P) (requests : ℕ) {one other : TallyState} → one ≡ other →
+    responder_with port requests one ≡ responder_with port requests other
+tally_is port requests same = ap (responder_with port requests) same
+
+-- ---- the text that was written
+
+-- where a front of the text was written, the state before is that behind it
+pub wrote : {P : Type 0} (port : Port P) (before after : TallyState) (requests : ℕ) (front : List ℕ) →
+    before.text ≡ front ++ after.text → after ≡ with_text after.text before →
+    responder_with port requests before ≡ behind front (responder_with port requests after)
+wrote port before after requests front parts same =
+    tally_is port requests
+    (ap (λ (text : List ℕ). with_text text before) parts
+    ∙ ap (with_text (front ++ after.text)) (sym same))
+
+-- the server answers from the same journal, with the same limits
+pub same_service : (journal : JournalState) (server first : ServerState) (answered : ℕ) →
+    server ≡ record first { answered = answered } → service_of journal server ≡ service_of journal first
+same_service journal server first answered same = ap (service_of journal) same
+
+-- after a fault only what was sent is known
+pub rests_as : {P T E : Type 0} (service : Service) (turns : ℕ) (start one other : ResponderState P) (result : Result T E)
+    (old new : Option (List ℕ)) → one.port ≡ other.port → IsErr result →
+    Rests (serving service) behind turns start result old new one →
+    Rests (serving service) behind turns start result old new other
+rests_as {P} {T} {E} service turns start one other result old new same failed rests = record {
+  choices = rests.choices;
+  counted = rests.counted;
+  written = rests.written;
+  appended = rests.appended;
+  whole = none_ok result _ failed;
+  front = rests.front;
+  sent =
+      subst
+      (λ (port : Port P). Begins port.sent (run (serving service) rests.choices start).port.sent)
+      same
+      rests.sent;
+}
+
+-- the tally that a run begins with
+pub rests_from : {P T E : Type 0} (service : Service) (turns : ℕ) (port : Port P) (server : ServerState)
+    {one other : TallyState} (result : Result T E) (old new : Option (List ℕ)) (now : ResponderState P) → one ≡ other →
+    Rests (serving service) behind turns (responder_of port one server) result old new now →
+    Rests (serving service) behind turns (responder_of port other server) result old new now
+rests_from {P} {T} {E} service turns port server {one} {other} result old new now same rests =
+    subst
+    (λ (tally : TallyState). Rests (serving service) behind turns (responder_of port tally server) result old new now)
+    same
+    rests
+
+-- which count stands behind a fault
+
+pub counts_memory : {T : Type 0} (old new : ℕ) (result : Result T CommandFault) → IsErr result →
+    IsErrAnd result (λ fault. fault ≡ Memory) → new ≡ old → CountsSink old new result
+counts_memory old new (Ok _) failed is same = let no : ⊥ = cc in absurd no
+counts_memory old new (Err fault) failed is same = subst (CountsSinkFault old new) (sym is) same
+
+pub counts_write : {T : Type 0} (old new : ℕ) (result : Result T CommandFault) (report : CommandFault) → IsErr result →
+    IsErrAnd result (λ fault. fault ≡ report) → report ≡ Write → new ≡ one_more old → CountsSink old new result
+counts_write old new (Ok _) report failed is so more = let no : ⊥ = cc in absurd no
+counts_write old new (Err fault) report failed is so more = subst (CountsSinkFault old new) (sym (is ∙ so)) more

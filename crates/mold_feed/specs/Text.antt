@@ -1,0 +1,46 @@
+-- What the loops print.
+use Rattle.std.specs.Prelude.{ℕ, ◌+◌, List, [], ◌∷◌, ◌++◌, codes, decimal, Result, Ok, Err}
+use Rattle.mold_text.specs.Line.{line_of, message_digits}
+use Rattle.mold_text.specs.Text.{refusal_words, refused_line}
+use Rattle.mold_refusals.specs.Words.{answer_words}
+use Rattle.mold_receiver.specs.Receive.{Reception}
+use Rattle.mold_receiver.specs.Store.{Message}
+use Rattle.mold_rule.specs.declared.refusal.Refusal.{Refusal as Refused}
+use Rattle.mold_session.specs.declared.error.AnswerError.{AnswerError}
+
+-- ---- serving
+
+-- the line of a refused request
+abbrev pub refused_text : AnswerError → List ℕ
+refused_text why = refused_line (answer_words why)
+
+-- the line of a datagram that was sent, by the sequence number and the message count of its header
+abbrev pub answered_text : ℕ → ℕ → List ℕ
+answered_text sequence count = line_of (codes "answered" ∷ decimal sequence ∷ decimal count ∷ [])
+
+-- ---- listening
+
+-- the line of a message that is handed on: its number and its bytes
+abbrev pub handed_line : ℕ → Message → List ℕ
+handed_line number message = line_of (decimal number ∷ message_digits message ∷ [])
+
+-- the lines of messages that are numbered from the first one's number on
+unfoldable pub handed_text : ℕ → List Message → List ℕ
+handed_text number [] = []
+handed_text number (message ∷ messages) = handed_line number message ++ handed_text (number + 1) messages
+
+-- what is printed for a datagram, by what the receiving rule makes of it: the messages that it lets hand on,
+-- from `next` on, or why it is refused
+abbrev pub taking_text : ℕ → Result Reception Refused → List ℕ
+taking_text next (Ok reception) = handed_text next reception.handed
+taking_text next (Err refused) = refused_line (refusal_words refused)
+
+-- the last line: where all was handed on to the session's end, and where it was not
+abbrev pub finished_line : ℕ → ℕ → List ℕ
+finished_line next failures =
+    line_of (codes "finished" ∷ codes "next" ∷ decimal next ∷ codes "failed" ∷ decimal failures ∷ [])
+
+abbrev pub open_line : ℕ → ℕ → ℕ → List ℕ
+open_line next known failures = line_of
+    (codes "open" ∷ codes "next" ∷ decimal next ∷ codes "known" ∷ decimal known
+    ∷ codes "failed" ∷ decimal failures ∷ [])

@@ -1,0 +1,26 @@
+//! Loops over ports: publishing a session, serving requests for its messages, listening to it, and all three
+//! in one process. A loop goes by turns over devices that may fail.
+#![tactic(auto)]
+
+mod answering;
+mod handed;
+mod hearing;
+mod large;
+mod listening;
+mod looping;
+mod publishing;
+mod refusal;
+mod report;
+mod sending;
+mod serving;
+mod tally;
+
+pub use answering::answer_request;
+pub use hearing::{LONGEST, hear_port};
+pub use large::send_large;
+pub use listening::{listen_loop, push_last};
+pub use looping::{Drops, Listener, LoopPeers, LoopPorts, session_loop};
+pub use publishing::publish_loop;
+pub use report::Report;
+pub use serving::serve_loop;
+pub use tally::Tally;

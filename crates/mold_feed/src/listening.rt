@@ -1,0 +1,128 @@
+//! The loop that listens.
+
+ghost use Rattle.std.specs.Prelude.{◌≡◌, ◌++◌, [], true, length, IfOk, IfErr, OnOk};
+ghost use Rattle.mold_feed.specs.Listening.{Agrees, HasTurned, ReportState, beginning, hearing};
+ghost use Rattle.mold_feed.specs.Listening.{hearing_line, hearing_status, last_line, listening};
+ghost use Rattle.mold_feed.specs.Listening.{listener, put_before, status};
+ghost use Rattle.mold_feed.specs.Faults.{CountsSink};
+ghost use Rattle.mold_feed.specs.Runs.{Ran, Rests};
+
+use crate::hearing::{LONGEST, ask, hear_port};
+use crate::report::Report;
+use mold_devices::{CommandFault, Sink};
+use mold_ports::Datagrams;
+use mold_receiver::{Arbiter, Line};
+use std::alloc::{AllocError, Global};
+
+// One turn.
+fn take_turn<D: Datagrams>(
+    a: &mut D,
+    b: &mut D,
+    requests: &mut D,
+    server: D::Peer,
+    burst: u16,
+    place: &mut [u8],
+    arbiter: &mut Arbiter,
+    report: &mut Report,
+) -> Result<(), AllocError>
+    requires { length place.old ≡ 65507 }
+    ensures { D.tells ≡ true → HasTurned server burst result
+        (listener (D.port a.old) (D.port b.old) (D.port requests.old) arbiter.old report.old)
+        (listener (D.port a.new) (D.port b.new) (D.port requests.new) arbiter.new report.new) }
+{
+    hear_port(a, Some(Line::A), place, arbiter, report)?;
+    hear_port(b, Some(Line::B), place, arbiter, report)?;
+    ask(requests, server, burst, place, arbiter, report)
+}
+
+// At most so many turns, up to the first at whose end the receiver is finished. What is less than a large
+// write is left to print.
+fn take_turns<D: Datagrams, K: Sink>(
+    a: &mut D,
+    b: &mut D,
+    requests: &mut D,
+    server: D::Peer,
+    arbiter: &mut Arbiter,
+    burst: u16,
+    turns: u64,
+    place: &mut [u8],
+    report: &mut Report,
+    sink: &mut K,
+) -> Result<(), CommandFault>
+    requires { length place.old ≡ 65507 }
+    ensures run { D.tells ≡ true → Rests (listening server burst) put_before turns
+        (listener (D.port a.old) (D.port b.old) (D.port requests.old) arbiter.old report.old)
+        result (K.held sink.old) (K.held sink.new)
+        (listener (D.port a.new) (D.port b.new) (D.port requests.new) arbiter.new report.new) }
+    ensures sink { CountsSink (K.failed sink.old) (K.failed sink.new) result }
+{
+    for _turn in 0..turns {
+        take_turn(a, b, requests, server, burst, place, arbiter, report)?;
+        if arbiter.receiver().finished() {
+            return Ok(());
+        }
+        report.send_large(sink)?;
+    }
+    Ok(())
+}
+
+/// Writes the last line behind the text: whether all of the session was handed on, the number of the next
+/// message, what is known beside it where the session is open, and how often a port failed. Answers the
+/// status: 0 finished, 1 open.
+pub fn push_last(arbiter: &Arbiter, report: &mut Report) -> Result<u8, AllocError>
+    ensures status { IfOk result (λ status. status ≡ hearing_status (hearing arbiter.now report.old)) }
+    ensures line { OnOk result (report.new ≡ record {
+      text = report.old.text ++ hearing_line (hearing arbiter.now report.old);
+      failures = report.old.failures;
+    }) }
+{
+    let receiver = arbiter.receiver();
+    if receiver.finished() {
+        report.push_finished(receiver.next())?;
+        return Ok(0);
+    }
+    report.push_open(receiver.next(), receiver.known())?;
+    Ok(1)
+}
+
+/// Listens on lines `a` and `b` and prints each message that the arbiter hands on, in order, as its number
+/// and its bytes, and each refusal. In each turn it receives once on each line and, where something is
+/// wanted, sends the request from `requests` to the server and receives at most `burst` answers. It ends
+/// after the first turn at whose end the receiver is finished, or after `turns` turns, with a last line and
+/// the status: 0 finished, 1 open. A failed send or receive is counted and the loop goes on. After a fault
+/// a beginning of the text is written; `Write` comes only where the sink failed.
+pub fn listen_loop<D: Datagrams, K: Sink>(
+    alloc: Global,
+    a: &mut D,
+    b: &mut D,
+    requests: &mut D,
+    server: D::Peer,
+    arbiter: &mut Arbiter,
+    burst: u16,
+    turns: u64,
+    sink: &mut K,
+) -> Result<u8, CommandFault>
+    ensures run { D.tells ≡ true → Ran (listening server burst) turns
+        (beginning (D.port a.old) (D.port b.old) (D.port requests.old) arbiter.old)
+        last_line status (Agrees (D.port a.new) (D.port b.new) (D.port requests.new) arbiter.new)
+        result (K.held sink.old) (K.held sink.new) (D.port requests.new).sent }
+    ensures sink { CountsSink (K.failed sink.old) (K.failed sink.new) result }
+{
+    let mut place = vec![in alloc; 0; LONGEST]?;
+    let mut report = Report::new(alloc);
+    take_turns(
+        a,
+        b,
+        requests,
+        server,
+        arbiter,
+        burst,
+        turns,
+        place.as_mut_slice(),
+        &mut report,
+        sink,
+    )?;
+    let status = push_last(arbiter, &mut report)?;
+    report.send(sink)?;
+    Ok(status)
+}

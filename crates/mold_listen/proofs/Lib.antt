@@ -1,4 +1,0 @@
-pub mod HandedLemmas
-pub mod ListenLemmas
-pub mod TurnLemmas
-pub mod WritingLemmas

@@ -1,4 +1,0 @@
-use Rattle.mold_refusals.proofs.receiving.push_receiver_refusal.Goals as goal
-
-pub returns-in-EndConflict-clause-text : goal.returns-in-EndConflict-clause-text
-returns-in-EndConflict-clause-text c = rw c.in-EndConflict.is c.push_numbered.ensures.text

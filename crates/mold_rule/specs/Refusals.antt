@@ -1,0 +1,88 @@
+-- Why a packet is refused, by what is known of its session: the refusals in order of precedence.
+use Rattle.std.specs.Prelude.{◌≡◌, ◌≤◌, ◌<◌, ◌^◌, ℕ, Bool, nat_lt, not, ◌==◌, if◌then◌else◌, List, [], ◌∷◌}
+use Rattle.std.specs.Prelude.{Option, None, Some}
+use Rattle.std.specs.Str.{bytes_eq}
+use Rattle.mold_wire.specs.Packet.{top_of}
+use Rattle.mold_wire.specs.declared.packet.Packet.{Packet}
+use Rattle.mold_wire.specs.declared.packet.Body.{Body}
+use Rattle.mold_wire.specs.declared.packet.Body.TheVariants.{Data, Heartbeat, End}
+use Rattle.mold_rule.specs.declared.refusal.Refusal.{Refusal}
+use Rattle.mold_rule.specs.declared.refusal.Refusal.TheVariants.{WrongSession, SequenceZero, PastLast}
+use Rattle.mold_rule.specs.declared.refusal.Refusal.TheVariants.{EndConflict, EndBelow, PastEnd, Conflict}
+
+-- the refusal, where the test says so
+abbrev pub refuse_if : Bool → Refusal → Option Refusal
+refuse_if refused refusal = if refused then Some refusal else None
+
+-- the session is known by its name, and the packet's is another one
+abbrev pub wrong_session : Option (List ℕ) → List ℕ → Option Refusal
+wrong_session None name = None
+wrong_session (Some session) name = refuse_if (not (bytes_eq name session)) WrongSession
+
+abbrev pub sequence_zero : Packet → Option Refusal
+sequence_zero p = refuse_if (p.sequence == 0) SequenceZero
+
+abbrev pub past_last : Packet → Option Refusal
+past_last p = refuse_if (nat_lt 18446744073709551615 (top_of p)) PastLast
+
+-- an end packet, and another end is known
+abbrev pub end_conflict : Body → ℕ → Option ℕ → Option Refusal
+end_conflict (Data messages) sequence ended = None
+end_conflict Heartbeat sequence ended = None
+end_conflict End sequence None = None
+end_conflict End sequence (Some end) = refuse_if (not (sequence == end)) (EndConflict end)
+
+-- an end packet below what is known
+abbrev pub end_below : Body → ℕ → ℕ → Option Refusal
+end_below (Data messages) sequence known = None
+end_below Heartbeat sequence known = None
+end_below End sequence known = refuse_if (nat_lt sequence known) (EndBelow known)
+
+-- a data packet or a heartbeat, and a known end is below its top
+abbrev pub past_end : Option ℕ → Body → ℕ → Option Refusal
+past_end None body top = None
+past_end (Some end) (Data messages) top = refuse_if (nat_lt end top) (PastEnd end)
+past_end (Some end) Heartbeat top = refuse_if (nat_lt end top) (PastEnd end)
+past_end (Some end) End top = None
+
+-- a message of the packet differs from the one that is held, at this number
+abbrev pub conflict_at : Option ℕ → Option Refusal
+conflict_at None = None
+conflict_at (Some number) = Some (Conflict number)
+
+-- the refusals of a packet in order of precedence, each where it applies: `session` is the name of the session
+-- and `ended` its end, where these are known, `known` the greatest top that was heard of, and `differs` the least
+-- number at which a message of the packet differs from the one that is held
+abbrev pub refusals : Option (List ℕ) → ℕ → Option ℕ → Option ℕ → Packet → List (Option Refusal)
+refusals session known ended differs p =
+    wrong_session session p.session.0
+    ∷ sequence_zero p
+    ∷ past_last p
+    ∷ end_conflict p.body p.sequence ended
+    ∷ end_below p.body p.sequence known
+    ∷ past_end ended p.body (top_of p)
+    ∷ conflict_at differs
+    ∷ []
+
+-- the first that is there
+abbrev pub first_some : List (Option Refusal) → Option Refusal
+first_some [] = None
+first_some (None ∷ refusals) = first_some refusals
+first_some (Some refusal ∷ refusals) = Some refusal
+
+-- why a packet is refused, if it is: the first refusal that applies
+abbrev pub refusal_of : Option (List ℕ) → ℕ → Option ℕ → Option ℕ → Packet → Option Refusal
+refusal_of session known ended differs p = first_some (refusals session known ended differs p)
+
+-- nothing in a packet's header and its number of messages speaks against it
+pub record IsAdmitted (session : Option (List ℕ)) (known : ℕ) (ended : Option ℕ) (p : Packet) : Type 0 where
+  -- it is of the session that is known
+  pub named : (name : List ℕ) → session ≡ Some name → p.session.0 ≡ name
+  -- its numbers are those of messages
+  pub first : 1 ≤ p.sequence
+  pub last : top_of p < 2 ^ 64
+  -- an end packet tells the known end, and none below what is known
+  pub same_end : p.body ≡ End → (end : ℕ) → ended ≡ Some end → p.sequence ≡ end
+  pub above : p.body ≡ End → known ≤ p.sequence
+  -- it doesn't go behind the known end
+  pub within : (end : ℕ) → ended ≡ Some end → top_of p ≤ end

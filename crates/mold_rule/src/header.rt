@@ -1,0 +1,90 @@
+//! Which refusal a packet meets by its header and its number of messages, before its messages are compared.
+
+ghost use Rattle.std.specs.Prelude.{◌≡◌, ◌<◌, ◌^◌, ◌∷◌, [], ℕ, Option, Some, IfOk, IfErr, OnOk};
+ghost use Rattle.std.specs.Option.{option_map};
+ghost use Rattle.mold_wire.specs.Packet.{top_of};
+ghost use Rattle.mold_wire.specs.declared.packet.Body.TheVariants.{End, Heartbeat};
+ghost use Rattle.mold_rule.specs.Refusals.{conflict_at, end_below, end_conflict, first_some, past_end, refusal_of};
+ghost use Rattle.mold_rule.specs.Refusals.{refuse_if, wrong_session};
+ghost use Rattle.mold_rule.specs.declared.refusal.Refusal.TheVariants.{Memory, WrongSession};
+
+use crate::refusal::Refusal;
+use mold_wire::{Body, Packet, Session};
+
+// The refusal of an end packet.
+fn refuse_end(sequence: u64, known: u64, ended: Option<u64>) -> Option<Refusal>
+    ensures { result ≡ first_some (end_conflict End sequence ended ∷ end_below End sequence known ∷ []) }
+{
+    if let Some(end) = ended {
+        if end != sequence {
+            return Some(Refusal::EndConflict { end });
+        }
+    }
+    if sequence < known {
+        return Some(Refusal::EndBelow { known });
+    }
+    None
+}
+
+// The refusal of a data packet or a heartbeat with this top.
+fn refuse_past(top: u64, ended: Option<u64>) -> Option<Refusal>
+    ensures { result ≡ past_end ended Heartbeat top }
+{
+    match ended {
+        Some(end) if end < top => Some(Refusal::PastEnd { end }),
+        _ => None,
+    }
+}
+
+// The refusal of a packet by what is known of the session's end.
+fn refuse_by_end(packet: &Packet<'_>, top: u64, known: u64, ended: Option<u64>) -> Option<Refusal>
+    ensures { result ≡ first_some (end_conflict packet.now.body packet.now.sequence ended
+        ∷ end_below packet.now.body packet.now.sequence known ∷ past_end ended packet.now.body top ∷ []) }
+{
+    match packet.body {
+        Body::End => refuse_end(packet.sequence, known, ended),
+        Body::Data(_) | Body::Heartbeat => refuse_past(top, ended),
+    }
+}
+
+// Whether the packet is of another session than the one that is known.
+fn is_foreign(packet: &Packet<'_>, session: Option<Session>) -> bool
+    ensures { refuse_if result WrongSession ≡
+        wrong_session (option_map (λ s. s.0) session) packet.now.session.0 }
+{
+    match session {
+        Some(session) => packet.session != session,
+        None => false,
+    }
+}
+
+/// The packet's top, or the first refusal that its header and its number of messages meet, where the session,
+/// the greatest top heard of and the end are known to be these. Behind that only a message that differs refuses it.
+pub fn check_header(
+    packet: &Packet<'_>,
+    session: Option<Session>,
+    known: u64,
+    ended: Option<u64>,
+) -> Result<u64, Refusal>
+    ensures top { IfOk result (λ top. top ≡ top_of packet.now) }
+    ensures range { OnOk result (top_of packet.now < 2 ^ 64) }
+    ensures passed { OnOk result ((differs : Option ℕ) →
+        refusal_of (option_map (λ s. s.0) session) known ended differs packet.now ≡ conflict_at differs) }
+    ensures refused { IfErr result (λ refusal. (differs : Option ℕ) →
+        refusal_of (option_map (λ s. s.0) session) known ended differs packet.now ≡ Some refusal) }
+    ensures cause { IfErr result (λ refusal. refusal ≡ Memory → ⊥) }
+{
+    if is_foreign(packet, session) {
+        return Err(Refusal::WrongSession);
+    }
+    if packet.sequence == 0 {
+        return Err(Refusal::SequenceZero);
+    }
+    let Some(top) = packet.top() else {
+        return Err(Refusal::PastLast);
+    };
+    match refuse_by_end(packet, top, known, ended) {
+        Some(refusal) => Err(refusal),
+        None => Ok(top),
+    }
+}

@@ -1,2 +1,0 @@
-pub mod AnsweringLemmas
-pub mod ServingLemmas

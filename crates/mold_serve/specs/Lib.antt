@@ -1,4 +1,0 @@
-pub mod Answering
-pub mod Serving
-pub mod Tally
-pub mod Text
