@@ -3,7 +3,7 @@
 ghost use Rattle.std.specs.Prelude.{◌≡◌, ◌-◌};
 
 use mold_devices::{CommandFault, FromRead, IntoWrite, NewFile};
-use mold_loop::Wires;
+use mold_loop::{Addresses, Wires};
 use mold_ports::UdpPort;
 use mold_session::{FileError, Journal};
 use mold_wiring::{
@@ -138,7 +138,7 @@ fn publish_on(
 }
 
 // The five ports of a loop.
-fn open_wires(rt: &HostRuntime) -> Result<Wires, ProgramFault> {
+fn open_wires(rt: &HostRuntime) -> Result<Wires<UdpPort>, ProgramFault> {
     Ok(Wires {
         publisher: open_port(rt, OWN)?,
         server: open_port(rt, OWN)?,
@@ -155,9 +155,18 @@ pub fn run_loop(rt: &HostRuntime, order: &LoopOrder) -> Result<u8, ProgramFault>
 }
 
 // Runs the loop over the ports, from standard input to standard output.
-fn loop_on(rt: &HostRuntime, order: &LoopOrder, wires: &mut Wires) -> Result<u8, CommandFault> {
+fn loop_on(
+    rt: &HostRuntime,
+    order: &LoopOrder,
+    wires: &mut Wires<UdpPort>,
+) -> Result<u8, CommandFault> {
+    let to = Addresses {
+        server: wires.server.address(),
+        a: wires.a.address(),
+        b: wires.b.address(),
+    };
     let mut source = FromRead::new(rt.stdin());
     let mut sink = IntoWrite::new(rt.stdout());
-    let outcome = loop_over(rt.alloc(), order, wires, &mut source, &mut sink);
+    let outcome = loop_over(rt.alloc(), order, wires, &to, &mut source, &mut sink);
     flushed(outcome, sink.into_inner().flush())
 }

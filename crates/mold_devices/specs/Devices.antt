@@ -1,5 +1,5 @@
 -- What sources and sinks of bytes do, in words that their contracts share.
-use Rattle.std.specs.Prelude.{◌≡◌, ℕ, ◌+◌, ◌-◌, ◌^◌, min, List, ◌++◌, Option, Result, MatchResult}
+use Rattle.std.specs.Prelude.{◌≡◌, ℕ, ◌+◌, ◌-◌, ◌^◌, min, List, ◌++◌, Option, None, Some, Result, MatchResult}
 use Rattle.std.specs.Io.KnownBytes.{Appends}
 
 -- a count that rose by one, or stands at its limit
@@ -27,6 +27,11 @@ pub record ReaderState (R : Type 0) : Type 0 where
 pub record WriterState (W : Type 0) : Type 0 where
   pub writer : W
   pub failures : ℕ
+
+-- what a file holds that is not made yet, or tells its bytes or doesn't
+abbrev pub held_by : {F : Type 0} → (F → Option (List ℕ)) → Option F → Option (List ℕ)
+held_by held None = None
+held_by held (Some file) = held file
 
 -- a source in memory: the bytes left, which call from now on fails (0 where none does),
 -- the most bytes that a call moves, and its failures

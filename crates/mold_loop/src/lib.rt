@@ -2,5 +2,9 @@
 #![tactic(auto)]
 
 mod looping;
+mod passing;
+mod repairing;
+mod wires;
 
-pub use looping::{Drops, Ear, Wires, run_over};
+pub use looping::run_over;
+pub use wires::{Addresses, Drops, Ear, Setup, Wires};

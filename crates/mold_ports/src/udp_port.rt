@@ -134,8 +134,12 @@ impl UdpPort {
     fn wait(&mut self) -> Result<bool, DeviceFault>
         ensures { self.new ≡ self.old }
     {
-        if self.outlook == Outlook::Asking && self.wait_for_answer()? {
-            return Ok(true);
+        let mut time = WAIT;
+        if self.outlook == Outlook::Asking {
+            if self.wait_for_answer()? {
+                return Ok(true);
+            }
+            time -= ANSWER_WAIT;
         }
         let [one, other] = self.beside;
         let mut asked = [
@@ -143,7 +147,7 @@ impl UdpPort {
             watched(one, POLLIN),
             watched(other, POLLIN),
         ];
-        wait_for(&mut asked, WAIT - ANSWER_WAIT)?;
+        wait_for(&mut asked, time)?;
         Ok(asked[0].revents != 0)
     }
 

@@ -74,6 +74,20 @@ pub enum AnswerError {
     Ahead { next: u64 },
 }
 
+/// Why a publisher or a re-request server refused.
+#[derive(Clone, Copy, Debug, PartialEq, Eq, Error)]
+pub enum SessionError {
+    /// The message is not published.
+    #[error("{0}")]
+    Append(AppendError),
+    /// The session is not closed.
+    #[error("{0}")]
+    Close(Unsent),
+    /// The request is not answered.
+    #[error("{0}")]
+    Answer(AnswerError),
+}
+
 /// Why a journal's file is not loaded, saved or upgraded. A file has one fault at most: what is wrong first, in the
 /// order of its bytes.
 #[derive(Clone, Copy, Debug, PartialEq, Eq, Error)]

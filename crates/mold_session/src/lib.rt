@@ -17,7 +17,9 @@ mod server;
 mod serving;
 mod upgrading;
 
-pub use error::{AnswerError, AppendError, FileError, PublisherError, ServerError, Unsent};
+pub use error::{
+    AnswerError, AppendError, FileError, PublisherError, ServerError, SessionError, Unsent,
+};
 pub use journal::Journal;
 pub use mold_devices::{DeviceFault, FromRead, IntoWrite, MemorySink, MemorySource, Sink, Source};
 pub use plan::Plan;

@@ -1,13 +1,13 @@
 -- What is printed of an event: what it did, or why it is refused; and of a receiver at the end.
 use Rattle.std.specs.Prelude.{ℕ, ◌+◌, ◌-◌, List, [], ◌∷◌, ◌++◌, length, codes, decimal, Bool, nat_lt, if◌then◌else◌, Option, None, Some}
 use Rattle.mold_refusals.specs.Words.{answer_words, append_words, receiver_words}
+use Rattle.mold_session.specs.declared.error.SessionError.{SessionError}
+use Rattle.mold_session.specs.declared.error.SessionError.TheVariants as session
 use Rattle.mold_text.specs.Line.{line_of}
 use Rattle.mold_world.specs.Steps.{is_finished}
 use Rattle.mold_world.specs.World.{PlaceState}
 use Rattle.mold_world.specs.declared.report.Report.{Report}
 use Rattle.mold_world.specs.declared.report.Report.TheVariants as report
-use Rattle.mold_world.specs.declared.report.SessionError.{SessionError}
-use Rattle.mold_world.specs.declared.report.SessionError.TheVariants as session
 use Rattle.mold_world.specs.declared.report.WorldError.{WorldError}
 use Rattle.mold_world.specs.declared.report.WorldError.TheVariants as error
 

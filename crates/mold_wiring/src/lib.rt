@@ -13,7 +13,7 @@ mod serving;
 pub use addresses::socket_address;
 pub use ending::{exit_code, flushed, tell_fault};
 pub use listening::{listen_over, make_arbiter};
-pub use looping::loop_over;
+pub use looping::{loop_over, make_loop};
 pub use program_fault::ProgramFault;
 pub use publishing::{make_publisher, publish_over};
 pub use serving::{load_journal, make_server, serve_over, tell_file_refused};

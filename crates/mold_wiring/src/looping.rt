@@ -1,16 +1,19 @@
 //! What `loop` is made of.
 
-ghost use Rattle.std.specs.Prelude.{◌≡◌, [], IfOk};
-ghost use Rattle.mold_wiring.specs.Wiring.{loop_arbiter_of, loop_publisher_of, loop_server_of};
+ghost use Rattle.std.specs.Prelude.{◌≡◌, [], true, IfOk, IfSome};
+ghost use Rattle.mold_devices.specs.Lines.{lines_of};
+ghost use Rattle.mold_loop.specs.Passing.{LoopSends};
+ghost use Rattle.mold_publish.specs.Publishing.{lines_published};
+ghost use Rattle.mold_wiring.specs.Wiring.{drops_of, loop_arbiter_of, loop_publisher_of, loop_server_of};
 
 use crate::limits::longest_message;
 use mold_devices::{CommandFault, Sink, Source};
 use mold_listen::Desk;
-use mold_loop::{Drops, Ear, Wires, run_over};
+use mold_loop::{Addresses, Drops, Ear, Setup, Wires, run_over};
+use mold_ports::Datagrams;
 use mold_receiver::{Arbiter, Receiver};
 use mold_session::{Publisher, Server};
 use mold_wire::Session;
-use mold_wire::laws::packet_length_law;
 use mold_words::LoopOrder;
 use std::alloc::{AllocError, Global};
 
@@ -51,63 +54,41 @@ fn make_ear(alloc: Global, order: &LoopOrder) -> Result<Ear, AllocError>
     }
 }
 
-// Which data packets are left out of which line.
-fn make_drops(order: &LoopOrder) -> Drops
-    ensures a { result.a ≡ order.now.drop_a }
-    ensures b { result.b ≡ order.now.drop_b }
+/// What a loop of an order is made of, which has nothing to tell yet.
+pub fn make_loop(alloc: Global, order: &LoopOrder) -> Result<Setup, AllocError>
+    ensures publisher { IfOk result (λ setup. setup.publisher ≡ loop_publisher_of order.now) }
+    ensures server { IfOk result (λ setup. setup.server ≡ loop_server_of order.now) }
+    ensures arbiter { IfOk result (λ setup. setup.ear.arbiter ≡ loop_arbiter_of order.now) }
+    ensures desk { IfOk result (λ setup. setup.ear.desk ≡ record { text = []; failures = 0 }) }
+    ensures drops { IfOk result (λ setup. setup.drops ≡ drops_of order.now) }
+    ensures turns { IfOk result (λ setup. setup.turns ≡ order.now.turns) }
 {
-    Drops {
-        a: order.drop_a,
-        b: order.drop_b,
-    }
+    Ok(Setup {
+        publisher: make_publisher(alloc, order)?,
+        server: make_server(alloc, order)?,
+        ear: make_ear(alloc, order)?,
+        drops: Drops {
+            a: order.drop_a,
+            b: order.drop_b,
+        },
+        turns: order.turns,
+    })
 }
 
-// Runs the loop with the order's publisher and server.
-fn run_made<S: Source, K: Sink>(
+/// Publishes the lines of the source, and serves and listens to them, in one process, as the order says.
+pub fn loop_over<D: Datagrams, S: Source, K: Sink>(
     alloc: Global,
     order: &LoopOrder,
-    wires: &mut Wires,
-    publisher: &mut Publisher,
-    server: &mut Server,
+    wires: &mut Wires<D>,
+    to: &Addresses<D::Peer>,
     source: &mut S,
     sink: &mut K,
 ) -> Result<u8, CommandFault>
-    requires publisher { publisher.old ≡ loop_publisher_of order.now }
-    requires server { server.old ≡ loop_server_of order.now }
+    ensures sends { D.tells ≡ true → IfSome (S.left source.old) (λ input.
+        LoopSends (drops_of order.now) to.now.a to.now.b order.now.limits.limit
+        (lines_published (loop_publisher_of order.now).journal (lines_of input)) result
+        (D.port wires.old.publisher) (D.port wires.new.publisher)) }
 {
-    packet_length_law();
-    let mut ear = make_ear(alloc, order)?;
-    run_over(
-        alloc,
-        wires,
-        publisher,
-        server,
-        make_drops(order),
-        order.turns,
-        &mut ear,
-        source,
-        sink,
-    )
-}
-
-/// Publishes the lines of the source, and serves and listens to them, in one process, as the order says. Nothing
-/// is known of what its ports, which are sockets, give.
-pub fn loop_over<S: Source, K: Sink>(
-    alloc: Global,
-    order: &LoopOrder,
-    wires: &mut Wires,
-    source: &mut S,
-    sink: &mut K,
-) -> Result<u8, CommandFault> {
-    let mut publisher = make_publisher(alloc, order)?;
-    let mut server = make_server(alloc, order)?;
-    run_made(
-        alloc,
-        order,
-        wires,
-        &mut publisher,
-        &mut server,
-        source,
-        sink,
-    )
+    let mut setup = make_loop(alloc, order)?;
+    run_over(alloc, wires, to, &mut setup, source, sink)
 }

@@ -13,7 +13,7 @@ use Rattle.mold_world.specs.Refusals.{Applies, Refuses}
 use Rattle.mold_world.specs.World.{PlaceState, WorldState}
 use Rattle.mold_world.specs.declared.report.Report.{Report}
 use Rattle.mold_world.specs.declared.report.Report.TheVariants.{Nothing}
-use Rattle.mold_world.specs.declared.report.SessionError.TheVariants.{Answer}
+use Rattle.mold_session.specs.declared.error.SessionError.TheVariants.{Answer}
 use Rattle.mold_world.specs.declared.report.WorldError.{WorldError}
 use Rattle.mold_world.specs.declared.report.WorldError.TheVariants.{Layer, Memory, NoReceiver}
 

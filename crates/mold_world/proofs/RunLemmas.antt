@@ -38,7 +38,7 @@ use Rattle.mold_world.specs.Effect.{asked, asked_for, delivered, is_own, noised,
 use Rattle.mold_world.specs.Effect.{restarted, sending, unsent_count, with_place}
 use Rattle.mold_world.specs.declared.report.Report.{Report}
 use Rattle.mold_world.specs.declared.report.Report.TheVariants as report
-use Rattle.mold_world.specs.declared.report.SessionError.TheVariants as session
+use Rattle.mold_session.specs.declared.error.SessionError.TheVariants as session
 use Rattle.mold_world.specs.declared.report.WorldError.{WorldError}
 use Rattle.mold_world.specs.declared.report.WorldError.TheVariants.{NotReached, Layer as Refuses}
 

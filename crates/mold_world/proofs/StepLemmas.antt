@@ -43,7 +43,7 @@ use Rattle.mold_wire.specs.declared.session.Session.{Session}
 use Rattle.mold_world.specs.World.{PlaceState, WorldState, beginning, place_at}
 use Rattle.mold_world.specs.declared.report.Report.{Report}
 use Rattle.mold_world.specs.declared.report.Report.TheVariants as report
-use Rattle.mold_world.specs.declared.report.SessionError.TheVariants as session
+use Rattle.mold_session.specs.declared.error.SessionError.TheVariants as session
 use Rattle.mold_world.specs.declared.report.WorldError.TheVariants.{NotReached, Layer as Refuses}
 
 -- an event of a kind is its steps

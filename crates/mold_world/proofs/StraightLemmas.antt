@@ -35,7 +35,7 @@ use Rattle.mold_world.specs.Straight.{HasSent, IsDelivery, IsStraight}
 use Rattle.mold_world.specs.World.{PlaceState, WorldState}
 use Rattle.mold_world.specs.declared.report.Report.{Report}
 use Rattle.mold_world.specs.declared.report.Report.TheVariants as report
-use Rattle.mold_world.specs.declared.report.SessionError.TheVariants as session
+use Rattle.mold_session.specs.declared.error.SessionError.TheVariants as session
 use Rattle.mold_world.specs.declared.report.WorldError.{WorldError}
 use Rattle.mold_world.specs.declared.report.WorldError.TheVariants.{NotReached, Layer as Refuses}
 

@@ -9,7 +9,7 @@ use Rattle.mold_world.specs.World.{PlaceState, WorldState}
 use Rattle.mold_session.specs.declared.error.AppendError.{AppendError}
 use Rattle.mold_session.specs.declared.error.AppendError.TheVariants as append
 use Rattle.mold_world.specs.declared.report.Report.{Report}
-use Rattle.mold_world.specs.declared.report.SessionError.TheVariants as session
+use Rattle.mold_session.specs.declared.error.SessionError.TheVariants as session
 use Rattle.mold_world.specs.declared.report.WorldError.{WorldError}
 use Rattle.mold_world.specs.declared.report.WorldError.TheVariants.{Memory, BadLimit, BadBurst, BadWindow, Layer as Refused}
 

@@ -15,7 +15,8 @@ mod world;
 
 pub use event::Event;
 pub use mold_rounds::{Memory, catch_up};
-pub use report::{Report, SessionError, WorldError};
+pub use mold_session::SessionError;
+pub use report::{Report, WorldError};
 pub use stopped::Stopped;
 pub use way::Way;
 pub use world::World;

@@ -1,7 +1,7 @@
 //! What refusals of the layers below are to the world.
 
-use crate::report::{SessionError, WorldError};
-use mold_session::{AnswerError, AppendError};
+use crate::report::WorldError;
+use mold_session::{AnswerError, AppendError, SessionError};
 use std::alloc::AllocError;
 
 impl From<AllocError> for WorldError {
@@ -31,7 +31,7 @@ impl From<AppendError> for WorldError {
 
 impl From<AnswerError> for WorldError {
     ghost use Rattle.std.specs.Prelude.{◌≡◌};
-    ghost use Rattle.mold_world.specs.declared.report.SessionError.TheVariants.{Answer};
+    ghost use Rattle.mold_session.specs.declared.error.SessionError.TheVariants.{Answer};
     ghost use Rattle.mold_world.specs.declared.report.WorldError.TheVariants.{Layer};
 
     ghost from_gives = { λ cause error. error ≡ Layer (Answer cause) };

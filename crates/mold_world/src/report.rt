@@ -1,7 +1,7 @@
 //! What became of an event.
 
 use mold_receiver::{Refused, Taken};
-use mold_session::{AnswerError, AppendError, Unsent};
+use mold_session::SessionError;
 use thiserror::Error;
 
 /// What an event did to the world.
@@ -23,20 +23,6 @@ pub enum Report {
     NoiseRefused(Refused),
     /// A receiver begins anew at this number.
     Restarted { next: u64 },
-}
-
-/// Why a publisher or a re-request server refused.
-#[derive(Clone, Copy, Debug, PartialEq, Eq, Error)]
-pub enum SessionError {
-    /// The message is not published.
-    #[error("{0}")]
-    Append(AppendError),
-    /// The session is not closed.
-    #[error("{0}")]
-    Close(Unsent),
-    /// The request is not answered.
-    #[error("{0}")]
-    Answer(AnswerError),
 }
 
 /// Why an event is refused, or a world is not made. The world is then as it was. The last three are of

@@ -290,7 +290,7 @@ fn failure_at_each_receive_of_an_answer(rt: HostRuntime) -> Result<(), Fail> {
     Ok(())
 }
 
-/// To be run with each allocation refused in turn.
+/// It passes whichever growth is refused. The gate refuses none, and `tests/growths` each in turn.
 #[test]
 fn a_refused_growth_leaves_a_beginning(rt: HostRuntime) -> Result<(), Fail> {
     let mut listener = with_gap(rt.alloc(), None)?;

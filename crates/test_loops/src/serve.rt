@@ -352,7 +352,7 @@ fn fault_of(failed: bool) -> CommandFault {
     }
 }
 
-/// To be run with each allocation refused in turn.
+/// It passes whichever growth is refused. The gate refuses none, and `tests/growths` each in turn.
 #[test]
 fn a_refused_growth_leaves_a_beginning(rt: HostRuntime) -> Result<(), Fail> {
     let mut desk = make_desk(rt.alloc(), 1, &EXAMPLE)?;

@@ -259,8 +259,7 @@ fn expect_growth(rt: &impl Abort, checker: &mut Checker, nothing: &Verdict, hole
     verdict_again(rt, checker, &Verdict::Whole { messages: 6 });
 }
 
-/// It passes whichever growth is refused. The gate refuses none; `rt try test_sessions --test --fail-alloc N`
-/// refuses the Nth one of each test.
+/// It passes whichever growth is refused. The gate refuses none, and `tests/growths` each in turn.
 #[test]
 fn a_refused_growth_changes_nothing(rt: HostRuntime) -> Result<(), Fail> {
     let nothing = incomplete(rt.alloc(), &[], None)?;

@@ -443,8 +443,7 @@ fn receiver_again(rt: &impl Abort, alloc: Global) -> Result<Receiver, Fail> {
     }
 }
 
-/// It passes whichever growth is refused. The gate refuses none; `rt try test_sessions --test --fail-alloc N`
-/// refuses the Nth one of each test.
+/// It passes whichever growth is refused. The gate refuses none, and `tests/growths` each in turn.
 #[test]
 fn a_refused_growth_changes_nothing(rt: HostRuntime) -> Result<(), Fail> {
     let receiver = receiver_again(&rt, rt.alloc())?;

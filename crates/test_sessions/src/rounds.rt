@@ -208,8 +208,7 @@ fn expect_going_on(rt: &impl Abort, parts: &mut Parts) {
     }
 }
 
-/// It passes whichever growth is refused. The gate refuses none; `rt try test_sessions --test --fail-alloc N`
-/// refuses the Nth one of each test.
+/// It passes whichever growth is refused. The gate refuses none, and `tests/growths` each in turn.
 #[test]
 fn a_refused_growth_stops_in_a_round(rt: HostRuntime) -> Result<(), Fail> {
     let mut parts = match make_parts(rt.alloc(), 8, 1) {

@@ -249,7 +249,7 @@ fn expect_again<'n, 'w>(
     Ok(())
 }
 
-/// To be run with each allocation refused in turn.
+/// It passes whichever growth is refused. The gate refuses none, and `tests/growths` each in turn.
 #[test]
 fn a_refused_growth_leaves_a_beginning(rt: HostRuntime) -> Result<(), Fail> {
     let folder = [("b.pkt", TWO_Y), ("c.txt", b""), ("a.pkt", TWO_X)];

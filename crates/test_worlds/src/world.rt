@@ -1,6 +1,6 @@
 //! The world: its examples, by `apply` and by `run`, and why it is not made. Where a growth is refused nothing
 //! changes, and a second call does what the first was to do: each test passes whichever growth is refused. The
-//! gate refuses none; `rt try test_worlds --test --fail-alloc N` refuses the Nth one.
+//! gate refuses none, and `tests/growths` each in turn.
 
 use mold_receiver::{Line, LineReport, Refused, Taken};
 use mold_session::{AppendError, Unsent};

@@ -1,6 +1,0 @@
-use Rattle.std.proofs.Common.{◌≤◌}
-use Rattle.mold_loop.proofs.looping.repair_all.Given as goal
-
--- the journal's messages may still be as long as the server's
-abbrev pub invariant-loop-turn : goal.invariant-loop-turn
-invariant-loop-turn g l = l.journal.max_message ≤ l.server.max_message
