@@ -162,7 +162,8 @@ pub static COMMANDS: [CommandRow; 9] = [
                 help: "How many end packets follow those, 0 to 1000 [default: 1]",
             },
         ],
-        example: "Example:\n  mold publish --session SESSION001 --a 127.0.0.1:9001 --b 127.0.0.1:9002 \\\n    --journal day.journal < messages",
+        example: "Example:\n  mold publish --session SESSION001 --a 127.0.0.1:9001 --b 127.0.0.1:9002 \\\
+            \n    --journal day.journal < messages",
     },
     CommandRow {
         name: "serve",
@@ -244,7 +245,8 @@ pub static COMMANDS: [CommandRow; 9] = [
                     is missing; a receive waits 100 ms at most",
             },
         ],
-        example: "Example:\n  mold listen --session SESSION001 --a 127.0.0.1:9001 --b 127.0.0.1:9002 \\\n    --server 127.0.0.1:9003 --turns 1000000 > heard",
+        example: "Example:\n  mold listen --session SESSION001 --a 127.0.0.1:9001 --b 127.0.0.1:9002 \\\
+            \n    --server 127.0.0.1:9003 --turns 1000000 > heard",
     },
     CommandRow {
         name: "loop",
