@@ -1,6 +1,7 @@
 //! The messages that were carried.
 
-ghost use Rattle.std.specs.Prelude.{◌≡◌, ◌+◌, ◌-◌, ◌<◌, ◌≤◌, ◌^◌, length, List, ℕ, None, Some, IfOk, IfErr, OnOk, OnErr};
+ghost use Rattle.std.specs.Prelude.{◌≡◌, ◌+◌, ◌-◌, ◌<◌, ◌≤◌, ◌^◌, length, List, ℕ, None, Some, IfOk, IfErr, OnOk};
+ghost use Rattle.std.specs.Prelude.OnErr;
 ghost use Rattle.std.specs.FinMap as finite;
 ghost use Rattle.std.specs.Ordering.{nat_cmp};
 ghost use Rattle.mold_ranges.specs.Ranges as lacking;
@@ -84,7 +85,8 @@ impl Carried {
     /// is there and not the numbers between. An error comes where a growth is refused.
     pub(crate) fn missing(&self, alloc: Global, known: u64) -> Result<Vec<Range>, AllocError>
         requires some { 1 ≤ known }
-        requires within { (number : ℕ) (message : List ℕ) → finite.get self.now number ≡ Some message → (1 ≤ number) × (number < known) }
+        requires within { (number : ℕ) (message : List ℕ) → finite.get self.now number ≡ Some message →
+            (1 ≤ number) × (number < known) }
         ensures { IfOk result (λ missing. ranges_of missing.items ≡ lacking.ranges (lacks self.now) 1 (known - 1)) }
     {
         ranges_walk_law();

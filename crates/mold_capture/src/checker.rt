@@ -37,7 +37,8 @@ fn join_messages(carried: &mut Carried, packet: &Packet<'_>) -> Result<(), Reaso
     ensures taken { OnOk result (conflict carried.old packet.now.sequence (messages_of packet.now.body) ≡ None) }
     ensures ok { OnOk result (carried.new ≡ pairs_with carried.old packet.now.sequence (messages_of packet.now.body)) }
     ensures err { OnErr result (carried.new ≡ carried.old) }
-    ensures new { IfErr result (λ reason. reason ≡ IsMemory → BringNew carried.old packet.now.sequence (messages_of packet.now.body)) }
+    ensures new { IfErr result (λ reason. reason ≡ IsMemory →
+        BringNew carried.old packet.now.sequence (messages_of packet.now.body)) }
 {
     match &packet.body {
         Body::Data(blocks) => carried.join(packet.sequence, blocks),

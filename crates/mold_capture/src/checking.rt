@@ -17,7 +17,8 @@ use std::alloc::Global;
 /// the list's length and `Memory` where memory for the verdict is refused.
 pub fn check(alloc: Global, list: &[&[u8]]) -> Result<Verdict, (usize, Reason)>
     ensures verdict { IfOk result (λ verdict. IsVerdictOn verdict (map (λ bytes. bytes.now) list.now)) }
-    ensures outcome { (outcome : Outcome) → IsOutcome (map (λ bytes. bytes.now) list.now) outcome → Answers outcome result }
+    ensures outcome { (outcome : Outcome) → IsOutcome (map (λ bytes. bytes.now) list.now) outcome →
+        Answers outcome result }
     ensures refused { IfErr result (λ refused. IsRefusedAt refused.0 refused.1 (map (λ bytes. bytes.now) list.now)) }
 {
     reading_law();

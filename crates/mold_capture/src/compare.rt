@@ -55,7 +55,8 @@ pub(crate) fn compare(
     ensures other { IfErr result (λ number. conflict (carried runs.now kept.now) first blocks.now ≡ Some number) }
     ensures same { OnOk result (conflict (carried runs.now kept.now) first blocks.now ≡ None) }
     ensures new { IfOk result (λ all. all ≡ false → BringNew (carried runs.now kept.now) first blocks.now) }
-    ensures all { IfOk result (λ all. IsTrue all → pairs_with (carried runs.now kept.now) first blocks.now ≡ carried runs.now kept.now) }
+    ensures all { IfOk result (λ all. IsTrue all →
+        pairs_with (carried runs.now kept.now) first blocks.now ≡ carried runs.now kept.now) }
 {
     let mut near = None;
     let mut number = first;

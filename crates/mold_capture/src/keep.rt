@@ -73,9 +73,11 @@ fn add_message(
     requires few { number + 1 < 2 ^ 64 }
     requires free { AreFree runs.old number (number + 1) }
     ensures are { AreRuns runs.new (length kept.new.messages) }
-    ensures ok { OnOk result (carried runs.new kept.new ≡ pairs_with (carried runs.old kept.old) number (message.now ∷ [])) }
+    ensures ok { OnOk result
+        (carried runs.new kept.new ≡ pairs_with (carried runs.old kept.old) number (message.now ∷ [])) }
     ensures err { OnErr result (carried runs.new kept.new ≡ carried runs.old kept.old) }
-    ensures since { (before : Runs) → AreRuns before since → IsSince before runs.old since → IsSince before runs.new since }
+    ensures since { (before : Runs) → AreRuns before since → IsSince before runs.old since →
+        IsSince before runs.new since }
     ensures front { take since kept.new.messages ≡ take since kept.old.messages }
     ensures more { since ≤ length kept.new.messages }
 {
@@ -104,9 +106,11 @@ fn add_new(
     requires since { since ≤ length kept.old.messages }
     requires few { number + 1 < 2 ^ 64 }
     ensures are { AreRuns runs.new (length kept.new.messages) }
-    ensures ok { OnOk result (carried runs.new kept.new ≡ pairs_with (carried runs.old kept.old) number (message.now ∷ [])) }
+    ensures ok { OnOk result
+        (carried runs.new kept.new ≡ pairs_with (carried runs.old kept.old) number (message.now ∷ [])) }
     ensures err { OnErr result (carried runs.new kept.new ≡ carried runs.old kept.old) }
-    ensures since { (before : Runs) → AreRuns before since → IsSince before runs.old since → IsSince before runs.new since }
+    ensures since { (before : Runs) → AreRuns before since → IsSince before runs.old since →
+        IsSince before runs.new since }
     ensures front { take since kept.new.messages ≡ take since kept.old.messages }
     ensures more { since ≤ length kept.new.messages }
 {

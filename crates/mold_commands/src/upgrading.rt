@@ -1,7 +1,8 @@
 //! `mold upgrade`: a journal's file written again, in the version that is written today.
 
 ghost use Rattle.std.specs.Prelude.{◌≡◌, ◌++◌, IfOk, Ok, OnOk, Result};
-ghost use Rattle.mold_commands.specs.Upgrade.{IsUpgradeOutcome, TellsOutcome, TellsUpgrade, fault_of, upgrade_status, upgrade_text};
+ghost use Rattle.mold_commands.specs.Upgrade.{IsUpgradeOutcome, TellsOutcome, TellsUpgrade, fault_of, upgrade_status};
+ghost use Rattle.mold_commands.specs.Upgrade.upgrade_text;
 ghost use Rattle.mold_session.specs.declared.error.FileError.{FileError};
 ghost use Rattle.mold_session.specs.declared.upgrading.Upgraded.{Upgraded};
 

@@ -1,6 +1,7 @@
 //! A list of messages.
 
-ghost use Rattle.std.specs.Prelude.{◌≡◌, ◌-◌, ◌<◌, ◌≤◌, ◌++◌, ◌∷◌, [], length, take, drop, slice_get, IsOk, OnOk, OnErr, ◌==◌};
+ghost use Rattle.std.specs.Prelude.{◌≡◌, ◌-◌, ◌<◌, ◌≤◌, ◌++◌, ◌∷◌, [], length, take, drop, slice_get, IsOk, OnOk};
+ghost use Rattle.std.specs.Prelude.{OnErr, ◌==◌};
 ghost use Rattle.std.specs.Option.{option_copied};
 ghost use Rattle.mold_messages.specs.Listed.{byte_count, extended, HasRoom, KeepsRoom};
 ghost use Rattle.mold_messages.specs.Places.{place};

@@ -85,7 +85,8 @@ impl Model for Slots {
 
     ghost view = { λ s. slots_of (λ message. message.items) s.ring.items };
 
-    ghost invariant = { λ s. AreSlots (slots_of (λ message. message.items) s.ring.items) s.ring.capacity s.held s.clear };
+    ghost invariant = { λ s.
+        AreSlots (slots_of (λ message. message.items) s.ring.items) s.ring.capacity s.held s.clear };
 }
 
 impl Slots {

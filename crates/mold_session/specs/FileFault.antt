@@ -8,7 +8,8 @@ use Rattle.mold_devices.specs.declared.fault.ReadFault.TheVariants as reading
 use Rattle.mold_session.specs.File.{magic_1, magic_2}
 use Rattle.mold_session.specs.Journal.{IsWithin}
 use Rattle.mold_session.specs.declared.error.FileError.{FileError}
-use Rattle.mold_session.specs.declared.error.FileError.TheVariants.{TooLong, Memory, BadMagic, Short, BlockCut, Read, Write, Full, CountDiffers, BadFlag}
+use Rattle.mold_session.specs.declared.error.FileError.TheVariants.{TooLong, Memory, BadMagic, Short, BlockCut, Read}
+use Rattle.mold_session.specs.declared.error.FileError.TheVariants.{Write, Full, CountDiffers, BadFlag}
 
 -- the bytes are, or begin, a file of version 2
 abbrev pub IsVersion2 : List ℕ → Type 0

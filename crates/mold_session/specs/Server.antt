@@ -1,5 +1,6 @@
 -- A re-request server as its users see it, which requests it answers, and what it lends.
-use Rattle.std.specs.Prelude.{◌≡◌, ℕ, ◌+◌, ◌≤◌, ◌<◌, ◌^◌, min, Bool, not, ◌&&◌, nat_le, nat_lt, ◌==◌, if◌then◌else◌, List, ◌∷◌, length}
+use Rattle.std.specs.Prelude.{◌≡◌, ℕ, ◌+◌, ◌≤◌, ◌<◌, ◌^◌, min, Bool, not, ◌&&◌, nat_le, nat_lt, ◌==◌, if◌then◌else◌}
+use Rattle.std.specs.Prelude.{List, ◌∷◌, length}
 use Rattle.std.specs.Prelude.{Option, None, Some, Result, Ok, Err}
 use Rattle.std.specs.Str.{bytes_eq}
 use Rattle.mold_wire.specs.declared.error.RequestError.{RequestError}
@@ -12,7 +13,8 @@ use Rattle.mold_wire.specs.Request.{request_reading}
 use Rattle.mold_session.specs.Answer.{PlanState, plan_for, answer}
 use Rattle.mold_session.specs.Journal.{JournalState}
 use Rattle.mold_session.specs.declared.error.AnswerError.{AnswerError}
-use Rattle.mold_session.specs.declared.error.AnswerError.TheVariants.{RequestLength, WrongSession, SequenceZero, EmptyRequest, Ahead}
+use Rattle.mold_session.specs.declared.error.AnswerError.TheVariants.{RequestLength, WrongSession, SequenceZero}
+use Rattle.mold_session.specs.declared.error.AnswerError.TheVariants.{EmptyRequest, Ahead}
 use Rattle.mold_session.specs.declared.error.ServerError.{ServerError}
 use Rattle.mold_session.specs.declared.error.ServerError.TheVariants.{Limit, Burst}
 

@@ -1,5 +1,6 @@
 -- A file of either version, written again in version 2.
-use Rattle.std.specs.Prelude.{◌≡◌, ◌⊎◌, ℕ, Bool, true, false, List, length, if◌then◌else◌, Option, None, Some, Result, Ok, Err, IfSome}
+use Rattle.std.specs.Prelude.{◌≡◌, ◌⊎◌, ℕ, Bool, true, false, List, length, if◌then◌else◌, Option, None, Some, Result}
+use Rattle.std.specs.Prelude.{Ok, Err, IfSome}
 use Rattle.mold_wire.specs.declared.session.Session.{Session}
 use Rattle.mold_devices.specs.Devices.{one_more}
 use Rattle.mold_session.specs.File.{SpellsJournal, SpellsJournal2, AppendsFile, AppendsFileFront}

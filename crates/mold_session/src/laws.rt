@@ -1,7 +1,8 @@
 //! What holds of the definitions alone. Each law is a function that does nothing: its contract is the
 //! law.
 
-ghost use Rattle.std.specs.Prelude.{◌≡◌, ◌+◌, ◌<◌, ◌≤◌, ◌++◌, ◌∷◌, [], List, ℕ, Bool, length, take, None, Ok, Some, slice_get};
+ghost use Rattle.std.specs.Prelude.{◌≡◌, ◌+◌, ◌<◌, ◌≤◌, ◌++◌, ◌∷◌, [], List, ℕ, Bool, length, take, None, Ok, Some};
+ghost use Rattle.std.specs.Prelude.slice_get;
 ghost use Rattle.std.specs.List.{AllByRecursion};
 ghost use Rattle.mold_wire.specs.Packet.{Spells, spelling_of};
 ghost use Rattle.mold_wire.specs.Packing.{front};
@@ -9,7 +10,8 @@ ghost use Rattle.mold_wire.specs.declared.packet.Packet.{Packet};
 ghost use Rattle.mold_wire.specs.declared.session.Session.{Session};
 ghost use Rattle.mold_wire.specs.declared.request.Request.{Request};
 ghost use Rattle.mold_wire.specs.Request.{SpellsRequest};
-ghost use Rattle.mold_session.specs.Answer.{answer, PlanState, IsPlan, plan_for, IsSpent, planned, FitAlone, HasFirst, SendsNext};
+ghost use Rattle.mold_session.specs.Answer.{answer, PlanState, IsPlan, plan_for, IsSpent, planned, FitAlone};
+ghost use Rattle.mold_session.specs.Answer.{HasFirst, SendsNext};
 ghost use Rattle.mold_session.specs.Datagrams.{data_packet, first_part, packing};
 ghost use Rattle.mold_session.specs.Journal.{IsJournal, IsWithin, JournalState, append_refusal};
 ghost use Rattle.mold_session.specs.File.{SpellsJournal, SpellsJournal2};

@@ -7,7 +7,8 @@ ghost use Rattle.mold_wire.specs.Block.{be64, blocks};
 ghost use Rattle.mold_devices.specs.Faults.{CountsRead};
 ghost use Rattle.mold_session.specs.FileFault.{BlockFault, BlocksFault, JournalFault};
 ghost use Rattle.mold_session.specs.Journal.{AreMessages};
-ghost use Rattle.mold_session.specs.Loading.{work_left, ReadsNumbers, NumbersFault, ReadsHead, SpellsFile, TakesMessage, TakesBlock, Refuses, CountsLoad};
+ghost use Rattle.mold_session.specs.Loading.{work_left, ReadsNumbers, NumbersFault, ReadsHead, SpellsFile};
+ghost use Rattle.mold_session.specs.Loading.{TakesMessage, TakesBlock, Refuses, CountsLoad};
 
 use crate::error::FileError;
 use crate::magic::{MAGIC_LENGTH, first_magic, second_magic};

@@ -1,6 +1,7 @@
 //! The re-request server of a session.
 
-ghost use Rattle.std.specs.Prelude.{◌≡◌, ◌↔◌, ◌+◌, ◌≤◌, None, Some, length, unwrap_or, is_ok, is_some, IfOk, IfErr, IfSome, IfNone, OnOk};
+ghost use Rattle.std.specs.Prelude.{◌≡◌, ◌↔◌, ◌+◌, ◌≤◌, None, Some, length, unwrap_or, is_ok, is_some, IfOk, IfErr};
+ghost use Rattle.std.specs.Prelude.{IfSome, IfNone, OnOk};
 ghost use Rattle.std.specs.Option.{OnSome};
 ghost use Rattle.mold_wire.specs.Packet.{Spells};
 ghost use Rattle.mold_session.specs.Answer.{IsPlan, IsSpent, next_part, next_packet, moved};

@@ -3,7 +3,8 @@ use Rattle.std.specs.Prelude.{ℕ, List, Option, None, Some}
 use Rattle.mold_sim.specs.declared.action.Action.{Action}
 use Rattle.mold_sim.specs.declared.action.Action.TheVariants as action
 use Rattle.mold_world.specs.Effect.{Happening}
-use Rattle.mold_world.specs.Effect.Happening.{Publish, Datagram, Heartbeat, Close, End, Request, Ask, Deliver, Noise, Restart}
+use Rattle.mold_world.specs.Effect.Happening.{Publish, Datagram, Heartbeat, Close, End, Request, Ask, Deliver, Noise}
+use Rattle.mold_world.specs.Effect.Happening.Restart
 use Rattle.mold_world.specs.Seen.{line_of}
 
 -- what happens, with these bytes

@@ -1,5 +1,6 @@
 -- What is printed of an event: what it did, or why it is refused; and of a receiver at the end.
-use Rattle.std.specs.Prelude.{ℕ, ◌+◌, ◌-◌, List, [], ◌∷◌, ◌++◌, length, codes, decimal, Bool, nat_lt, if◌then◌else◌, Option, None, Some}
+use Rattle.std.specs.Prelude.{ℕ, ◌+◌, ◌-◌, List, [], ◌∷◌, ◌++◌, length, codes, decimal, Bool, nat_lt, if◌then◌else◌}
+use Rattle.std.specs.Prelude.{Option, None, Some}
 use Rattle.mold_refusals.specs.Words.{answer_words, append_words}
 use Rattle.mold_session.specs.declared.error.SessionError.{SessionError}
 use Rattle.mold_session.specs.declared.error.SessionError.TheVariants as session

@@ -66,8 +66,8 @@ fn push_numbered(
     push_line_with(out, before, &[Word::Text(name), Word::Number(number)])
 }
 
-/// Writes a line of the words before, and why a receiver or a checker refuses a datagram. After an error, which is want of
-/// memory, a part of it stands behind what was there.
+/// Writes a line of the words before, and why a receiver or a checker refuses a datagram. After an error,
+/// which is want of memory, a part of it stands behind what was there.
 pub fn push_refusal(out: &mut Vec<u8>, before: &[Word<'_>], why: Refusal) -> Result<(), AllocError>
     ensures text { OnOk result (out.new.items ≡
         out.old.items ++ line_of (map word_text before.now ++ refusal_words why)) }

@@ -1,5 +1,6 @@
 -- The order that the program's words say.
-use Rattle.std.specs.Prelude.{◌≡◌, ℕ, Bool, List, [], Option, Some, None, codes, false, if◌then◌else◌, is_some, nat_lt, not, option_map}
+use Rattle.std.specs.Prelude.{◌≡◌, ℕ, Bool, List, [], Option, Some, None, codes, false, if◌then◌else◌, is_some}
+use Rattle.std.specs.Prelude.{nat_lt, not, option_map}
 use Rattle.std.specs.Prelude.{◌∷◌, string_bytes}
 use Rattle.std.specs.List.{list_any}
 use Rattle.std.specs.Option.{option_and_then, option_map_or}
@@ -10,7 +11,8 @@ use Rattle.mold_words.specs.Values.{session_of, number_of}
 use Rattle.mold_words.specs.Words.{mold_app}
 use Rattle.mold_words.specs.declared.address.Address.{Address}
 use Rattle.mold_words.specs.declared.types.Order.{Order}
-use Rattle.mold_words.specs.declared.types.Order.TheVariants.{Show, Pack, Sim, Check, Publish, Serve, Listen, Loop, Upgrade}
+use Rattle.mold_words.specs.declared.types.Order.TheVariants.{Show, Pack, Sim, Check, Publish, Serve, Listen, Loop}
+use Rattle.mold_words.specs.declared.types.Order.TheVariants.Upgrade
 
 -- a world that events happen to: its session, the limits of publisher and server, the window of each
 -- receiver, how many receivers there are, and the most packets that answer a request

@@ -1,7 +1,8 @@
 -- What an event does to the world: the one rule of events. A refusal leaves the world as it is, since its
 -- outcome has none.
 use Rattle.std.specs.Prelude.{ℕ, ◌+◌, ◌-◌, List, [], ◌∷◌, ◌++◌, length, map, take, Bool, true, false}
-use Rattle.std.specs.Prelude.{Option, None, Some, Result, Ok, Err, ◌&&◌, nat_le, nat_lt, if◌then◌else◌, slice_get, slice_set}
+use Rattle.std.specs.Prelude.{Option, None, Some, Result, Ok, Err, ◌&&◌, nat_le, nat_lt, if◌then◌else◌, slice_get}
+use Rattle.std.specs.Prelude.slice_set
 use Rattle.std.specs.Str.{bytes_eq}
 use Rattle.mold_wire.specs.Packet.{spelling_of}
 use Rattle.mold_wire.specs.Reading.{reading}
@@ -18,7 +19,8 @@ use Rattle.mold_receiver.specs.declared.line.Line.{Line}
 use Rattle.mold_rule.specs.declared.refusal.Refusal.{Refusal as Refused}
 use Rattle.mold_session.specs.Answer.{answer}
 use Rattle.mold_session.specs.Journal.{append_refusal}
-use Rattle.mold_session.specs.Publisher.{PublisherState, after_datagram, closed, next_datagram, next_end, next_heartbeat, published}
+use Rattle.mold_session.specs.Publisher.{PublisherState, after_datagram, closed, next_datagram, next_end}
+use Rattle.mold_session.specs.Publisher.{next_heartbeat, published}
 use Rattle.mold_session.specs.Server.{asking}
 use Rattle.mold_session.specs.declared.error.AnswerError.{AnswerError}
 use Rattle.mold_session.specs.declared.error.AppendError.{AppendError}
@@ -27,7 +29,8 @@ use Rattle.mold_world.specs.declared.report.Report.{Report}
 use Rattle.mold_world.specs.declared.report.Report.TheVariants as report
 use Rattle.mold_session.specs.declared.error.SessionError.TheVariants as session
 use Rattle.mold_world.specs.declared.report.WorldError.{WorldError}
-use Rattle.mold_world.specs.declared.report.WorldError.TheVariants.{NoReceiver, NoSuchDatagram, NotNoise, NotReached, Layer as Refuses}
+use Rattle.mold_world.specs.declared.report.WorldError.TheVariants.{NoReceiver, NoSuchDatagram, NotNoise, NotReached}
+use Rattle.mold_world.specs.declared.report.WorldError.TheVariants.{Layer as Refuses}
 
 -- what may happen: the publisher's and the server's calls; a receiver's request; a datagram sent before that
 -- comes to a receiver on a line or, where none is named, as an answer; bytes that are none of the session's
@@ -51,7 +54,10 @@ Outcome = Result (Report × WorldState) WorldError
 -- a message is published, unless there is a reason against it
 abbrev pub publishing : WorldState → List ℕ → Option AppendError → Outcome
 publishing w message None =
-    Ok (report.Published (length w.publisher.journal.messages + 1), record w { publisher = published w.publisher message })
+    Ok (
+      report.Published (length w.publisher.journal.messages + 1),
+      record w { publisher = published w.publisher message },
+    )
 publishing w message (Some refusal) = Err (Refuses (session.Append refusal))
 
 -- the packet's one spelling goes to the end of those sent, and the publisher is another
@@ -76,7 +82,8 @@ bursting w packets =
 
 abbrev pub answered : WorldState → Asked → Outcome
 answered w request = bursting w
-    (answer w.publisher.journal.messages w.publisher.journal.session w.server_limit request.sequence request.count w.burst)
+    (answer w.publisher.journal.messages w.publisher.journal.session w.server_limit
+    request.sequence request.count w.burst)
 
 abbrev pub requested : WorldState → Result Asked AnswerError → Outcome
 requested w (Ok request) = answered w request
@@ -161,7 +168,8 @@ effect w Close = closing w
 effect w End = sending w (next_end w.publisher) w.publisher
 effect w (Request bytes) = requested w (asking w.publisher.journal bytes)
 effect w (Ask receiver) = asked w (slice_get w.places receiver)
-effect w (Deliver receiver line place) = delivered w receiver line (slice_get w.places receiver) (slice_get w.sent place)
+effect w (Deliver receiver line place) =
+    delivered w receiver line (slice_get w.places receiver) (slice_get w.sent place)
 effect w (Noise receiver line bytes) =
     noised w receiver line bytes (slice_get w.places receiver) (is_own w.publisher.journal.session (reading bytes))
 effect w (Restart receiver next) = restarted w receiver next (slice_get w.places receiver)

@@ -78,7 +78,8 @@ IsAllowed machine (Send bytes) = IsSaid machine bytes
 IsAllowed machine (Deliver receiver messages ended) =
     ((place : ℕ) (message : List ℕ) → slice_get messages place ≡ Some message →
     IsSentAs machine.sent (length (machine.standings receiver).book + 1 + place) message)
-    × (ended ≡ true → IsEndSent machine.sent machine.session (length ((machine.standings receiver).book ++ messages) + 1))
+    × (ended ≡ true →
+    IsEndSent machine.sent machine.session (length ((machine.standings receiver).book ++ messages) + 1))
 IsAllowed machine (Restart receiver next) = (1 ≤ next) × (next ≤ length (machine.standings receiver).book + 1)
 IsAllowed machine Nothing = Unit {0}
 

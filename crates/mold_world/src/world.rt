@@ -218,7 +218,8 @@ impl World {
 
     /// What came to receiver `r` on a line since it began; none where there is no such receiver.
     pub fn report(&self, r: usize, line: Line) -> Option<LineReport>
-        ensures { result ≡ option_map (λ place. report_on line place.arbitration.reports) (slice_get self.now.places r) }
+        ensures { result ≡
+            option_map (λ place. report_on line place.arbitration.reports) (slice_get self.now.places r) }
     {
         Some(self.parts.places.get(r)?.report(line))
     }
