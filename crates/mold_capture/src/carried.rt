@@ -1,7 +1,7 @@
 //! The messages that were carried.
 
 ghost use Rattle.std.specs.Prelude.{◌≡◌, ◌+◌, ◌-◌, ◌<◌, ◌≤◌, ◌^◌, length, List, ℕ, None, Some, IfOk, IfErr, OnOk};
-ghost use Rattle.std.specs.Prelude.OnErr;
+ghost use Rattle.std.specs.Prelude.{OnErr};
 ghost use Rattle.std.specs.FinMap as finite;
 ghost use Rattle.std.specs.Ordering.{nat_cmp};
 ghost use Rattle.mold_ranges.specs.Ranges as lacking;

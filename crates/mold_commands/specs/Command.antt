@@ -6,7 +6,7 @@ use Rattle.mold_sim.specs.Sim.{SimState, sim_beginning, sim_status, sim_text}
 use Rattle.mold_words.specs.declared.sim_order.SimOrder.{SimOrder}
 use Rattle.mold_words.specs.declared.types.Order.{Order}
 use Rattle.mold_words.specs.declared.types.Order.TheVariants.{Show, Pack, Sim, Check, Publish, Serve, Listen, Loop}
-use Rattle.mold_words.specs.declared.types.Order.TheVariants.Upgrade
+use Rattle.mold_words.specs.declared.types.Order.TheVariants.{Upgrade}
 
 -- the world that a script's events happen to
 abbrev pub sim_start : SimOrder → SimState

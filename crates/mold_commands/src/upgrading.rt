@@ -2,7 +2,7 @@
 
 ghost use Rattle.std.specs.Prelude.{◌≡◌, ◌++◌, IfOk, Ok, OnOk, Result};
 ghost use Rattle.mold_commands.specs.Upgrade.{IsUpgradeOutcome, TellsOutcome, TellsUpgrade, fault_of, upgrade_status};
-ghost use Rattle.mold_commands.specs.Upgrade.upgrade_text;
+ghost use Rattle.mold_commands.specs.Upgrade.{upgrade_text};
 ghost use Rattle.mold_session.specs.declared.error.FileError.{FileError};
 ghost use Rattle.mold_session.specs.declared.upgrading.Upgraded.{Upgraded};
 

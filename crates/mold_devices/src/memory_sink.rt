@@ -1,7 +1,7 @@
 //! Memory as a sink.
 
 ghost use Rattle.std.specs.Prelude.{◌≡◌, ◌+◌, ◌-◌, ◌<◌, ◌≤◌, ◌⊎◌, ◌++◌, min, take, length, [], Some, IfOk, IsErr};
-ghost use Rattle.std.specs.Prelude.MatchResult;
+ghost use Rattle.std.specs.Prelude.{MatchResult};
 ghost use Rattle.mold_devices.specs.Devices.{Counts};
 
 use crate::device_fault::DeviceFault;

@@ -1,6 +1,6 @@
 -- What is computed in each lane of a vector, and how lanes change places.
 use Rattle.std.specs.Prelude.{ℕ, ◌+◌, ◌*◌, ◌%◌, Bool, false, ◌||◌, if◌then◌else◌, List, [], ◌∷◌, bit_and, bit_or}
-use Rattle.std.specs.Prelude.nat_lt
+use Rattle.std.specs.Prelude.{nat_lt}
 
 -- the smaller of two numbers
 abbrev pub smaller_of : ℕ → ℕ → ℕ

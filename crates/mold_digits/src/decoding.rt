@@ -1,7 +1,7 @@
 //! Bytes out of hexadecimal digits.
 
 ghost use Rattle.std.specs.Prelude.{◌≡◌, ◌*◌, ◌/◌, ◌<◌, ◌≤◌, length, IfOk, OnErr, MatchResult, true, false};
-ghost use Rattle.std.specs.Prelude.vec_capacity;
+ghost use Rattle.std.specs.Prelude.{vec_capacity};
 ghost use Rattle.hex.specs.Hex.{decode_of};
 ghost use Rattle.mold_digits.specs.Digits.{IsDecodedTo};
 

@@ -1,6 +1,6 @@
 -- Ports of datagrams: what their receives will give, what they sent, and how often they failed.
 use Rattle.std.specs.Prelude.{ℕ, Bool, true, false, List, [], ◌∷◌, ◌++◌, take, drop, Option, None, Some, Result, Ok}
-use Rattle.std.specs.Prelude.Err
+use Rattle.std.specs.Prelude.{Err}
 use Rattle.mold_devices.specs.Devices.{one_more}
 
 -- what a receive gives: a datagram and its sender, nothing in its time, or a failure

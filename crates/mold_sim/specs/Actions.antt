@@ -4,7 +4,7 @@ use Rattle.mold_sim.specs.declared.action.Action.{Action}
 use Rattle.mold_sim.specs.declared.action.Action.TheVariants as action
 use Rattle.mold_world.specs.Effect.{Happening}
 use Rattle.mold_world.specs.Effect.Happening.{Publish, Datagram, Heartbeat, Close, End, Request, Ask, Deliver, Noise}
-use Rattle.mold_world.specs.Effect.Happening.Restart
+use Rattle.mold_world.specs.Effect.Happening.{Restart}
 use Rattle.mold_world.specs.Seen.{line_of}
 
 -- what happens, with these bytes

@@ -12,7 +12,7 @@ use Rattle.mold_receiver.specs.declared.line.Line.{Line}
 use Rattle.mold_receiver.specs.declared.line.Line.TheVariants.{A, B}
 use Rattle.mold_world.specs.Effect.{Happening}
 use Rattle.mold_world.specs.Effect.Happening.{Publish, Datagram, Heartbeat, Close, End, Request, Ask, Deliver, Noise}
-use Rattle.mold_world.specs.Effect.Happening.Restart
+use Rattle.mold_world.specs.Effect.Happening.{Restart}
 
 -- the words of a line: it is cut at each space, so that a space too many makes a word without bytes
 abbrev pub words_of : List ℕ → List (List ℕ)

@@ -12,7 +12,7 @@ use Rattle.mold_words.specs.Words.{mold_app}
 use Rattle.mold_words.specs.declared.address.Address.{Address}
 use Rattle.mold_words.specs.declared.types.Order.{Order}
 use Rattle.mold_words.specs.declared.types.Order.TheVariants.{Show, Pack, Sim, Check, Publish, Serve, Listen, Loop}
-use Rattle.mold_words.specs.declared.types.Order.TheVariants.Upgrade
+use Rattle.mold_words.specs.declared.types.Order.TheVariants.{Upgrade}
 
 -- a world that events happen to: its session, the limits of publisher and server, the window of each
 -- receiver, how many receivers there are, and the most packets that answer a request

@@ -5,7 +5,7 @@ use Rattle.mold_receiver.specs.Receive.{Reception, receive}
 use Rattle.mold_rule.specs.declared.refusal.Refusal.{Refusal as Refused}
 use Rattle.mold_world.specs.Effect.{Happening, after_event, is_own}
 use Rattle.mold_world.specs.Effect.Happening.{Publish, Datagram, Heartbeat, Close, End, Request, Ask, Deliver, Noise}
-use Rattle.mold_world.specs.Effect.Happening.Restart
+use Rattle.mold_world.specs.Effect.Happening.{Restart}
 use Rattle.mold_world.specs.Headline.{HandOn, handed_from}
 use Rattle.mold_world.specs.World.{PlaceState, WorldState}
 

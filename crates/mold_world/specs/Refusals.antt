@@ -1,12 +1,12 @@
 -- Why a world is not made, why an event is refused, and where memory may be wanting.
 use Rattle.std.specs.Prelude.{◌≡◌, ◌⊎◌, ℕ, List, Option, Some, Result, Ok, Err, IsOk, not, Bool, ◌&&◌, nat_le}
-use Rattle.std.specs.Prelude.if◌then◌else◌
+use Rattle.std.specs.Prelude.{if◌then◌else◌}
 use Rattle.std.specs.Prelude.{slice_get, position}
 use Rattle.std.specs.Option.{option_map}
 use Rattle.mold_receiver.specs.Receive.{IsCopied}
 use Rattle.mold_world.specs.Effect.{Happening, effect}
 use Rattle.mold_world.specs.Effect.Happening.{Publish, Datagram, Heartbeat, Close, End, Request, Ask, Deliver, Noise}
-use Rattle.mold_world.specs.Effect.Happening.Restart
+use Rattle.mold_world.specs.Effect.Happening.{Restart}
 use Rattle.mold_world.specs.World.{PlaceState, WorldState}
 use Rattle.mold_session.specs.declared.error.AppendError.{AppendError}
 use Rattle.mold_session.specs.declared.error.AppendError.TheVariants as append

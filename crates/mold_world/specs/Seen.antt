@@ -3,7 +3,7 @@ use Rattle.std.specs.Prelude.{Option, None, Some}
 use Rattle.mold_receiver.specs.declared.line.Line.{Line}
 use Rattle.mold_world.specs.Effect.{Happening}
 use Rattle.mold_world.specs.Effect.Happening.{Publish, Datagram, Heartbeat, Close, End, Request, Ask, Deliver, Noise}
-use Rattle.mold_world.specs.Effect.Happening.Restart
+use Rattle.mold_world.specs.Effect.Happening.{Restart}
 use Rattle.mold_world.specs.declared.event.Event.{Event}
 use Rattle.mold_world.specs.declared.event.Event.TheVariants as event
 use Rattle.mold_world.specs.declared.way.Way.{Way}
