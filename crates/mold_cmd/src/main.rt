@@ -1,13 +1,11 @@
 //! The program `mold`: packets of MoldUDP64 from the command line.
 #![tactic(auto)]
 
-mod sockets;
-
 ghost use Rattle.mold_commands.specs.Command.{IsStreamed};
 
-use crate::sockets::{run_listen, run_loop, run_publish, run_serve};
 use mold_commands::{check_folder, run_command, run_upgrade};
 use mold_devices::{CommandFault, FromRead, IntoWrite, NewFile};
+use mold_sockets::{run_listen, run_loop, run_publish, run_serve};
 use mold_wiring::{ProgramFault, exit_code, flushed, tell_fault};
 use mold_words::{Order, UpgradeOrder, UsageFault, read_words};
 use std::fs::File;
