@@ -1,9 +1,10 @@
 -- Faults of a loop that reads no source, and the sink's count.
-use Rattle.std.proofs.Common.{◌≡◌, ℕ, Result, Ok, Err, ap, subst, sym, ◌∙◌}
+use Rattle.std.proofs.Common.{◌≡◌, ℕ, Result, Ok, Err, ap, inl, subst, sym, ◌∙◌}
 use Rattle.std.specs.Prelude.{IsErrAnd}
 use Rattle.mold_devices.specs.Devices.{one_more}
+use Rattle.mold_devices.specs.Faults.{CountsCommand}
 use Rattle.mold_devices.specs.declared.fault.CommandFault.{CommandFault}
-use Rattle.mold_devices.specs.declared.fault.CommandFault.TheVariants.{Write, Memory}
+use Rattle.mold_devices.specs.declared.fault.CommandFault.TheVariants.{Read, Write, Memory}
 use Rattle.mold_feed.specs.Faults.{CountsSink, CountsSinkFault}
 
 -- memory was refused, and nothing failed so far
@@ -25,3 +26,13 @@ pub counts_same : {T : Type 0} (result : Result T CommandFault) (cause : Command
     IsErrAnd result (λ fault. fault ≡ cause) → CountsSinkFault old new cause → CountsSink old new result
 counts_same (Ok _) cause old new is counted = absurd is
 counts_same (Err fault) cause old new is counted = subst (CountsSinkFault old new) (sym is) counted
+
+-- a source didn't fail, and then a sink did or didn't
+pub counts_behind : {T : Type 0} (result : Result T CommandFault) (source_old source_new old mid new : ℕ) →
+    source_new ≡ source_old → mid ≡ old → CountsSink mid new result →
+    CountsCommand source_old source_new old new result
+counts_behind (Ok _) source_old source_new old mid new source same counted = (source, counted ∙ same)
+counts_behind (Err Read) source_old source_new old mid new source same counted = absurd counted
+counts_behind (Err Write) source_old source_new old mid new source same counted =
+    (inl source, counted ∙ ap one_more same)
+counts_behind (Err Memory) source_old source_new old mid new source same counted = (source, counted ∙ same)

@@ -2,6 +2,7 @@ pub mod AnsweringLemmas
 pub mod FaultLemmas
 pub mod HandedLemmas
 pub mod ListenLemmas
+pub mod PassingLemmas
 pub mod PublishLoopLemmas
 pub mod RunLemmas
 pub mod ServingLemmas

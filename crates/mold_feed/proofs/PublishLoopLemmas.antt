@@ -142,7 +142,7 @@ pub record SentSoFar {P : Type 0} (a b : P) (start now : PublisherState) (known 
   pub counted : count ≡ length front
   pub behind : LeftToSend start now known left front
 
-left_same : (start : PublisherState) (known : Option (List ℕ)) → LeftToSend start start known known []
+pub left_same : (start : PublisherState) (known : Option (List ℕ)) → LeftToSend start start known known []
 left_same start None = tt
 left_same start (Some input) = (refl, refl)
 
@@ -160,7 +160,7 @@ data_same one other first second limit sent same =
     ∙ ap (λ (n : ℕ). data_behind other.limit n first) (sym sent)
     ∙ ap (data_behind other.limit other.sent) same
 
-left_full : PackingLaws → (start before now : PublisherState) (known left behind : Option (List ℕ))
+pub left_full : PackingLaws → (start before now : PublisherState) (known left behind : Option (List ℕ))
     (front : List (List ℕ)) → LeftToSend start before known left front → Fills before now left behind Full →
     LeftToSend start (after_datagram now) known behind (front ++ spelled_some (next_datagram now))
 left_full laws start before now None left behind front so_far filled = tt
@@ -194,14 +194,14 @@ sent_full {P} laws a b start before now after known left behind old mid new coun
     })
 
 -- a fault: what was offered is a beginning
-begun : (start now : PublisherState) (known left : Option (List ℕ)) (front : List (List ℕ)) →
+pub begun : (start now : PublisherState) (known left : Option (List ℕ)) (front : List (List ℕ)) →
     LeftToSend start now known left front → IfSome known (λ input.
     Begins front (data_behind start.limit start.sent (lines_published start.journal (lines_of input))))
 begun start now None left front so_far = tt
 begun start now (Some input) None front so_far = absurd so_far
 begun start now (Some input) (Some xs) front so_far = record { rest = _; parts = so_far.0 }
 
-any_known : (known : Option (List ℕ)) (Q : List ℕ → Type 0) → ((input : List ℕ) → Q input) → IfSome known Q
+pub any_known : (known : Option (List ℕ)) (Q : List ℕ → Type 0) → ((input : List ℕ) → Q input) → IfSome known Q
 any_known None Q all = tt
 any_known (Some input) Q all = all input
 
@@ -230,19 +230,19 @@ sent_not a b start last known result old count failed = record {
 }
 
 -- all the data were offered
-abbrev AllSent : PublisherState → JournalState → Option LineRefusal → List (List ℕ) → List ℕ → Type 0
+abbrev pub AllSent : PublisherState → JournalState → Option LineRefusal → List (List ℕ) → List ℕ → Type 0
 AllSent start journal refused front input =
     (data_behind start.limit start.sent (lines_published start.journal (lines_of input)) ≡ front)
     × (lines_published start.journal (lines_of input) ≡ record { journal = journal; refused = refused })
 
-begun_all : (start : PublisherState) (journal : JournalState) (refused : Option LineRefusal) (known : Option (List ℕ))
+pub begun_all : (start : PublisherState) (journal : JournalState) (refused : Option LineRefusal) (known : Option (List ℕ))
     (front : List (List ℕ)) → IfSome known (AllSent start journal refused front) → IfSome known (λ input.
     Begins front (data_behind start.limit start.sent (lines_published start.journal (lines_of input))))
 begun_all start journal refused None front all = tt
 begun_all start journal refused (Some input) front all =
     record { rest = []; parts = all.0 ∙ sym (append-nil front) }
 
-left_end : PackingLaws → (start before now : PublisherState) (known left behind : Option (List ℕ))
+pub left_end : PackingLaws → (start before now : PublisherState) (known left behind : Option (List ℕ))
     (front : List (List ℕ)) → LeftToSend start before known left front → Fills before now left behind End →
     IfSome known (AllSent start now.journal None (front ++ spelled_some (next_datagram now)))
 left_end laws start before now None left behind front so_far filled = tt
@@ -258,7 +258,7 @@ left_end laws start before now (Some input) (Some xs) (Some ys) front so_far fil
       so_far.1 ∙ filled.lines,
     )
 
-left_refused : PackingLaws → (start before now : PublisherState) (known left behind : Option (List ℕ))
+pub left_refused : PackingLaws → (start before now : PublisherState) (known left behind : Option (List ℕ))
     (why : LineRefusal) (front : List (List ℕ)) → LeftToSend start before known left front →
     Fills before now left behind (Refused why) → IfSome known (AllSent start now.journal (Some why) front)
 left_refused laws start before now None left behind why front so_far filled = tt
@@ -424,7 +424,7 @@ run_unread {P} {E} a b beats ends start now (Some input) report result before no
     (λ lost. no_front text (published_text start.limit published lost))
     (no_front file (saved_bytes published.journal published.refused))
 
-ok_so : {T E : Type 0} (result : Result T E) {Q : Type 0} → Q → OnOk result Q
+pub ok_so : {T E : Type 0} (result : Result T E) {Q : Type 0} → Q → OnOk result Q
 ok_so (Ok _) q = q
 ok_so (Err _) q = tt
 

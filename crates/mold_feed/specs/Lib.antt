@@ -1,6 +1,7 @@
 pub mod Answering
 pub mod Faults
 pub mod Listening
+pub mod Passing
 pub mod PublishLoop
 pub mod Runs
 pub mod Serving

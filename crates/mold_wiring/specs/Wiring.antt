@@ -1,5 +1,6 @@
 -- What the commands over ports are made of, as their orders say.
 use Rattle.std.specs.Prelude.{ℕ, ◌-◌, List, [], false}
+use Rattle.mold_feed.specs.declared.loop_parts.Drops.{Drops}
 use Rattle.mold_receiver.specs.Arbiter.{Arbitration}
 use Rattle.mold_receiver.specs.View.{fresh}
 use Rattle.mold_session.specs.Publisher.{PublisherState}
@@ -63,3 +64,7 @@ loop_server_of order = new_server order.limits.server_limit order.limits.limit o
 
 abbrev pub loop_arbiter_of : LoopOrder → Arbitration
 loop_arbiter_of order = new_arbiter order.session 1 order.window
+
+-- which data packets it leaves out of each line
+abbrev pub drops_of : LoopOrder → Drops
+drops_of order = record { a = order.drop_a; b = order.drop_b }

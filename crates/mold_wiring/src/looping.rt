@@ -1,8 +1,11 @@
 //! What `loop` is made of.
 
-ghost use Rattle.std.specs.Prelude.{◌≡◌, [], IfOk};
+ghost use Rattle.std.specs.Prelude.{◌≡◌, [], true, IfOk, IfSome};
 ghost use Rattle.mold_devices.specs.Faults.{CountsCommand};
-ghost use Rattle.mold_wiring.specs.Wiring.{loop_arbiter_of, loop_publisher_of, loop_server_of};
+ghost use Rattle.mold_devices.specs.Lines.{lines_of};
+ghost use Rattle.mold_feed.specs.Passing.{LoopSends};
+ghost use Rattle.mold_publish.specs.Publishing.{lines_published};
+ghost use Rattle.mold_wiring.specs.Wiring.{drops_of, loop_arbiter_of, loop_publisher_of, loop_server_of};
 
 use crate::limits::longest_message;
 use mold_devices::{CommandFault, Sink, Source};
@@ -54,8 +57,7 @@ fn make_listener(alloc: Global, order: &LoopOrder) -> Result<Listener, AllocErro
 
 // Which data packets are left out of which line.
 fn make_drops(order: &LoopOrder) -> Drops
-    ensures a { result.a ≡ order.now.drop_a }
-    ensures b { result.b ≡ order.now.drop_b }
+    ensures { result ≡ drops_of order.now }
 {
     Drops {
         a: order.drop_a,
@@ -76,6 +78,10 @@ fn run_made<D: Datagrams + Drop, S: Source, K: Sink>(
 ) -> Result<u8, CommandFault>
     requires publisher { publisher.old ≡ loop_publisher_of order.now }
     requires server { server.old ≡ loop_server_of order.now }
+    ensures sends { D.tells ≡ true → IfSome (S.left source.old) (λ input.
+        LoopSends (drops_of order.now) peers.now.a peers.now.b order.now.limits.limit 0
+        (lines_published (loop_publisher_of order.now).journal (lines_of input)) result
+        (D.port ports.old.publisher) (D.port ports.new.publisher)) }
     ensures failures { CountsCommand (S.failed source.old) (S.failed source.new) (K.failed sink.old) (K.failed sink.new)
         result }
 {
@@ -95,8 +101,8 @@ fn run_made<D: Datagrams + Drop, S: Source, K: Sink>(
     )
 }
 
-/// Publishes the lines of the source, and serves and listens to them, in one process, as the order says. `Read` and
-/// `Write` come only where the source or the sink failed.
+/// Publishes the lines of the source, and serves and listens to them, in one process, as the order says: each line's
+/// packets but those that the order leaves out of it. `Read` and `Write` come only where the source or the sink failed.
 pub fn loop_over<D: Datagrams + Drop, S: Source, K: Sink>(
     alloc: Global,
     order: &LoopOrder,
@@ -105,6 +111,10 @@ pub fn loop_over<D: Datagrams + Drop, S: Source, K: Sink>(
     source: &mut S,
     sink: &mut K,
 ) -> Result<u8, CommandFault>
+    ensures sends { D.tells ≡ true → IfSome (S.left source.old) (λ input.
+        LoopSends (drops_of order.now) peers.now.a peers.now.b order.now.limits.limit 0
+        (lines_published (loop_publisher_of order.now).journal (lines_of input)) result
+        (D.port ports.old.publisher) (D.port ports.new.publisher)) }
     ensures failures { CountsCommand (S.failed source.old) (S.failed source.new) (K.failed sink.old) (K.failed sink.new)
         result }
 {

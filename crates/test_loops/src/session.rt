@@ -146,6 +146,16 @@ const ON_BOTH: [(u32, &[u8]); 6] = [
     (2, END),
 ];
 
+/// Where each second packet is left out of line A, and each third of line B.
+const ON_THEIR_LINES: [(u32, &[u8]); 6] = [
+    (1, ONE_AND_TWO),
+    (2, ONE_AND_TWO),
+    (2, THREE_AND_FOUR),
+    (1, FIVE),
+    (1, END),
+    (2, END),
+];
+
 const ALL: &[u8] = b"1 0101010101010101010101010101010101010101\n\
     2 0202020202020202020202020202020202020202\n\
     3 0303030303030303030303030303030303030303\n\
@@ -171,6 +181,17 @@ fn what_both_lines_lost_is_requested(rt: HostRuntime) -> Result<(), Fail> {
     expect_sent(&rt, &fixture.ports.publisher, &ON_BOTH, 0);
     expect_sent(&rt, &fixture.ports.requests, &[(3, REQUEST)], 1);
     expect_sent(&rt, &fixture.ports.server, &[(7, THREE_AND_FOUR)], 2);
+    Ok(())
+}
+
+#[test]
+fn each_line_leaves_out_its_own_packets(rt: HostRuntime) -> Result<(), Fail> {
+    let mut fixture = make_fixture(rt.alloc(), &[ONE_AND_TWO, FIVE, END])?;
+    let drops = Drops { a: 2, b: 3 };
+    let outcome = run(rt.alloc(), &mut fixture, drops, 9, LINES)?;
+    same_outcome(&rt, outcome, Ok(0));
+    same_bytes(&rt, fixture.sink.bytes(), ALL);
+    expect_sent(&rt, &fixture.ports.publisher, &ON_THEIR_LINES, 0);
     Ok(())
 }
 

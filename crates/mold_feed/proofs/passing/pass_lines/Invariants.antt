@@ -1,0 +1,27 @@
+use Rattle.std.proofs.Common.{◌≡◌, ◌≤◌, true}
+use Rattle.std.specs.Io.KnownBytes.{prepend_known}
+use Rattle.mold_devices.specs.Lines.{work_left}
+use Rattle.mold_publish.specs.Publishing.{HasRoom}
+use Rattle.mold_feed.proofs.PassingLemmas.{PassedSoFar}
+use Rattle.mold_feed.proofs.passing.pass_lines.Given as goal
+
+-- what was published and not sent fits a datagram, the data so far were offered, the limit is the
+-- same, and no device failed
+abbrev pub invariant-lines : goal.invariant-lines
+invariant-lines g l = record {
+  room : HasRoom l.publisher;
+  few : l.number ≤ l.publisher.sent;
+  passed :
+      g.D.Datagrams.tells ≡ true →
+      PassedSoFar l.fn.drops l.fn.peers.a l.fn.peers.b l.fn.publisher l.publisher (g.S.Source.left l.fn.source)
+      (prepend_known l.lines.rest (g.S.Source.left l.source))
+      (g.D.Datagrams.port l.fn.ports.publisher)
+      (g.D.Datagrams.port l.ports.publisher)
+      l.number;
+  limit : l.publisher.limit ≡ l.fn.publisher.limit;
+  source : g.S.Source.failed l.source ≡ g.S.Source.failed l.fn.source;
+  sink : g.K.Sink.failed l.sink ≡ g.K.Sink.failed l.fn.sink;
+}
+
+abbrev pub decreases-lines : goal.decreases-lines
+decreases-lines g l = work_left (g.S.Source.bound l.source) l.lines.rest

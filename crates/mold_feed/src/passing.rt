@@ -1,0 +1,214 @@
+//! What a loop's publisher sends on the lines, and what comes there.
+
+ghost use Rattle.std.specs.Prelude.{◌≡◌, ◌+◌, ◌≤◌, true, None, length, IfOk, OnOk};
+ghost use Rattle.mold_devices.specs.Faults.{CountsCommand};
+ghost use Rattle.mold_feed.specs.Passing.{Offers, PassesLines, data_letters, end_letters, goes, letter, letters};
+ghost use Rattle.mold_feed.specs.Passing.{routes_of};
+ghost use Rattle.mold_feed.specs.PublishLoop.{spelled_some};
+ghost use Rattle.mold_publish.specs.Publishing.{HasRoom};
+ghost use Rattle.mold_session.specs.Publisher.{after_datagram, next_datagram};
+
+use crate::hearing::hear_port;
+use crate::loop_parts::{Drops, Listener, LoopPeers, LoopPorts, Routes};
+use crate::report::Report;
+use crate::sending::publisher_holds;
+use mold_devices::{CommandFault, Lines, Sink, Source};
+use mold_ports::Datagrams;
+use mold_publish::{Filled, LineRefusal, fill};
+use mold_receiver::Line;
+use mold_session::Publisher;
+use mold_session::laws::packing_law;
+use mold_wire::laws::front_law;
+use std::alloc::{AllocError, Global};
+
+// Whether the data packet of this number, the first one's being 1, goes on a line.
+fn goes(left_out: u32, number: u64) -> bool
+    ensures { result ≡ goes left_out number }
+{
+    left_out == 0 || number % u64::from(left_out) != 0
+}
+
+// On which lines the data packet of this number goes.
+fn routes_of(drops: Drops, number: u64) -> Routes
+    ensures { result ≡ routes_of drops number }
+{
+    Routes {
+        a: goes(drops.a, number),
+        b: goes(drops.b, number),
+    }
+}
+
+// Sends a datagram, if it goes there, and counts a failure. Answers whether it was sent.
+fn is_sent<D: Datagrams>(
+    port: &mut D,
+    on: bool,
+    to: D::Peer,
+    datagram: &[u8],
+    report: &mut Report,
+) -> bool
+    ensures { D.tells ≡ true → Offers (letter on to datagram.now) (D.port port.old) (D.port port.new) }
+{
+    if !on {
+        return false;
+    }
+    if port.send(to, datagram).is_err() {
+        report.count_failure();
+        return false;
+    }
+    true
+}
+
+// Sends a datagram on the lines that it goes on. Answers on which it was sent.
+fn send_on<D: Datagrams>(
+    port: &mut D,
+    peers: &LoopPeers<D::Peer>,
+    routes: Routes,
+    datagram: &[u8],
+    report: &mut Report,
+) -> Routes
+    ensures { D.tells ≡ true →
+        Offers (letters routes peers.now.a peers.now.b datagram.now) (D.port port.old) (D.port port.new) }
+{
+    Routes {
+        a: is_sent(port, routes.a, peers.a, datagram, report),
+        b: is_sent(port, routes.b, peers.b, datagram, report),
+    }
+}
+
+// Takes what comes on the lines that a datagram was sent on.
+fn hear_on<D: Datagrams + Drop>(
+    ports: &mut LoopPorts<D>,
+    routes: Routes,
+    place: &mut [u8],
+    listener: &mut Listener,
+) -> Result<(), AllocError>
+    requires { length place.old ≡ 65507 }
+    ensures { ports.new.publisher ≡ ports.old.publisher }
+{
+    let Listener { arbiter, report } = listener;
+    if routes.a {
+        hear_port(&mut ports.a, Some(Line::A), place, arbiter, report)?;
+    }
+    if routes.b {
+        hear_port(&mut ports.b, Some(Line::B), place, arbiter, report)?;
+    }
+    Ok(())
+}
+
+// Sends a datagram on the lines that it goes on, and takes what comes there.
+fn pass<D: Datagrams + Drop>(
+    ports: &mut LoopPorts<D>,
+    peers: &LoopPeers<D::Peer>,
+    routes: Routes,
+    datagram: &[u8],
+    place: &mut [u8],
+    listener: &mut Listener,
+) -> Result<(), AllocError>
+    requires { length place.old ≡ 65507 }
+    ensures { D.tells ≡ true → Offers (letters routes peers.now.a peers.now.b datagram.now)
+        (D.port ports.old.publisher) (D.port ports.new.publisher) }
+{
+    let port = &mut ports.publisher;
+    let sent = send_on(port, peers, routes, datagram, &mut listener.report);
+    hear_on(ports, sent, place, listener)
+}
+
+// Sends the publisher's next datagram on the lines that it goes on, and takes what comes there. `number` counts
+// the datagrams.
+fn pass_next<D: Datagrams + Drop>(
+    publisher: &mut Publisher,
+    ports: &mut LoopPorts<D>,
+    peers: &LoopPeers<D::Peer>,
+    drops: Drops,
+    number: &mut u64,
+    place: &mut [u8],
+    listener: &mut Listener,
+) -> Result<(), AllocError>
+    requires place { length place.old ≡ 65507 }
+    requires few { number.old ≤ publisher.old.sent }
+    ensures offers { D.tells ≡ true → Offers (data_letters drops (number.old + 1) peers.now.a peers.now.b
+        (spelled_some (next_datagram publisher.old))) (D.port ports.old.publisher) (D.port ports.new.publisher) }
+    ensures counted { number.new ≡ number.old + length (spelled_some (next_datagram publisher.old)) }
+    ensures sent { publisher.new ≡ after_datagram publisher.old }
+{
+    publisher_holds(publisher);
+    let Some(datagram) = publisher.datagram() else {
+        return Ok(());
+    };
+    *number += 1;
+    let routes = routes_of(drops, *number);
+    pass(ports, peers, routes, datagram, place, listener)
+}
+
+/// Publishes the lines of the source, and sends each datagram as soon as the publisher is full, and the rest
+/// behind the last line. Answers why a line is refused, where one is.
+pub(crate) fn pass_lines<D: Datagrams + Drop, S: Source, K: Sink>(
+    alloc: Global,
+    publisher: &mut Publisher,
+    ports: &mut LoopPorts<D>,
+    peers: &LoopPeers<D::Peer>,
+    drops: Drops,
+    place: &mut [u8],
+    listener: &mut Listener,
+    source: &mut S,
+    sink: &mut K,
+) -> Result<Option<LineRefusal>, CommandFault>
+    requires room { HasRoom publisher.old }
+    requires place { length place.old ≡ 65507 }
+    ensures passes { D.tells ≡ true → PassesLines drops peers.now.a peers.now.b publisher.old publisher.new
+        (S.left source.old) result (D.port ports.old.publisher) (D.port ports.new.publisher) }
+    ensures all { IfOk result (λ refused. refused ≡ None →
+        publisher.new.sent ≡ length publisher.new.journal.messages) }
+    ensures limit { OnOk result (publisher.new.limit ≡ publisher.old.limit) }
+    ensures failures { CountsCommand (S.failed source.old) (S.failed source.new) (K.failed sink.old) (K.failed sink.new)
+        result }
+{
+    front_law();
+    packing_law();
+    let mut lines = Lines::new(alloc)?;
+    let mut message = Vec::new(alloc);
+    let mut number = 0;
+    'lines: loop {
+        match fill(publisher, &mut lines, source, &mut message)? {
+            Filled::Full => pass_next(
+                publisher,
+                ports,
+                peers,
+                drops,
+                &mut number,
+                place,
+                listener,
+            )?,
+            Filled::End => {
+                pass_next(publisher, ports, peers, drops, &mut number, place, listener)?;
+                return Ok(None);
+            }
+            Filled::Refused { why } => return Ok(Some(why)),
+        }
+        listener.report.send_large(sink)?;
+    }
+}
+
+/// Closes the session, of which every message was sent, and sends its end packet on both lines.
+pub(crate) fn pass_end<D: Datagrams + Drop>(
+    publisher: &mut Publisher,
+    ports: &mut LoopPorts<D>,
+    peers: &LoopPeers<D::Peer>,
+    place: &mut [u8],
+    listener: &mut Listener,
+) -> Result<(), AllocError>
+    requires place { length place.old ≡ 65507 }
+    requires sent { publisher.old.sent ≡ length publisher.old.journal.messages }
+    ensures offers { D.tells ≡ true → Offers (end_letters peers.now.a peers.now.b publisher.old.journal None)
+        (D.port ports.old.publisher) (D.port ports.new.publisher) }
+    ensures limit { publisher.new.limit ≡ publisher.old.limit }
+{
+    let _ = publisher.close();
+    match publisher.end() {
+        Some(end) => {
+            let routes = Routes { a: true, b: true };
+            pass(ports, peers, routes, end, place, listener)
+        }
+        None => Ok(()),
+    }
+}
