@@ -1,5 +1,8 @@
 //! `mold check`: the entries of a folder.
 
+ghost use Rattle.std.specs.Prelude.{◌≡◌, IfErr, IfOk};
+ghost use Rattle.mold_commands.specs.Folder.{CountsFolder, TellsEntries};
+
 use mold_check::{Entry, check_entries, names_datagram};
 use mold_devices::{CommandFault, Sink};
 use std::alloc::Global;
@@ -37,7 +40,11 @@ pub fn check_folder<R: Files + AllocGlobal + Clone + Drop, K: Sink>(
     rt: &R,
     folder: &str,
     sink: &mut K,
-) -> Result<u8, CommandFault> {
+) -> Result<u8, CommandFault>
+    ensures told { IfOk result (TellsEntries (K.held sink.old) (K.held sink.new)) }
+    ensures unread { IfErr result (λ fault. fault ≡ CommandFault.Read → sink.new ≡ sink.old) }
+    ensures failures { CountsFolder (K.failed sink.old) (K.failed sink.new) result }
+{
     match read_entries(rt, folder) {
         Ok(entries) => check_entries(rt.alloc(), entries.as_slice(), sink),
         Err(error) if error.kind() == ErrorKind::OutOfMemory => Err(CommandFault::Memory),

@@ -1,15 +1,15 @@
 //! What `serve` is made of.
 
-ghost use Rattle.std.specs.Prelude.{◌≡◌, ◌-◌, true, IfErr, IfOk};
+ghost use Rattle.std.specs.Prelude.{◌≡◌, ◌-◌, true, IfErr, IfOk, IfSome};
 ghost use Rattle.std.specs.Io.KnownBytes.{Appends};
+ghost use Rattle.mold_devices.specs.Devices.{AppendsFront};
 ghost use Rattle.mold_refusals.specs.Words.{file_fault_words};
 ghost use Rattle.mold_feed.specs.Serving.{served_by, service_of, serving, responder_of};
 ghost use Rattle.mold_feed.specs.Tally.{last_line, no_tally};
-ghost use Rattle.mold_session.specs.FileFault.{JournalFault};
-ghost use Rattle.mold_session.specs.Loading.{Refuses};
 ghost use Rattle.mold_text.specs.Text.{refused_line};
 ghost use Rattle.mold_feed.specs.Faults.{CountsSink};
 ghost use Rattle.mold_feed.specs.Runs.{Ran};
+ghost use Rattle.mold_wiring.specs.File.{CountsSource, IsAtFault, SpellsFile};
 ghost use Rattle.mold_wiring.specs.Wiring.{server_of};
 
 use crate::limits::longest_message;
@@ -30,8 +30,9 @@ pub fn load_journal<S: Source>(
 ) -> Result<Result<Journal, FileError>, CommandFault>
     ensures longest { IfOk result (λ loaded. IfOk loaded (λ journal.
         journal.max_message ≡ order.now.limit - 22)) }
-    ensures refused { IfOk result (λ loaded. IfErr loaded
-        (Refuses (JournalFault (order.now.limit - 22)) (S.left source.old))) }
+    ensures whole { IfOk result (λ loaded. IfOk loaded (λ journal. IfSome (S.left source.old) (SpellsFile journal))) }
+    ensures refused { IfOk result (λ loaded. IfErr loaded (IsAtFault (order.now.limit - 22) (S.left source.old))) }
+    ensures failures { CountsSource (S.failed source.old) (S.failed source.new) result }
 {
     match Journal::load(alloc, longest_message(order.limit), source) {
         Ok(journal) => Ok(Ok(journal)),
@@ -49,6 +50,8 @@ pub fn tell_file_refused<K: Sink>(
 ) -> Result<u8, CommandFault>
     ensures told { IfOk result (λ status.
         Appends (K.held sink.old) (K.held sink.new) (refused_line (file_fault_words error)) × (status ≡ 2)) }
+    ensures front { AppendsFront (K.held sink.old) (K.held sink.new) (refused_line (file_fault_words error)) }
+    ensures nothing { IfErr result (λ fault. fault ≡ CommandFault.Memory → sink.new ≡ sink.old) }
     ensures sink { CountsSink (K.failed sink.old) (K.failed sink.new) result }
 {
     let mut text = Vec::new(alloc);
