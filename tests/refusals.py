@@ -39,6 +39,8 @@ class Call:
     ports: tuple = ()
     # The status without refusals.
     status: int = 0
+    # The kinds of calls of the system that it makes for certain.
+    devices: tuple = ("read", "write")
 
 
 @dataclass
@@ -134,13 +136,15 @@ def calls_over_ports():
     serve = ["serve", "--journal", "@old", *limits, "--bind", address(sockets.SERVER), "--turns", "2"]
     listen = ["listen", "--session", "SESSION001", "--window", "4", "--turns", "1000"]
     listen += ["--a", address(sockets.LINE_A), "--b", address(sockets.LINE_B), "--server", address(sockets.OWN)]
+    sends, answers = ("read", "write", "send"), ("read", "write", "receive", "send")
+    hears = ("write", "receive", "send", "wait")
     return [
-        Call("loop", loop, LINES),
-        Call("publish", publish, MESSAGES, {}, ("new",), hear, published),
-        Call("publish over a file", publish, MESSAGES, {"new": b"what was there"}, ("new",), hear, published),
-        Call("serve", serve, b"", {"old": OLD}, (), ask, (sockets.ASKING,)),
+        Call("loop", loop, LINES, devices=answers),
+        Call("publish", publish, MESSAGES, {}, ("new",), hear, published, 0, sends),
+        Call("publish over a file", publish, MESSAGES, {"new": b"what was there"}, ("new",), hear, published, 0, sends),
+        Call("serve", serve, b"", {"old": OLD}, (), ask, (sockets.ASKING,), 0, answers),
         Call("serve, refused", serve, b"", {"old": OLD[:-1]}, status=2),
-        Call("listen", listen, b"", {}, (), feed, (sockets.FEEDING, sockets.OWN)),
+        Call("listen", listen, b"", {}, (), feed, (sockets.FEEDING, sockets.OWN), 0, hears),
     ]
 
 
@@ -159,12 +163,12 @@ def all_calls():
         Call("sim", sim, script, status=2),
         *calls_of_files(),
         *calls_over_ports(),
-        Call("help", ["--help"]),
-        Call("help of a command", ["listen", "--help"]),
-        Call("the version", ["--version"]),
-        Call("a usage fault", ["pack", "--session", "SESSION001", "--limit", "63"], status=FAULT),
-        Call("an address fault", ["serve", "--journal", "x", "--bind", "nowhere"], status=FAULT),
-        Call("a fault of reading", ["check", "@none"], status=FAULT),
+        Call("help", ["--help"], devices=("write",)),
+        Call("help of a command", ["listen", "--help"], devices=("write",)),
+        Call("the version", ["--version"], devices=("write",)),
+        Call("a usage fault", ["pack", "--session", "SESSION001", "--limit", "63"], status=FAULT, devices=()),
+        Call("an address fault", ["serve", "--journal", "x", "--bind", "nowhere"], status=FAULT, devices=()),
+        Call("a fault of reading", ["check", "@none"], status=FAULT, devices=()),
     ]
 
 
