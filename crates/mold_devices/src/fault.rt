@@ -4,13 +4,16 @@ ghost use Rattle.std.specs.Prelude.{◌≡◌};
 
 use crate::device_fault::DeviceFault;
 use std::alloc::AllocError;
+use thiserror::Error;
 
 /// Why lines can't be read on.
-#[derive(Clone, Copy, Debug, PartialEq, Eq)]
+#[derive(Clone, Copy, Debug, PartialEq, Eq, Error)]
 pub enum ReadFault {
     /// The source failed.
+    #[error("a read failed")]
     Read,
     /// Memory was refused.
+    #[error("out of memory")]
     Memory,
 }
 
@@ -37,13 +40,16 @@ impl From<DeviceFault> for ReadFault {
 }
 
 /// Why a command ends without a status.
-#[derive(Clone, Copy, Debug, PartialEq, Eq)]
+#[derive(Clone, Copy, Debug, PartialEq, Eq, Error)]
 pub enum CommandFault {
     /// The input could not be read to its end.
+    #[error("the input could not be read to its end")]
     Read,
     /// The output could not be written.
+    #[error("the output could not be written")]
     Write,
     /// Memory was refused.
+    #[error("out of memory")]
     Memory,
 }
 

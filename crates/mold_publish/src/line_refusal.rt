@@ -7,13 +7,16 @@ use mold_refusals::push_append_refusal;
 use mold_session::AppendError;
 use mold_text::{Word, push_line_with};
 use std::alloc::AllocError;
+use thiserror::Error;
 
 /// Why a line is not published as a message.
-#[derive(Clone, Copy, Debug, PartialEq, Eq)]
+#[derive(Clone, Copy, Debug, PartialEq, Eq, Error)]
 pub enum LineRefusal {
     /// It is no pairs of hexadecimal digits.
+    #[error("the line is no pairs of hexadecimal digits")]
     NotHex,
     /// The journal does not take the message that its digits spell.
+    #[error("{0}")]
     NotTaken(AppendError),
 }
 

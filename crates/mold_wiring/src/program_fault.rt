@@ -3,13 +3,16 @@
 ghost use Rattle.std.specs.Prelude.{◌≡◌};
 
 use mold_devices::CommandFault;
+use thiserror::Error;
 
 /// Why the program ends before its time.
-#[derive(Clone, Copy, Debug, PartialEq, Eq)]
+#[derive(Clone, Copy, Debug, PartialEq, Eq, Error)]
 pub enum ProgramFault {
     /// A device failed, or memory was refused.
+    #[error("{0}")]
     Command(CommandFault),
     /// A port can't be opened.
+    #[error("a port could not be opened")]
     Socket,
 }
 
