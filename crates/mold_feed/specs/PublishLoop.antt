@@ -18,8 +18,7 @@ use Rattle.mold_session.specs.Publisher.{PublisherState}
 use Rattle.mold_text.specs.Line.{line_of}
 use Rattle.mold_feed.specs.Runs.{Begins}
 use Rattle.mold_publish.specs.Sending.{all_but_last, end_packet, packets_behind}
-use Rattle.mold_publish.specs.Publishing.{packed_status}
-use Rattle.mold_publish.specs.Publishing.{PublishedLines, lines_published, refused_text}
+use Rattle.mold_publish.specs.Publishing.{packed_status, PublishedLines, lines_published, refused_text}
 use Rattle.mold_publish.specs.declared.line_refusal.LineRefusal.{LineRefusal}
 
 -- a port, and how many sends failed of those that were made so far

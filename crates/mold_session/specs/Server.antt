@@ -1,7 +1,6 @@
 -- A re-request server as its users see it, which requests it answers, and what it lends.
 use Rattle.std.specs.Prelude.{◌≡◌, ℕ, ◌+◌, ◌≤◌, ◌<◌, ◌^◌, min, Bool, not, ◌&&◌, nat_le, nat_lt, ◌==◌, if◌then◌else◌}
-use Rattle.std.specs.Prelude.{List, ◌∷◌, length}
-use Rattle.std.specs.Prelude.{Option, None, Some, Result, Ok, Err}
+use Rattle.std.specs.Prelude.{List, ◌∷◌, length, Option, None, Some, Result, Ok, Err}
 use Rattle.std.specs.Str.{bytes_eq}
 use Rattle.mold_wire.specs.declared.error.RequestError.{RequestError}
 use Rattle.mold_wire.specs.declared.error.RequestError.TheVariants as fault

@@ -1,8 +1,7 @@
 //! The lines of a packet.
 
 ghost use Rattle.std.specs.Prelude.{◌≡◌, ◌++◌, ◌<◌, ◌^◌, length, take, OnErr, OnOk, codes};
-ghost use Rattle.mold_text.specs.Text.{message_line, messages_text, packet_text};
-ghost use Rattle.mold_text.specs.Text.{counted_line, numbered_line};
+ghost use Rattle.mold_text.specs.Text.{message_line, messages_text, packet_text, counted_line, numbered_line};
 
 use crate::line::push_line;
 use crate::word::Word;

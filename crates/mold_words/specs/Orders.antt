@@ -1,7 +1,6 @@
 -- The order that the program's words say.
 use Rattle.std.specs.Prelude.{◌≡◌, ℕ, Bool, List, [], Option, Some, None, codes, false, if◌then◌else◌, is_some}
-use Rattle.std.specs.Prelude.{nat_lt, not, option_map}
-use Rattle.std.specs.Prelude.{◌∷◌, string_bytes}
+use Rattle.std.specs.Prelude.{nat_lt, not, option_map, ◌∷◌, string_bytes}
 use Rattle.std.specs.List.{list_any}
 use Rattle.std.specs.Option.{option_and_then, option_map_or}
 use Rattle.std.specs.Str.{bytes_eq}

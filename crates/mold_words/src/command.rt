@@ -2,8 +2,7 @@
 ghost use Rattle.std.specs.Prelude.{◌≡◌, IfOk, false, fold, map};
 ghost use Rattle.clap.specs.Words.{app_of, rule_of};
 ghost use Rattle.clap.specs.declared.builder.Command.TheViews.{out-Command as fields_of};
-ghost use Rattle.mold_words.specs.Words.{bare_app, command_app, mold_app, rule_for, with_command};
-ghost use Rattle.mold_words.specs.Words.{with_option};
+ghost use Rattle.mold_words.specs.Words.{bare_app, command_app, mold_app, rule_for, with_command, with_option};
 ghost use Rattle.mold_words.specs.Table.{command_of, option_of};
 
 use crate::table::{COMMANDS, CommandRow, Kind, OptionRow, value_name};

@@ -1,8 +1,7 @@
 //! Laws of the program's words: what `clap` makes of them, and what they say.
 ghost use Rattle.std.specs.Prelude.{◌≡◌, [], ◌∷◌, IfSome, IsTrue, List, None, codes, false, true};
 ghost use Rattle.clap.specs.Words.{Text, fault_of, subcommand_of};
-ghost use Rattle.clap.specs.declared.error.kind.ErrorKind.TheVariants.{DisplayHelp, DisplayVersion};
-ghost use Rattle.clap.specs.declared.error.kind.ErrorKind.TheVariants.{UnknownArgument};
+ghost use Rattle.clap.specs.declared.error.kind.ErrorKind.TheVariants.{DisplayHelp, DisplayVersion, UnknownArgument};
 ghost use Rattle.mold_words.specs.Orders.{AreTaken, Say, check_wanted, listen_wanted, loop_wanted, order_of};
 ghost use Rattle.mold_words.specs.Orders.{pack_wanted, publish_wanted, serve_wanted, show_wanted, sim_wanted};
 ghost use Rattle.mold_words.specs.Orders.{upgrade_wanted};
