@@ -71,8 +71,8 @@ pub record PassesLines {P E : Type 0} (drops : Drops) (a b : P) (start now : Pub
       (data_behind start.limit start.sent (lines_published start.journal (lines_of input)) ≡ front)
       × (lines_published start.journal (lines_of input) ≡ record { journal = now.journal; refused = refused })))
 
--- What a loop's publisher sends from its port: `front` is offered, whichever sends fail. At an answer that is all of it;
--- after a fault it is a beginning.
+-- What a loop's publisher sends from its port: `front` is offered, whichever sends fail. At an answer that is all of
+-- it; after a fault it is a beginning.
 pub record LoopSends {P E : Type 0} (drops : Drops) (a b : P) (limit sent : ℕ) (published : PublishedLines)
     (result : Result ℕ E) (before after : Port P) : Type 0 where
   pub front : List (P × List ℕ)

@@ -1,5 +1,6 @@
 -- What rounds of requests make of a loop's ports and of what was heard. All of them are `run` of `repairing`.
-use Rattle.std.specs.Prelude.{◌≡◌, ℕ, ◌+◌, ◌-◌, ◌^◌, min, Bool, true, false, List, ◌++◌, Option, None, Some, Result, OnOk}
+use Rattle.std.specs.Prelude.{◌≡◌, ℕ, ◌+◌, ◌-◌, ◌^◌, min, Bool, true, false, List, ◌++◌}
+use Rattle.std.specs.Prelude.{Option, None, Some, Result, OnOk}
 use Rattle.mold_ports.specs.Ports.{Port, offered}
 use Rattle.mold_receiver.specs.Arbiter.{Arbitration}
 use Rattle.mold_receiver.specs.Wanted.{wanted}
