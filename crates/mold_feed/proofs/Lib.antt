@@ -4,6 +4,7 @@ pub mod HandedLemmas
 pub mod ListenLemmas
 pub mod PassingLemmas
 pub mod PublishLoopLemmas
+pub mod RepairLemmas
 pub mod RunLemmas
 pub mod ServingLemmas
 pub mod TurnLemmas

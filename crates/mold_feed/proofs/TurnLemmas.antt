@@ -22,13 +22,13 @@ use Rattle.mold_feed.proofs.ListenLemmas.{hearing_sends, stepped}
 
 -- ---- text in front
 
-abbrev hearing_before : List ℕ → Hearing → Hearing
+abbrev pub hearing_before : List ℕ → Hearing → Hearing
 hearing_before front e = record {
   arbitration = e.arbitration;
   report = record { text = front ++ e.report.text; failures = e.report.failures };
 }
 
-abbrev asking_before : {P : Type 0} → List ℕ → Asking P → Asking P
+abbrev pub asking_before : {P : Type 0} → List ℕ → Asking P → Asking P
 asking_before front s = record { port = s.port; hearing = hearing_before front s.hearing }
 
 heard_before : {P : Type 0} (front : List ℕ) (line : Option Line) (receipt : Receipt P) (e : Hearing) →
@@ -47,7 +47,7 @@ hear_before : {P : Type 0} (front : List ℕ) (line : Option Line) (port : Port 
 unfolding hear
 hear_before front line port e = heard_before front line (cut longest (next_of port)) e
 
-answers_before : {P : Type 0} (front : List ℕ) (count : ℕ) (s : Asking P) →
+pub answers_before : {P : Type 0} (front : List ℕ) (count : ℕ) (s : Asking P) →
     hear_answers count (asking_before front s) ≡ asking_before front (hear_answers count s)
 unfolding hear_answers
 answers_before front zero s = refl
@@ -96,7 +96,7 @@ hear_prints : {P : Type 0} (line : Option Line) (port : Port P) (e : Hearing) �
 unfolding hear
 hear_prints line port e = heard_prints line (cut longest (next_of port)) e
 
-answers_print : {P : Type 0} (count : ℕ) (s : Asking P) → Begins s.hearing.report.text (hear_answers count s).hearing.report.text
+pub answers_print : {P : Type 0} (count : ℕ) (s : Asking P) → Begins s.hearing.report.text (hear_answers count s).hearing.report.text
 unfolding hear_answers
 answers_print zero s = begins_whole s.hearing.report.text
 answers_print (suc count) s = begins_trans (hear_prints None s.port s.hearing) (answers_print count (stepped s))

@@ -3,6 +3,7 @@ pub mod Faults
 pub mod Listening
 pub mod Passing
 pub mod PublishLoop
+pub mod Repairing
 pub mod Runs
 pub mod Serving
 pub mod Tally

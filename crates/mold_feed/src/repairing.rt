@@ -1,12 +1,15 @@
 //! What is missing, requested and answered in one process.
 
-ghost use Rattle.std.specs.Prelude.{◌≡◌, ◌≤◌, length};
+ghost use Rattle.std.specs.Prelude.{◌≡◌, ◌≤◌, Some, true, Bool, List, length, OnOk};
 ghost use Rattle.mold_feed.specs.Faults.{CountsSink};
+ghost use Rattle.mold_feed.specs.Listening.{asking, hear_answers};
+ghost use Rattle.mold_feed.specs.Repairing.{HasRepaired, repair_state, repaired, repairing, requested, text_before};
+ghost use Rattle.mold_feed.specs.Runs.{Rests};
+ghost use Rattle.mold_feed.specs.Serving.{service_of};
 
-use crate::answering::answer_request;
 use crate::hearing::hear_port;
 use crate::loop_parts::{Listener, LoopPorts};
-use crate::report::Report;
+use crate::serving::take_turn;
 use crate::tally::Tally;
 use mold_devices::{CommandFault, Sink};
 use mold_ports::Datagrams;
@@ -14,30 +17,32 @@ use mold_session::{Journal, Server};
 use mold_wire::Request;
 use std::alloc::{AllocError, Global};
 
-// Counts so many failures.
-fn count_failures(report: &mut Report, count: u64) {
-    for _ in 0..count {
-        report.count_failure();
-    }
-}
-
-// Takes so many answers to a request.
-fn hear_answers<D: Datagrams>(
+// Makes so many receives for answers to a request.
+fn take_answers<D: Datagrams>(
     requests: &mut D,
     count: u64,
     place: &mut [u8],
     listener: &mut Listener,
 ) -> Result<(), AllocError>
     requires { length place.old ≡ 65507 }
+    ensures sent { D.tells ≡ true → (D.port requests.new).sent ≡ (D.port requests.old).sent }
+    ensures heard { D.tells ≡ true → OnOk result
+        (asking (D.port requests.new) listener.new.arbiter listener.new.report
+        ≡ hear_answers count (asking (D.port requests.old) listener.old.arbiter listener.old.report)) }
 {
-    let Listener { arbiter, report } = listener;
-    for _ in 0..count {
-        hear_port(requests, None, place, arbiter, report)?;
+    for _answer in 0..count {
+        hear_port(
+            requests,
+            None,
+            place,
+            &mut listener.arbiter,
+            &mut listener.report,
+        )?;
     }
     Ok(())
 }
 
-// Lets the server answer a request that came to it, and takes the answers.
+// Lets the server take a turn, in which it answers a request that came to it, and takes the answers.
 fn repair<D: Datagrams + Drop>(
     alloc: Global,
     ports: &mut LoopPorts<D>,
@@ -48,22 +53,19 @@ fn repair<D: Datagrams + Drop>(
 ) -> Result<(), AllocError>
     requires place { length place.old ≡ 65507 }
     requires longest { journal.now.max_message ≤ server.old.max_message }
-    ensures longest { server.new.max_message ≡ server.old.max_message }
+    ensures repaired { D.tells ≡ true → (fails : List Bool) × HasRepaired result
+        (repair_state (D.port ports.new.server) (D.port ports.new.requests) server.new listener.new.arbiter
+        listener.new.report)
+        (repaired (service_of journal.now server.old) fails
+        (repair_state (D.port ports.old.server) (D.port ports.old.requests) server.old listener.old.arbiter
+        listener.old.report)) }
+    ensures server { server.new ≡ record server.old { answered = server.new.answered } }
     ensures publisher { ports.new.publisher ≡ ports.old.publisher }
 {
-    let (len, from) = match ports.server.receive(place) {
-        Ok(Some(came)) => came,
-        Ok(None) => return Ok(()),
-        Err(_) => {
-            listener.report.count_failure();
-            return Ok(());
-        }
-    };
     let mut tally = Tally::new(alloc);
-    let port = &mut ports.server;
-    answer_request(port, server, journal, from, &place[..len], &mut tally)?;
-    count_failures(&mut listener.report, tally.failed());
-    hear_answers(&mut ports.requests, tally.answered(), place, listener)
+    take_turn(&mut ports.server, server, journal, place, &mut tally)?;
+    listener.report.count_failures(tally.failed());
+    take_answers(&mut ports.requests, tally.answered(), place, listener)
 }
 
 // One round: a request goes to the server, and its answers are taken. A request that can't be sent is counted.
@@ -79,7 +81,13 @@ fn round<D: Datagrams + Drop>(
 ) -> Result<(), AllocError>
     requires place { length place.old ≡ 65507 }
     requires longest { journal.now.max_message ≤ server.old.max_message }
-    ensures longest { server.new.max_message ≡ server.old.max_message }
+    ensures requested { D.tells ≡ true → (choice : Bool × List Bool) × HasRepaired result
+        (repair_state (D.port ports.new.server) (D.port ports.new.requests) server.new listener.new.arbiter
+        listener.new.report)
+        (requested (Some request.now) to (service_of journal.now server.old) choice
+        (repair_state (D.port ports.old.server) (D.port ports.old.requests) server.old listener.old.arbiter
+        listener.old.report)) }
+    ensures server { server.new ≡ record server.old { answered = server.new.answered } }
     ensures publisher { ports.new.publisher ≡ ports.old.publisher }
 {
     if ports.requests.send(to, &request.encode()).is_err() {
@@ -89,7 +97,8 @@ fn round<D: Datagrams + Drop>(
     repair(alloc, ports, server, journal, place, listener)
 }
 
-/// At most so many rounds while something is wanted: a request, and its answers.
+/// At most so many rounds while something is wanted: a request, and its answers. What is less than a large write is
+/// left to print.
 pub(crate) fn repair_all<D: Datagrams + Drop, K: Sink>(
     alloc: Global,
     ports: &mut LoopPorts<D>,
@@ -103,6 +112,13 @@ pub(crate) fn repair_all<D: Datagrams + Drop, K: Sink>(
 ) -> Result<(), CommandFault>
     requires place { length place.old ≡ 65507 }
     requires longest { journal.now.max_message ≤ server.old.max_message }
+    ensures rests { D.tells ≡ true → Rests (repairing to (service_of journal.now server.old)) text_before turns
+        (repair_state (D.port ports.old.server) (D.port ports.old.requests) server.old listener.old.arbiter
+        listener.old.report)
+        result (K.held sink.old) (K.held sink.new)
+        (repair_state (D.port ports.new.server) (D.port ports.new.requests) server.new listener.new.arbiter
+        listener.new.report) }
+    ensures server { server.new ≡ record server.old { answered = server.new.answered } }
     ensures publisher { ports.new.publisher ≡ ports.old.publisher }
     ensures sink { CountsSink (K.failed sink.old) (K.failed sink.new) result }
 {

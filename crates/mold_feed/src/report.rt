@@ -4,6 +4,7 @@ ghost use Rattle.std.specs.Prelude.{◌≡◌, ◌⊎◌, ◌<◌, ◌≤◌, �
 ghost use Rattle.std.specs.Io.KnownBytes.{Appends};
 ghost use Rattle.mold_devices.specs.Devices.{AppendsFront, Counts, one_more};
 ghost use Rattle.mold_feed.specs.Listening.{hearing, taken};
+ghost use Rattle.mold_feed.specs.Repairing.{failed_more};
 ghost use Rattle.mold_feed.specs.Text.{finished_line, open_line};
 ghost use Rattle.mold_feed.specs.Runs.{Moves};
 ghost use Rattle.mold_receiver.specs.Arbiter.{HasArbitrated, arbitrates};
@@ -73,6 +74,13 @@ impl Report {
         ensures { self.new ≡ record { text = self.old.text; failures = one_more self.old.failures } }
     {
         self.failures = self.failures.saturating_add(1);
+    }
+
+    /// Counts so many of them.
+    pub(crate) fn count_failures(&mut self, count: u64)
+        ensures { self.new ≡ failed_more count self.old }
+    {
+        self.failures = self.failures.saturating_add(count);
     }
 
     /// Lets the arbiter take a datagram that came on a line, or as an answer where there is none, and writes

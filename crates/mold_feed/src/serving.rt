@@ -15,8 +15,8 @@ use mold_ports::Datagrams;
 use mold_session::{Journal, Server};
 use std::alloc::{AllocError, Global};
 
-// Makes a turn: one receive, and what it gave is met.
-fn take_turn<D: Datagrams>(
+/// Makes a turn: one receive, and what it gave is met. `place` has `LONGEST` bytes.
+pub(crate) fn take_turn<D: Datagrams>(
     port: &mut D,
     server: &mut Server,
     journal: &Journal,

@@ -1,15 +1,104 @@
-use Rattle.std.proofs.Common.{◌∙◌, refl}
+use Rattle.std.proofs.Common.{arith, ◌≡◌, ◌≤◌, ◌∙◌, ℕ, ap, refl, subst, sym}
+use Rattle.mold_feed.specs.Repairing.{repair_state, round}
+use Rattle.mold_feed.specs.Serving.{Service, service_of}
+use Rattle.mold_receiver.specs.Wanted.{wanted}
+use Rattle.mold_session.specs.Server.{ServerState}
+use Rattle.mold_feed.proofs.RunLemmas.{going_init, going_on, going_sent, rests_all, rests_cut, rests_failed, rests_left}
+use Rattle.mold_feed.proofs.RepairLemmas.{rests_still, round_is, rounds_are, sent_alike, text_moved}
+use Rattle.mold_feed.proofs.ServingLemmas.{same_service}
 use Rattle.mold_feed.proofs.repairing.repair_all.Goals as goal
 
 pub loop-turn-init : goal.loop-turn-init
-loop-turn-init g c = record { longest = c.requires.longest; publisher = refl; sink = refl }
+loop-turn-init g c = record {
+  going = λ t.
+      going_init (rounds_are c.args.to (service_of c.args.journal.now c.args.server.now)) _
+      (g.K.Sink.held c.args.sink.now);
+  server = refl;
+  publisher = refl;
+  sink = refl;
+}
 
 pub round-requires-clause-longest : goal.round-requires-clause-longest
-round-requires-clause-longest g c = c.loop-turn.invariant.longest
+round-requires-clause-longest g c =
+    subst (λ (n : ℕ). c.args.journal.now.max_message ≤ n)
+    (sym (ap (λ (s : ServerState). s.max_message) c.loop-turn.invariant.server))
+    c.requires.longest
 
 pub loop-turn-preserved : goal.loop-turn-preserved
 loop-turn-preserved g c = record {
-  longest = rw c.round.ensures.longest c.loop-turn.invariant.longest;
+  going = λ t.
+      let known = g.D.Datagrams.port in
+      let service = service_of c.args.journal.now c.args.server.now in
+      let same =
+      same_service c.args.journal.now c.loop-turn.server c.args.server.now _ c.loop-turn.invariant.server in
+      let before = repair_state (known c.loop-turn.ports.server) (known c.loop-turn.ports.requests) c.loop-turn.server
+      c.loop-turn.listener.arbiter c.loop-turn.listener.report in
+      let made = repair_state (known c.round.new.ports.server) (known c.round.new.ports.requests) c.round.new.server
+      c.round.new.listener.arbiter c.round.new.listener.report in
+      let after = repair_state (known c.round.new.ports.server) (known c.round.new.ports.requests) c.round.new.server
+      c.round.new.listener.arbiter c.send_large.new.self in
+      let done = c.in_ok-round.ensures.requested t in
+      let has = round_is _ c.args.to (service_of c.args.journal.now c.loop-turn.server)
+      c.in-Some.request done.0 before made
+      (ap wanted (sym c.receiver.ensures) ∙ sym c.in-Some.ensures.wanted) done.1 in
+      let moves = c.in_ok-send_large.ensures.moved in
+      going_sent (rounds_are c.args.to service) after
+      (going_on (rounds_are c.args.to service) done.0 made (c.loop-turn.invariant.going t)
+      (has.whole ∙ ap (λ (s : Service). round c.args.to s done.0 before) same) refl)
+      moves
+      (text_moved _ _ _ _ c.round.new.listener.report c.send_large.new.self moves.front moves.parts
+      c.in_ok-send_large.ensures.failures);
+  server =
+      c.round.ensures.server
+      ∙ ap (λ (s : ServerState). record s { answered = c.round.new.server.answered }) c.loop-turn.invariant.server;
   publisher = c.round.ensures.publisher ∙ c.loop-turn.invariant.publisher;
   sink = c.in_ok-send_large.ensures.sink ∙ c.loop-turn.invariant.sink;
 }
+
+pub returns-in_default-clause-rests : goal.returns-in_default-clause-rests
+returns-in_default-clause-rests g c = λ t.
+    rests_still c.args.to (service_of c.args.journal.now c.args.server.now) _ _ _ _ _ c.loop-turn._turn c.args.turns
+    (c.loop-turn.invariant.going t) (omega (arith, c.loop-turn-test.true))
+    (ap wanted (sym c.receiver.ensures) ∙ sym c.in_default.ensures.wanted)
+
+pub returns-in_err-round-clause-rests : goal.returns-in_err-round-clause-rests
+returns-in_err-round-clause-rests g c = λ t.
+    let known = g.D.Datagrams.port in
+    let service = service_of c.args.journal.now c.args.server.now in
+    let same = same_service c.args.journal.now c.loop-turn.server c.args.server.now _ c.loop-turn.invariant.server in
+    let before = repair_state (known c.loop-turn.ports.server) (known c.loop-turn.ports.requests) c.loop-turn.server
+    c.loop-turn.listener.arbiter c.loop-turn.listener.report in
+    let after = repair_state (known c.round.new.ports.server) (known c.round.new.ports.requests) c.round.new.server
+    c.round.new.listener.arbiter c.round.new.listener.report in
+    let done = c.round.ensures.requested t in
+    let has = round_is _ c.args.to (service_of c.args.journal.now c.loop-turn.server) c.in-Some.request
+    done.0 before after (ap wanted (sym c.receiver.ensures) ∙ sym c.in-Some.ensures.wanted) done.1 in
+    rests_failed (rounds_are c.args.to service) c.from_residual.result c.args.turns done.0 after
+    (c.loop-turn.invariant.going t) c.loop-turn-test.true
+    (sent_alike (has.requests ∙ ap (λ (s : Service). (round c.args.to s done.0 before).requests.sent) same))
+    c.from_residual.ensures.0
+
+pub returns-in_err-send_large-clause-rests : goal.returns-in_err-send_large-clause-rests
+returns-in_err-send_large-clause-rests g c = λ t.
+    let known = g.D.Datagrams.port in
+    let service = service_of c.args.journal.now c.args.server.now in
+    let same = same_service c.args.journal.now c.loop-turn.server c.args.server.now _ c.loop-turn.invariant.server in
+    let before = repair_state (known c.loop-turn.ports.server) (known c.loop-turn.ports.requests) c.loop-turn.server
+    c.loop-turn.listener.arbiter c.loop-turn.listener.report in
+    let made = repair_state (known c.round.new.ports.server) (known c.round.new.ports.requests) c.round.new.server
+    c.round.new.listener.arbiter c.round.new.listener.report in
+    let done = c.in_ok-round.ensures.requested t in
+    let has = round_is _ c.args.to (service_of c.args.journal.now c.loop-turn.server) c.in-Some.request
+    done.0 before made (ap wanted (sym c.receiver.ensures) ∙ sym c.in-Some.ensures.wanted) done.1 in
+    let failed = c.from_residual-in_err-send_large.ensures.0 in
+    rests_left (rounds_are c.args.to service) c.from_residual-in_err-send_large.result _
+    (rests_cut (rounds_are c.args.to service) c.from_residual-in_err-send_large.result c.args.turns done.0 made
+    (c.loop-turn.invariant.going t) c.loop-turn-test.true
+    (has.whole ∙ ap (λ (s : Service). round c.args.to s done.0 before) same) c.send_large.ensures.front failed)
+    refl failed
+
+pub returns-clause-rests : goal.returns-clause-rests
+returns-clause-rests g c = λ t.
+    let made : c.loop-turn._turn ≡ c.args.turns = omega (arith, c.loop-turn-test.false, c.loop-turn.auto._turn-end) in
+    rests_all (rounds_are c.args.to (service_of c.args.journal.now c.args.server.now)) _ c.args.turns made
+    (c.loop-turn.invariant.going t)

@@ -1,0 +1,37 @@
+use Rattle.std.proofs.Common.{◌∙◌, ℕ, ap, refl}
+use Rattle.mold_feed.specs.Listening.{hearing}
+use Rattle.mold_feed.specs.Repairing.{failed_more, repair_state}
+use Rattle.mold_feed.specs.Serving.{responder_of, service_of}
+use Rattle.mold_feed.proofs.RepairLemmas.{has_repaired, repair_cut, turn_from}
+use Rattle.mold_feed.proofs.repairing.repair.Goals as goal
+
+pub returns-in_err-take_turn-clause-repaired : goal.returns-in_err-take_turn-clause-repaired
+returns-in_err-take_turn-clause-repaired g c = λ t.
+    let turned = c.take_turn.ensures.turn t in
+    let service = service_of c.args.journal.now c.args.server.now in
+    let reached = turn_from _ service turned.0 (g.D.Datagrams.port c.args.ports.now.server) c.args.server.now _
+    c.new-tally.ensures turned.1 in (
+      turned.0,
+      repair_cut c.from_residual.result service turned.0 _ _ c.from_residual.ensures.0 refl reached.sent,
+    )
+
+pub returns-clause-repaired : goal.returns-clause-repaired
+returns-clause-repaired g c = λ t.
+    let turned = c.in_ok-take_turn.ensures.turn t in
+    let service = service_of c.args.journal.now c.args.server.now in
+    let known = g.D.Datagrams.port in
+    let reached = turn_from _ service turned.0 (known c.args.ports.now.server) c.args.server.now _
+    c.new-tally.ensures turned.1 in
+    let responder = responder_of (known c.take_turn.new.port) c.take_turn.new.tally c.take_turn.new.server in
+    let mid = hearing c.args.listener.now.arbiter c.count_failures.new.self in (
+      turned.0,
+      has_repaired c.take_answers.result service turned.0
+          (repair_state (known c.args.ports.now.server) (known c.args.ports.now.requests) c.args.server.now
+          c.args.listener.now.arbiter c.args.listener.now.report)
+          (repair_state (known c.take_turn.new.port) (known c.take_answers.new.requests) c.take_turn.new.server
+          c.take_answers.new.listener.arbiter c.take_answers.new.listener.report)
+          responder mid c.answered.result reached.whole
+          (ap (hearing c.args.listener.now.arbiter)
+          (c.count_failures.ensures ∙ ap (λ (n : ℕ). failed_more n c.args.listener.now.report) c.failed.ensures))
+          c.answered.ensures refl refl (c.take_answers.ensures.sent t) (c.take_answers.ensures.heard t),
+    )
