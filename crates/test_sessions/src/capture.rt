@@ -325,3 +325,19 @@ fn a_refused_growth_is_of_something_new(rt: HostRuntime) -> Result<(), Fail> {
     let mut checker = Checker::new(rt.alloc());
     expect_nothing_new(&rt, &mut checker, &empty)
 }
+
+/// Nor does a checker that is made, or a packet without messages.
+#[test]
+fn no_growth_without_messages(rt: HostRuntime) {
+    let mut checker = Checker::new(rt.alloc());
+    for datagram in [BEAT_5, BEAT_1, END_5] {
+        add(&rt, &mut checker, datagram, Ok(()));
+    }
+    add(
+        &rt,
+        &mut checker,
+        END_3,
+        Err(Reason::EndConflict { end: 5 }),
+    );
+    add(&rt, &mut checker, DATA_5, Err(Reason::PastEnd { end: 5 }));
+}

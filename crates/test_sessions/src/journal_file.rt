@@ -2,7 +2,7 @@
 //! are refused.
 
 use crate::comparisons::{same_bytes, same_message, same_number};
-use mold_devices::{FromRead, IntoWrite, MemorySink, MemorySource, Source};
+use mold_devices::{FromRead, IntoWrite, MemorySink, MemorySource, Sink, Source};
 use mold_session::{FileError, Journal, Upgraded, upgrade};
 use mold_wire::Session;
 use std::alloc::Global;
@@ -226,8 +226,8 @@ fn a_cut_file_of_version_2_is_told(rt: HostRuntime) {
     expect_loaded(&rt, alloc, 1, &BAD_FLAG[..26], short);
 }
 
-fn expect_failed_read(rt: &impl Abort, alloc: Global, fails_at: u64) {
-    let mut source = MemorySource::new(&CLOSED);
+fn expect_failed_read(rt: &impl Abort, alloc: Global, file: &[u8], fails_at: u64) {
+    let mut source = MemorySource::new(file);
     source.at_most(1);
     source.fail_at(fails_at);
     same_loaded(rt, load(alloc, 42, &mut source), Err(FileError::Read));
@@ -237,31 +237,43 @@ fn expect_failed_read(rt: &impl Abort, alloc: Global, fails_at: u64) {
 #[test]
 fn a_failed_read_is_told(rt: HostRuntime) {
     for k in 1..=34u64 {
-        expect_failed_read(&rt, rt.alloc(), k);
+        expect_failed_read(&rt, rt.alloc(), &CLOSED, k);
+    }
+    for k in 1..=25u64 {
+        expect_failed_read(&rt, rt.alloc(), &FIRST, k);
     }
 }
 
-/// Loads a file, and once more from a new source where memory was refused.
-fn load_again(
-    rt: &impl Abort,
-    alloc: Global,
-    file: &[u8],
-    wanted: (u64, bool),
-) -> Result<(), Fail> {
-    let found = load(alloc, 42, &mut MemorySource::new(file));
-    if found != Err(FileError::Memory) {
-        same_loaded(rt, found, Ok(wanted));
-        return Ok(());
+fn same_refusal(rt: &impl Abort, found: FileError, wanted: FileError) {
+    assert_eq!(rt; found, wanted);
+}
+
+/// The journal of `AB` and an empty message.
+fn expect_two(rt: &impl Abort, journal: &Journal, closed: bool) {
+    assert!(rt; journal.session() == SESSION);
+    same_number(rt, journal.next(), 3);
+    same_message(rt, journal.get(1), Some(b"AB".as_slice()));
+    same_message(rt, journal.get(2), Some(b"".as_slice()));
+    assert!(rt; journal.is_closed() == closed);
+}
+
+/// Loads the file of two messages, and once more from a new source where memory was refused.
+fn load_again(rt: &impl Abort, alloc: Global, file: &[u8], closed: bool) -> Result<(), Fail> {
+    match Journal::load(alloc, 42, &mut MemorySource::new(file)) {
+        Ok(journal) => expect_two(rt, &journal, closed),
+        Err(error) => {
+            same_refusal(rt, error, FileError::Memory);
+            let journal = Journal::load(alloc, 42, &mut MemorySource::new(file))?;
+            expect_two(rt, &journal, closed);
+        }
     }
-    let again = load(alloc, 42, &mut MemorySource::new(file))?;
-    same_loaded(rt, Ok(again), Ok(wanted));
     Ok(())
 }
 
 #[test]
 fn a_refused_growth_loads_nothing(rt: HostRuntime) -> Result<(), Fail> {
-    load_again(&rt, rt.alloc(), &FIRST, (2, false))?;
-    load_again(&rt, rt.alloc(), &CLOSED, (2, true))
+    load_again(&rt, rt.alloc(), &FIRST, false)?;
+    load_again(&rt, rt.alloc(), &CLOSED, true)
 }
 
 fn long_messages(alloc: Global) -> Result<Journal, Fail> {
@@ -375,4 +387,33 @@ fn a_closed_file_is_upgraded(rt: HostRuntime) {
 fn a_refused_file_is_not_upgraded(rt: HostRuntime) {
     let refused = Err(FileError::CountDiffers { count: 2, found: 1 });
     expect_upgrade(&rt, rt.alloc(), &CLOSED[..31], true, refused, b"");
+}
+
+/// Upgrades the file of version 1 into the sink, closed.
+fn upgrade_first(alloc: Global, sink: &mut MemorySink) -> Result<Upgraded, FileError> {
+    upgrade(alloc, &mut MemorySource::new(&FIRST), sink, true)
+}
+
+/// Nothing is written where the file finds no memory, and a beginning where the sink finds none.
+fn expect_beginning(rt: &impl Abort, sink: &MemorySink, error: FileError) {
+    if sink.failures() > 0 {
+        same_refusal(rt, error, FileError::Write);
+        assert!(rt; CLOSED.starts_with(sink.bytes()));
+    } else {
+        same_refusal(rt, error, FileError::Memory);
+        same_bytes(rt, sink.bytes(), b"");
+    }
+}
+
+/// Upgrades a file, and once more into a new sink where memory was refused.
+#[test]
+fn a_refused_growth_upgrades_nothing(rt: HostRuntime) -> Result<(), Fail> {
+    let mut sink = MemorySink::new(rt.alloc());
+    if let Err(error) = upgrade_first(rt.alloc(), &mut sink) {
+        expect_beginning(&rt, &sink, error);
+        sink = MemorySink::new(rt.alloc());
+        upgrade_first(rt.alloc(), &mut sink)?;
+    }
+    same_bytes(&rt, sink.bytes(), &CLOSED);
+    Ok(())
 }

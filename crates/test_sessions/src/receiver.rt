@@ -130,9 +130,10 @@ impl Reception {
     }
 
     fn expect_refused(&mut self, rt: &impl Abort, packet: &[u8], refused: Refused) {
-        let before = self.state();
+        let (before, ended) = (self.state(), self.receiver.ended());
         same_outcome(rt, self.take(rt, packet), Err(refused));
         self.expect_state(rt, before);
+        same_maybe(rt, self.receiver.ended(), ended);
     }
 
     /// Takes a packet, once more where memory was refused: receiver and batch were then in this state.
@@ -477,6 +478,15 @@ fn receiver_again(rt: &impl Abort, alloc: Global) -> Result<Receiver, Fail> {
     }
 }
 
+/// The first growth refused is `Memory`: a receiver that asked for none would handle no growth here.
+#[test]
+fn a_refused_growth_makes_no_receiver(rt: HostRuntime) -> Result<(), Fail> {
+    let receiver = receiver_again(&rt, rt.alloc())?;
+    expect_session_and_window(&rt, &receiver, 4);
+    same_number(&rt, receiver.next(), 1);
+    Ok(())
+}
+
 /// `receiver-backwards`: messages 3 and 2 are stored, and 1 hands on all three, or nothing.
 #[test]
 fn a_refused_growth_takes_nothing(rt: HostRuntime) -> Result<(), Fail> {
@@ -511,16 +521,28 @@ fn with_three_and_five(rt: &impl Abort, alloc: Global) -> Result<Reception, Fail
     Ok(reception)
 }
 
-/// No memory is taken where nothing is handed on or stored, nor by what a batch loses.
+/// Packets of which such a receiver hands on and stores nothing, and how many of their messages are beyond its
+/// window: a heartbeat, what it handed on, what is stored, message 8, and the end behind that.
+const NOTHING_NEW: [(&[u8], u32); 5] = [
+    (b"SESSION001\0\0\0\0\0\0\0\x06\0\0", 0),
+    (DATA_2_3, 0),
+    (b"SESSION001\0\0\0\0\0\0\0\x05\0\x01\0\x01E", 0),
+    (b"SESSION001\0\0\0\0\0\0\0\x08\0\x01\0\x01H", 1),
+    (b"SESSION001\0\0\0\0\0\0\0\x09\xff\xff", 0),
+];
+
+/// No memory is taken where nothing is handed on or stored, nor by what a batch loses, nor by what is read.
 #[test]
 fn no_growth_where_nothing_comes(rt: HostRuntime) -> Result<(), Fail> {
     let mut reception = with_three_and_five(&rt, rt.alloc())?;
-    let heartbeat = b"SESSION001\0\0\0\0\0\0\0\x06\0\0";
-    reception.expect_taken(&rt, heartbeat, (0, 0, 0));
-    reception.expect_taken(&rt, DATA_2_3, (0, 0, 0));
-    let end = b"SESSION001\0\0\0\0\0\0\0\x06\xff\xff";
-    reception.expect_taken(&rt, end, (0, 0, 0));
+    for (packet, beyond) in NOTHING_NEW {
+        reception.expect_taken(&rt, packet, (0, 0, beyond));
+    }
     reception.expect_wanted(&rt, Some((4, 1)));
+    reception.expect_numbers(&rt, 4, 9, 1);
+    same_maybe(&rt, reception.receiver.ended(), Some(9));
+    same_truth(&rt, reception.receiver.finished(), false);
+    expect_session_and_window(&rt, &reception.receiver, 4);
     reception.batch.truncate(1);
     reception.expect_batch(&rt, 1, &[b"A"]);
     reception.batch.clear();
@@ -553,5 +575,21 @@ fn no_growth_of_an_answer_of_nothing_new(rt: HostRuntime) -> Result<(), Fail> {
     arbitration.expect_taken(&rt, None, heartbeat, (0, 0, 0));
     arbitration.expect_taken(&rt, None, END_4, (0, 0, 0));
     arbitration.expect_lines(&rt, (0, 0, 1), (0, 0, 1));
+    Ok(())
+}
+
+/// Nor by datagrams of lines that bring nothing, or are refused.
+#[test]
+fn no_growth_of_lines_of_nothing_new(rt: HostRuntime) -> Result<(), Fail> {
+    let mut arbitration = Arbitration::new(rt.alloc())?;
+    arbitration.take(&rt, None, DATA_1_3)?;
+    let heartbeat = b"SESSION001\0\0\0\0\0\0\0\x04\0\0";
+    for (line, packet) in [(Line::A, DATA_2_3), (Line::B, heartbeat), (Line::A, END_4)] {
+        arbitration.expect_taken(&rt, Some(line), packet, (0, 0, 0));
+    }
+    let short = Refused::Malformed(DecodeError::Short { len: 0 });
+    same_outcome(&rt, arbitration.take(&rt, Some(Line::B), b""), Err(short));
+    arbitration.expect_lines(&rt, (2, 0, 4), (1, 1, 4));
+    arbitration.expect_lag(&rt, Line::B, 0);
     Ok(())
 }

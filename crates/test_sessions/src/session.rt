@@ -92,6 +92,20 @@ fn a_refused_growth_appends_nothing(rt: HostRuntime) -> Result<(), Fail> {
     Ok(())
 }
 
+/// What makes and reads a journal takes no memory, nor does what it refuses for another cause.
+#[test]
+fn no_growth_of_an_empty_journal(rt: HostRuntime) {
+    let mut journal = Journal::new(rt.alloc(), SESSION, 42);
+    expect_made(&rt, &journal, 42);
+    expect_none(&rt, journal.get(1));
+    let too_long = Err(AppendError::TooLong { len: 43 });
+    same_added(&rt, journal.append(&[1; 43]), too_long);
+    same_truth(&rt, journal.is_closed(), false);
+    journal.close();
+    same_truth(&rt, journal.is_closed(), true);
+    same_added(&rt, journal.append(&[1; 43]), Err(AppendError::Closed));
+}
+
 /// A thousand messages, so that what keeps them grows several times, and far fewer than 500 times.
 #[test]
 fn a_refused_growth_of_a_thousand_appends(rt: HostRuntime) -> Result<(), Fail> {
@@ -128,6 +142,11 @@ fn limits_of_64_to_65507_bytes_are_taken(rt: HostRuntime) -> Result<(), Fail> {
     }
     Ok(())
 }
+
+/// The datagram of messages of 20 bytes `1` and 20 bytes `2`.
+const FULL: &[u8] = b"SESSION001\0\0\0\0\0\0\0\x01\0\x02\
+    \0\x14\x01\x01\x01\x01\x01\x01\x01\x01\x01\x01\x01\x01\x01\x01\x01\x01\x01\x01\x01\x01\
+    \0\x14\x02\x02\x02\x02\x02\x02\x02\x02\x02\x02\x02\x02\x02\x02\x02\x02\x02\x02\x02\x02";
 
 fn expect_datagram(rt: &impl Abort, publisher: &mut Publisher, length: u64) {
     expect_length(rt, publisher.datagram(), length);
@@ -215,7 +234,7 @@ fn a_refused_growth_publishes_nothing(rt: HostRuntime) -> Result<(), Fail> {
     let mut publisher = Publisher::new(rt.alloc(), SESSION, 64)?;
     publish_again(&rt, &mut publisher, &[1; 20], 1)?;
     publish_again(&rt, &mut publisher, &[2; 20], 2)?;
-    expect_datagram(&rt, &mut publisher, 64);
+    expect_bytes(&rt, publisher.datagram(), FULL);
     publish_again(&rt, &mut publisher, &[3; 20], 3)?;
     publish_again(&rt, &mut publisher, &[4; 21], 4)?;
     same_number(&rt, publisher.unsent(), 2);
