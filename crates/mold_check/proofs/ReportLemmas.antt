@@ -9,7 +9,8 @@ use Rattle.mold_devices.specs.declared.fault.CommandFault.TheVariants as fault
 use Rattle.mold_ranges.specs.Ranges as lacking
 use Rattle.mold_capture.specs.Verdict.{ranges_of}
 use Rattle.mold_capture.specs.declared.verdict.Range.{Range}
-use Rattle.mold_check.specs.Report.{CountsWrite, CountsWriteFault, missing_line, missing_text}
+use Rattle.mold_devices.specs.Faults.{CountsSink, CountsSinkFault}
+use Rattle.mold_check.specs.Report.{missing_line, missing_text}
 
 -- nothing was written
 pub front_none : (held : Option (List ℕ)) (text : List ℕ) → AppendsFront held held text
@@ -103,15 +104,15 @@ sent_all old mid now begun done all text has is out =
 
 -- which count stands behind a fault that is passed on
 pub counts_err : {T : Type 0} (old new : ℕ) (r : Result T CommandFault) (why : CommandFault) →
-    IsErr r × IsErrAnd r (λ f. f ≡ why) → CountsWriteFault old new why → CountsWrite old new r
+    IsErr r × IsErrAnd r (λ f. f ≡ why) → CountsSinkFault old new why → CountsSink old new r
 counts_err old new (Ok x) why is counts = absurd is.1
-counts_err old new (Err f) why is counts = subst (CountsWriteFault old new) (sym is.1) counts
+counts_err old new (Err f) why is counts = subst (CountsSinkFault old new) (sym is.1) counts
 
 pub counts_write : (old mid new : ℕ) (why : CommandFault) → why ≡ fault.Write → mid ≡ old → new ≡ one_more mid →
-    CountsWriteFault old new why
-counts_write old mid new why is before more = subst (CountsWriteFault old new) (sym is) (more ∙ ap one_more before)
+    CountsSinkFault old new why
+counts_write old mid new why is before more = subst (CountsSinkFault old new) (sym is) (more ∙ ap one_more before)
 
 pub counts_sent : {T : Type 0} (old mid new : ℕ) (r : Result T CommandFault) → mid ≡ old → Counts mid new r →
-    IfErr r (λ f. f ≡ fault.Write) → CountsWrite old new r
+    IfErr r (λ f. f ≡ fault.Write) → CountsSink old new r
 counts_sent old mid new (Ok x) before counts why = counts ∙ before
 counts_sent old mid new (Err f) before counts why = counts_write old mid new f why before counts

@@ -1,14 +1,11 @@
 -- What `mold check` prints, and the status that it ends with.
 use Rattle.std.specs.Prelude.{◌≡◌, ℕ, ◌-◌, List, [], ◌∷◌, ◌++◌, length, map, slice_index_or, codes, decimal, Option}
-use Rattle.std.specs.Prelude.{None, Some, Result, Ok, Err}
+use Rattle.std.specs.Prelude.{None, Some}
 use Rattle.std.specs.List.{flat_map}
 use Rattle.mold_ranges.specs.Ranges.{Range}
 use Rattle.mold_text.specs.Line.{line_of}
 use Rattle.mold_text.specs.Text.{refusal_words, refused_line}
 use Rattle.mold_capture.specs.Outcome.{Outcome, whole, incomplete, refused, IsOutcome}
-use Rattle.mold_devices.specs.Devices.{one_more}
-use Rattle.mold_devices.specs.declared.fault.CommandFault.{CommandFault}
-use Rattle.mold_devices.specs.declared.fault.CommandFault.TheVariants as fault
 use Rattle.mold_check.specs.Entries.{IsOrder, bytes_of, name_of}
 use Rattle.mold_check.specs.declared.entry.Entry.{Entry}
 
@@ -56,13 +53,3 @@ abbrev pub report : {entries : List Entry} → Checked entries → List ℕ
 report {entries} checked =
     counts_line (length checked.order) (length entries - length checked.order)
     ++ outcome_text (map name_of checked.order) checked.outcome
-
--- the sink failed once more where that is the fault, and else it didn't; nothing is read here
-abbrev pub CountsWriteFault : ℕ → ℕ → CommandFault → Type 0
-CountsWriteFault old new fault.Write = new ≡ one_more old
-CountsWriteFault old new fault.Memory = new ≡ old
-CountsWriteFault old new fault.Read = ⊥
-
-abbrev pub CountsWrite : {T : Type 0} → ℕ → ℕ → Result T CommandFault → Type 0
-CountsWrite old new (Ok _) = new ≡ old
-CountsWrite old new (Err why) = CountsWriteFault old new why

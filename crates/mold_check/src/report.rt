@@ -5,9 +5,10 @@ ghost use Rattle.std.specs.Io.KnownBytes.{Appends};
 ghost use Rattle.mold_capture.specs.Outcome.{incomplete, outcome_in, whole};
 ghost use Rattle.mold_capture.specs.Verdict.{ranges_of};
 ghost use Rattle.mold_check.specs.Entries.{NamesDiffer};
-ghost use Rattle.mold_check.specs.Report.{Checked, CountsWrite, counts_line, incomplete_line, missing_line};
+ghost use Rattle.mold_check.specs.Report.{Checked, counts_line, incomplete_line, missing_line};
 ghost use Rattle.mold_check.specs.Report.{missing_text, outcome_status, outcome_text, report};
 ghost use Rattle.mold_devices.specs.Devices.{AppendsFront};
+ghost use Rattle.mold_devices.specs.Faults.{CountsSink};
 ghost use Rattle.mold_ranges.specs.Ranges as lacking;
 ghost use Rattle.mold_text.specs.Text.{refusal_words, refused_line};
 
@@ -73,7 +74,7 @@ fn send_missing<K: Sink>(
         (text.old.items ++ missing_text (ranges_of missing.now))) }
     ensures front { AppendsFront (K.held sink.old) (K.held sink.new)
         (text.old.items ++ missing_text (ranges_of missing.now)) }
-    ensures failures { CountsWrite (K.failed sink.old) (K.failed sink.new) result }
+    ensures failures { CountsSink (K.failed sink.old) (K.failed sink.new) result }
 {
     for range in missing {
         push_missing(text, *range)?;
@@ -90,7 +91,7 @@ fn tell_whole<K: Sink>(sink: &mut K, text: &mut Vec<u8>, messages: u64) -> Resul
         (text.old.items ++ outcome_text [] (whole messages)) × (status ≡ 0)) }
     ensures front { AppendsFront (K.held sink.old) (K.held sink.new)
         (text.old.items ++ outcome_text [] (whole messages)) }
-    ensures failures { CountsWrite (K.failed sink.old) (K.failed sink.new) result }
+    ensures failures { CountsSink (K.failed sink.old) (K.failed sink.new) result }
 {
     push_whole(text, messages)?;
     send(sink, text)?;
@@ -108,7 +109,7 @@ fn tell_incomplete<K: Sink>(
         (text.old.items ++ outcome_text [] (incomplete (ranges_of missing.now) end)) × (status ≡ 1)) }
     ensures front { AppendsFront (K.held sink.old) (K.held sink.new)
         (text.old.items ++ outcome_text [] (incomplete (ranges_of missing.now) end)) }
-    ensures failures { CountsWrite (K.failed sink.old) (K.failed sink.new) result }
+    ensures failures { CountsSink (K.failed sink.old) (K.failed sink.new) result }
 {
     push_incomplete(text, end)?;
     send_missing(sink, text, missing)?;
@@ -126,7 +127,7 @@ fn tell_verdict<K: Sink>(
         × (status ≡ outcome_status (outcome_in verdict.now))) }
     ensures front { AppendsFront (K.held sink.old) (K.held sink.new)
         (text.old.items ++ outcome_text [] (outcome_in verdict.now)) }
-    ensures failures { CountsWrite (K.failed sink.old) (K.failed sink.new) result }
+    ensures failures { CountsSink (K.failed sink.old) (K.failed sink.new) result }
 {
     match verdict {
         Verdict::Whole { messages } => tell_whole(sink, text, *messages),
@@ -147,7 +148,7 @@ fn tell_refusal<K: Sink>(
         (text.old.items ++ refused_line (name.now ∷ refusal_words reason)) × (status ≡ 2)) }
     ensures front { AppendsFront (K.held sink.old) (K.held sink.new)
         (text.old.items ++ refused_line (name.now ∷ refusal_words reason)) }
-    ensures failures { CountsWrite (K.failed sink.old) (K.failed sink.new) result }
+    ensures failures { CountsSink (K.failed sink.old) (K.failed sink.new) result }
 {
     push_refusal(text, &[Word::Text(b"refused"), Word::Text(name)], reason)?;
     send(sink, text)?;
@@ -169,7 +170,7 @@ pub fn check_entries<K: Sink>(
         × (status ≡ outcome_status checked.outcome))) }
     ensures front { NamesDiffer entries.now → (checked : Checked entries.now) →
         AppendsFront (K.held sink.old) (K.held sink.new) (report checked) }
-    ensures failures { CountsWrite (K.failed sink.old) (K.failed sink.new) result }
+    ensures failures { CountsSink (K.failed sink.old) (K.failed sink.new) result }
 {
     outcome_law();
     let order = sorted_datagrams(alloc, entries)?;

@@ -15,6 +15,17 @@ abbrev pub CountsRead : {T : Type 0} → ℕ → ℕ → Result T ReadFault → 
 CountsRead old new (Ok _) = new ≡ old
 CountsRead old new (Err fault) = CountsReadFault old new fault
 
+-- of what reads nothing: the sink failed once more with `Write`, and not with `Memory`; `Read` never comes
+abbrev pub CountsSinkFault : ℕ → ℕ → CommandFault → Type 0
+CountsSinkFault old new command.Read = ⊥
+CountsSinkFault old new command.Write = new ≡ one_more old
+CountsSinkFault old new command.Memory = new ≡ old
+
+-- nor with an answer
+abbrev pub CountsSink : {T : Type 0} → ℕ → ℕ → Result T CommandFault → Type 0
+CountsSink old new (Ok _) = new ≡ old
+CountsSink old new (Err fault) = CountsSinkFault old new fault
+
 -- the fault of a command whose reading ended with this fault
 abbrev pub from_read_fault : ReadFault → CommandFault
 from_read_fault reading.Read = command.Read

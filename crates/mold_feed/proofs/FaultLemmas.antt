@@ -2,10 +2,9 @@
 use Rattle.std.proofs.Common.{◌≡◌, ℕ, Result, Ok, Err, ap, inl, subst, sym, ◌∙◌}
 use Rattle.std.specs.Prelude.{IsErrAnd}
 use Rattle.mold_devices.specs.Devices.{one_more}
-use Rattle.mold_devices.specs.Faults.{CountsCommand}
+use Rattle.mold_devices.specs.Faults.{CountsCommand, CountsSink, CountsSinkFault}
 use Rattle.mold_devices.specs.declared.fault.CommandFault.{CommandFault}
 use Rattle.mold_devices.specs.declared.fault.CommandFault.TheVariants.{Read, Write, Memory}
-use Rattle.mold_feed.specs.Faults.{CountsSink, CountsSinkFault}
 
 -- memory was refused, and nothing failed so far
 pub counts_memory : {T : Type 0} (result : Result T CommandFault) (old new : ℕ) →

@@ -13,7 +13,7 @@ use Rattle.mold_feed.specs.Tally.{TallyState, with_text}
 use Rattle.mold_session.specs.Journal.{JournalState}
 use Rattle.mold_session.specs.Server.{ServerState}
 use Rattle.mold_session.specs.declared.error.AnswerError.{AnswerError}
-use Rattle.mold_feed.specs.Faults.{CountsSink, CountsSinkFault}
+use Rattle.mold_devices.specs.Faults.{CountsSink, CountsSinkFault}
 use Rattle.mold_feed.specs.Runs.{Begins, Rests, run}
 use Rattle.mold_feed.proofs.RunLemmas.{IsLoop, begins_more, begins_trans, begins_whole, none_ok}
 use Rattle.mold_wire.specs.declared.packet.Packet.{Packet}

@@ -1,5 +1,4 @@
 pub mod Answering
-pub mod Faults
 pub mod Listening
 pub mod Passing
 pub mod PublishLoop

@@ -4,7 +4,7 @@ ghost use Rattle.std.specs.Prelude.{◌≡◌, ◌++◌, [], true, length, IfOk,
 ghost use Rattle.mold_feed.specs.Listening.{Agrees, HasTurned, ReportState, beginning, hearing};
 ghost use Rattle.mold_feed.specs.Listening.{hearing_line, hearing_status, last_line, listening};
 ghost use Rattle.mold_feed.specs.Listening.{listener, put_before, status};
-ghost use Rattle.mold_feed.specs.Faults.{CountsSink};
+ghost use Rattle.mold_devices.specs.Faults.{CountsSink};
 ghost use Rattle.mold_feed.specs.Runs.{Ran, Rests};
 
 use crate::hearing::{LONGEST, ask, hear_port};

@@ -1,9 +1,8 @@
 //! A publisher, its re-request server and a listener in one process.
 
 ghost use Rattle.std.specs.Prelude.{◌≡◌, ◌≤◌, true, IfSome};
-ghost use Rattle.mold_devices.specs.Faults.{CountsCommand};
+ghost use Rattle.mold_devices.specs.Faults.{CountsCommand, CountsSink};
 ghost use Rattle.mold_devices.specs.Lines.{lines_of};
-ghost use Rattle.mold_feed.specs.Faults.{CountsSink};
 ghost use Rattle.mold_feed.specs.Passing.{LoopSends};
 ghost use Rattle.mold_publish.specs.Publishing.{HasRoom, lines_published};
 

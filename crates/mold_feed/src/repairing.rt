@@ -1,7 +1,7 @@
 //! What is missing, requested and answered in one process.
 
 ghost use Rattle.std.specs.Prelude.{◌≡◌, ◌≤◌, Some, true, Bool, List, length, OnOk};
-ghost use Rattle.mold_feed.specs.Faults.{CountsSink};
+ghost use Rattle.mold_devices.specs.Faults.{CountsSink};
 ghost use Rattle.mold_feed.specs.Listening.{asking, hear_answers};
 ghost use Rattle.mold_feed.specs.Repairing.{HasRepaired, repair_state, repaired, repairing, requested, text_before};
 ghost use Rattle.mold_feed.specs.Runs.{Rests};

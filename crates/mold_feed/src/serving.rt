@@ -4,7 +4,7 @@ ghost use Rattle.std.specs.Prelude.{◌≡◌, ◌≤◌, true, List, Bool, leng
 ghost use Rattle.mold_feed.specs.Answering.{Reaches};
 ghost use Rattle.mold_feed.specs.Serving.{behind, serve_turn, served_by, service_of, serving, responder_of};
 ghost use Rattle.mold_feed.specs.Tally.{last_line, no_tally};
-ghost use Rattle.mold_feed.specs.Faults.{CountsSink};
+ghost use Rattle.mold_devices.specs.Faults.{CountsSink};
 ghost use Rattle.mold_feed.specs.Runs.{Ran, Rests};
 
 use crate::answering::answer_request;

@@ -2,7 +2,7 @@
 
 ghost use Rattle.std.specs.Prelude.{◌≡◌, true, IfOk};
 ghost use Rattle.mold_feed.specs.Listening.{Agrees, beginning, last_line, listening, status};
-ghost use Rattle.mold_feed.specs.Faults.{CountsSink};
+ghost use Rattle.mold_devices.specs.Faults.{CountsSink};
 ghost use Rattle.mold_feed.specs.Runs.{Ran};
 ghost use Rattle.mold_wiring.specs.Wiring.{arbiter_of};
 

@@ -7,7 +7,7 @@ ghost use Rattle.mold_refusals.specs.Words.{file_fault_words};
 ghost use Rattle.mold_feed.specs.Serving.{served_by, service_of, serving, responder_of};
 ghost use Rattle.mold_feed.specs.Tally.{last_line, no_tally};
 ghost use Rattle.mold_text.specs.Text.{refused_line};
-ghost use Rattle.mold_feed.specs.Faults.{CountsSink};
+ghost use Rattle.mold_devices.specs.Faults.{CountsSink};
 ghost use Rattle.mold_feed.specs.Runs.{Ran};
 ghost use Rattle.mold_wiring.specs.File.{CountsSource, IsAtFault, SpellsFile};
 ghost use Rattle.mold_wiring.specs.Wiring.{server_of};
