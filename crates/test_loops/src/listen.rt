@@ -134,9 +134,10 @@ impl Listener {
         same_size(rt, self.requests.sent().len(), requests);
     }
 
-    /// The answer and the text where message 2 comes as an answer: all of it, or a beginning where a growth was
-    /// refused.
+    /// The answer, the text and the requests where message 2 comes as an answer: all of it, or a beginning where
+    /// a growth was refused.
     fn expect_beginning(&self, rt: &impl Abort, outcome: Result<u8, CommandFault>) {
+        assert!(rt; self.requests.sent().iter().all(is_request));
         // A letter that the port has no memory for is a failed send.
         let text = if self.requests.failures() > 0 {
             b"1 41\n2 42\n3 43\nfinished next 4 failed 1\n"
@@ -146,6 +147,7 @@ impl Listener {
         if outcome.is_ok() {
             same_outcome(rt, outcome, Ok(0));
             same_bytes(rt, self.sink.bytes(), text.as_slice());
+            self.expect_requests(rt, 2);
             return;
         }
         let refused = if self.sink.failures() > 0 {
@@ -155,6 +157,7 @@ impl Listener {
         };
         same_outcome(rt, outcome, Err(refused));
         assert!(rt; text.starts_with(self.sink.bytes()));
+        assert!(rt; self.requests.sent().len() <= 2);
     }
 }
 

@@ -255,10 +255,29 @@ fn expect_sent_first(rt: &impl Abort, port: &MemoryPort) {
     }
 }
 
+fn is_letter(letter: Option<&(u32, Vec<u8>)>, to: u32, bytes: &[u8]) -> bool {
+    match letter {
+        Some(letter) => letter.0 == to && letter.1.as_slice() == bytes,
+        None => false,
+    }
+}
+
+// What was sent where sends failed: all in order, but for what is lacking.
+fn expect_sent_but(rt: &impl Abort, port: &MemoryPort) {
+    let mut found = 0usize;
+    for (to, bytes) in ALL {
+        if is_letter(port.sent().get(found), to, bytes) {
+            found = found.saturating_add(1);
+        }
+    }
+    same_number_at(rt, port.sent().len() as u64, found as u64, 0);
+}
+
 // All came of publishing, or beginnings, with a growth refused. A letter that the port has no memory for is a failed
 // send.
 fn expect_beginnings(rt: &impl Abort, devices: &Devices<'_>, outcome: Result<u8, CommandFault>) {
     let text = if devices.port.failures() > 0 {
+        expect_sent_but(rt, &devices.port);
         b"published 2 datagrams 1 failed 1\n".as_slice()
     } else {
         expect_sent_first(rt, &devices.port);
@@ -270,6 +289,8 @@ fn expect_beginnings(rt: &impl Abort, devices: &Devices<'_>, outcome: Result<u8,
         same_outcome_at(rt, outcome, Ok(0), 0);
         same_bytes_at(rt, devices.sink.bytes(), text, 0);
         same_bytes_at(rt, devices.journal.bytes(), JOURNAL, 0);
+        let sent = 6u64.saturating_sub(devices.port.failures());
+        same_number_at(rt, devices.port.sent().len() as u64, sent, 0);
     } else {
         same_outcome_at(rt, outcome, Err(want_of_memory(devices)), 0);
     }

@@ -141,3 +141,33 @@ fn expect_reluctant(rt: &impl Abort) {
     same_count(rt, sink.write(b"ab"), Ok(1));
     same_number(rt, sink.failures(), 2);
 }
+
+// Writes bytes, once more where the sink found no memory: that was a failure, and it had what was there before.
+fn write_again(
+    rt: &impl Abort,
+    sink: &mut MemorySink,
+    bytes: &[u8],
+    before: &[u8],
+) -> Result<(), Fail> {
+    let failures = sink.failures();
+    if sink.write(bytes).is_ok() {
+        same_number(rt, sink.failures(), failures);
+        return Ok(());
+    }
+    same_number(rt, sink.failures(), failures.saturating_add(1));
+    same_bytes(rt, sink.bytes(), before);
+    match sink.write(bytes) {
+        Ok(_) => Ok(()),
+        Err(DeviceFault) => Err(Fail::from("Write")),
+    }
+}
+
+#[test]
+fn a_refused_growth_is_a_failed_write(rt: HostRuntime) -> Result<(), Fail> {
+    let mut sink = MemorySink::new(rt.alloc());
+    write_again(&rt, &mut sink, b"ab", b"")?;
+    write_again(&rt, &mut sink, &[b'c'; 62], b"ab")?;
+    same_size(&rt, sink.bytes().len(), 64);
+    same_bytes(&rt, &sink.bytes()[..3], b"abc");
+    Ok(())
+}

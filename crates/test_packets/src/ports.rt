@@ -93,6 +93,34 @@ fn expect_letter(rt: &impl Abort, sent: &[(u32, Vec<u8>)], place: usize, to: u32
     }
 }
 
+// Sends bytes to peer 1, once more where the port found no memory for them: that was a failed send, of which nothing
+// is kept.
+fn send_again(rt: &impl Abort, port: &mut MemoryPort, bytes: &[u8]) -> Result<(), Fail> {
+    let (failures, kept) = (port.failures(), port.sent().len());
+    if port.send(1, bytes).is_ok() {
+        same_number(rt, port.failures(), failures);
+        return Ok(());
+    }
+    same_number(rt, port.failures(), failures.saturating_add(1));
+    same_size(rt, port.sent().len(), kept);
+    match port.send(1, bytes) {
+        Ok(()) => Ok(()),
+        Err(DeviceFault) => Err(Fail::from("Memory")),
+    }
+}
+
+#[test]
+fn a_refused_growth_is_a_failed_send(rt: HostRuntime) -> Result<(), Fail> {
+    let mut port = MemoryPort::new(rt.alloc(), Vec::new(rt.alloc()));
+    send_again(&rt, &mut port, b"ab")?;
+    send_again(&rt, &mut port, b"")?;
+    send_again(&rt, &mut port, b"cd")?;
+    same_size(&rt, port.sent().len(), 3);
+    expect_letter(&rt, port.sent(), 0, 1, b"ab");
+    expect_letter(&rt, port.sent(), 2, 1, b"cd");
+    Ok(())
+}
+
 // A port of the loopback address.
 fn open(rt: &HostRuntime) -> Result<UdpPort, Fail> {
     Ok(UdpPort::bind(rt, loopback(0))?)

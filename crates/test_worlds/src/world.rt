@@ -478,13 +478,26 @@ fn expect_front<'w, 'm>(rt: &impl Abort, world: &World, r: usize, messages: &'w 
     holds(rt, message_of(world, r, messages.len()).is_none());
 }
 
-/// Both books and what was sent are beginnings of these.
+/// What was published are the first of these messages.
+fn expect_published<'w, 'm>(rt: &impl Abort, world: &World, messages: &'w [&'m [u8]]) {
+    let mut number = 1u64;
+    for message in messages {
+        if let Some(found) = world.published().get(number) {
+            same_bytes(rt, Some(found), Some(*message));
+        }
+        number = number.saturating_add(1);
+    }
+    holds(rt, world.published().get(number).is_none());
+}
+
+/// What was published, both books and what was sent are beginnings of these.
 fn expect_fronts<'w, 'd>(
     rt: &impl Abort,
     world: &World,
     sent: &'w [&'d [u8]],
     messages: &'w [&'d [u8]],
 ) {
+    expect_published(rt, world, messages);
     expect_sent(rt, world, sent);
     expect_front(rt, world, 0, messages);
     expect_front(rt, world, 1, messages);
@@ -492,7 +505,7 @@ fn expect_fronts<'w, 'd>(
 
 /// A run in a world with bursts of one datagram, which where memory was refused goes on from the event at
 /// which it stopped: the world was then as after the events before that one, by its counts, and by the bytes of
-/// its books and datagrams, which are beginnings of all of them.
+/// its messages, books and datagrams, which are beginnings of all of them.
 fn run_again<'w, 'd>(
     rt: &(impl Abort + AllocGlobal),
     world: &mut World,
@@ -649,6 +662,7 @@ fn expect_skipped(rt: &(impl Abort + AllocGlobal), world: &mut World) -> Result<
     run_again(rt, world, &[4, 4], &TWO_RECEIVERS, &TWO_SENT, &TWO_MESSAGES)?;
     same_size(rt, world.sent_len(), 4);
     expect_two_standings(rt, world);
+    expect_report(rt, world, 1, Line::A, (0, 1, 1));
     Ok(())
 }
 
@@ -660,14 +674,14 @@ fn a_run_skips_what_is_refused(rt: HostRuntime) -> Result<(), Fail> {
     Ok(())
 }
 
-// A world of one receiver whose session of one message was sent.
-fn with_one_sent(alloc: Global) -> Result<World, WorldError> {
+// A world of one receiver after so many of the events of two receivers.
+fn with_events(alloc: Global, count: usize) -> Result<World, WorldError> {
     let mut world = World::new(alloc, SESSION, 64, 64, 1, &[4])?;
-    run_whole(&mut world, &TWO_RECEIVERS[..2])?;
+    run_whole(&mut world, &TWO_RECEIVERS[..count])?;
     Ok(world)
 }
 
-const WITHOUT_MEMORY: [Event<'static>; 4] = [
+const WITHOUT_MEMORY: [Event<'static>; 6] = [
     Event::Noise {
         r: 0,
         way: A,
@@ -675,31 +689,67 @@ const WITHOUT_MEMORY: [Event<'static>; 4] = [
     },
     Event::Noise {
         r: 0,
+        way: B,
+        bytes: b"SESSION002\0\0\0\0\0\0\0\x01\0\0",
+    },
+    Event::Noise {
+        r: 0,
         way: Way::Answer,
         bytes: OWN,
+    },
+    Event::Noise {
+        r: 1,
+        way: A,
+        bytes: b"\0",
     },
     Event::Close,
     Event::Close,
 ];
 
-const WITHOUT_MEMORY_ANSWERS: [Answer; 4] = [
+const WITHOUT_MEMORY_ANSWERS: [Answer; 6] = [
     Ok(Report::NoiseRefused(Refused::Malformed(DecodeError::Short { len: 1 }))),
+    Ok(Report::NoiseRefused(Refused::WrongSession)),
     Err(WorldError::NotNoise),
+    Err(WorldError::NoReceiver),
     Ok(Report::Closed),
     Ok(Report::Closed),
 ];
 
-fn expect_applied(rt: &impl Abort, world: &mut World) {
-    for (event, want) in WITHOUT_MEMORY.iter().zip(&WITHOUT_MEMORY_ANSWERS) {
+fn expect_applied(rt: &impl Abort, world: &mut World, events: &[Event<'_>], answers: &[Answer]) {
+    for (event, want) in events.iter().zip(answers) {
         assert_eq!(rt; world.apply(event), *want);
     }
 }
 
-/// These events take no memory.
+/// What can be read of a world whose session of one message was sent and closed.
+fn expect_read(rt: &impl Abort, world: &World) {
+    holds(rt, world.is_closed());
+    same_bytes(rt, world.published().get(1), Some(b"\x41"));
+    same_size(rt, world.sent_len(), 1);
+    expect_sent(rt, world, &TWO_SENT);
+    same_size(rt, world.receivers(), 1);
+    expect_receiver(rt, world, 0, (1, 1, 0, 0, false));
+    expect_report(rt, world, 0, Line::A, (0, 1, 1));
+    expect_report(rt, world, 0, Line::B, (0, 1, 1));
+    expect_one_receiver(rt, world);
+}
+
+/// These events take no memory, nor does what is read of a world.
 #[test]
 fn no_growth_of_close_and_noise(rt: HostRuntime) -> Result<(), Fail> {
-    let mut world = with_one_sent(rt.alloc())?;
-    expect_applied(&rt, &mut world);
+    let mut world = with_events(rt.alloc(), 2)?;
+    expect_applied(&rt, &mut world, &WITHOUT_MEMORY, &WITHOUT_MEMORY_ANSWERS);
+    expect_read(&rt, &world);
+    Ok(())
+}
+
+/// Nor does a close that is refused, as a message is in no datagram yet.
+#[test]
+fn no_growth_of_a_refused_close(rt: HostRuntime) -> Result<(), Fail> {
+    let mut world = with_events(rt.alloc(), 3)?;
+    let unsent = Err(WorldError::Layer(SessionError::Close(Unsent { count: 1 })));
+    expect_applied(&rt, &mut world, &[Event::Close], &[unsent]);
+    holds(&rt, !world.is_closed());
     Ok(())
 }
 
