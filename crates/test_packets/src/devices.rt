@@ -168,6 +168,6 @@ fn a_refused_growth_is_a_failed_write(rt: HostRuntime) -> Result<(), Fail> {
     write_again(&rt, &mut sink, b"ab", b"")?;
     write_again(&rt, &mut sink, &[b'c'; 62], b"ab")?;
     same_size(&rt, sink.bytes().len(), 64);
-    same_bytes(&rt, &sink.bytes()[..3], b"abc");
+    assert!(rt; sink.bytes().starts_with(b"abc"));
     Ok(())
 }
