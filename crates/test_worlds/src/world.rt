@@ -674,10 +674,10 @@ fn a_run_skips_what_is_refused(rt: HostRuntime) -> Result<(), Fail> {
     Ok(())
 }
 
-// A world of one receiver after so many of the events of two receivers.
-fn with_events(alloc: Global, count: usize) -> Result<World, WorldError> {
+// A world of one receiver after these events.
+fn with_events(alloc: Global, events: &[Event<'_>]) -> Result<World, WorldError> {
     let mut world = World::new(alloc, SESSION, 64, 64, 1, &[4])?;
-    run_whole(&mut world, &TWO_RECEIVERS[..count])?;
+    run_whole(&mut world, events)?;
     Ok(world)
 }
 
@@ -737,7 +737,7 @@ fn expect_read(rt: &impl Abort, world: &World) {
 /// These events take no memory, nor does what is read of a world.
 #[test]
 fn no_growth_of_close_and_noise(rt: HostRuntime) -> Result<(), Fail> {
-    let mut world = with_events(rt.alloc(), 2)?;
+    let mut world = with_events(rt.alloc(), &TWO_RECEIVERS[..2])?;
     expect_applied(&rt, &mut world, &WITHOUT_MEMORY, &WITHOUT_MEMORY_ANSWERS);
     expect_read(&rt, &world);
     Ok(())
@@ -746,7 +746,7 @@ fn no_growth_of_close_and_noise(rt: HostRuntime) -> Result<(), Fail> {
 /// Nor does a close that is refused, as a message is in no datagram yet.
 #[test]
 fn no_growth_of_a_refused_close(rt: HostRuntime) -> Result<(), Fail> {
-    let mut world = with_events(rt.alloc(), 3)?;
+    let mut world = with_events(rt.alloc(), &TWO_RECEIVERS[..3])?;
     let unsent = Err(WorldError::Layer(SessionError::Close(Unsent { count: 1 })));
     expect_applied(&rt, &mut world, &[Event::Close], &[unsent]);
     holds(&rt, !world.is_closed());
