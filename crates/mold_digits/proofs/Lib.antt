@@ -1,8 +1,9 @@
-pub mod TableLemmas
-pub mod JoiningLemmas
-pub mod DecodingLemmas
-pub mod LaneLemmas
-pub mod ReadingLemmas
 pub mod BlockLemmas
-pub mod EncodingLemmas
 pub mod DecimalLemmas
+pub mod DecodingLemmas
+pub mod EncodingLemmas
+pub mod JoiningLemmas
+pub mod LaneLemmas
+pub mod NumberLemmas
+pub mod ReadingLemmas
+pub mod TableLemmas

@@ -6,10 +6,12 @@ mod decimal;
 mod decoding;
 mod encoding;
 mod lanes;
+mod number;
 mod table;
 mod writing;
 
 pub use decimal::{push_long_number, push_number};
 pub use decoding::decode;
 pub use encoding::push_bytes;
+pub use number::read_number;
 pub use writing::{MOST_DIGITS, write_bytes, write_number};

@@ -1,4 +1,3 @@
-pub mod NumberLemmas
 pub mod ReceiverLemmas
 pub mod SimLemmas
 pub mod WordLemmas

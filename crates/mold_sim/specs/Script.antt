@@ -1,13 +1,11 @@
 -- What a line of a script says: words separated by single spaces, of which the first names an event.
-use Rattle.std.specs.Prelude.{ℕ, List, [], ◌∷◌, length, codes, Bool, ◌&&◌, ◌==◌, nat_le, nat_lt, if◌then◌else◌}
+use Rattle.std.specs.Prelude.{ℕ, List, [], ◌∷◌, codes, ◌==◌, if◌then◌else◌}
 use Rattle.std.specs.Prelude.{Option, None, Some, option_map, Result, Ok, Err}
-use Rattle.std.specs.Char.{is_ascii_digit}
-use Rattle.std.specs.List.{list_all}
 use Rattle.std.specs.Str.{bytes_eq}
-use Rattle.std.specs.Str.Parse.{digits_value}
 use Rattle.hex.specs.Hex.{decode_of}
 use Rattle.hex.specs.declared.error.FromHexError.{FromHexError}
 use Rattle.mold_devices.specs.Lines.{onto_first}
+use Rattle.mold_digits.specs.Numbers.{decimal_of as number_in}
 use Rattle.mold_receiver.specs.declared.line.Line.{Line}
 use Rattle.mold_receiver.specs.declared.line.Line.TheVariants.{A, B}
 use Rattle.mold_world.specs.Effect.{Happening}
@@ -18,19 +16,6 @@ use Rattle.mold_world.specs.Effect.Happening.{Restart}
 abbrev pub words_of : List ℕ → List (List ℕ)
 words_of [] = [] ∷ []
 words_of (byte ∷ bytes) = if byte == 32 then [] ∷ words_of bytes else onto_first byte (words_of bytes)
-
--- 1 to 20 bytes
-abbrev pub is_sized : List ℕ → Bool
-is_sized word = nat_lt 0 (length word) && nat_le (length word) 20
-
--- 1 to 20 decimal digits
-abbrev pub is_number : List ℕ → Bool
-is_number word = is_sized word && list_all is_ascii_digit word
-
--- the number that a word spells, of 64 bits
-unfoldable pub number_in : List ℕ → Option ℕ
-number_in word =
-    if is_number word && nat_le (digits_value 10 word) 18446744073709551615 then Some (digits_value 10 word) else None
 
 -- the bytes that digits stand for
 abbrev pub spelled : Result (List ℕ) FromHexError → Option (List ℕ)

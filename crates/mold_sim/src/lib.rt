@@ -3,7 +3,6 @@
 #![tactic(auto)]
 
 mod action;
-mod number;
 mod reading;
 mod refusal;
 mod report;

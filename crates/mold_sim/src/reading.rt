@@ -2,15 +2,16 @@
 
 ghost use Rattle.std.specs.Prelude.{◌≡◌, ℕ, List, true, false, IfOk, MatchOption};
 ghost use Rattle.std.specs.Option.{option_map};
+ghost use Rattle.mold_digits.specs.Numbers.{decimal_of};
 ghost use Rattle.mold_sim.specs.Actions.{happenings_with};
-ghost use Rattle.mold_sim.specs.Script.{bytes_in, delivery, happening_of, noise, number_in, plain, way_in};
+ghost use Rattle.mold_sim.specs.Script.{bytes_in, delivery, happening_of, noise, plain, way_in};
 ghost use Rattle.mold_sim.specs.Script.{with_one, with_three, with_two};
 ghost use Rattle.mold_world.specs.Effect.Happening.{Ask};
 ghost use Rattle.mold_world.specs.Seen.{line_of};
 
 use crate::action::Action;
-use crate::number::read_number;
 use crate::words::{Words, cut};
+use mold_digits::read_number;
 use mold_receiver::Line;
 use mold_world::Way;
 use std::alloc::AllocError;
@@ -48,7 +49,7 @@ fn read_way(word: &[u8]) -> Option<Way>
 
 // A receiver's number or a datagram's place.
 fn read_index(word: &[u8]) -> Option<usize>
-    ensures { result ≡ number_in word.now }
+    ensures { result ≡ decimal_of word.now }
 {
     let number = read_number(word)?;
     Some(number as usize)
@@ -95,7 +96,7 @@ fn read_with_one(
 
 fn read_ask(receiver: &[u8]) -> Option<Action>
     ensures { (bytes : List ℕ) → happenings_with bytes result ≡
-        option_map (λ r. Ask r) (number_in receiver.now) }
+        option_map (λ r. Ask r) (decimal_of receiver.now) }
 {
     let receiver = read_index(receiver)?;
     Some(Action::Ask(receiver))
@@ -114,7 +115,7 @@ fn read_with_two(name: &[u8], receiver: &[u8], next: &[u8]) -> Option<Action>
 
 fn read_delivery(receiver: &[u8], way: &[u8], sent: &[u8]) -> Option<Action>
     ensures { (bytes : List ℕ) → happenings_with bytes result ≡
-        delivery (number_in receiver.now) (way_in way.now) (number_in sent.now) }
+        delivery (decimal_of receiver.now) (way_in way.now) (decimal_of sent.now) }
 {
     let r = read_index(receiver)?;
     let way = read_way(way)?;
@@ -129,7 +130,7 @@ fn read_noise(
     bytes: &mut Vec<u8>,
 ) -> Result<Option<Action>, AllocError>
     ensures { IfOk result (λ action. happenings_with bytes.new.items action ≡
-        noise (number_in receiver.now) (way_in way.now) (bytes_in digits.now)) }
+        noise (decimal_of receiver.now) (way_in way.now) (bytes_in digits.now)) }
 {
     let Some(r) = read_index(receiver) else {
         return Ok(None);

@@ -2,9 +2,8 @@
 use Rattle.std.specs.Prelude.{ℕ, ◌-◌, List, ◌++◌, Bool, length, replicate, nat_le, nat_lt, ◌&&◌, if◌then◌else◌}
 use Rattle.std.specs.Prelude.{Option, None, Some}
 use Rattle.std.specs.List.{list_all}
-use Rattle.std.specs.Char.{is_ascii_digit}
-use Rattle.std.specs.Str.Parse.{digits_value}
 use Rattle.clap.specs.Words.{Text}
+use Rattle.mold_digits.specs.Numbers.{decimal_of}
 
 -- a text of 1 to so many bytes
 abbrev pub is_sized : ℕ → Text → Bool
@@ -22,15 +21,15 @@ is_session text = is_sized 10 text && list_all is_character text
 unfoldable pub session_of : Text → Option (List ℕ)
 session_of text = if is_session text then Some (text ++ replicate (10 - length text) 32) else None
 
--- 1 to 20 decimal digits
-abbrev pub is_number : Text → Bool
-is_number text = is_sized 20 text && list_all is_ascii_digit text
-
 -- a number in a range
 abbrev pub is_within : ℕ → ℕ → ℕ → Bool
 is_within least most n = nat_le least n && nat_le n most
 
--- the number in a range that a text spells
+-- a number, where it is in a range
+abbrev pub in_range : ℕ → ℕ → Option ℕ → Option ℕ
+in_range least most None = None
+in_range least most (Some n) = if is_within least most n then Some n else None
+
+-- the number in a range that a text spells in decimal digits
 unfoldable pub number_of : ℕ → ℕ → Text → Option ℕ
-number_of least most text =
-    if is_number text && is_within least most (digits_value 10 text) then Some (digits_value 10 text) else None
+number_of least most text = in_range least most (decimal_of text)

@@ -14,6 +14,7 @@ use crate::limits::Limits;
 use crate::no_order::NoOrder;
 use crate::values::{number_of, session_of};
 use clap::ArgMatches;
+use mold_wire::{MAX_LIMIT, MIN_LIMIT};
 use std::alloc::Global;
 
 /// What holds where an option is not given.
@@ -107,7 +108,13 @@ pub(crate) fn limit_in(options: &ArgMatches<'_>, name: &'static str) -> Result<u
         (LacksValue (limit_in name.now (rows_of (found_of options.now)))) }
     ensures within { IfOk result (λ number. (64 ≤ number) × (number ≤ 65507)) }
 {
-    Ok(number_in(options, name, USUAL_LIMIT, 64, 65507)? as usize)
+    Ok(number_in(
+        options,
+        name,
+        USUAL_LIMIT,
+        MIN_LIMIT as u64,
+        MAX_LIMIT as u64,
+    )? as usize)
 }
 
 /// The messages that a receiver looks ahead.

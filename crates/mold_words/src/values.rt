@@ -1,15 +1,11 @@
 //! The values that texts of options stand for.
 
 ghost use Rattle.std.specs.Prelude.{◌≡◌, ◌≤◌, true, IfSome};
-ghost use Rattle.std.specs.Char.{is_ascii_digit};
 ghost use Rattle.std.specs.List.{list_all};
-ghost use Rattle.mold_words.specs.Values.{is_character, is_number, is_session, is_sized, number_of, session_of};
+ghost use Rattle.mold_words.specs.Values.{is_character, is_session, is_sized, number_of, session_of};
 
-/// The most digits that a number is given in.
-const MOST_DIGITS: usize = 20;
-
-/// The bytes of a session's name.
-const SESSION_LENGTH: usize = 10;
+use mold_digits::read_number;
+use mold_wire::SESSION_LENGTH;
 
 fn is_character(byte: u8) -> bool
     ensures { result ≡ is_character byte }
@@ -49,29 +45,12 @@ pub(crate) fn session_of(text: &str) -> Option<[u8; SESSION_LENGTH]>
     Some(session)
 }
 
-fn are_digits(text: &str) -> bool
-    ensures { result ≡ list_all is_ascii_digit text.now }
-{
-    text.as_bytes().iter().all(|byte| byte.is_ascii_digit())
-}
-
-fn is_number(text: &str) -> bool
-    ensures { result ≡ is_number text.now }
-{
-    is_sized(text, MOST_DIGITS) && are_digits(text)
-}
-
 /// The number in the range that 1 to 20 decimal digits spell.
 pub(crate) fn number_of(text: &str, least: u64, most: u64) -> Option<u64>
     ensures value { result ≡ number_of least most text.now }
     ensures within { IfSome result (λ number. (least ≤ number) × (number ≤ most)) }
 {
-    if !is_number(text) {
-        return None;
-    }
-    let Ok(number) = text.parse::<u64>() else {
-        return None;
-    };
+    let number = read_number(text.as_bytes())?;
     if number < least || number > most {
         return None;
     }

@@ -1,23 +1,23 @@
-use Rattle.std.proofs.Common.{◌∙◌, arith, sym}
-use Rattle.mold_words.proofs.ValueLemmas.{no_number, not_read, out_of_range, in_range}
+use Rattle.std.proofs.Common.{◌≡◌, ◌∙◌, Some, None, sym, ap}
+use Rattle.mold_digits.specs.Numbers.{decimal_of}
+use Rattle.mold_words.proofs.ValueLemmas.{no_number, out_of_range, number_in_range}
 use Rattle.mold_words.proofs.values.number_of.Goals as goal
 
-pub returns-then-not-is_number-clause-value : goal.returns-then-not-is_number-clause-value
-returns-then-not-is_number-clause-value c =
-    no_number c.args.least c.args.most c.args.text.now (sym c.is_number.ensures ∙ c.if-not-is_number.true)
-
-pub returns-in_default-clause-value : goal.returns-in_default-clause-value
-returns-in_default-clause-value c =
-    not_read c.args.least c.args.most c.args.text.now c.in_default.field-0 (omega arith)
-    (sym c.is_number.ensures ∙ c.if-not-is_number.false) c.in_default.ensures.value.0
+pub returns-in_err-number-clause-value : goal.returns-in_err-number-clause-value
+returns-in_err-number-clause-value c =
+    let none : decimal_of c.args.text.now ≡ None =
+    ap decimal_of (sym c.as_bytes.ensures.value) ∙ sym c.in_err-number.ensures in
+    c.from_residual.ensures ∙ no_number c.args.least c.args.most c.args.text.now none
 
 pub returns-then-number-least-clause-value : goal.returns-then-number-least-clause-value
 returns-then-number-least-clause-value c =
-    out_of_range c.args.least c.args.most c.in-Ok.number c.args.text.now c.parse.result
-    (sym c.is_number.ensures ∙ c.if-not-is_number.false) c.parse.ensures.value.0 c.in-Ok.is c.then-number-least.either
+    let read : decimal_of c.args.text.now ≡ Some c.in_ok-number.number =
+    ap decimal_of (sym c.as_bytes.ensures.value) ∙ sym c.in_ok-number.ensures in
+    out_of_range c.args.least c.args.most c.in_ok-number.number c.args.text.now read c.then-number-least.either
 
 pub returns-clause-value : goal.returns-clause-value
 returns-clause-value c =
-    in_range c.args.least c.args.most c.in-Ok.number c.args.text.now c.parse.result
-    (sym c.is_number.ensures ∙ c.if-not-is_number.false) c.parse.ensures.value.0 c.in-Ok.is
-    c.if-number-least.false c.if-number-most.false
+    let read : decimal_of c.args.text.now ≡ Some c.in_ok-number.number =
+    ap decimal_of (sym c.as_bytes.ensures.value) ∙ sym c.in_ok-number.ensures in
+    number_in_range c.args.least c.args.most c.in_ok-number.number c.args.text.now read c.if-number-least.false
+    c.if-number-most.false

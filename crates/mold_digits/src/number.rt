@@ -1,7 +1,7 @@
-//! Numbers in decimal digits.
+//! Numbers in decimal digits, as people give them.
 
 ghost use Rattle.std.specs.Prelude.{◌≡◌};
-ghost use Rattle.mold_sim.specs.Script.{is_sized, number_in};
+ghost use Rattle.mold_digits.specs.Numbers.{decimal_of, is_sized};
 
 /// The most digits that a number is given in.
 const MOST_DIGITS: usize = 20;
@@ -13,9 +13,9 @@ fn is_sized(word: &[u8]) -> bool
 }
 
 /// The number that the word spells: 1 to 20 decimal digits, leading zeros among them, and at most
-/// 18446744073709551615.
+/// 18446744073709551615. None where it spells no such number.
 pub fn read_number(word: &[u8]) -> Option<u64>
-    ensures { result ≡ number_in word.now }
+    ensures { result ≡ decimal_of word.now }
 {
     if !is_sized(word) {
         return None;

@@ -1,6 +1,6 @@
 use Rattle.std.proofs.Common.{sym, ◌∙◌}
-use Rattle.mold_sim.proofs.NumberLemmas.{no_size, no_digit, digit_more, digits_done}
-use Rattle.mold_sim.proofs.number.read_number.Goals as goal
+use Rattle.mold_digits.proofs.NumberLemmas.{no_size, no_digit, digit_more, digits_done}
+use Rattle.mold_digits.proofs.number.read_number.Goals as goal
 
 pub returns-then-not-is_sized : goal.returns-then-not-is_sized
 returns-then-not-is_sized c = no_size c.args.word.now (sym c.is_sized.ensures ∙ c.if-not-is_sized.true)

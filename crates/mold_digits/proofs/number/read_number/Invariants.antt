@@ -1,5 +1,5 @@
-use Rattle.mold_sim.proofs.NumberLemmas.{IsNumberSoFar}
-use Rattle.mold_sim.proofs.number.read_number.Given as goal
+use Rattle.mold_digits.proofs.NumberLemmas.{IsNumberSoFar}
+use Rattle.mold_digits.proofs.number.read_number.Given as goal
 
 -- the number is that of the digits so far
 abbrev pub invariant-digits : goal.invariant-digits

@@ -13,15 +13,15 @@ use Rattle.std.proofs.Math.Nat.{pow-succ'}
 use Rattle.std.proofs.lemmas.List.{take_all}
 use Rattle.std.proofs.lemmas.List.Folds.{list_all-append}
 use Rattle.std.proofs.lemmas.Int.Digits.{digits_value_more}
-use Rattle.mold_sim.specs.Script.{is_sized, number_in}
+use Rattle.mold_digits.specs.Numbers.{is_sized, decimal_of}
 
 -- what a word spells, by what is found of it
 abbrev spelled_by : List ℕ → Bool → Bool → Bool → Option ℕ
 spelled_by word sized digits small = cond {A = Option ℕ} ((sized && digits) && small) (Some (digits_value 10 word)) None
 
 spelled_is : (word : List ℕ) →
-    number_in word ≡ spelled_by word (is_sized word) (list_all is_ascii_digit word) (nat_le (digits_value 10 word) 18446744073709551615)
-unfolding number_in
+    decimal_of word ≡ spelled_by word (is_sized word) (list_all is_ascii_digit word) (nat_le (digits_value 10 word) 18446744073709551615)
+unfolding decimal_of
 spelled_is word = refl
 
 and-false : (b : Bool) → b && false ≡ false
@@ -33,7 +33,7 @@ no_digits word true small = refl
 no_digits word false small = refl
 
 -- a word of another length spells no number
-pub no_size : (word : List ℕ) → is_sized word ≡ false → None ≡ number_in word
+pub no_size : (word : List ℕ) → is_sized word ≡ false → None ≡ decimal_of word
 no_size word e =
     let digits = list_all is_ascii_digit word in
     let small = nat_le (digits_value 10 word) 18446744073709551615 in
@@ -48,7 +48,7 @@ some_bad (d ∷ ds) (suc i) lt e =
 
 -- nor does one with a byte that is no digit
 pub no_digit : (word : List ℕ) (i : ℕ) → i < length word → is_ascii_digit (get_or word i 0) ≡ false →
-    None ≡ number_in word
+    None ≡ decimal_of word
 no_digit word i lt e =
     let small = nat_le (digits_value 10 word) 18446744073709551615 in
     sym
@@ -101,7 +101,7 @@ small_is n (Err e) not = elim (cases_lt n 18446744073709551616) [
 -- the number of all digits
 pub digits_done : (word : List ℕ) (i number : ℕ) {E : Type 0} (result : Result ℕ E) → is_sized word ≡ true → length word ≤ i →
     IsNumberSoFar word i number → OkIff result (number < 18446744073709551616) number →
-    result_ok result ≡ number_in word
+    result_ok result ≡ decimal_of word
 digits_done word i number result sized all is ok =
     let whole = take_all i word all in
     let digits = ap (list_all is_ascii_digit) (sym whole) ∙ is.digits in
