@@ -1,36 +1,29 @@
 -- The whole run of a publisher on two lines.
-use Rattle.std.proofs.Common.{arith, ◌≡◌, ◌∙◌, ℕ, zero, suc, ◌+◌, ◌-◌, ◌<◌, ◌≤◌, Bool, true, false, List, [], ◌∷◌, ◌++◌, length, map}
-use Rattle.std.proofs.Common.{Option, None, Some, Result, Ok, Err, ap, refl, sym, subst, append_assoc, append-nil, replicate, length-append}
-use Rattle.std.specs.Prelude.{IfSome, IfOk, IsErr, OnOk, OnErr}
+use Rattle.std.proofs.Common.{arith, ◌≡◌, ◌∙◌, ℕ, ◌+◌, ◌-◌, ◌≤◌, Bool, true, false, List, [], ◌∷◌, ◌++◌, length}
+use Rattle.std.proofs.Common.{Option, None, Some, Result, Ok, Err, ap, refl, sym, subst, append-nil}
+use Rattle.std.specs.Prelude.{IfSome, IfOk, IsErr, OnOk}
 use Rattle.std.proofs.lemmas.List.{drop_all}
-use Rattle.std.specs.Io.KnownBytes.{Appends, prepend_known}
-use Rattle.std.proofs.KnownBytes.{Appends-nil, prepend_known-nil}
+use Rattle.std.specs.Io.KnownBytes.{Appends}
+use Rattle.std.proofs.KnownBytes.{Appends-nil}
 use Rattle.mold_devices.specs.Devices.{AppendsFront}
 use Rattle.mold_devices.specs.declared.fault.CommandFault.{CommandFault}
 use Rattle.mold_session.specs.File.{AppendsFile}
 use Rattle.hex.specs.Hex.{decode_of}
 use Rattle.mold_devices.specs.Lines.{lines_of}
 use Rattle.mold_ports.specs.Ports.{Port}
-use Rattle.mold_wire.specs.Packet.{spelling_of}
 use Rattle.mold_wire.specs.Packing.{Fits}
-use Rattle.mold_wire.specs.declared.packet.Packet.{Packet}
-use Rattle.mold_session.specs.Datagrams.{data_packet}
 use Rattle.mold_session.specs.Journal.{JournalState, appended}
-use Rattle.mold_session.specs.Publisher.{Lends, PublisherState, next_datagram, after_datagram}
+use Rattle.mold_session.specs.Publisher.{PublisherState}
 use Rattle.mold_feed.specs.Runs.{Begins}
 use Rattle.mold_feed.proofs.RunLemmas.{begins_more, begins_trans, begins_whole, none_answered, none_ok, on_ok}
-use Rattle.mold_publish.specs.Sending.{all_but_last, packets_behind}
 use Rattle.mold_feed.proofs.SendingLemmas.{AllSent, ended, sends_more}
 use Rattle.mold_publish.specs.Publishing.{packed_status}
 use Rattle.mold_feed.specs.PublishLoop.{PublicationState, PublishRun, Saves, Sends, SendsLines, all_datagrams, after_data, both, close_datagrams}
 use Rattle.mold_feed.specs.Outgoing.{OutgoingState, nothing_out, with_more}
-use Rattle.mold_feed.specs.PublishLoop.{data_behind, failed_after, last_line, offer, publication_of, packets_to_send, published_text}
-use Rattle.mold_feed.specs.PublishLoop.{closed_unless, left_journal, saved_bytes, spelled_some}
-use Rattle.mold_publish.specs.Publishing.{PublishedLines, lines_published, published_from, line_outcome, refused_text, HasRoom, IsJustFull, Fills}
+use Rattle.mold_feed.specs.PublishLoop.{data_behind, failed_after, last_line, offer, publication_of, published_text}
+use Rattle.mold_feed.specs.PublishLoop.{closed_unless, left_journal, saved_bytes}
+use Rattle.mold_publish.specs.Publishing.{PublishedLines, lines_published, published_from, line_outcome, refused_text, HasRoom}
 use Rattle.mold_publish.specs.declared.line_refusal.LineRefusal.{LineRefusal}
-use Rattle.mold_publish.specs.declared.filling.Filled.TheVariants.{Full, End, Refused}
-use Rattle.mold_publish.proofs.DatagramLemmas.{PackingLaws, grown, full_front, full_datagram, full_packets}
-use Rattle.mold_publish.proofs.DatagramLemmas.{more_packets, list_of, room_packets}
 
 closed_from : (journal : JournalState) (outcome : Result (List ℕ) LineRefusal) (behind : JournalState → PublishedLines) →
     ((next : JournalState) → (behind next).journal.closed ≡ next.closed) →

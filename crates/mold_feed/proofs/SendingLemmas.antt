@@ -1,30 +1,23 @@
 -- Data that are sent on two lines, one after the other.
 use Rattle.std.proofs.Common.{arith, ◌≡◌, ◌∙◌, ℕ, zero, suc, ◌+◌, ◌<◌, ◌≤◌, Bool, true, false, List, [], ◌∷◌, ◌++◌, length, map}
 use Rattle.std.proofs.Common.{Option, None, Some, Result, Ok, Err, ap, refl, sym, subst, append_assoc, append-nil, replicate, length-append}
-use Rattle.std.specs.Prelude.{IfSome, IfOk, IsErr, OnOk, OnErr}
-use Rattle.std.proofs.lemmas.List.{drop_all}
-use Rattle.std.specs.Io.KnownBytes.{Appends, prepend_known}
-use Rattle.std.proofs.KnownBytes.{Appends-nil, prepend_known-nil}
-use Rattle.mold_devices.specs.Devices.{AppendsFront}
-use Rattle.mold_devices.specs.declared.fault.CommandFault.{CommandFault}
-use Rattle.mold_session.specs.File.{AppendsFile}
-use Rattle.hex.specs.Hex.{decode_of}
+use Rattle.std.specs.Prelude.{IfSome, IsErr, OnOk, OnErr}
+use Rattle.std.specs.Io.KnownBytes.{prepend_known}
+use Rattle.std.proofs.KnownBytes.{prepend_known-nil}
 use Rattle.mold_devices.specs.Lines.{lines_of}
-use Rattle.mold_ports.specs.Ports.{Port}
 use Rattle.mold_wire.specs.Packet.{spelling_of}
 use Rattle.mold_wire.specs.Packing.{Fits}
 use Rattle.mold_wire.specs.declared.packet.Packet.{Packet}
 use Rattle.mold_session.specs.Datagrams.{data_packet}
-use Rattle.mold_session.specs.Journal.{JournalState, appended}
+use Rattle.mold_session.specs.Journal.{JournalState}
 use Rattle.mold_session.specs.Publisher.{Lends, PublisherState, next_datagram, after_datagram}
 use Rattle.mold_feed.specs.Runs.{Begins}
 use Rattle.mold_feed.proofs.RunLemmas.{begins_more, begins_trans, begins_whole, none_answered, none_ok}
 use Rattle.mold_publish.specs.Sending.{all_but_last, packets_behind}
-use Rattle.mold_publish.specs.Publishing.{packed_status}
-use Rattle.mold_feed.specs.PublishLoop.{PublicationState, PublishRun, Saves, Sends, SendsLines, all_datagrams, after_data, both, close_datagrams}
-use Rattle.mold_feed.specs.PublishLoop.{data_behind, last_line, offer, publication_of, packets_to_send, published_text}
-use Rattle.mold_feed.specs.PublishLoop.{closed_unless, left_journal, saved_bytes, spelled_some}
-use Rattle.mold_publish.specs.Publishing.{PublishedLines, lines_published, published_from, line_outcome, refused_text, HasRoom, IsJustFull, Fills}
+use Rattle.mold_feed.specs.PublishLoop.{PublicationState, Sends, SendsLines, both}
+use Rattle.mold_feed.specs.PublishLoop.{data_behind, offer, packets_to_send}
+use Rattle.mold_feed.specs.PublishLoop.{spelled_some}
+use Rattle.mold_publish.specs.Publishing.{PublishedLines, lines_published, HasRoom, IsJustFull, Fills}
 use Rattle.mold_publish.specs.declared.line_refusal.LineRefusal.{LineRefusal}
 use Rattle.mold_publish.specs.declared.filling.Filled.TheVariants.{Full, End, Refused}
 use Rattle.mold_publish.proofs.DatagramLemmas.{PackingLaws, grown, full_front, full_datagram, full_packets, full_room}

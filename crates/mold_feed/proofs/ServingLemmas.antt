@@ -1,21 +1,17 @@
 -- What turns of a serving do: a text in front of what was printed changes nothing else, and turns only print and send
 -- more.
-use Rattle.std.proofs.Common.{◌≡◌, ℕ, Bool, true, false, List, [], ◌∷◌, ◌++◌, drop, Option, Result, Ok, Err, refl, sym, ap, subst, ◌∙◌, append_assoc}
-use Rattle.std.specs.Prelude.{IsErr, IsErrAnd}
-use Rattle.mold_devices.specs.Devices.{one_more}
-use Rattle.mold_devices.specs.declared.fault.CommandFault.{CommandFault}
-use Rattle.mold_devices.specs.declared.fault.CommandFault.TheVariants.{Memory, Write}
+use Rattle.std.proofs.Common.{◌≡◌, ℕ, Bool, true, false, List, [], ◌∷◌, ◌++◌, drop, Option, Result, Ok, Err, refl, sym, ap, subst, ◌∙◌}
+use Rattle.std.specs.Prelude.{IsErr}
 use Rattle.mold_ports.specs.Ports.{Port, Receipt, Datagram, Quiet, Failure, cut, next_of, received}
 use Rattle.mold_feed.specs.Answering.{Reaches}
 use Rattle.mold_feed.specs.Serving.{Service, ResponderState, behind, fails_first, met, offer, offer_all}
-use Rattle.mold_feed.specs.Serving.{replied, reply, serve_turn, service_of, serving, responder_of}
+use Rattle.mold_feed.specs.Serving.{replied, reply, serve_turn, service_of, serving}
 use Rattle.mold_feed.specs.Outgoing.{OutgoingState}
 use Rattle.mold_feed.specs.Tally.{with_outgoing}
 use Rattle.mold_feed.specs.declared.tally.Tally.{Tally}
 use Rattle.mold_session.specs.Journal.{JournalState}
 use Rattle.mold_session.specs.Server.{ServerState}
 use Rattle.mold_session.specs.declared.error.AnswerError.{AnswerError}
-use Rattle.mold_devices.specs.Faults.{CountsSink, CountsSinkFault}
 use Rattle.mold_feed.specs.Runs.{Begins, Rests, run}
 use Rattle.mold_feed.proofs.OutgoingLemmas.{front_twice, more_after, written_front}
 use Rattle.mold_feed.proofs.RunLemmas.{IsLoop, begins_more, begins_trans, begins_whole, none_ok}

@@ -1,6 +1,6 @@
 -- A turn of listening, and that listening is a loop that goes by turns.
 use Rattle.std.proofs.Common.{◌≡◌, ℕ, zero, suc, Bool, true, false, List, [], ◌∷◌, ◌++◌, Option, None, Some, Result}
-use Rattle.std.proofs.Common.{ap, refl, sym, subst, ◌∙◌, ◌↔◌, append_assoc, eq-eqb, ne_eqb}
+use Rattle.std.proofs.Common.{ap, refl, sym, subst, ◌∙◌, ◌↔◌, eq-eqb, ne_eqb}
 use Rattle.std.proofs.lemmas.Result.{on_ok_weaker}
 use Rattle.std.specs.Prelude.{IsErr, IsTrue, if◌then◌else◌}
 use Rattle.mold_ports.specs.Ports.{Port, Receipt, Datagram, Quiet, Failure, cut, next_of, offered, received}

@@ -1,6 +1,6 @@
 -- Listening on two lines and asking for what is lacking: what a turn makes of the ports and of what was heard, and
 -- what is printed. The whole run is `run` of `listening`.
-use Rattle.std.specs.Prelude.{◌≡◌, ℕ, zero, suc, Bool, true, false, ◌==◌, if◌then◌else◌, List, [], ◌∷◌, ◌++◌}
+use Rattle.std.specs.Prelude.{◌≡◌, ℕ, zero, suc, Bool, true, false, ◌==◌, if◌then◌else◌, List, [], ◌∷◌}
 use Rattle.std.specs.Prelude.{Option, None, Some, Result, OnOk}
 use Rattle.mold_ports.specs.Ports.{Port, Receipt, Datagram, Quiet, Failure, cut, next_of, offered, received}
 use Rattle.mold_receiver.specs.Arbiter.{Arbitration, arbitrates}

@@ -1,6 +1,5 @@
 use Rattle.std.proofs.Common.{◌≡◌, ◌≤◌, ◌∙◌, ℕ, refl, sym, ap, subst, Ok, arith}
 use Rattle.mold_devices.specs.declared.fault.CommandFault.{CommandFault}
-use Rattle.mold_devices.specs.Devices.{one_more}
 use Rattle.mold_feed.specs.Serving.{Service, behind, serve_turn, service_of, serving, responder_of}
 use Rattle.mold_feed.proofs.ServingLemmas.{rests_as, same_service, serving_is, wrote}
 use Rattle.mold_feed.proofs.FaultLemmas.{counts_memory, counts_write}
