@@ -5,36 +5,33 @@ use Rattle.std.specs.Prelude.{IsErr, OnOk}
 use Rattle.mold_ports.specs.Ports.{Port, offered}
 use Rattle.mold_feed.specs.Answering.{OffersOne, OffersNext, Reaches, left_of}
 use Rattle.mold_feed.specs.Serving.{Service, ResponderState, offer, offer_all, replied, reply, reply_to, service_of, responder_of}
-use Rattle.mold_feed.specs.Tally.{TallyState, with_answered, with_failed, with_refused}
+use Rattle.mold_feed.specs.Tally.{with_answered, with_failed, with_refused}
+use Rattle.mold_feed.specs.declared.tally.Tally.{Tally}
 use Rattle.mold_feed.proofs.ServingLemmas.{offer_all_sends}
 use Rattle.mold_session.specs.Answer.{PlanState, SendsNext, answer, moved, next_packet, next_part, plan_for, planned}
 use Rattle.mold_session.specs.Journal.{JournalState}
 use Rattle.mold_session.specs.Server.{IsAnswerable, ServerState, asking, counted, plan_of, planning}
 use Rattle.mold_session.specs.declared.error.AnswerError.{AnswerError}
 use Rattle.mold_feed.specs.Runs.{Begins}
-use Rattle.mold_feed.proofs.RunLemmas.{begins_whole, none_ok}
+use Rattle.mold_feed.proofs.RunLemmas.{begins_whole, none_ok, on_ok}
 use Rattle.mold_wire.specs.declared.packet.Packet.{Packet}
 use Rattle.mold_wire.specs.declared.request.Request.{Request}
 use Rattle.mold_wire.specs.Packet.{Spells, spelling_of}
 
 -- ---- one packet
 
-abbrev responder : {P : Type 0} → Port P → TallyState → ℕ → ResponderState P
+abbrev responder : {P : Type 0} → Port P → Tally → ℕ → ResponderState P
 responder port tally requests = record { port = port; tally = tally; requests = requests }
 
-same_responder : {P : Type 0} {one other : Port P} {tally report : TallyState} {requests counted : ℕ} → one ≡ other →
+same_responder : {P : Type 0} {one other : Port P} {tally report : Tally} {requests counted : ℕ} → one ≡ other →
     tally ≡ report → requests ≡ counted → responder one tally requests ≡ responder other report counted
 same_responder {P} {one} {other} {tally} {report} {requests} {counted} ports tallies numbers =
     ap (λ (p : Port P). responder p tally requests) ports
-    ∙ ap (λ (t : TallyState). responder other t requests) tallies
+    ∙ ap (λ (t : Tally). responder other t requests) tallies
     ∙ ap (responder other report) numbers
 
-ok_so : {T E : Type 0} (result : Result T E) {fact : Type 0} → fact → OnOk result fact
-ok_so (Ok _) so = so
-ok_so (Err _) so = tt
-
 module _ {P T E : Type 0} (to : P) (result : Result T E) (service : Service) (plan behind : PlanState)
-    (bytes : List ℕ) (old new : Port P) (tally report : TallyState) (server after : ServerState)
+    (bytes : List ℕ) (old new : Port P) (tally report : Tally) (server after : ServerState)
     (next : SendsNext service.journal.messages service.limit plan)
     (moves : behind ≡ moved plan (length (next_part service.journal.messages service.limit plan)))
     (spells : Spells (next_packet service.journal.messages service.limit plan) bytes) (same : after ≡ server) where
@@ -54,7 +51,7 @@ module _ {P T E : Type 0} (to : P) (result : Result T E) (service : Service) (pl
     packet = next_packet service.journal.messages service.limit plan;
     parts = parts;
     port = sent;
-    whole = ok_so result (same_responder sent counted (ap (λ (s : ServerState). s.answered) same));
+    whole = on_ok result (same_responder sent counted (ap (λ (s : ServerState). s.answered) same));
   }
 
   -- it was sent, and memory was refused behind it
@@ -86,7 +83,7 @@ module _ {P T E : Type 0} (to : P) (result : Result T E) (service : Service) (pl
         parts = parts;
         port = spelled;
         whole =
-            ok_so result
+            on_ok result
             (same_responder spelled
             (counted ∙ ap (λ (n : ℕ). with_answered n (top - sequence) tally) first
             ∙ ap (λ (n : ℕ). with_answered plan.from n tally) many)
@@ -202,7 +199,7 @@ refused_by service journal burst (Err error) why is = cc
 
 -- a request that can't be planned is refused for the same reason
 pub refused_so : {P E : Type 0} (result : Result (Unit {0}) E) (to : P) (journal : JournalState) (bytes : List ℕ)
-    (why : AnswerError) (port : Port P) (tally report : TallyState) (server after : ServerState) →
+    (why : AnswerError) (port : Port P) (tally report : Tally) (server after : ServerState) →
     Err why ≡ planning journal server.burst bytes → after ≡ server → OnOk result (report ≡ with_refused why tally) →
     Reaches result (responder_of port report after)
     (replied to [] (reply (service_of journal server) bytes) (responder_of port tally server))
@@ -240,7 +237,7 @@ plans journal server bytes plan (Ok request) answerable answers is made =
 
 -- a request is answered by all packets of its plan
 pub answered_so : {P E : Type 0} (result : Result (Unit {0}) E) (to : P) (journal : JournalState) (bytes : List ℕ)
-    (plan : PlanState) (fails : List Bool) (port : Port P) (tally : TallyState) (server after : ServerState)
+    (plan : PlanState) (fails : List Bool) (port : Port P) (tally : Tally) (server after : ServerState)
     (new : ResponderState P) →
     ((request : Request) → asking journal bytes ≡ Ok request → IsAnswerable journal request) →
     ((request : Request) → IsAnswerable journal request →

@@ -2,10 +2,12 @@ pub mod AnsweringLemmas
 pub mod FaultLemmas
 pub mod HandedLemmas
 pub mod ListenLemmas
+pub mod OutgoingLemmas
 pub mod PassingLemmas
 pub mod PublishLoopLemmas
 pub mod RepairLemmas
 pub mod RunLemmas
+pub mod SendingLemmas
 pub mod ServingLemmas
 pub mod TurnLemmas
 pub mod WritingLemmas

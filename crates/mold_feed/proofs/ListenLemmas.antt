@@ -1,5 +1,5 @@
 -- What each step of listening does to what was heard.
-use Rattle.std.proofs.Common.{◌≡◌, ℕ, suc, Bool, true, false, List, [], ◌∷◌, ◌++◌, Option, None, Some, Result, zero, ap, refl, sym, ◌∙◌}
+use Rattle.std.proofs.Common.{◌≡◌, ℕ, suc, Bool, true, false, List, [], ◌∷◌, Option, None, Some, Result, zero, ap, refl, sym, ◌∙◌}
 use Rattle.std.proofs.lemmas.Result.{on_ok_weaker}
 use Rattle.std.specs.Prelude.{OnOk}
 use Rattle.mold_wire.specs.Request.{request_spelling}
@@ -12,8 +12,9 @@ use Rattle.mold_receiver.specs.declared.line.Line.{Line}
 use Rattle.mold_receiver.specs.declared.taken.Taken.{Taken}
 use Rattle.mold_feed.specs.Text.{handed_text, taking_text}
 use Rattle.mold_ports.specs.Ports.{Port, Receipt, Datagram, Quiet, Failure, cut, next_of, offered, received}
-use Rattle.mold_feed.specs.Listening.{Asking, Hearing, HasAsked, ReportState, asked, asking, hearing, hear, hear_answers, heard, is_datagram, longest}
+use Rattle.mold_feed.specs.Listening.{Asking, Hearing, HasAsked, asked, asking, hearing, hear, hear_answers, heard, is_datagram, longest}
 use Rattle.mold_feed.specs.Listening.{receives, taken}
+use Rattle.mold_feed.specs.Outgoing.{OutgoingState, with_more}
 
 -- an empty batch that took messages has these, numbered from the same number on
 batch_text : (next : ℕ) (messages : List Message) →
@@ -26,20 +27,19 @@ batch_text next (message ∷ messages) = refl
 
 -- a datagram was taken, and what is handed on was written
 pub taken_ok : (line : Option Line) (bytes : List ℕ) (old new : Arbitration) (before after : Handed) (t : Taken)
-    (failures : ℕ) (text out : List ℕ) → before ≡ record { first = 0; messages = [] } →
-    HasArbitrated line old bytes before new after t → out ≡ text ++ handed_text after.first after.messages →
-    hearing new (record { text = out; failures = failures })
-    ≡ taken line bytes (hearing old (record { text = text; failures = failures }))
-taken_ok line bytes old new before after t failures text out empty has written =
+    (outgoing out : OutgoingState) → before ≡ record { first = 0; messages = [] } →
+    HasArbitrated line old bytes before new after t →
+    out ≡ with_more (handed_text after.first after.messages) outgoing →
+    hearing new out ≡ taken line bytes (hearing old outgoing)
+taken_ok line bytes old new before after t outgoing out empty has written =
     let batch : after ≡ followed_by (record { first = 0; messages = [] }) old.view.next has.reception.handed =
     has.batch ∙ ap (λ (b : Handed). followed_by b old.view.next has.reception.handed) empty in
     let lines : handed_text after.first after.messages ≡ taking_text old.view.next (receive old.view bytes) =
     ap (λ (b : Handed). handed_text b.first b.messages) batch
     ∙ batch_text old.view.next has.reception.handed
     ∙ ap (taking_text old.view.next) (sym has.received) in
-    ap (λ (a : Arbitration). hearing a (record { text = out; failures = failures })) has.arbitration
-    ∙ ap (λ (l : List ℕ). hearing (arbitrates line bytes old) (record { text = l; failures = failures }))
-    (written ∙ ap (λ (l : List ℕ). text ++ l) lines)
+    ap (λ (a : Arbitration). hearing a out) has.arbitration
+    ∙ ap (hearing (arbitrates line bytes old)) (written ∙ ap (λ (l : List ℕ). with_more l outgoing) lines)
 
 -- ---- one receive
 
@@ -108,10 +108,10 @@ answers_heard {P} left n s after whole more came is printed =
     ∙ ap (λ (k : ℕ). hear_answers (receives k s.port.comes) s) (sym more)
     ∙ printed
 
-pub asking_is : {P : Type 0} (port : Port P) (arbitration : Arbitration) (report : ReportState) (s : Asking P) →
-    port ≡ s.port → hearing arbitration report ≡ s.hearing → asking port arbitration report ≡ s
-asking_is {P} port arbitration report s is_port is_hearing =
-    ap (λ (p : Port P). asking p arbitration report) is_port
+pub asking_is : {P : Type 0} (port : Port P) (arbitration : Arbitration) (outgoing : OutgoingState) (s : Asking P) →
+    port ≡ s.port → hearing arbitration outgoing ≡ s.hearing → asking port arbitration outgoing ≡ s
+asking_is {P} port arbitration outgoing s is_port is_hearing =
+    ap (λ (p : Port P). asking p arbitration outgoing) is_port
     ∙ ap {B = Asking P} (λ (e : Hearing). record { port = s.port; hearing = e }) is_hearing
 
 -- hearing sends nothing

@@ -9,14 +9,14 @@ use Rattle.mold_ports.specs.Ports.{Port, offered}
 use Rattle.mold_session.specs.Journal.{JournalState}
 use Rattle.mold_session.specs.Publisher.{PublisherState, after_datagram, next_datagram}
 use Rattle.mold_feed.specs.Runs.{Begins}
-use Rattle.mold_feed.proofs.RunLemmas.{begins_more, begins_trans, begins_whole, none_answered, none_ok}
+use Rattle.mold_feed.proofs.RunLemmas.{begins_more, begins_trans, begins_whole, none_answered, none_ok, on_ok}
 use Rattle.mold_feed.specs.PublishLoop.{data_behind, spelled_some}
 use Rattle.mold_publish.specs.Publishing.{Fills, PublishedLines, lines_published}
 use Rattle.mold_publish.specs.declared.line_refusal.LineRefusal.{LineRefusal}
 use Rattle.mold_publish.specs.declared.filling.Filled.TheVariants.{Full, End, Refused}
 use Rattle.mold_publish.proofs.DatagramLemmas.{PackingLaws}
-use Rattle.mold_feed.proofs.PublishLoopLemmas.{AllSent, LeftToSend, any_known, begun, begun_all, left_end, left_full}
-use Rattle.mold_feed.proofs.PublishLoopLemmas.{left_refused, left_same, ok_so}
+use Rattle.mold_feed.proofs.SendingLemmas.{AllSent, LeftToSend, any_known, begun, begun_all, left_end, left_full}
+use Rattle.mold_feed.proofs.SendingLemmas.{left_refused, left_same}
 use Rattle.mold_feed.specs.declared.loop_parts.Drops.{Drops}
 use Rattle.mold_feed.specs.Passing.{LoopSends, Offers, PassesLines, all_letters, data_letters, end_letters, letters, routes_of}
 
@@ -225,7 +225,7 @@ sends_whole drops a b limit sent published result before after offers = record {
   front = all_letters drops a b limit sent published;
   offers = offers;
   begins = begins_whole (all_letters drops a b limit sent published);
-  whole = ok_so result refl;
+  whole = on_ok result refl;
 }
 
 -- a line is refused

@@ -9,15 +9,17 @@ use Rattle.mold_receiver.specs.Wanted.{wanted}
 use Rattle.mold_receiver.specs.Arbiter.{Arbitration}
 use Rattle.mold_wire.specs.Request.{request_spelling}
 use Rattle.mold_wire.specs.declared.request.Request.{Request}
-use Rattle.mold_feed.specs.Listening.{Asking, Hearing, ReportState, hear_answers, hearing, missed}
-use Rattle.mold_feed.specs.Repairing.{HasRepaired, RepairState, answers_heard, behind_answers, missed_more, repaired}
+use Rattle.mold_feed.specs.Listening.{Asking, Hearing, hear_answers, hearing, missed}
+use Rattle.mold_feed.specs.Outgoing.{OutgoingState}
+use Rattle.mold_feed.specs.Repairing.{HasRepaired, RepairState, answers_heard, after_answers, missed_more, repaired}
 use Rattle.mold_feed.specs.Repairing.{repairing, requested, round, served, text_before}
 use Rattle.mold_feed.specs.Runs.{Begins, Rests, run}
 use Rattle.mold_feed.specs.Serving.{ResponderState, Service, responder_of, serve_turn}
 use Rattle.mold_feed.specs.Answering.{Reaches}
-use Rattle.mold_feed.specs.Tally.{TallyState}
+use Rattle.mold_feed.specs.declared.tally.Tally.{Tally}
 use Rattle.mold_session.specs.Server.{ServerState}
 use Rattle.mold_feed.proofs.ListenLemmas.{hearing_sends, stepped}
+use Rattle.mold_feed.proofs.OutgoingLemmas.{front_twice, written_front}
 use Rattle.mold_feed.proofs.RunLemmas.{Going, IsLoop, begins_more, begins_whole, none_ok, rests_all}
 use Rattle.mold_feed.proofs.TurnLemmas.{answers_before, answers_print}
 
@@ -27,9 +29,9 @@ repaired_before : {P : Type 0} (service : Service) (front : List ℕ) (fails : L
     repaired service fails (text_before front s) ≡ text_before front (repaired service fails s)
 repaired_before {P} service front fails s =
     let responder : ResponderState P = served service fails s in
-    ap (behind_answers responder)
+    ap (after_answers responder)
     (answers_before front responder.tally.answered
-    (record { port = s.requests; hearing = missed_more responder.tally.failed s.hearing }))
+    (record { port = s.requests; hearing = missed_more responder.tally.outgoing.failures s.hearing }))
 
 requested_before : {P : Type 0} (wish : Option Request) (to : P) (service : Service) (front : List ℕ)
     (choice : Bool × List Bool) (s : RepairState P) →
@@ -51,23 +53,23 @@ unfolding round
 round_before to service front choice s = requested_before (wanted s.hearing.arbitration.view) to service front choice s
 
 repaired_prints : {P : Type 0} (service : Service) (fails : List Bool) (s : RepairState P) →
-    Begins s.hearing.report.text (repaired service fails s).hearing.report.text
+    Begins s.hearing.outgoing.text (repaired service fails s).hearing.outgoing.text
 repaired_prints {P} service fails s =
     let responder : ResponderState P = served service fails s in
     answers_print responder.tally.answered
-    (record { port = s.requests; hearing = missed_more responder.tally.failed s.hearing })
+    (record { port = s.requests; hearing = missed_more responder.tally.outgoing.failures s.hearing })
 
 repaired_requests : {P : Type 0} (service : Service) (fails : List Bool) (s : RepairState P) →
     (repaired service fails s).requests.sent ≡ s.requests.sent
 repaired_requests {P} service fails s =
     let responder : ResponderState P = served service fails s in
     hearing_sends responder.tally.answered
-    (record { port = s.requests; hearing = missed_more responder.tally.failed s.hearing })
+    (record { port = s.requests; hearing = missed_more responder.tally.outgoing.failures s.hearing })
 
 requested_prints : {P : Type 0} (wish : Option Request) (to : P) (service : Service) (choice : Bool × List Bool)
-    (s : RepairState P) → Begins s.hearing.report.text (requested wish to service choice s).hearing.report.text
-requested_prints None to service choice s = begins_whole s.hearing.report.text
-requested_prints (Some request) to service (true, fails) s = begins_whole s.hearing.report.text
+    (s : RepairState P) → Begins s.hearing.outgoing.text (requested wish to service choice s).hearing.outgoing.text
+requested_prints None to service choice s = begins_whole s.hearing.outgoing.text
+requested_prints (Some request) to service (true, fails) s = begins_whole s.hearing.outgoing.text
 requested_prints (Some request) to service (false, fails) s =
     repaired_prints service fails
     (record {
@@ -93,7 +95,7 @@ requested_sends {P} (Some request) to service (false, fails) s =
     (begins_more s.requests.sent ((to, request_spelling request) ∷ []))
 
 round_prints : {P : Type 0} (to : P) (service : Service) (choice : Bool × List Bool) (s : RepairState P) →
-    Begins s.hearing.report.text (round to service choice s).hearing.report.text
+    Begins s.hearing.outgoing.text (round to service choice s).hearing.outgoing.text
 unfolding round
 round_prints to service choice s = requested_prints (wanted s.hearing.arbitration.view) to service choice s
 
@@ -106,12 +108,12 @@ pub rounds_are : {P : Type 0} (to : P) (service : Service) → IsLoop (repairing
 rounds_are {P} to service = record {
   none = λ s. refl;
   twice = λ front back s.
-      ap {B = RepairState P} (λ (t : List ℕ). record {
+      ap {B = RepairState P} (λ (outgoing : OutgoingState). record {
         server = s.server;
         requests = s.requests;
         answered = s.answered;
-        hearing = hearing s.hearing.arbitration (record { text = t; failures = s.hearing.report.failures });
-      }) (sym (append_assoc front back s.hearing.report.text));
+        hearing = hearing s.hearing.arbitration outgoing;
+      }) (front_twice front back s.hearing.outgoing);
   turn = round_before to service;
   over = λ front s. refl;
   text = λ front s. refl;
@@ -144,33 +146,33 @@ all_heard left s whole none heard = sym (no_answer s) ∙ ap (λ (k : ℕ). hear
 
 -- the tally that a turn begins with
 pub turn_from : {P T E : Type 0} (result : Result T E) (service : Service) (fails : List Bool) (port : Port P)
-    (server : ServerState) (new : ResponderState P) {one other : TallyState} → one ≡ other →
+    (server : ServerState) (new : ResponderState P) {one other : Tally} → one ≡ other →
     Reaches result new (serve_turn service fails (responder_of port one server)) →
     Reaches result new (serve_turn service fails (responder_of port other server))
 turn_from {P} result service fails port server new same reached =
-    subst (λ (tally : TallyState). Reaches result new (serve_turn service fails (responder_of port tally server))) same reached
+    subst (λ (tally : Tally). Reaches result new (serve_turn service fails (responder_of port tally server))) same reached
 
 state_is : {P : Type 0} (s : RepairState P) (responder : ResponderState P) (heard : Asking P) → s.server ≡ responder.port →
     s.answered ≡ responder.requests → record { port = s.requests; hearing = s.hearing } ≡ heard →
-    s ≡ behind_answers responder heard
+    s ≡ after_answers responder heard
 state_is {P} s responder heard is_server is_answered is_heard =
     ap {B = RepairState P} (λ (p : Port P). record { server = p; requests = s.requests; answered = s.answered; hearing = s.hearing })
     is_server
     ∙ ap {B = RepairState P} (λ (n : ℕ). record { server = responder.port; requests = s.requests; answered = n; hearing = s.hearing })
     is_answered
-    ∙ ap (behind_answers responder) is_heard
+    ∙ ap (after_answers responder) is_heard
 
 -- the server made its turn, and its answers were taken
 pub has_repaired : {P T E : Type 0} (result : Result T E) (service : Service) (fails : List Bool)
     (before after : RepairState P) (responder : ResponderState P) (mid : Hearing) (count : ℕ) →
-    responder ≡ served service fails before → mid ≡ missed_more responder.tally.failed before.hearing →
+    responder ≡ served service fails before → mid ≡ missed_more responder.tally.outgoing.failures before.hearing →
     count ≡ responder.tally.answered → after.server ≡ responder.port → after.answered ≡ responder.requests →
     after.requests.sent ≡ before.requests.sent →
     OnOk result (record { port = after.requests; hearing = after.hearing }
     ≡ hear_answers count (record { port = before.requests; hearing = mid })) →
     HasRepaired result after (repaired service fails before)
 has_repaired {P} result service fails before after responder mid count is_served is_mid is_count server answered sent heard =
-    let all : ResponderState P → RepairState P = λ r. behind_answers r (answers_heard r before) in
+    let all : ResponderState P → RepairState P = λ r. after_answers r (answers_heard r before) in
     let same : hear_answers count (record { port = before.requests; hearing = mid }) ≡ answers_heard responder before =
     ap (λ (n : ℕ). hear_answers n (record { port = before.requests; hearing = mid })) is_count
     ∙ ap (λ (e : Hearing). hear_answers responder.tally.answered (record { port = before.requests; hearing = e })) is_mid in
@@ -281,16 +283,15 @@ rests_still {P} to service result start now old new count turns going few none =
 -- ---- between the rounds
 
 -- some of the text was written
-pub text_moved : {P : Type 0} (server requests : Port P) (answered : ℕ) (arbitration : Arbitration) (old new : ReportState)
+pub text_moved : {P : Type 0} (server requests : Port P) (answered : ℕ) (arbitration : Arbitration) (old new : OutgoingState)
     (front : List ℕ) → old.text ≡ front ++ new.text → new.failures ≡ old.failures →
     record { server = server; requests = requests; answered = answered; hearing = hearing arbitration old }
     ≡ text_before front
     (record { server = server; requests = requests; answered = answered; hearing = hearing arbitration new })
 text_moved {P} server requests answered arbitration old new front parts failures =
-    let of : ReportState → RepairState P =
+    let of : OutgoingState → RepairState P =
     λ r. record { server = server; requests = requests; answered = answered; hearing = hearing arbitration r } in
-    ap (λ (t : List ℕ). of (record { text = t; failures = old.failures })) parts
-    ∙ ap (λ (n : ℕ). of (record { text = front ++ new.text; failures = n })) (sym failures)
+    ap of (written_front old new front parts failures)
 
 pub sent_alike : {A : Type 0} {xs ys : List A} → xs ≡ ys → Begins xs ys
 sent_alike {A} {xs} {ys} same = subst (λ (l : List A). Begins xs l) same (begins_whole xs)

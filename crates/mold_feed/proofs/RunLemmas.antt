@@ -35,7 +35,7 @@ begins_behind {A} ws {xs} {ys} p = record {
 
 -- ---- answers and faults
 
-on_ok : {T E : Type 0} (result : Result T E) {P : Type 0} → P → OnOk result P
+pub on_ok : {T E : Type 0} (result : Result T E) {P : Type 0} → P → OnOk result P
 on_ok (Ok _) p = p
 on_ok (Err _) p = tt
 

@@ -1,20 +1,19 @@
 -- What turns of a serving do: a text in front of what was printed changes nothing else, and turns only print and send
 -- more.
-use Rattle.std.proofs.Common.{◌≡◌, ℕ, Bool, true, false, List, [], ◌∷◌, ◌++◌, drop, Option, Result, Ok, Err, refl, sym, ap, subst, ◌∙◌, append_assoc}
-use Rattle.std.specs.Prelude.{IsErr, IsErrAnd}
-use Rattle.mold_devices.specs.Devices.{one_more}
-use Rattle.mold_devices.specs.declared.fault.CommandFault.{CommandFault}
-use Rattle.mold_devices.specs.declared.fault.CommandFault.TheVariants.{Memory, Write}
+use Rattle.std.proofs.Common.{◌≡◌, ℕ, Bool, true, false, List, [], ◌∷◌, ◌++◌, drop, Option, Result, Ok, Err, refl, sym, ap, subst, ◌∙◌}
+use Rattle.std.specs.Prelude.{IsErr}
 use Rattle.mold_ports.specs.Ports.{Port, Receipt, Datagram, Quiet, Failure, cut, next_of, received}
 use Rattle.mold_feed.specs.Answering.{Reaches}
 use Rattle.mold_feed.specs.Serving.{Service, ResponderState, behind, fails_first, met, offer, offer_all}
-use Rattle.mold_feed.specs.Serving.{replied, reply, serve_turn, service_of, serving, responder_of}
-use Rattle.mold_feed.specs.Tally.{TallyState, with_text}
+use Rattle.mold_feed.specs.Serving.{replied, reply, serve_turn, service_of, serving}
+use Rattle.mold_feed.specs.Outgoing.{OutgoingState}
+use Rattle.mold_feed.specs.Tally.{with_outgoing}
+use Rattle.mold_feed.specs.declared.tally.Tally.{Tally}
 use Rattle.mold_session.specs.Journal.{JournalState}
 use Rattle.mold_session.specs.Server.{ServerState}
 use Rattle.mold_session.specs.declared.error.AnswerError.{AnswerError}
-use Rattle.mold_devices.specs.Faults.{CountsSink, CountsSinkFault}
 use Rattle.mold_feed.specs.Runs.{Begins, Rests, run}
+use Rattle.mold_feed.proofs.OutgoingLemmas.{front_twice, more_after, written_front}
 use Rattle.mold_feed.proofs.RunLemmas.{IsLoop, begins_more, begins_trans, begins_whole, none_ok}
 use Rattle.mold_wire.specs.declared.packet.Packet.{Packet}
 
@@ -26,8 +25,8 @@ offer_behind to true packet front responder = refl
 offer_behind {P} to false packet front responder =
     let after : ResponderState P = offer to false packet responder in
     ap
-    (λ (text : List ℕ). record { port = after.port; tally = with_text text after.tally; requests = after.requests })
-    (append_assoc front responder.tally.text _)
+    (λ (out : OutgoingState). record { port = after.port; tally = with_outgoing out after.tally; requests = after.requests })
+    (more_after front _ responder.tally.outgoing)
 
 offer_all_behind : {P : Type 0} (to : P) (packets : List Packet) (fails : List Bool) (front : List ℕ)
     (responder : ResponderState P) → offer_all to packets fails (behind front responder) ≡ behind front (offer_all to packets fails responder)
@@ -43,8 +42,8 @@ replied_behind to fails (Ok packets) front responder = offer_all_behind to packe
 replied_behind {P} to fails (Err why) front responder =
     let after : ResponderState P = replied to fails (Err why) responder in
     ap
-    (λ (text : List ℕ). record { port = after.port; tally = with_text text after.tally; requests = after.requests })
-    (append_assoc front responder.tally.text _)
+    (λ (out : OutgoingState). record { port = after.port; tally = with_outgoing out after.tally; requests = after.requests })
+    (more_after front _ responder.tally.outgoing)
 
 met_behind : {P : Type 0} (service : Service) (fails : List Bool) (receipt : Receipt P) (front : List ℕ)
     (responder : ResponderState P) → met service fails receipt (behind front responder) ≡ behind front (met service fails receipt responder)
@@ -62,9 +61,9 @@ turn_behind service front fails responder =
 -- ---- more is printed and sent
 
 offer_prints : {P : Type 0} (to : P) (fails : Bool) (packet : Packet) (responder : ResponderState P) →
-    Begins responder.tally.text (offer to fails packet responder).tally.text
-offer_prints to true packet responder = begins_whole responder.tally.text
-offer_prints to false packet responder = begins_more responder.tally.text _
+    Begins responder.tally.outgoing.text (offer to fails packet responder).tally.outgoing.text
+offer_prints to true packet responder = begins_whole responder.tally.outgoing.text
+offer_prints to false packet responder = begins_more responder.tally.outgoing.text _
 
 pub offer_sends : {P : Type 0} (to : P) (fails : Bool) (packet : Packet) (responder : ResponderState P) →
     Begins responder.port.sent (offer to fails packet responder).port.sent
@@ -72,9 +71,9 @@ offer_sends to true packet responder = begins_whole responder.port.sent
 offer_sends to false packet responder = begins_more responder.port.sent _
 
 offer_all_prints : {P : Type 0} (to : P) (packets : List Packet) (fails : List Bool) (responder : ResponderState P) →
-    Begins responder.tally.text (offer_all to packets fails responder).tally.text
+    Begins responder.tally.outgoing.text (offer_all to packets fails responder).tally.outgoing.text
 unfolding offer_all
-offer_all_prints to [] fails responder = begins_whole responder.tally.text
+offer_all_prints to [] fails responder = begins_whole responder.tally.outgoing.text
 offer_all_prints to (packet ∷ packets) fails responder =
     begins_trans (offer_prints to (fails_first fails) packet responder)
     (offer_all_prints to packets (drop 1 fails) (offer to (fails_first fails) packet responder))
@@ -88,9 +87,9 @@ offer_all_sends to (packet ∷ packets) fails responder =
     (offer_all_sends to packets (drop 1 fails) (offer to (fails_first fails) packet responder))
 
 replied_prints : {P : Type 0} (to : P) (fails : List Bool) (reply : Result (List Packet) AnswerError)
-    (responder : ResponderState P) → Begins responder.tally.text (replied to fails reply responder).tally.text
+    (responder : ResponderState P) → Begins responder.tally.outgoing.text (replied to fails reply responder).tally.outgoing.text
 replied_prints to fails (Ok packets) responder = offer_all_prints to packets fails _
-replied_prints to fails (Err why) responder = begins_more responder.tally.text _
+replied_prints to fails (Err why) responder = begins_more responder.tally.outgoing.text _
 
 pub replied_sends : {P : Type 0} (to : P) (fails : List Bool) (reply : Result (List Packet) AnswerError)
     (responder : ResponderState P) → Begins responder.port.sent (replied to fails reply responder).port.sent
@@ -98,10 +97,10 @@ replied_sends to fails (Ok packets) responder = offer_all_sends to packets fails
 replied_sends to fails (Err why) responder = begins_whole responder.port.sent
 
 met_prints : {P : Type 0} (service : Service) (fails : List Bool) (receipt : Receipt P) (responder : ResponderState P) →
-    Begins responder.tally.text (met service fails receipt responder).tally.text
+    Begins responder.tally.outgoing.text (met service fails receipt responder).tally.outgoing.text
 met_prints service fails (Datagram from bytes) responder = replied_prints from fails (reply service bytes) responder
-met_prints service fails Quiet responder = begins_whole responder.tally.text
-met_prints service fails Failure responder = begins_whole responder.tally.text
+met_prints service fails Quiet responder = begins_whole responder.tally.outgoing.text
+met_prints service fails Failure responder = begins_whole responder.tally.outgoing.text
 
 met_sends : {P : Type 0} (service : Service) (fails : List Bool) (receipt : Receipt P) (responder : ResponderState P) →
     Begins responder.port.sent (met service fails receipt responder).port.sent
@@ -110,7 +109,7 @@ met_sends service fails Quiet responder = begins_whole responder.port.sent
 met_sends service fails Failure responder = begins_whole responder.port.sent
 
 turn_prints : {P : Type 0} (service : Service) (fails : List Bool) (responder : ResponderState P) →
-    Begins responder.tally.text (serve_turn service fails responder).tally.text
+    Begins responder.tally.outgoing.text (serve_turn service fails responder).tally.outgoing.text
 unfolding serve_turn
 turn_prints service fails responder =
     met_prints service fails (cut 65507 (next_of responder.port))
@@ -129,8 +128,8 @@ serving_is {P} service = record {
   none = λ responder. refl;
   twice = λ front back responder.
       ap
-      (λ (text : List ℕ). record { port = responder.port; tally = with_text text responder.tally; requests = responder.requests })
-      (sym (append_assoc front back responder.tally.text));
+      (λ (out : OutgoingState). record { port = responder.port; tally = with_outgoing out responder.tally; requests = responder.requests })
+      (front_twice front back responder.tally.outgoing);
   turn = turn_behind service;
   over = λ front responder. refl;
   text = λ front responder. refl;
@@ -179,23 +178,23 @@ reached {P} {E} {new} {wanted} same = record {
 }
 
 -- a state with another tally
-abbrev responder_with : {P : Type 0} → Port P → ℕ → TallyState → ResponderState P
+abbrev responder_with : {P : Type 0} → Port P → ℕ → Tally → ResponderState P
 responder_with port requests tally = record { port = port; tally = tally; requests = requests }
 
-pub tally_is : {P : Type 0} (port : Port P) (requests : ℕ) {one other : TallyState} → one ≡ other →
+pub tally_is : {P : Type 0} (port : Port P) (requests : ℕ) {one other : Tally} → one ≡ other →
     responder_with port requests one ≡ responder_with port requests other
 tally_is port requests same = ap (responder_with port requests) same
 
 -- ---- the text that was written
 
--- where a front of the text was written, the state before is that behind it
-pub wrote : {P : Type 0} (port : Port P) (before after : TallyState) (requests : ℕ) (front : List ℕ) →
-    before.text ≡ front ++ after.text → after ≡ with_text after.text before →
-    responder_with port requests before ≡ behind front (responder_with port requests after)
-wrote port before after requests front parts same =
+-- where a front of the text was written, what was printed and counted is that front and what is left
+pub wrote : {P : Type 0} (port : Port P) (before : Tally) (left : OutgoingState) (requests : ℕ) (front : List ℕ) →
+    before.outgoing.text ≡ front ++ left.text → left.failures ≡ before.outgoing.failures →
+    responder_with port requests before ≡ behind front (responder_with port requests (with_outgoing left before))
+wrote port before left requests front parts failures =
     tally_is port requests
-    (ap (λ (text : List ℕ). with_text text before) parts
-    ∙ ap (with_text (front ++ after.text)) (sym same))
+    (ap (λ (out : OutgoingState). with_outgoing out before)
+    (written_front before.outgoing left front parts failures))
 
 -- the server answers from the same journal, with the same limits
 pub same_service : (journal : JournalState) (server first : ServerState) (answered : ℕ) →
@@ -220,26 +219,3 @@ rests_as {P} {T} {E} service turns start one other result old new same failed re
       same
       rests.sent;
 }
-
--- the tally that a run begins with
-pub rests_from : {P T E : Type 0} (service : Service) (turns : ℕ) (port : Port P) (server : ServerState)
-    {one other : TallyState} (result : Result T E) (old new : Option (List ℕ)) (now : ResponderState P) → one ≡ other →
-    Rests (serving service) behind turns (responder_of port one server) result old new now →
-    Rests (serving service) behind turns (responder_of port other server) result old new now
-rests_from {P} {T} {E} service turns port server {one} {other} result old new now same rests =
-    subst
-    (λ (tally : TallyState). Rests (serving service) behind turns (responder_of port tally server) result old new now)
-    same
-    rests
-
--- which count stands behind a fault
-
-pub counts_memory : {T : Type 0} (old new : ℕ) (result : Result T CommandFault) → IsErr result →
-    IsErrAnd result (λ fault. fault ≡ Memory) → new ≡ old → CountsSink old new result
-counts_memory old new (Ok _) failed is same = let no : ⊥ = cc in absurd no
-counts_memory old new (Err fault) failed is same = subst (CountsSinkFault old new) (sym is) same
-
-pub counts_write : {T : Type 0} (old new : ℕ) (result : Result T CommandFault) (report : CommandFault) → IsErr result →
-    IsErrAnd result (λ fault. fault ≡ report) → report ≡ Write → new ≡ one_more old → CountsSink old new result
-counts_write old new (Ok _) report failed is so more = let no : ⊥ = cc in absurd no
-counts_write old new (Err fault) report failed is so more = subst (CountsSinkFault old new) (sym (is ∙ so)) more

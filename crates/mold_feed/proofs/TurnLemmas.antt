@@ -1,6 +1,6 @@
 -- A turn of listening, and that listening is a loop that goes by turns.
 use Rattle.std.proofs.Common.{◌≡◌, ℕ, zero, suc, Bool, true, false, List, [], ◌∷◌, ◌++◌, Option, None, Some, Result}
-use Rattle.std.proofs.Common.{ap, refl, sym, subst, ◌∙◌, ◌↔◌, append_assoc, eq-eqb, ne_eqb}
+use Rattle.std.proofs.Common.{ap, refl, sym, subst, ◌∙◌, ◌↔◌, eq-eqb, ne_eqb}
 use Rattle.std.proofs.lemmas.Result.{on_ok_weaker}
 use Rattle.std.specs.Prelude.{IsErr, IsTrue, if◌then◌else◌}
 use Rattle.mold_ports.specs.Ports.{Port, Receipt, Datagram, Quiet, Failure, cut, next_of, offered, received}
@@ -15,18 +15,17 @@ use Rattle.mold_feed.proofs.RunLemmas.{IsLoop, begins_more, begins_trans, begins
 use Rattle.mold_wire.specs.Request.{request_spelling}
 use Rattle.mold_wire.specs.declared.request.Request.{Request}
 use Rattle.mold_feed.specs.Text.{finished_line, open_line, taking_text}
-use Rattle.mold_feed.specs.Listening.{Asking, Hearing, HasAsked, HasTurned, ListenerState, ReportState, asked, hearing, hearing_line, hearing_status}
+use Rattle.mold_feed.specs.Listening.{Asking, Hearing, HasAsked, HasTurned, ListenerState, asked, hearing, hearing_line, hearing_status}
+use Rattle.mold_feed.specs.Outgoing.{OutgoingState, with_front, with_more}
 use Rattle.mold_feed.specs.Listening.{ends_at, hear, hear_answers, heard, is_finished}
 use Rattle.mold_feed.specs.Listening.{lines_heard, listening, longest, listener, put_before, receives, turn, turn_asked}
 use Rattle.mold_feed.proofs.ListenLemmas.{hearing_sends, stepped}
+use Rattle.mold_feed.proofs.OutgoingLemmas.{front_twice, more_after, written_front}
 
 -- ---- text in front
 
 abbrev pub hearing_before : List ℕ → Hearing → Hearing
-hearing_before front e = record {
-  arbitration = e.arbitration;
-  report = record { text = front ++ e.report.text; failures = e.report.failures };
-}
+hearing_before front e = record { arbitration = e.arbitration; outgoing = with_front front e.outgoing }
 
 abbrev pub asking_before : {P : Type 0} → List ℕ → Asking P → Asking P
 asking_before front s = record { port = s.port; hearing = hearing_before front s.hearing }
@@ -34,11 +33,8 @@ asking_before front s = record { port = s.port; hearing = hearing_before front s
 heard_before : {P : Type 0} (front : List ℕ) (line : Option Line) (receipt : Receipt P) (e : Hearing) →
     heard line receipt (hearing_before front e) ≡ hearing_before front (heard line receipt e)
 heard_before front line (Datagram from bytes) e =
-    let more : List ℕ = taking_text e.arbitration.view.next (receive e.arbitration.view bytes) in
-    ap {B = Hearing} (λ (t : List ℕ). record {
-      arbitration = (heard line (Datagram from bytes) e).arbitration;
-      report = record { text = t; failures = e.report.failures };
-    }) (append_assoc front e.report.text more)
+    ap (hearing (heard line (Datagram from bytes) e).arbitration)
+    (more_after front (taking_text e.arbitration.view.next (receive e.arbitration.view bytes)) e.outgoing)
 heard_before front line Quiet e = refl
 heard_before front line Failure e = refl
 
@@ -85,26 +81,26 @@ turn_before {P} server burst front fails s =
 -- ---- a turn only prints and sends more
 
 heard_prints : {P : Type 0} (line : Option Line) (receipt : Receipt P) (e : Hearing) →
-    Begins e.report.text (heard line receipt e).report.text
+    Begins e.outgoing.text (heard line receipt e).outgoing.text
 heard_prints line (Datagram from bytes) e =
-    begins_more e.report.text (taking_text e.arbitration.view.next (receive e.arbitration.view bytes))
-heard_prints line Quiet e = begins_whole e.report.text
-heard_prints line Failure e = begins_whole e.report.text
+    begins_more e.outgoing.text (taking_text e.arbitration.view.next (receive e.arbitration.view bytes))
+heard_prints line Quiet e = begins_whole e.outgoing.text
+heard_prints line Failure e = begins_whole e.outgoing.text
 
 hear_prints : {P : Type 0} (line : Option Line) (port : Port P) (e : Hearing) →
-    Begins e.report.text (hear line port e).report.text
+    Begins e.outgoing.text (hear line port e).outgoing.text
 unfolding hear
 hear_prints line port e = heard_prints line (cut longest (next_of port)) e
 
-pub answers_print : {P : Type 0} (count : ℕ) (s : Asking P) → Begins s.hearing.report.text (hear_answers count s).hearing.report.text
+pub answers_print : {P : Type 0} (count : ℕ) (s : Asking P) → Begins s.hearing.outgoing.text (hear_answers count s).hearing.outgoing.text
 unfolding hear_answers
-answers_print zero s = begins_whole s.hearing.report.text
+answers_print zero s = begins_whole s.hearing.outgoing.text
 answers_print (suc count) s = begins_trans (hear_prints None s.port s.hearing) (answers_print count (stepped s))
 
 asked_prints : {P : Type 0} (wish : Option Request) (server : P) (burst : ℕ) (fails : Bool) (s : Asking P) →
-    Begins s.hearing.report.text (asked wish server burst fails s).hearing.report.text
-asked_prints None server burst fails s = begins_whole s.hearing.report.text
-asked_prints (Some request) server burst true s = begins_whole s.hearing.report.text
+    Begins s.hearing.outgoing.text (asked wish server burst fails s).hearing.outgoing.text
+asked_prints None server burst fails s = begins_whole s.hearing.outgoing.text
+asked_prints (Some request) server burst true s = begins_whole s.hearing.outgoing.text
 asked_prints (Some request) server burst false s =
     answers_print (receives burst s.port.comes)
     (record { port = offered false server (request_spelling request) s.port; hearing = s.hearing })
@@ -120,7 +116,7 @@ asked_sends {P} (Some request) server burst false s =
     (begins_more s.port.sent ((server, request_spelling request) ∷ []))
 
 turn_prints : {P : Type 0} (server : P) (burst : ℕ) (fails : Bool) (s : ListenerState P) →
-    Begins s.hearing.report.text (turn server burst fails s).hearing.report.text
+    Begins s.hearing.outgoing.text (turn server burst fails s).hearing.outgoing.text
 unfolding turn
 turn_prints server burst fails s =
     begins_trans
@@ -139,12 +135,7 @@ pub is_loop : {P : Type 0} (server : P) (burst : ℕ) → IsLoop (listening serv
 is_loop {P} server burst = record {
   none = λ s. refl;
   twice = λ front back s.
-      ap {B = ListenerState P} (λ (t : List ℕ). record {
-        a = s.a;
-        b = s.b;
-        requests = s.requests;
-        hearing = record { arbitration = s.hearing.arbitration; report = record { text = t; failures = s.hearing.report.failures } };
-      }) (sym (append_assoc front back s.hearing.report.text));
+      ap (listener s.a s.b s.requests s.hearing.arbitration) (front_twice front back s.hearing.outgoing);
   turn = turn_before server burst;
   over = λ front s. refl;
   text = λ front s. refl;
@@ -211,12 +202,11 @@ finished_is b v w report same =
         ne_eqb end next (λ same. let yes = report.1 (ap Some same) in let no : ⊥ = cc in no)
 
 -- text was written that stood in front
-pub moved_same : {P : Type 0} (a b requests : Port P) (arbitration : Arbitration) (old new : ReportState) (front : List ℕ) →
+pub moved_same : {P : Type 0} (a b requests : Port P) (arbitration : Arbitration) (old new : OutgoingState) (front : List ℕ) →
     old.text ≡ front ++ new.text → new.failures ≡ old.failures →
     listener a b requests arbitration old ≡ put_before front (listener a b requests arbitration new)
 moved_same a b requests arbitration old new front parts failures =
-    ap (λ (t : List ℕ). listener a b requests arbitration (record { text = t; failures = old.failures })) parts
-    ∙ ap (λ (n : ℕ). listener a b requests arbitration (record { text = front ++ new.text; failures = n })) (sym failures)
+    ap (listener a b requests arbitration) (written_front old new front parts failures)
 
 -- ---- the last line
 
@@ -226,27 +216,23 @@ finished_status e over = ap (λ (b : Bool). if b then 0 else 1) (sym over)
 pub open_status : (e : Hearing) → is_finished e ≡ false → 1 ≡ hearing_status e
 open_status e over = ap (λ (b : Bool). if b then 0 else 1) (sym over)
 
--- a report, and a line behind it
-abbrev with_line : ReportState → List ℕ → ReportState
-with_line report line = record { text = report.text ++ line; failures = report.failures }
-
-pub finished_last : (a : Arbitration) (report new : ReportState) (v : View) (next : ℕ) → is_finished (hearing a report) ≡ true →
-    v ≡ a.view → next ≡ v.next → new ≡ with_line report (finished_line next report.failures) →
-    new ≡ with_line report (hearing_line (hearing a report))
-finished_last a report new v next over same is_next is =
-    let e : Hearing = hearing a report in
+pub finished_last : (a : Arbitration) (old new : OutgoingState) (v : View) (next : ℕ) → is_finished (hearing a old) ≡ true →
+    v ≡ a.view → next ≡ v.next → new ≡ with_more (finished_line next old.failures) old →
+    new ≡ with_more (hearing_line (hearing a old)) old
+finished_last a old new v next over same is_next is =
+    let e : Hearing = hearing a old in
     is
-    ∙ ap (λ (n : ℕ). with_line report (finished_line n report.failures)) (is_next ∙ ap (λ (u : View). u.next) same)
-    ∙ ap (λ (b : Bool). with_line report (if b then finished_line a.view.next report.failures
-    else open_line a.view.next a.view.known report.failures)) (sym over)
+    ∙ ap (λ (n : ℕ). with_more (finished_line n old.failures) old) (is_next ∙ ap (λ (u : View). u.next) same)
+    ∙ ap (λ (b : Bool). with_more (if b then finished_line a.view.next old.failures
+    else open_line a.view.next a.view.known old.failures) old) (sym over)
 
-pub open_last : (a : Arbitration) (report new : ReportState) (v : View) (next known : ℕ) → is_finished (hearing a report) ≡ false →
-    v ≡ a.view → next ≡ v.next → known ≡ v.known → new ≡ with_line report (open_line next known report.failures) →
-    new ≡ with_line report (hearing_line (hearing a report))
-open_last a report new v next known over same is_next is_known is =
+pub open_last : (a : Arbitration) (old new : OutgoingState) (v : View) (next known : ℕ) → is_finished (hearing a old) ≡ false →
+    v ≡ a.view → next ≡ v.next → known ≡ v.known → new ≡ with_more (open_line next known old.failures) old →
+    new ≡ with_more (hearing_line (hearing a old)) old
+open_last a old new v next known over same is_next is_known is =
     is
-    ∙ ap (λ (n : ℕ). with_line report (open_line n known report.failures)) (is_next ∙ ap (λ (u : View). u.next) same)
-    ∙ ap (λ (n : ℕ). with_line report (open_line a.view.next n report.failures))
+    ∙ ap (λ (n : ℕ). with_more (open_line n known old.failures) old) (is_next ∙ ap (λ (u : View). u.next) same)
+    ∙ ap (λ (n : ℕ). with_more (open_line a.view.next n old.failures) old)
     (is_known ∙ ap (λ (u : View). u.known) same)
-    ∙ ap (λ (b : Bool). with_line report (if b then finished_line a.view.next report.failures
-    else open_line a.view.next a.view.known report.failures)) (sym over)
+    ∙ ap (λ (b : Bool). with_more (if b then finished_line a.view.next old.failures
+    else open_line a.view.next a.view.known old.failures) old) (sym over)

@@ -10,7 +10,7 @@ abbrev pub left_of : Service → PlanState → List Packet
 left_of service plan = planned service.journal.messages service.limit plan
 
 -- the first packet that was left of an answer was offered; where memory was refused for its line, the port at least is
--- as it is behind that
+-- as it is after that
 pub record OffersOne {P T E : Type 0} (to : P) (result : Result T E) (before after : List Packet)
     (old new : ResponderState P) : Type 0 where
   pub fails : Bool

@@ -1,31 +1,26 @@
 -- Listening on two lines and asking for what is lacking: what a turn makes of the ports and of what was heard, and
 -- what is printed. The whole run is `run` of `listening`.
-use Rattle.std.specs.Prelude.{◌≡◌, ℕ, zero, suc, Bool, true, false, ◌==◌, if◌then◌else◌, List, [], ◌∷◌, ◌++◌}
+use Rattle.std.specs.Prelude.{◌≡◌, ℕ, zero, suc, Bool, true, false, ◌==◌, if◌then◌else◌, List, [], ◌∷◌}
 use Rattle.std.specs.Prelude.{Option, None, Some, Result, OnOk}
-use Rattle.mold_devices.specs.Devices.{one_more}
 use Rattle.mold_ports.specs.Ports.{Port, Receipt, Datagram, Quiet, Failure, cut, next_of, offered, received}
 use Rattle.mold_receiver.specs.Arbiter.{Arbitration, arbitrates}
 use Rattle.mold_receiver.specs.Receive.{receive}
 use Rattle.mold_receiver.specs.Wanted.{wanted}
 use Rattle.mold_receiver.specs.declared.line.Line.{Line}
 use Rattle.mold_receiver.specs.declared.line.Line.TheVariants.{A, B}
+use Rattle.mold_feed.specs.Outgoing.{OutgoingState, failed_once, nothing_out, with_front, with_more}
 use Rattle.mold_feed.specs.Runs.{Begins, Loop}
 use Rattle.mold_wire.specs.Request.{request_spelling}
 use Rattle.mold_wire.specs.declared.request.Request.{Request}
 use Rattle.mold_feed.specs.Text.{finished_line, open_line, taking_text}
 
--- what is to be printed, and how often a port failed
-pub record ReportState : Type 0 where
-  pub text : List ℕ
-  pub failures : ℕ
-
--- an arbiter, and what is printed of what it took
+-- an arbiter, and what goes out of what it took
 pub record Hearing : Type 0 where
   pub arbitration : Arbitration
-  pub report : ReportState
+  pub outgoing : OutgoingState
 
-abbrev pub hearing : Arbitration → ReportState → Hearing
-hearing arbitration report = record { arbitration = arbitration; report = report }
+abbrev pub hearing : Arbitration → OutgoingState → Hearing
+hearing arbitration outgoing = record { arbitration = arbitration; outgoing = outgoing }
 
 -- so many bytes of a datagram are looked at
 abbrev pub longest : ℕ
@@ -35,18 +30,12 @@ longest = 65507
 abbrev pub taken : Option Line → List ℕ → Hearing → Hearing
 taken line bytes e = record {
   arbitration = arbitrates line bytes e.arbitration;
-  report = record {
-    text = e.report.text ++ taking_text e.arbitration.view.next (receive e.arbitration.view bytes);
-    failures = e.report.failures;
-  };
+  outgoing = with_more (taking_text e.arbitration.view.next (receive e.arbitration.view bytes)) e.outgoing;
 }
 
 -- a send or a receive failed
 abbrev pub missed : Hearing → Hearing
-missed e = record {
-  arbitration = e.arbitration;
-  report = record { text = e.report.text; failures = one_more e.report.failures };
-}
+missed e = record { arbitration = e.arbitration; outgoing = failed_once e.outgoing }
 
 -- what a receive gave
 abbrev pub heard : {P : Type 0} → Option Line → Receipt P → Hearing → Hearing
@@ -77,8 +66,8 @@ pub record Asking (P : Type 0) : Type 0 where
   pub port : Port P
   pub hearing : Hearing
 
-abbrev pub asking : {P : Type 0} → Port P → Arbitration → ReportState → Asking P
-asking port arbitration report = record { port = port; hearing = hearing arbitration report }
+abbrev pub asking : {P : Type 0} → Port P → Arbitration → OutgoingState → Asking P
+asking port arbitration outgoing = record { port = port; hearing = hearing arbitration outgoing }
 
 -- what so many receives give, as answers
 unfoldable pub hear_answers : {P : Type 0} → ℕ → Asking P → Asking P
@@ -109,9 +98,9 @@ pub record ListenerState (P : Type 0) : Type 0 where
   pub requests : Port P
   pub hearing : Hearing
 
-abbrev pub listener : {P : Type 0} → Port P → Port P → Port P → Arbitration → ReportState → ListenerState P
-listener a b requests arbitration report =
-    record { a = a; b = b; requests = requests; hearing = hearing arbitration report }
+abbrev pub listener : {P : Type 0} → Port P → Port P → Port P → Arbitration → OutgoingState → ListenerState P
+listener a b requests arbitration outgoing =
+    record { a = a; b = b; requests = requests; hearing = hearing arbitration outgoing }
 
 -- one receive on each line
 abbrev pub lines_heard : {P : Type 0} → ListenerState P → Hearing
@@ -153,25 +142,25 @@ abbrev pub listening : {P : Type 0} → P → ℕ → Loop Bool (ListenerState P
 listening server burst = record {
   turn = turn server burst;
   over = λ s. is_finished s.hearing;
-  text = λ s. s.hearing.report.text;
+  text = λ s. s.hearing.outgoing.text;
   sent = λ s. s.requests.sent;
 }
 
 -- text in front of what is to be printed
 abbrev pub put_before : {P : Type 0} → List ℕ → ListenerState P → ListenerState P
-put_before front s = listener s.a s.b s.requests s.hearing.arbitration
-    (record { text = front ++ s.hearing.report.text; failures = s.hearing.report.failures })
+put_before front s =
+    listener s.a s.b s.requests s.hearing.arbitration (with_front front s.hearing.outgoing)
 
 -- before the first turn nothing is to be printed, and nothing failed
 abbrev pub beginning : {P : Type 0} → Port P → Port P → Port P → Arbitration → ListenerState P
-beginning a b requests arbitration = listener a b requests arbitration (record { text = []; failures = 0 })
+beginning a b requests arbitration = listener a b requests arbitration nothing_out
 
 -- the last line
 abbrev pub hearing_line : Hearing → List ℕ
 hearing_line e =
     if is_finished e
-    then finished_line e.arbitration.view.next e.report.failures
-    else open_line e.arbitration.view.next e.arbitration.view.known e.report.failures
+    then finished_line e.arbitration.view.next e.outgoing.failures
+    else open_line e.arbitration.view.next e.arbitration.view.known e.outgoing.failures
 
 abbrev pub hearing_status : Hearing → ℕ
 hearing_status e = if is_finished e then 0 else 1

@@ -59,7 +59,7 @@ all_letters drops a b limit sent published =
     data_letters drops 1 a b (data_behind limit sent published) ++ end_letters a b published.journal published.refused
 
 -- The lines of the input were published, and their data offered: of what is known of the input, `front` is what was
--- offered. At an answer that is all the data, and the answer is why the line behind the messages is refused; after a
+-- offered. At an answer that is all the data, and the answer is why the line after the messages is refused; after a
 -- fault it is a beginning.
 pub record PassesLines {P E : Type 0} (drops : Drops) (a b : P) (start now : PublisherState) (known : Option (List ℕ))
     (result : Result (Option LineRefusal) E) (old new : Port P) : Type 0 where

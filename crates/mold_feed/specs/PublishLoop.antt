@@ -16,29 +16,30 @@ use Rattle.mold_session.specs.File.{AppendsFile, head_2}
 use Rattle.mold_session.specs.Journal.{JournalState}
 use Rattle.mold_session.specs.Publisher.{PublisherState}
 use Rattle.mold_text.specs.Line.{line_of}
+use Rattle.mold_feed.specs.Outgoing.{OutgoingState, failed_once, nothing_out}
 use Rattle.mold_feed.specs.Runs.{Begins}
 use Rattle.mold_publish.specs.Sending.{all_but_last, end_packet, packets_behind}
 use Rattle.mold_publish.specs.Publishing.{packed_status, PublishedLines, lines_published, refused_text}
 use Rattle.mold_publish.specs.declared.line_refusal.LineRefusal.{LineRefusal}
 
--- a port, and how many sends failed of those that were made so far
+-- a port, and what goes out beside its datagrams
 pub record PublicationState (P : Type 0) : Type 0 where
   pub port : Port P
-  pub failed : ℕ
+  pub outgoing : OutgoingState
 
-abbrev pub publication_of : {P : Type 0} → Port P → ℕ → PublicationState P
-publication_of port failed = record { port = port; failed = failed }
+abbrev pub publication_of : {P : Type 0} → Port P → OutgoingState → PublicationState P
+publication_of port outgoing = record { port = port; outgoing = outgoing }
 
 -- one failure more where a send fails
-abbrev pub failed_after : Bool → ℕ → ℕ
-failed_after true failed = one_more failed
-failed_after false failed = failed
+abbrev pub failed_after : Bool → OutgoingState → OutgoingState
+failed_after true outgoing = failed_once outgoing
+failed_after false outgoing = outgoing
 
--- the publication behind a send
+-- the publication after a send
 abbrev pub offer : {P : Type 0} → Bool → P → List ℕ → PublicationState P → PublicationState P
 offer fails to bytes publication = record {
   port = offered fails to bytes publication.port;
-  failed = failed_after fails publication.failed;
+  outgoing = failed_after fails publication.outgoing;
 }
 
 -- the datagrams are offered, each to whom it is for, one after the other; which sends fail is free
@@ -56,7 +57,7 @@ abbrev pub spelled_some : Option Packet → List (List ℕ)
 spelled_some None = []
 spelled_some (Some packet) = spelling_of packet ∷ []
 
--- the data packets of the messages behind the first ones; all but the last where the line behind the
+-- the data packets of the messages behind the first ones; all but the last where the line after the
 -- messages is refused
 abbrev pub packets_to_send : ℕ → ℕ → JournalState → Option LineRefusal → List Packet
 packets_to_send limit sent journal None = packets_behind limit sent journal
@@ -76,15 +77,15 @@ abbrev pub close_datagrams : ℕ → ℕ → JournalState → List (List ℕ)
 close_datagrams beats ends journal =
     replicate beats (spelling_of (beat_packet journal)) ++ replicate ends (spelling_of (end_packet journal))
 
--- what is offered behind the data: nothing where a line is refused
-abbrev pub behind_data : ℕ → ℕ → JournalState → Option LineRefusal → List (List ℕ)
-behind_data beats ends journal None = close_datagrams beats ends journal
-behind_data beats ends journal (Some why) = []
+-- what is offered after the data: nothing where a line is refused
+abbrev pub after_data : ℕ → ℕ → JournalState → Option LineRefusal → List (List ℕ)
+after_data beats ends journal None = close_datagrams beats ends journal
+after_data beats ends journal (Some why) = []
 
 -- all datagrams that are offered
 abbrev pub all_datagrams : ℕ → ℕ → ℕ → PublishedLines → List (List ℕ)
 all_datagrams limit beats ends published =
-    data_behind limit 0 published ++ behind_data beats ends published.journal published.refused
+    data_behind limit 0 published ++ after_data beats ends published.journal published.refused
 
 -- the last line: how many messages, data datagrams and failed sends there were
 abbrev pub last_line : ℕ → ℕ → ℕ → List ℕ
@@ -120,7 +121,7 @@ Saves journal None old new = AppendsFile old new journal.session journal.message
 Saves journal (Some why) old new = new ≡ old
 
 -- The lines of the input were published, and their data offered: of what is known of the input, `front` is
--- what was offered. At an answer that is all the data, and the answer is why the line behind the messages is
+-- what was offered. At an answer that is all the data, and the answer is why the line after the messages is
 -- refused; after a fault it is a beginning.
 pub record SendsLines {P E : Type 0} (a b : P) (start now : PublisherState) (known : Option (List ℕ))
     (result : Result (Option LineRefusal) E) (old new : PublicationState P) (count : ℕ) : Type 0 where
@@ -134,21 +135,21 @@ pub record SendsLines {P E : Type 0} (a b : P) (start now : PublisherState) (kno
       × (lines_published start.journal (lines_of input) ≡ record { journal = now.journal; refused = refused })))
 
 -- What publishing the lines of an input leaves. All its datagrams are offered to a and then to b, from the port
--- as it was, with some choice of which sends fail, and `end` is the publication behind them. At an answer the port
+-- as it was, with some choice of which sends fail, and `end` is the publication after them. At an answer the port
 -- stands so, the text and the journal's file are written, and the answer is the status; after a fault what was
 -- sent, written and saved are beginnings of these.
 pub record PublishRun {P : Type 0} (a b : P) (beats ends limit : ℕ) (published : PublishedLines)
     (result : Result ℕ CommandFault) (before after : Port P) (text_old text_new file_old file_new : Option (List ℕ)) :
     Type 0 where
   pub end : PublicationState P
-  pub sends : Sends (both a b (all_datagrams limit beats ends published)) (publication_of before 0) end
+  pub sends : Sends (both a b (all_datagrams limit beats ends published)) (publication_of before nothing_out) end
   pub port : OnOk result (after ≡ end.port)
   pub text : IfOk result (λ status.
-      Appends text_old text_new (published_text limit published end.failed)
+      Appends text_old text_new (published_text limit published end.outgoing.failures)
       × (status ≡ packed_status published.refused))
   pub file : OnOk result (Saves published.journal published.refused file_old file_new)
   pub sent_front : Begins after.sent end.port.sent
-  pub text_front : AppendsFront text_old text_new (published_text limit published end.failed)
+  pub text_front : AppendsFront text_old text_new (published_text limit published end.outgoing.failures)
   pub file_front : AppendsFront file_old file_new (saved_bytes published.journal published.refused)
 
 -- which counts rise with which fault: the source's with `Read`, that of one of the two sinks with `Write`, none

@@ -1,5 +1,5 @@
 -- What rounds of requests make of a loop's ports and of what was heard. All of them are `run` of `repairing`.
-use Rattle.std.specs.Prelude.{◌≡◌, ℕ, ◌+◌, ◌-◌, ◌^◌, min, Bool, true, false, List, ◌++◌}
+use Rattle.std.specs.Prelude.{◌≡◌, ℕ, Bool, true, false, List}
 use Rattle.std.specs.Prelude.{Option, None, Some, Result, OnOk}
 use Rattle.mold_ports.specs.Ports.{Port, offered}
 use Rattle.mold_receiver.specs.Arbiter.{Arbitration}
@@ -7,7 +7,8 @@ use Rattle.mold_receiver.specs.Wanted.{wanted}
 use Rattle.mold_session.specs.Server.{ServerState}
 use Rattle.mold_wire.specs.Request.{request_spelling}
 use Rattle.mold_wire.specs.declared.request.Request.{Request}
-use Rattle.mold_feed.specs.Listening.{Asking, Hearing, ReportState, hear_answers, hearing, missed}
+use Rattle.mold_feed.specs.Listening.{Asking, Hearing, hear_answers, hearing, missed}
+use Rattle.mold_feed.specs.Outgoing.{OutgoingState, failed_often, with_front}
 use Rattle.mold_feed.specs.Runs.{Begins, Loop}
 use Rattle.mold_feed.specs.Serving.{ResponderState, Service, serve_turn}
 use Rattle.mold_feed.specs.Tally.{no_tally}
@@ -19,33 +20,30 @@ pub record RepairState (P : Type 0) : Type 0 where
   pub answered : ℕ
   pub hearing : Hearing
 
-abbrev pub repair_state : {P : Type 0} → Port P → Port P → ServerState → Arbitration → ReportState → RepairState P
-repair_state port requests server arbitration report = record {
+abbrev pub repair_state : {P : Type 0} → Port P → Port P → ServerState → Arbitration → OutgoingState → RepairState P
+repair_state port requests server arbitration outgoing = record {
   server = port;
   requests = requests;
   answered = server.answered;
-  hearing = hearing arbitration report;
+  hearing = hearing arbitration outgoing;
 }
 
 -- so many sends and receives failed more
-abbrev pub failed_more : ℕ → ReportState → ReportState
-failed_more count report = record { text = report.text; failures = min (report.failures + count) (2 ^ 64 - 1) }
-
 abbrev pub missed_more : ℕ → Hearing → Hearing
-missed_more count e = hearing e.arbitration (failed_more count e.report)
+missed_more count e = hearing e.arbitration (failed_often count e.outgoing)
 
 -- a turn of the server, with a tally of its own
 abbrev pub served : {P : Type 0} → Service → List Bool → RepairState P → ResponderState P
 served service fails s = serve_turn service fails (record { port = s.server; tally = no_tally; requests = s.answered })
 
--- behind it what failed is counted, and as many receives are made for answers as it sent
+-- after it what failed is counted, and as many receives are made for answers as it sent
 abbrev pub answers_heard : {P : Type 0} → ResponderState P → RepairState P → Asking P
 answers_heard responder s =
     hear_answers responder.tally.answered
-    (record { port = s.requests; hearing = missed_more responder.tally.failed s.hearing })
+    (record { port = s.requests; hearing = missed_more responder.tally.outgoing.failures s.hearing })
 
-abbrev pub behind_answers : {P : Type 0} → ResponderState P → Asking P → RepairState P
-behind_answers responder heard = record {
+abbrev pub after_answers : {P : Type 0} → ResponderState P → Asking P → RepairState P
+after_answers responder heard = record {
   server = responder.port;
   requests = heard.port;
   answered = responder.requests;
@@ -54,7 +52,7 @@ behind_answers responder heard = record {
 
 abbrev pub repaired : {P : Type 0} → Service → List Bool → RepairState P → RepairState P
 repaired service fails s =
-    behind_answers (served service fails s) (answers_heard (served service fails s) s)
+    after_answers (served service fails s) (answers_heard (served service fails s) s)
 
 -- a request that is wanted is sent to the server: that fails, or the server makes a turn. Of its answers it is said
 -- in their order which sends fail.
@@ -84,7 +82,7 @@ abbrev pub repairing : {P : Type 0} → P → Service → Loop (Bool × List Boo
 repairing to service = record {
   turn = round to service;
   over = λ s. false;
-  text = λ s. s.hearing.report.text;
+  text = λ s. s.hearing.outgoing.text;
   sent = λ s. s.requests.sent;
 }
 
@@ -94,8 +92,7 @@ text_before front s = record {
   server = s.server;
   requests = s.requests;
   answered = s.answered;
-  hearing = hearing s.hearing.arbitration
-      (record { text = front ++ s.hearing.report.text; failures = s.hearing.report.failures });
+  hearing = hearing s.hearing.arbitration (with_front front s.hearing.outgoing);
 }
 
 -- a state was reached; or after a fault the same requests were sent, and a beginning of the answers

@@ -11,7 +11,7 @@ pub record Loop (C S M : Type 0) : Type 0 where
   pub text : S → List ℕ
   pub sent : S → List M
 
--- the state behind a turn for each choice, or behind the first at whose end the loop is over
+-- the state after a turn for each choice, or after the first at whose end the loop is over
 unfoldable pub run : {C S M : Type 0} → Loop C S M → List C → S → S
 run loop [] s = s
 run loop (choice ∷ more) s =

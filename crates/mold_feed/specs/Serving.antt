@@ -1,7 +1,9 @@
 -- Serving, turn by turn: what is received, and how it is answered.
-use Rattle.std.specs.Prelude.{ℕ, ◌+◌, min, Bool, true, false, List, [], ◌∷◌, ◌++◌, drop, Result, Ok, Err}
+use Rattle.std.specs.Prelude.{ℕ, ◌+◌, min, Bool, true, false, List, [], ◌∷◌, drop, Result, Ok, Err}
 use Rattle.mold_ports.specs.Ports.{Port, Receipt, Datagram, Quiet, Failure, cut, next_of, offered, received}
-use Rattle.mold_feed.specs.Tally.{TallyState, with_answered, with_failed, with_quiet, with_refused, with_text}
+use Rattle.mold_feed.specs.Outgoing.{with_front}
+use Rattle.mold_feed.specs.Tally.{with_answered, with_failed, with_outgoing, with_quiet, with_refused}
+use Rattle.mold_feed.specs.declared.tally.Tally.{Tally}
 use Rattle.mold_session.specs.Answer.{answer}
 use Rattle.mold_session.specs.Journal.{JournalState}
 use Rattle.mold_session.specs.Server.{ServerState, asking}
@@ -38,10 +40,10 @@ reply service bytes = reply_to service (asking service.journal bytes)
 -- how far a serving is: its port, what it has printed and counted, and how many requests its server has answered
 pub record ResponderState (P : Type 0) : Type 0 where
   pub port : Port P
-  pub tally : TallyState
+  pub tally : Tally
   pub requests : ℕ
 
-abbrev pub responder_of : {P : Type 0} → Port P → TallyState → ServerState → ResponderState P
+abbrev pub responder_of : {P : Type 0} → Port P → Tally → ServerState → ResponderState P
 responder_of port tally server = record {
   port = port;
   tally = tally;
@@ -121,7 +123,7 @@ abbrev pub serving : {P : Type 0} → Service → Loop (List Bool) (ResponderSta
 serving service = record {
   turn = serve_turn service;
   over = λ responder. false;
-  text = λ responder. responder.tally.text;
+  text = λ responder. responder.tally.outgoing.text;
   sent = λ responder. responder.port.sent;
 }
 
@@ -129,6 +131,6 @@ serving service = record {
 abbrev pub behind : {P : Type 0} → List ℕ → ResponderState P → ResponderState P
 behind front responder = record {
   port = responder.port;
-  tally = with_text (front ++ responder.tally.text) responder.tally;
+  tally = with_outgoing (with_front front responder.tally.outgoing) responder.tally;
   requests = responder.requests;
 }

@@ -26,7 +26,8 @@ pub fn hear_port<D: Datagrams>(
     ensures port { D.tells ≡ true → D.port port.new ≡ received (D.port port.old) }
     ensures came { D.tells ≡ true → IfOk result (λ came. came ≡ is_datagram (next_of (D.port port.old))) }
     ensures heard { D.tells ≡ true →
-        OnOk result (hearing arbiter.new report.new ≡ hear line (D.port port.old) (hearing arbiter.old report.old)) }
+        OnOk result (hearing arbiter.new report.new.outgoing
+        ≡ hear line (D.port port.old) (hearing arbiter.old report.old.outgoing)) }
 {
     match port.receive(place) {
         Ok(Some((len, _))) => {
@@ -35,7 +36,7 @@ pub fn hear_port<D: Datagrams>(
         }
         Ok(None) => Ok(false),
         Err(_) => {
-            report.count_failure();
+            report.outgoing.count_failure();
             Ok(false)
         }
     }
@@ -53,9 +54,9 @@ pub(crate) fn hear_answers<D: Datagrams>(
     requires { length place.old ≡ 65507 }
     ensures sent { D.tells ≡ true → (D.port requests.new).sent ≡ (D.port requests.old).sent }
     ensures heard { D.tells ≡ true → OnOk result
-        (asking (D.port requests.new) arbiter.new report.new
+        (asking (D.port requests.new) arbiter.new report.new.outgoing
         ≡ hear_answers (receives most (D.port requests.old).comes)
-        (asking (D.port requests.old) arbiter.old report.old)) }
+        (asking (D.port requests.old) arbiter.old report.old.outgoing)) }
 {
     for _ in 0..most {
         if !hear_port(requests, None, place, arbiter, report)? {
@@ -77,13 +78,14 @@ pub(crate) fn ask<D: Datagrams>(
 ) -> Result<(), AllocError>
     requires { length place.old ≡ 65507 }
     ensures { D.tells ≡ true → HasAsked (wanted arbiter.old.view) server burst result
-        (asking (D.port requests.old) arbiter.old report.old) (asking (D.port requests.new) arbiter.new report.new) }
+        (asking (D.port requests.old) arbiter.old report.old.outgoing)
+        (asking (D.port requests.new) arbiter.new report.new.outgoing) }
 {
     let Some(request) = arbiter.receiver().wanted() else {
         return Ok(());
     };
     if requests.send(server, &request.encode()).is_err() {
-        report.count_failure();
+        report.outgoing.count_failure();
         return Ok(());
     }
     hear_answers(requests, burst, place, arbiter, report)

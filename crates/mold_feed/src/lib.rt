@@ -5,13 +5,12 @@
 mod answering;
 mod handed;
 mod hearing;
-mod large;
 mod listening;
 mod loop_parts;
 mod looping;
+mod outgoing;
 mod passing;
 mod publishing;
-mod refusal;
 mod repairing;
 mod report;
 mod sending;
@@ -20,10 +19,10 @@ mod tally;
 
 pub use answering::answer_request;
 pub use hearing::{LONGEST, hear_port};
-pub use large::send_large;
 pub use listening::{listen_loop, push_last};
 pub use loop_parts::{Drops, Listener, LoopPeers, LoopPorts};
 pub use looping::session_loop;
+pub use outgoing::Outgoing;
 pub use publishing::publish_loop;
 pub use report::Report;
 pub use serving::serve_loop;

@@ -1,17 +1,21 @@
 //! The loop that listens.
 
-ghost use Rattle.std.specs.Prelude.{◌≡◌, ◌++◌, [], true, length, IfOk, IfErr, OnOk};
-ghost use Rattle.mold_feed.specs.Listening.{Agrees, HasTurned, ReportState, beginning, hearing};
+ghost use Rattle.std.specs.Prelude.{◌≡◌, true, length, IfOk, OnOk};
+ghost use Rattle.mold_feed.specs.Listening.{Agrees, HasTurned, beginning, hearing};
 ghost use Rattle.mold_feed.specs.Listening.{hearing_line, hearing_status, last_line, listening};
 ghost use Rattle.mold_feed.specs.Listening.{listener, put_before, status};
 ghost use Rattle.mold_devices.specs.Faults.{CountsSink};
+ghost use Rattle.mold_feed.specs.Outgoing.{with_more};
 ghost use Rattle.mold_feed.specs.Runs.{Ran, Rests};
+ghost use Rattle.mold_feed.specs.Text.{finished_line, open_line};
 
 use crate::hearing::{LONGEST, ask, hear_port};
+use crate::outgoing::Outgoing;
 use crate::report::Report;
 use mold_devices::{CommandFault, Sink};
 use mold_ports::Datagrams;
 use mold_receiver::{Arbiter, Line};
+use mold_text::Word;
 use std::alloc::{AllocError, Global};
 
 // One turn.
@@ -27,8 +31,8 @@ fn take_turn<D: Datagrams>(
 ) -> Result<(), AllocError>
     requires { length place.old ≡ 65507 }
     ensures { D.tells ≡ true → HasTurned server burst result
-        (listener (D.port a.old) (D.port b.old) (D.port requests.old) arbiter.old report.old)
-        (listener (D.port a.new) (D.port b.new) (D.port requests.new) arbiter.new report.new) }
+        (listener (D.port a.old) (D.port b.old) (D.port requests.old) arbiter.old report.old.outgoing)
+        (listener (D.port a.new) (D.port b.new) (D.port requests.new) arbiter.new report.new.outgoing) }
 {
     hear_port(a, Some(Line::A), place, arbiter, report)?;
     hear_port(b, Some(Line::B), place, arbiter, report)?;
@@ -51,9 +55,9 @@ fn take_turns<D: Datagrams, K: Sink>(
 ) -> Result<(), CommandFault>
     requires { length place.old ≡ 65507 }
     ensures run { D.tells ≡ true → Rests (listening server burst) put_before turns
-        (listener (D.port a.old) (D.port b.old) (D.port requests.old) arbiter.old report.old)
+        (listener (D.port a.old) (D.port b.old) (D.port requests.old) arbiter.old report.old.outgoing)
         result (K.held sink.old) (K.held sink.new)
-        (listener (D.port a.new) (D.port b.new) (D.port requests.new) arbiter.new report.new) }
+        (listener (D.port a.new) (D.port b.new) (D.port requests.new) arbiter.new report.new.outgoing) }
     ensures sink { CountsSink (K.failed sink.old) (K.failed sink.new) result }
 {
     for _turn in 0..turns {
@@ -61,27 +65,55 @@ fn take_turns<D: Datagrams, K: Sink>(
         if arbiter.receiver().finished() {
             return Ok(());
         }
-        report.send_large(sink)?;
+        report.outgoing.send_large(sink)?;
     }
     Ok(())
 }
 
-/// Writes the last line behind the text: whether all of the session was handed on, the number of the next
+// The last line where the session was handed on to its end.
+fn push_finished(outgoing: &mut Outgoing, next: u64) -> Result<(), AllocError>
+    ensures { OnOk result (outgoing.new ≡ with_more (finished_line next outgoing.old.failures) outgoing.old) }
+{
+    let words = [
+        Word::Text(b"finished"),
+        Word::Text(b"next"),
+        Word::Number(next),
+        Word::Text(b"failed"),
+        Word::Number(outgoing.failures()),
+    ];
+    outgoing.push_line(&words)
+}
+
+// The last line where it was not.
+fn push_open(outgoing: &mut Outgoing, next: u64, known: u64) -> Result<(), AllocError>
+    ensures { OnOk result (outgoing.new ≡ with_more (open_line next known outgoing.old.failures) outgoing.old) }
+{
+    let words = [
+        Word::Text(b"open"),
+        Word::Text(b"next"),
+        Word::Number(next),
+        Word::Text(b"known"),
+        Word::Number(known),
+        Word::Text(b"failed"),
+        Word::Number(outgoing.failures()),
+    ];
+    outgoing.push_line(&words)
+}
+
+/// Adds the last line to the text: whether all of the session was handed on, the number of the next
 /// message, what is known beside it where the session is open, and how often a port failed. Answers the
 /// status: 0 finished, 1 open.
-pub fn push_last(arbiter: &Arbiter, report: &mut Report) -> Result<u8, AllocError>
-    ensures status { IfOk result (λ status. status ≡ hearing_status (hearing arbiter.now report.old)) }
-    ensures line { OnOk result (report.new ≡ record {
-      text = report.old.text ++ hearing_line (hearing arbiter.now report.old);
-      failures = report.old.failures;
-    }) }
+pub fn push_last(arbiter: &Arbiter, outgoing: &mut Outgoing) -> Result<u8, AllocError>
+    ensures status { IfOk result (λ status. status ≡ hearing_status (hearing arbiter.now outgoing.old)) }
+    ensures line { OnOk result
+        (outgoing.new ≡ with_more (hearing_line (hearing arbiter.now outgoing.old)) outgoing.old) }
 {
     let receiver = arbiter.receiver();
     if receiver.finished() {
-        report.push_finished(receiver.next())?;
+        push_finished(outgoing, receiver.next())?;
         return Ok(0);
     }
-    report.push_open(receiver.next(), receiver.known())?;
+    push_open(outgoing, receiver.next(), receiver.known())?;
     Ok(1)
 }
 
@@ -122,7 +154,7 @@ pub fn listen_loop<D: Datagrams, K: Sink>(
         &mut report,
         sink,
     )?;
-    let status = push_last(arbiter, &mut report)?;
-    report.send(sink)?;
+    let status = push_last(arbiter, &mut report.outgoing)?;
+    report.outgoing.send(sink)?;
     Ok(status)
 }

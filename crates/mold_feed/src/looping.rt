@@ -9,30 +9,28 @@ ghost use Rattle.mold_publish.specs.Publishing.{HasRoom, lines_published};
 use crate::hearing::LONGEST;
 use crate::listening::push_last;
 use crate::loop_parts::{Drops, Listener, LoopPeers, LoopPorts};
+use crate::outgoing::Outgoing;
 use crate::passing::{pass_end, pass_lines};
 use crate::repairing::repair_all;
-use crate::report::Report;
 use crate::sending::publisher_holds;
-use mold_devices::{CommandFault, Sink, Source, send};
+use mold_devices::{CommandFault, Sink, Source};
 use mold_ports::Datagrams;
-use mold_publish::{LineRefusal, push_line_refused};
+use mold_publish::LineRefusal;
 use mold_session::{Publisher, Server};
 use std::alloc::Global;
 
-// Prints why the line with the message of this number is refused, behind what was handed on, and answers the status.
+// Prints why the line with the message of this number is refused, after what was handed on, and answers the status.
 fn print_refused<K: Sink>(
-    alloc: Global,
-    report: &mut Report,
+    outgoing: &mut Outgoing,
     number: u64,
     why: LineRefusal,
     sink: &mut K,
 ) -> Result<u8, CommandFault>
     ensures sink { CountsSink (K.failed sink.old) (K.failed sink.new) result }
 {
-    report.send(sink)?;
-    let mut text = Vec::new(alloc);
-    push_line_refused(&mut text, number, why)?;
-    send(sink, &mut text)?;
+    outgoing.send(sink)?;
+    outgoing.push_line_refused(number, why)?;
+    outgoing.send(sink)?;
     Ok(2)
 }
 
@@ -40,19 +38,19 @@ fn print_refused<K: Sink>(
 fn print_last<K: Sink>(listener: &mut Listener, sink: &mut K) -> Result<u8, CommandFault>
     ensures sink { CountsSink (K.failed sink.old) (K.failed sink.new) result }
 {
-    let status = push_last(&listener.arbiter, &mut listener.report)?;
-    listener.report.send(sink)?;
+    let Listener { arbiter, report } = listener;
+    let status = push_last(arbiter, &mut report.outgoing)?;
+    report.outgoing.send(sink)?;
     Ok(status)
 }
 
 /// Publishes the lines of the source as messages, and listens to them: each datagram goes on both lines but
-/// where it is left out; behind the last one the session is closed and its end is sent, and what is missing
+/// where it is left out; after the last one the session is closed and its end is sent, and what is missing
 /// is requested in at most `turns` rounds. What is handed on is printed as a listener prints it, with its last
 /// line and its status. A refused line ends it: what was handed on stays printed, then comes the refusal,
 /// and the status is 2. A failed send or receive is counted. The publisher's messages may have at most as many
-/// bytes as the server's, so that each request is answered. After a fault a beginning of what the publisher sends
-/// was sent. `Read` and `Write` come only where the source or the
-/// sink failed.
+/// bytes as the server's, so that each request is answered. After a fault a beginning of what the publisher
+/// sends was sent. `Read` and `Write` come only where the source or the sink failed.
 pub fn session_loop<D: Datagrams + Drop, S: Source, K: Sink>(
     alloc: Global,
     ports: &mut LoopPorts<D>,
@@ -82,7 +80,7 @@ pub fn session_loop<D: Datagrams + Drop, S: Source, K: Sink>(
     )?;
     if let Some(why) = refused {
         let number = publisher.journal().next();
-        return print_refused(alloc, &mut listener.report, number, why, sink);
+        return print_refused(&mut listener.report.outgoing, number, why, sink);
     }
     pass_end(publisher, ports, peers, place, listener)?;
     publisher_holds(publisher);

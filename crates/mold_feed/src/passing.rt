@@ -10,7 +10,7 @@ ghost use Rattle.mold_session.specs.Publisher.{after_datagram, next_datagram};
 
 use crate::hearing::hear_port;
 use crate::loop_parts::{Drops, Listener, LoopPeers, LoopPorts, Routes};
-use crate::report::Report;
+use crate::outgoing::Outgoing;
 use crate::sending::publisher_holds;
 use mold_devices::{CommandFault, Lines, Sink, Source};
 use mold_ports::Datagrams;
@@ -44,7 +44,7 @@ fn is_sent<D: Datagrams>(
     on: bool,
     to: D::Peer,
     datagram: &[u8],
-    report: &mut Report,
+    outgoing: &mut Outgoing,
 ) -> bool
     ensures { D.tells ≡ true → Offers (letter on to datagram.now) (D.port port.old) (D.port port.new) }
 {
@@ -52,7 +52,7 @@ fn is_sent<D: Datagrams>(
         return false;
     }
     if port.send(to, datagram).is_err() {
-        report.count_failure();
+        outgoing.count_failure();
         return false;
     }
     true
@@ -64,14 +64,14 @@ fn send_on<D: Datagrams>(
     peers: &LoopPeers<D::Peer>,
     routes: Routes,
     datagram: &[u8],
-    report: &mut Report,
+    outgoing: &mut Outgoing,
 ) -> Routes
     ensures { D.tells ≡ true →
         Offers (letters routes peers.now.a peers.now.b datagram.now) (D.port port.old) (D.port port.new) }
 {
     Routes {
-        a: is_sent(port, routes.a, peers.a, datagram, report),
-        b: is_sent(port, routes.b, peers.b, datagram, report),
+        a: is_sent(port, routes.a, peers.a, datagram, outgoing),
+        b: is_sent(port, routes.b, peers.b, datagram, outgoing),
     }
 }
 
@@ -109,7 +109,8 @@ fn pass<D: Datagrams + Drop>(
         (D.port ports.old.publisher) (D.port ports.new.publisher) }
 {
     let port = &mut ports.publisher;
-    let sent = send_on(port, peers, routes, datagram, &mut listener.report);
+    let outgoing = &mut listener.report.outgoing;
+    let sent = send_on(port, peers, routes, datagram, outgoing);
     hear_on(ports, sent, place, listener)
 }
 
@@ -141,7 +142,7 @@ fn pass_next<D: Datagrams + Drop>(
 }
 
 /// Publishes the lines of the source, and sends each datagram as soon as the publisher is full, and the rest
-/// behind the last line. Answers why a line is refused, where one is.
+/// after the last line. Answers why a line is refused, where one is.
 pub(crate) fn pass_lines<D: Datagrams + Drop, S: Source, K: Sink>(
     alloc: Global,
     publisher: &mut Publisher,
@@ -185,7 +186,7 @@ pub(crate) fn pass_lines<D: Datagrams + Drop, S: Source, K: Sink>(
             }
             Filled::Refused { why } => return Ok(Some(why)),
         }
-        listener.report.send_large(sink)?;
+        listener.report.outgoing.send_large(sink)?;
     }
 }
 

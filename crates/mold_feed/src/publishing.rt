@@ -5,24 +5,26 @@ ghost use Rattle.std.specs.Prelude.{length, IfErr, IfOk, IfSome, OnErr, OnOk};
 ghost use Rattle.std.specs.Io.KnownBytes.{prepend_known};
 ghost use Rattle.mold_feed.specs.PublishLoop.{CountsPublish, PublishRun, SendsLines, last_line};
 ghost use Rattle.mold_feed.specs.PublishLoop.{left_journal, publication_of, saved_bytes};
+ghost use Rattle.mold_feed.specs.Outgoing.{with_more};
 ghost use Rattle.mold_publish.specs.Publishing.{HasRoom, lines_published};
 ghost use Rattle.mold_devices.specs.Devices.{AppendsFront, Counts};
 ghost use Rattle.mold_devices.specs.Faults.{CountsRead};
 ghost use Rattle.mold_devices.specs.Lines.{lines_of};
 ghost use Rattle.mold_session.specs.File.{AppendsFile};
 
+use crate::outgoing::Outgoing;
 use crate::sending::{publisher_holds, send_close, send_next};
-use mold_devices::{CommandFault, Lines, ReadFault, Sink, Source, send};
+use mold_devices::{CommandFault, Lines, ReadFault, Sink, Source};
 use mold_ports::Datagrams;
-use mold_publish::{Filled, LineRefusal, fill, push_line_refused};
+use mold_publish::{Filled, LineRefusal, fill};
 use mold_session::laws::packing_law;
 use mold_session::{Journal, Publisher};
-use mold_text::{Word, push_line};
+use mold_text::Word;
 use mold_wire::laws::{front_law, packet_length_law};
 use std::alloc::{AllocError, Global};
 
 // Publishes line after line of the source, and sends each datagram as soon as the publisher is full, and the
-// rest behind the last line. Answers why a line is refused, where one is.
+// rest after the last line. Answers why a line is refused, where one is.
 fn send_lines<D: Datagrams, S: Source>(
     alloc: Global,
     port: &mut D,
@@ -31,12 +33,12 @@ fn send_lines<D: Datagrams, S: Source>(
     publisher: &mut Publisher,
     source: &mut S,
     datagrams: &mut u64,
-    failed: &mut u64,
+    outgoing: &mut Outgoing,
 ) -> Result<Option<LineRefusal>, ReadFault>
     requires room { HasRoom publisher.old }
     requires none { datagrams.old ≡ 0 }
     ensures sends { D.tells ≡ true → SendsLines a b publisher.old publisher.new (S.left source.old) result
-        (publication_of (D.port port.old) failed.old) (publication_of (D.port port.new) failed.new) datagrams.new }
+        (publication_of (D.port port.old) outgoing.old) (publication_of (D.port port.new) outgoing.new) datagrams.new }
     ensures all { IfOk result (λ refused. refused ≡ None →
         publisher.new.sent ≡ length publisher.new.journal.messages) }
     ensures failures { CountsRead (S.failed source.old) (S.failed source.new) result }
@@ -47,9 +49,9 @@ fn send_lines<D: Datagrams, S: Source>(
     let mut message = Vec::new(alloc);
     'lines: loop {
         match fill(publisher, &mut lines, source, &mut message)? {
-            Filled::Full => send_next(port, a, b, publisher, datagrams, failed),
+            Filled::Full => send_next(port, a, b, publisher, datagrams, outgoing),
             Filled::End => {
-                send_next(port, a, b, publisher, datagrams, failed);
+                send_next(port, a, b, publisher, datagrams, outgoing);
                 return Ok(None);
             }
             Filled::Refused { why } => return Ok(Some(why)),
@@ -72,14 +74,10 @@ fn save_journal<K: Sink>(journal: &Journal, sink: &mut K) -> Result<(), CommandF
     }
 }
 
-// Writes the last line.
-fn push_published(
-    out: &mut Vec<u8>,
-    messages: u64,
-    datagrams: u64,
-    failed: u64,
-) -> Result<(), AllocError>
-    ensures { OnOk result (out.new.items ≡ out.old.items ++ last_line messages datagrams failed) }
+// Adds the last line.
+fn push_published(outgoing: &mut Outgoing, messages: u64, datagrams: u64) -> Result<(), AllocError>
+    ensures { OnOk result
+        (outgoing.new ≡ with_more (last_line messages datagrams outgoing.old.failures) outgoing.old) }
 {
     let words = [
         Word::Text(b"published"),
@@ -87,13 +85,13 @@ fn push_published(
         Word::Text(b"datagrams"),
         Word::Number(datagrams),
         Word::Text(b"failed"),
-        Word::Number(failed),
+        Word::Number(outgoing.failures()),
     ];
-    push_line(out, &words)
+    outgoing.push_line(&words)
 }
 
 /// Publishes the lines of the source as messages of an open publisher that has none. Each datagram is sent to
-/// `a` and then to `b`, as soon as the publisher is full and behind the last line; then so many heartbeats,
+/// `a` and then to `b`, as soon as the publisher is full and after the last line; then so many heartbeats,
 /// and once the session is closed so many end packets. The journal is saved in `journal_sink`, and a last
 /// line tells how many messages, data datagrams (each counted once) and failed sends there were, up to
 /// `u64::MAX` of the latter. The status is 0. A failed send is counted and the loop goes on. Where a line is
@@ -123,7 +121,8 @@ pub fn publish_loop<D: Datagrams, S: Source, K: Sink, J: Sink>(
 {
     publisher_holds(publisher);
     packet_length_law();
-    let (mut datagrams, mut failed) = (0, 0);
+    let mut datagrams = 0;
+    let mut outgoing = Outgoing::new(alloc);
     let refused = send_lines(
         alloc,
         port,
@@ -132,17 +131,16 @@ pub fn publish_loop<D: Datagrams, S: Source, K: Sink, J: Sink>(
         publisher,
         source,
         &mut datagrams,
-        &mut failed,
+        &mut outgoing,
     )?;
-    let mut text = Vec::new(alloc);
     if let Some(why) = refused {
-        push_line_refused(&mut text, publisher.journal().next(), why)?;
-        send(sink, &mut text)?;
+        outgoing.push_line_refused(publisher.journal().next(), why)?;
+        outgoing.send(sink)?;
         return Ok(2);
     }
-    send_close(port, a, b, publisher, beats, ends, &mut failed);
+    send_close(port, a, b, publisher, beats, ends, &mut outgoing);
     save_journal(publisher.journal(), journal_sink)?;
-    push_published(&mut text, publisher.journal().next() - 1, datagrams, failed)?;
-    send(sink, &mut text)?;
+    push_published(&mut outgoing, publisher.journal().next() - 1, datagrams)?;
+    outgoing.send(sink)?;
     Ok(0)
 }

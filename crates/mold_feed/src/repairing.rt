@@ -27,8 +27,8 @@ fn take_answers<D: Datagrams>(
     requires { length place.old ≡ 65507 }
     ensures sent { D.tells ≡ true → (D.port requests.new).sent ≡ (D.port requests.old).sent }
     ensures heard { D.tells ≡ true → OnOk result
-        (asking (D.port requests.new) listener.new.arbiter listener.new.report
-        ≡ hear_answers count (asking (D.port requests.old) listener.old.arbiter listener.old.report)) }
+        (asking (D.port requests.new) listener.new.arbiter listener.new.report.outgoing
+        ≡ hear_answers count (asking (D.port requests.old) listener.old.arbiter listener.old.report.outgoing)) }
 {
     for _answer in 0..count {
         hear_port(
@@ -55,17 +55,20 @@ fn repair<D: Datagrams + Drop>(
     requires longest { journal.now.max_message ≤ server.old.max_message }
     ensures repaired { D.tells ≡ true → (fails : List Bool) × HasRepaired result
         (repair_state (D.port ports.new.server) (D.port ports.new.requests) server.new listener.new.arbiter
-        listener.new.report)
+        listener.new.report.outgoing)
         (repaired (service_of journal.now server.old) fails
         (repair_state (D.port ports.old.server) (D.port ports.old.requests) server.old listener.old.arbiter
-        listener.old.report)) }
+        listener.old.report.outgoing)) }
     ensures server { server.new ≡ record server.old { answered = server.new.answered } }
     ensures publisher { ports.new.publisher ≡ ports.old.publisher }
 {
     let mut tally = Tally::new(alloc);
     take_turn(&mut ports.server, server, journal, place, &mut tally)?;
-    listener.report.count_failures(tally.failed());
-    take_answers(&mut ports.requests, tally.answered(), place, listener)
+    listener
+        .report
+        .outgoing
+        .count_failures(tally.outgoing.failures());
+    take_answers(&mut ports.requests, tally.answered, place, listener)
 }
 
 // One round: a request goes to the server, and its answers are taken. A request that can't be sent is counted.
@@ -83,15 +86,15 @@ fn round<D: Datagrams + Drop>(
     requires longest { journal.now.max_message ≤ server.old.max_message }
     ensures requested { D.tells ≡ true → (choice : Bool × List Bool) × HasRepaired result
         (repair_state (D.port ports.new.server) (D.port ports.new.requests) server.new listener.new.arbiter
-        listener.new.report)
+        listener.new.report.outgoing)
         (requested (Some request.now) to (service_of journal.now server.old) choice
         (repair_state (D.port ports.old.server) (D.port ports.old.requests) server.old listener.old.arbiter
-        listener.old.report)) }
+        listener.old.report.outgoing)) }
     ensures server { server.new ≡ record server.old { answered = server.new.answered } }
     ensures publisher { ports.new.publisher ≡ ports.old.publisher }
 {
     if ports.requests.send(to, &request.encode()).is_err() {
-        listener.report.count_failure();
+        listener.report.outgoing.count_failure();
         return Ok(());
     }
     repair(alloc, ports, server, journal, place, listener)
@@ -114,10 +117,10 @@ pub(crate) fn repair_all<D: Datagrams + Drop, K: Sink>(
     requires longest { journal.now.max_message ≤ server.old.max_message }
     ensures rests { D.tells ≡ true → Rests (repairing to (service_of journal.now server.old)) text_before turns
         (repair_state (D.port ports.old.server) (D.port ports.old.requests) server.old listener.old.arbiter
-        listener.old.report)
+        listener.old.report.outgoing)
         result (K.held sink.old) (K.held sink.new)
         (repair_state (D.port ports.new.server) (D.port ports.new.requests) server.new listener.new.arbiter
-        listener.new.report) }
+        listener.new.report.outgoing) }
     ensures server { server.new ≡ record server.old { answered = server.new.answered } }
     ensures publisher { ports.new.publisher ≡ ports.old.publisher }
     ensures sink { CountsSink (K.failed sink.old) (K.failed sink.new) result }
@@ -127,7 +130,7 @@ pub(crate) fn repair_all<D: Datagrams + Drop, K: Sink>(
             return Ok(());
         };
         round(alloc, ports, to, server, journal, &request, place, listener)?;
-        listener.report.send_large(sink)?;
+        listener.report.outgoing.send_large(sink)?;
     }
     Ok(())
 }

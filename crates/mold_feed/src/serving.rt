@@ -65,7 +65,7 @@ fn take_turns<D: Datagrams, K: Sink>(
 {
     for _turn in 0..turns {
         take_turn(port, server, journal, place, tally)?;
-        tally.write_large(sink)?;
+        tally.outgoing.send_large(sink)?;
     }
     Ok(())
 }
@@ -102,6 +102,6 @@ pub fn serve_loop<D: Datagrams, K: Sink>(
         sink,
     )?;
     tally.push_last()?;
-    tally.write(sink)?;
+    tally.outgoing.send(sink)?;
     Ok(0)
 }

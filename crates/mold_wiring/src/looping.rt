@@ -1,8 +1,9 @@
 //! What `loop` is made of.
 
-ghost use Rattle.std.specs.Prelude.{◌≡◌, [], true, IfOk, IfSome};
+ghost use Rattle.std.specs.Prelude.{◌≡◌, true, IfOk, IfSome};
 ghost use Rattle.mold_devices.specs.Faults.{CountsCommand};
 ghost use Rattle.mold_devices.specs.Lines.{lines_of};
+ghost use Rattle.mold_feed.specs.Outgoing.{nothing_out};
 ghost use Rattle.mold_feed.specs.Passing.{LoopSends};
 ghost use Rattle.mold_publish.specs.Publishing.{lines_published};
 ghost use Rattle.mold_wiring.specs.Wiring.{drops_of, loop_arbiter_of, loop_publisher_of, loop_server_of};
@@ -44,7 +45,7 @@ fn make_server(alloc: Global, order: &LoopOrder) -> Result<Server, AllocError>
 // range: so only memory can be wanting.
 fn make_listener(alloc: Global, order: &LoopOrder) -> Result<Listener, AllocError>
     ensures arbiter { IfOk result (λ listener. listener.arbiter ≡ loop_arbiter_of order.now) }
-    ensures report { IfOk result (λ listener. listener.report ≡ record { text = []; failures = 0 }) }
+    ensures report { IfOk result (λ listener. listener.report.outgoing ≡ nothing_out) }
 {
     match Receiver::new(alloc, Session(order.session), 1, order.window) {
         Ok(receiver) => Ok(Listener {

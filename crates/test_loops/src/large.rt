@@ -2,19 +2,22 @@
 
 use crate::comparisons::same_size;
 use mold_devices::MemorySink;
-use mold_feed::send_large;
+use mold_feed::Outgoing;
+use mold_text::Word;
 use std::test::Fail;
 
 #[test]
 fn text_is_written_from_65536_bytes_on(rt: HostRuntime) -> Result<(), Fail> {
     let mut sink = MemorySink::new(rt.alloc());
-    let mut text = vec![in rt.alloc(); b'x'; 65535]?;
-    assert!(rt; send_large(&mut sink, &mut text).is_ok());
+    let mut outgoing = Outgoing::new(rt.alloc());
+    let word = vec![in rt.alloc(); b'x'; 65534]?;
+    outgoing.push_line(&[Word::Text(word.as_slice())])?;
+    assert!(rt; outgoing.send_large(&mut sink).is_ok());
     same_size(&rt, sink.bytes().len(), 0);
-    same_size(&rt, text.len(), 65535);
-    text.push(b'y')?;
-    assert!(rt; send_large(&mut sink, &mut text).is_ok());
+    outgoing.push_line(&[])?;
+    assert!(rt; outgoing.send_large(&mut sink).is_ok());
     same_size(&rt, sink.bytes().len(), 65536);
-    same_size(&rt, text.len(), 0);
+    assert!(rt; outgoing.send(&mut sink).is_ok());
+    same_size(&rt, sink.bytes().len(), 65536);
     Ok(())
 }

@@ -4,6 +4,8 @@
 #[cfg(test)]
 mod comparisons;
 #[cfg(test)]
+mod hear;
+#[cfg(test)]
 mod large;
 #[cfg(test)]
 mod listen;

@@ -1,19 +1,17 @@
 //! Listening over ports in memory, with the text that is printed. Each kind of comparison stands once, and what
 //! is owned is lent: the proof of a test grows with both.
 
-ghost use Rattle.std.specs.Prelude.{◌≡◌, length};
-
 use crate::comparisons::{same_bytes, same_outcome, same_size};
 use mold_devices::{CommandFault, MemorySink, Sink};
-use mold_feed::{LONGEST, Report, hear_port, listen_loop, push_last};
+use mold_feed::listen_loop;
 use mold_ports::{Datagrams, MemoryPort, Step};
-use mold_receiver::{Arbiter, Line, Receiver};
+use mold_receiver::{Arbiter, Receiver};
 use mold_wire::Session;
 use std::alloc::{AllocError, Global};
 use std::process::Abort;
 use std::test::Fail;
 
-const SESSION: Session = Session(*b"SESSION001");
+pub(crate) const SESSION: Session = Session(*b"SESSION001");
 
 /// Who lines come from, and who is asked.
 const SENDER: u32 = 7;
@@ -21,9 +19,9 @@ const SENDER: u32 = 7;
 const SERVER: u32 = 9;
 
 /// Datagrams: messages by their numbers, message 1 being `A`, and ends.
-const DATA_1: &[u8] = b"SESSION001\0\0\0\0\0\0\0\x01\0\x01\0\x01A";
+pub(crate) const DATA_1: &[u8] = b"SESSION001\0\0\0\0\0\0\0\x01\0\x01\0\x01A";
 
-const DATA_2: &[u8] = b"SESSION001\0\0\0\0\0\0\0\x02\0\x01\0\x01B";
+pub(crate) const DATA_2: &[u8] = b"SESSION001\0\0\0\0\0\0\0\x02\0\x01\0\x01B";
 
 const DATA_3: &[u8] = b"SESSION001\0\0\0\0\0\0\0\x03\0\x01\0\x01C";
 
@@ -37,7 +35,7 @@ const END_4: &[u8] = b"SESSION001\0\0\0\0\0\0\0\x04\xff\xff";
 const REQUEST: &[u8] = b"SESSION001\0\0\0\0\0\0\0\x02\0\x01";
 
 /// Nothing came.
-const QUIET: &[u8] = b"";
+pub(crate) const QUIET: &[u8] = b"";
 
 /// The receive fails.
 const FAILS: &[u8] = b"fails";
@@ -380,63 +378,5 @@ open next 1 known 5 failed 0
 ";
     let mut listener = on_line_a(rt.alloc(), &datagrams, &[], None)?;
     listener.expect(&rt, 1, 10, Ok(1), text);
-    Ok(())
-}
-
-/// One line's port and the port of answers, with what hears them and what is told.
-#[derive(Drop)]
-struct Hearing {
-    line: MemoryPort,
-    answers: MemoryPort,
-    arbiter: Arbiter,
-    report: Report,
-    sink: MemorySink,
-}
-
-impl Hearing {
-    fn new(alloc: Global) -> Result<Self, Fail> {
-        let line = port(alloc, &[DATA_2, QUIET], Some(1))?;
-        let answers = port(alloc, &[DATA_1], None)?;
-        Ok(Hearing {
-            line,
-            answers,
-            arbiter: Arbiter::new(Receiver::new(alloc, SESSION, 1, 4)?),
-            report: Report::new(alloc),
-            sink: MemorySink::new(alloc),
-        })
-    }
-
-    /// Hears line B, or the answers where there is no line: whether a datagram came.
-    fn expect_heard(&mut self, rt: &impl Abort, line: Option<Line>, place: &mut [u8], came: bool)
-        requires { length place.old ≡ 65507 }
-    {
-        let (arbiter, report) = (&mut self.arbiter, &mut self.report);
-        let heard = match line {
-            Some(_) => hear_port(&mut self.line, line, place, arbiter, report),
-            None => hear_port(&mut self.answers, line, place, arbiter, report),
-        };
-        assert_eq!(rt; heard, Ok(came));
-    }
-
-    /// Prints the last line behind the text.
-    fn expect_printed(&mut self, rt: &impl Abort, text: &[u8]) {
-        assert!(rt; self.report.send_large(&mut self.sink).is_ok());
-        assert_eq!(rt; push_last(&self.arbiter, &mut self.report), Ok(1));
-        assert!(rt; self.report.send(&mut self.sink).is_ok());
-        same_bytes(rt, self.sink.bytes(), text);
-    }
-}
-
-#[test]
-fn ports_are_heard_one_by_one(rt: HostRuntime) -> Result<(), Fail> {
-    let mut place = vec![in rt.alloc(); 0; LONGEST]?;
-    let mut hearing = Hearing::new(rt.alloc())?;
-    let place = place.as_mut_slice();
-    hearing.expect_heard(&rt, Some(Line::B), place, true);
-    hearing.expect_heard(&rt, Some(Line::B), place, false);
-    hearing.expect_heard(&rt, None, place, true);
-    assert_eq!(rt; hearing.arbiter.report(Line::B).datagrams, 1);
-    hearing.report.count_failure();
-    hearing.expect_printed(&rt, b"1 41\n2 42\nopen next 3 known 3 failed 2\n");
     Ok(())
 }

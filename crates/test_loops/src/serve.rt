@@ -307,8 +307,8 @@ fn expect_counted(
         ALL,
         &mut tally,
     )?;
-    same_number(rt, tally.answered(), 2);
-    same_number(rt, tally.failed(), 1);
+    same_number(rt, tally.answered, 2);
+    same_number(rt, tally.outgoing.failures(), 1);
     same_number(rt, fixture.server.answered(), 1);
     Ok(())
 }

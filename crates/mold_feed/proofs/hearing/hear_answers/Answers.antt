@@ -8,7 +8,7 @@ pub loop-init : goal.loop-init
 loop-init g c = record {
   heard = λ t.
       ap (λ (n : ℕ). hear_answers (receives n (g.D.Datagrams.port c.args.requests.now).comes)
-      (asking (g.D.Datagrams.port c.args.requests.now) c.args.arbiter.now c.args.report.now))
+      (asking (g.D.Datagrams.port c.args.requests.now) c.args.arbiter.now c.args.report.now.outgoing))
       (let e : c.args.most - 0 ≡ c.args.most = omega arith in e);
   sent = λ t. refl;
 }
@@ -16,8 +16,8 @@ loop-init g c = record {
 pub loop-preserved : goal.loop-preserved
 loop-preserved g c = record {
   heard = λ t.
-      let before = asking (g.D.Datagrams.port c.loop.requests) c.loop.arbiter c.loop.report in
-      let after = asking (g.D.Datagrams.port c.hear_port.new.port) c.hear_port.new.arbiter c.hear_port.new.report in
+      let before = asking (g.D.Datagrams.port c.loop.requests) c.loop.arbiter c.loop.report.outgoing in
+      let after = asking (g.D.Datagrams.port c.hear_port.new.port) c.hear_port.new.arbiter c.hear_port.new.report.outgoing in
       let is : after ≡ stepped before =
       asking_is _ _ _ (stepped before) (c.hear_port.ensures.port t) (c.in_ok-hear_port.ensures.heard t) in
       answer_heard (c.args.most - c.loop.counter) (c.args.most - (c.loop.counter + 1)) before after _
@@ -43,8 +43,8 @@ returns-then-not-branch-clause-sent g c = λ t.
 
 pub returns-then-not-branch-clause-heard : goal.returns-then-not-branch-clause-heard
 returns-then-not-branch-clause-heard g c = λ t.
-    let before = asking (g.D.Datagrams.port c.loop.requests) c.loop.arbiter c.loop.report in
-    let after = asking (g.D.Datagrams.port c.hear_port.new.port) c.hear_port.new.arbiter c.hear_port.new.report in
+    let before = asking (g.D.Datagrams.port c.loop.requests) c.loop.arbiter c.loop.report.outgoing in
+    let after = asking (g.D.Datagrams.port c.hear_port.new.port) c.hear_port.new.arbiter c.hear_port.new.report.outgoing in
     let is : after ≡ stepped before =
     asking_is _ _ _ (stepped before) (c.hear_port.ensures.port t) (c.in_ok-hear_port.ensures.heard t) in
     answers_heard (c.args.most - c.loop.counter) (c.args.most - (c.loop.counter + 1)) before after _

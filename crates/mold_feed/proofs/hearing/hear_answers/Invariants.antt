@@ -7,9 +7,9 @@ abbrev pub invariant-loop : goal.invariant-loop
 invariant-loop g l = record {
   heard : g.D.Datagrams.tells ≡ true →
       hear_answers (receives (l.most - l.counter) (g.D.Datagrams.port l.requests).comes)
-      (asking (g.D.Datagrams.port l.requests) l.arbiter l.report)
+      (asking (g.D.Datagrams.port l.requests) l.arbiter l.report.outgoing)
       ≡ hear_answers (receives l.most (g.D.Datagrams.port l.fn.requests).comes)
-      (asking (g.D.Datagrams.port l.fn.requests) l.fn.arbiter l.fn.report);
+      (asking (g.D.Datagrams.port l.fn.requests) l.fn.arbiter l.fn.report.outgoing);
   sent : g.D.Datagrams.tells ≡ true →
       (g.D.Datagrams.port l.requests).sent ≡ (g.D.Datagrams.port l.fn.requests).sent;
 }

@@ -8,7 +8,7 @@ use Rattle.mold_feed.proofs.hearing.hear_port.Goals as goal
 pub returns-in_ok-take-in-Ok-Some-clause-heard : goal.returns-in_ok-take-in-Ok-Some-clause-heard
 returns-in_ok-take-in-Ok-Some-clause-heard g c = λ t.
     let long : length c.receive.new.place ≡ 65507 = grind (arith, common_steps) in
-    let before = hearing c.args.arbiter.now c.args.report.now in
+    let before = hearing c.args.arbiter.now c.args.report.now.outgoing in
     let next =
     heard_next c.args.line (g.D.Datagrams.port c.args.port.now) before (length c.receive.new.place) _ long
     (rw c.in-Ok-Some.field-0-is at c.in-Ok-Some.ensures.came t) in
@@ -22,7 +22,7 @@ returns-in-Ok-None-clause-came g c = λ t.
 pub returns-in-Ok-None-clause-heard : goal.returns-in-Ok-None-clause-heard
 returns-in-Ok-None-clause-heard g c = λ t.
     let long : length c.receive.new.place ≡ 65507 = grind (arith, common_steps) in
-    heard_next c.args.line (g.D.Datagrams.port c.args.port.now) (hearing c.args.arbiter.now c.args.report.now)
+    heard_next c.args.line (g.D.Datagrams.port c.args.port.now) (hearing c.args.arbiter.now c.args.report.now.outgoing)
     (length c.receive.new.place) Quiet long (rw c.in-Ok-None.field-0-is at c.in-Ok-None.ensures.came t)
 
 pub returns-in-Err-clause-came : goal.returns-in-Err-clause-came
@@ -33,5 +33,5 @@ pub returns-in-Err-clause-heard : goal.returns-in-Err-clause-heard
 returns-in-Err-clause-heard g c = λ t.
     let long : length c.receive.new.place ≡ 65507 = grind (arith, common_steps) in
     rw c.count_failure.ensures
-    (heard_next c.args.line (g.D.Datagrams.port c.args.port.now) (hearing c.args.arbiter.now c.args.report.now)
+    (heard_next c.args.line (g.D.Datagrams.port c.args.port.now) (hearing c.args.arbiter.now c.args.report.now.outgoing)
     (length c.receive.new.place) Failure long (c.in-Err.ensures.came t))

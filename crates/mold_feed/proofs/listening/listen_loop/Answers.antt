@@ -1,7 +1,8 @@
 use Rattle.std.proofs.Common.{◌∙◌, ap, false, refl}
 use Rattle.mold_feed.proofs.FaultLemmas.{counts_memory, counts_same, counts_write}
 use Rattle.mold_feed.proofs.RunLemmas.{ran_cut, ran_front, ran_none, ran_whole}
-use Rattle.mold_feed.specs.Listening.{Agrees, ReportState, beginning, last_line, listener, status}
+use Rattle.mold_feed.specs.Listening.{Agrees, beginning, last_line, listener, status}
+use Rattle.mold_feed.specs.Outgoing.{OutgoingState}
 use Rattle.mold_feed.proofs.TurnLemmas.{is_loop}
 use Rattle.mold_feed.proofs.listening.listen_loop.Goals as goal
 
@@ -50,10 +51,10 @@ returns-in_err-send-clause-run g c = λ t.
     (g.D.Datagrams.port c.args.requests.now) c.args.arbiter.now)
     last_line status _ (λ front s. refl) c.in_ok-take_turns.field-0
     (listener (g.D.Datagrams.port c.take_turns.new.a) (g.D.Datagrams.port c.take_turns.new.b)
-    (g.D.Datagrams.port c.take_turns.new.requests) c.take_turns.new.arbiter c.take_turns.new.report)
+    (g.D.Datagrams.port c.take_turns.new.requests) c.take_turns.new.arbiter c.take_turns.new.report.outgoing)
     (rw c.new-report.ensures at c.in_ok-take_turns.ensures.run t)
-    c.from_residual-in_err-send.result c.push_last.new.report.text
-    (ap (λ (report : ReportState). report.text) c.in_ok-status.ensures.line) c.send.ensures.front
+    c.from_residual-in_err-send.result c.push_last.new.outgoing.text
+    (ap (λ (out : OutgoingState). out.text) c.in_ok-status.ensures.line) c.send.ensures.front
     c.from_residual-in_err-send.ensures.0
 
 pub returns-in_err-send-clause-sink : goal.returns-in_err-send-clause-sink
@@ -72,10 +73,10 @@ returns-clause-run g c = λ t.
     (g.D.Datagrams.port c.take_turns.new.requests) c.take_turns.new.arbiter)
     (λ front s. refl) c.in_ok-take_turns.field-0
     (listener (g.D.Datagrams.port c.take_turns.new.a) (g.D.Datagrams.port c.take_turns.new.b)
-    (g.D.Datagrams.port c.take_turns.new.requests) c.take_turns.new.arbiter c.take_turns.new.report)
+    (g.D.Datagrams.port c.take_turns.new.requests) c.take_turns.new.arbiter c.take_turns.new.report.outgoing)
     (rw c.new-report.ensures at c.in_ok-take_turns.ensures.run t)
-    c.in_ok-status.status c.push_last.new.report.text
-    (ap (λ (report : ReportState). report.text) c.in_ok-status.ensures.line) c.in_ok-send.ensures.whole
+    c.in_ok-status.status c.push_last.new.outgoing.text
+    (ap (λ (out : OutgoingState). out.text) c.in_ok-status.ensures.line) c.in_ok-send.ensures.whole
     c.in_ok-status.ensures.status
     (record { a_left = refl; b_left = refl; requests_left = refl; arbiter_left = refl })
 

@@ -18,14 +18,14 @@ loop-turn-preserved g c = record {
       let laws = is_loop c.args.server c.args.burst in
       let turned = c.in_ok-take_turn.ensures t in
       let made = listener (g.D.Datagrams.port c.take_turn.new.a) (g.D.Datagrams.port c.take_turn.new.b)
-      (g.D.Datagrams.port c.take_turn.new.requests) c.take_turn.new.arbiter c.take_turn.new.report in
+      (g.D.Datagrams.port c.take_turn.new.requests) c.take_turn.new.arbiter c.take_turn.new.report.outgoing in
       let after = listener (g.D.Datagrams.port c.take_turn.new.a) (g.D.Datagrams.port c.take_turn.new.b)
       (g.D.Datagrams.port c.take_turn.new.requests) c.take_turn.new.arbiter c.send_large.new.self in
       let on = finished_is c.finished.result c.receiver.result.now c.take_turn.new.arbiter.view c.finished.ensures
       c.receiver.ensures ∙ c.if-finished.false in
       let moves = c.in_ok-send_large.ensures.moved in
       going_sent laws after (going_on laws turned.fails made (c.loop-turn.invariant.going t) turned.whole on) moves
-      (moved_same _ _ _ _ c.take_turn.new.report c.send_large.new.self moves.front moves.parts
+      (moved_same _ _ _ _ c.take_turn.new.report.outgoing c.send_large.new.self moves.front moves.parts
       c.in_ok-send_large.ensures.failures);
   sink = c.in_ok-send_large.ensures.sink ∙ c.loop-turn.invariant.sink;
 }

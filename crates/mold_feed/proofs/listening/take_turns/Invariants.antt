@@ -8,8 +8,8 @@ abbrev pub invariant-loop-turn : goal.invariant-loop-turn
 invariant-loop-turn g l = record {
   going : g.D.Datagrams.tells ≡ true → Going (listening l.server l.burst) put_before
       (listener (g.D.Datagrams.port l.fn.a) (g.D.Datagrams.port l.fn.b) (g.D.Datagrams.port l.fn.requests) l.fn.arbiter
-      l.fn.report)
+      l.fn.report.outgoing)
       (g.K.Sink.held l.fn.sink) (g.K.Sink.held l.sink) l._turn
-      (listener (g.D.Datagrams.port l.a) (g.D.Datagrams.port l.b) (g.D.Datagrams.port l.requests) l.arbiter l.report);
+      (listener (g.D.Datagrams.port l.a) (g.D.Datagrams.port l.b) (g.D.Datagrams.port l.requests) l.arbiter l.report.outgoing);
   sink : g.K.Sink.failed l.sink ≡ g.K.Sink.failed l.fn.sink;
 }

@@ -1,6 +1,6 @@
-use Rattle.std.proofs.Common.{◌≤◌, ◌∙◌, ap, arith, refl, subst, sym}
-use Rattle.mold_publish.proofs.DatagramLemmas.{PackingLaws, all_sent, full_room}
-use Rattle.mold_feed.proofs.PublishLoopLemmas.{full_more}
+use Rattle.std.proofs.Common.{◌∙◌, ap, arith, refl}
+use Rattle.mold_publish.proofs.DatagramLemmas.{PackingLaws, all_sent}
+use Rattle.mold_feed.proofs.SendingLemmas.{full_went}
 use Rattle.mold_session.specs.Publisher.{PublisherState}
 use Rattle.mold_feed.proofs.RunLemmas.{none_answered}
 use Rattle.mold_feed.proofs.PassingLemmas.{passed_begun, passed_cut, passed_end, passed_full, passed_not, passed_refused}
@@ -35,13 +35,11 @@ pub lines-preserved : goal.lines-preserved
 lines-preserved g c =
     let filled = rw c.in-Full.is at c.in_ok-fill.ensures.filled in
     let known = laws g (goal.at.lines-preserved g c).After-packing_law in
+    let went = full_went known c.lines.publisher c.fill.new.publisher c.pass_next.new.publisher c.lines.number _
+    filled.room filled.sent c.lines.invariant.few c.pass_next.ensures.sent c.pass_next.ensures.counted in
     record {
-      room = rw c.pass_next.ensures.sent (full_room known _ filled.room);
-      few =
-          rw c.pass_next.ensures.sent
-          (full_more known c.fill.new.publisher c.lines.number c.pass_next.new.number filled.room
-          (subst (λ n. c.lines.number ≤ n) (sym filled.sent) c.lines.invariant.few)
-          c.pass_next.ensures.counted);
+      room = went.0;
+      few = went.1;
       passed = λ tells.
           passed_full known c.args.drops c.args.peers.now.a c.args.peers.now.b c.args.publisher.now c.lines.publisher
           c.fill.new.publisher _ _ _ _ _ _ _ c.lines.number _ (c.lines.invariant.passed tells) filled

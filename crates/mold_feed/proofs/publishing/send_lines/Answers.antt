@@ -1,6 +1,6 @@
-use Rattle.std.proofs.Common.{◌≤◌, ◌∙◌, arith, refl, subst, sym}
-use Rattle.mold_publish.proofs.DatagramLemmas.{PackingLaws, all_sent, full_room}
-use Rattle.mold_feed.proofs.PublishLoopLemmas.{full_more, sent_begun, sent_end, sent_full, sent_not, sent_refused}
+use Rattle.std.proofs.Common.{◌∙◌, arith, refl}
+use Rattle.mold_publish.proofs.DatagramLemmas.{PackingLaws, all_sent}
+use Rattle.mold_feed.proofs.SendingLemmas.{full_went, sent_begun, sent_end, sent_full, sent_not, sent_refused}
 use Rattle.mold_feed.proofs.publishing.send_lines.Given.{Over}
 use Rattle.mold_feed.proofs.publishing.send_lines.Goals as goal
 use Rattle.mold_feed.proofs.publishing.send_lines.Goals.{After-packing_law}
@@ -30,13 +30,11 @@ pub lines-preserved : goal.lines-preserved
 lines-preserved g c =
     let filled = rw c.in-Full.is at c.in_ok-fill.ensures.filled in
     let known = laws g (goal.at.lines-preserved g c).After-packing_law in
+    let went = full_went known c.lines.publisher c.fill.new.publisher c.send_next.new.publisher c.lines.datagrams _
+    filled.room filled.sent c.lines.invariant.few c.send_next.ensures.sent c.send_next.ensures.counted in
     record {
-      room = rw c.send_next.ensures.sent (full_room known _ filled.room);
-      few =
-          rw c.send_next.ensures.sent
-          (full_more known c.fill.new.publisher c.lines.datagrams c.send_next.new.datagrams filled.room
-          (subst (λ n. c.lines.datagrams ≤ n) (sym filled.sent) c.lines.invariant.few)
-          c.send_next.ensures.counted);
+      room = went.0;
+      few = went.1;
       sends = λ tells.
           sent_full known c.args.a c.args.b c.args.publisher.now c.lines.publisher c.fill.new.publisher _ _ _ _ _ _ _
           c.lines.datagrams _ (c.lines.invariant.sends tells) filled c.send_next.ensures.sent

@@ -1,6 +1,7 @@
 use Rattle.std.proofs.Common.{◌∙◌, ℕ, ap, refl}
 use Rattle.mold_feed.specs.Listening.{hearing}
-use Rattle.mold_feed.specs.Repairing.{failed_more, repair_state}
+use Rattle.mold_feed.specs.Outgoing.{failed_often}
+use Rattle.mold_feed.specs.Repairing.{repair_state}
 use Rattle.mold_feed.specs.Serving.{responder_of, service_of}
 use Rattle.mold_feed.proofs.RepairLemmas.{has_repaired, repair_cut, turn_from}
 use Rattle.mold_feed.proofs.repairing.repair.Goals as goal
@@ -27,11 +28,11 @@ returns-clause-repaired g c = λ t.
       turned.0,
       has_repaired c.take_answers.result service turned.0
           (repair_state (known c.args.ports.now.server) (known c.args.ports.now.requests) c.args.server.now
-          c.args.listener.now.arbiter c.args.listener.now.report)
+          c.args.listener.now.arbiter c.args.listener.now.report.outgoing)
           (repair_state (known c.take_turn.new.port) (known c.take_answers.new.requests) c.take_turn.new.server
-          c.take_answers.new.listener.arbiter c.take_answers.new.listener.report)
-          responder mid c.answered.result reached.whole
+          c.take_answers.new.listener.arbiter c.take_answers.new.listener.report.outgoing)
+          responder mid c.take_turn.new.tally.answered reached.whole
           (ap (hearing c.args.listener.now.arbiter)
-          (c.count_failures.ensures ∙ ap (λ (n : ℕ). failed_more n c.args.listener.now.report) c.failed.ensures))
-          c.answered.ensures refl refl (c.take_answers.ensures.sent t) (c.take_answers.ensures.heard t),
+          (c.count_failures.ensures ∙ ap (λ (n : ℕ). failed_often n c.args.listener.now.report.outgoing) c.failures.ensures))
+          refl refl refl (c.take_answers.ensures.sent t) (c.take_answers.ensures.heard t),
     )

@@ -32,9 +32,9 @@ loop-turn-preserved g c = record {
       let same =
       same_service c.args.journal.now c.loop-turn.server c.args.server.now _ c.loop-turn.invariant.server in
       let before = repair_state (known c.loop-turn.ports.server) (known c.loop-turn.ports.requests) c.loop-turn.server
-      c.loop-turn.listener.arbiter c.loop-turn.listener.report in
+      c.loop-turn.listener.arbiter c.loop-turn.listener.report.outgoing in
       let made = repair_state (known c.round.new.ports.server) (known c.round.new.ports.requests) c.round.new.server
-      c.round.new.listener.arbiter c.round.new.listener.report in
+      c.round.new.listener.arbiter c.round.new.listener.report.outgoing in
       let after = repair_state (known c.round.new.ports.server) (known c.round.new.ports.requests) c.round.new.server
       c.round.new.listener.arbiter c.send_large.new.self in
       let done = c.in_ok-round.ensures.requested t in
@@ -46,7 +46,7 @@ loop-turn-preserved g c = record {
       (going_on (rounds_are c.args.to service) done.0 made (c.loop-turn.invariant.going t)
       (has.whole ∙ ap (λ (s : Service). round c.args.to s done.0 before) same) refl)
       moves
-      (text_moved _ _ _ _ c.round.new.listener.report c.send_large.new.self moves.front moves.parts
+      (text_moved _ _ _ _ c.round.new.listener.report.outgoing c.send_large.new.self moves.front moves.parts
       c.in_ok-send_large.ensures.failures);
   server =
       c.round.ensures.server
@@ -67,9 +67,9 @@ returns-in_err-round-clause-rests g c = λ t.
     let service = service_of c.args.journal.now c.args.server.now in
     let same = same_service c.args.journal.now c.loop-turn.server c.args.server.now _ c.loop-turn.invariant.server in
     let before = repair_state (known c.loop-turn.ports.server) (known c.loop-turn.ports.requests) c.loop-turn.server
-    c.loop-turn.listener.arbiter c.loop-turn.listener.report in
+    c.loop-turn.listener.arbiter c.loop-turn.listener.report.outgoing in
     let after = repair_state (known c.round.new.ports.server) (known c.round.new.ports.requests) c.round.new.server
-    c.round.new.listener.arbiter c.round.new.listener.report in
+    c.round.new.listener.arbiter c.round.new.listener.report.outgoing in
     let done = c.round.ensures.requested t in
     let has = round_is _ c.args.to (service_of c.args.journal.now c.loop-turn.server) c.in-Some.request
     done.0 before after (ap wanted (sym c.receiver.ensures) ∙ sym c.in-Some.ensures.wanted) done.1 in
@@ -84,9 +84,9 @@ returns-in_err-send_large-clause-rests g c = λ t.
     let service = service_of c.args.journal.now c.args.server.now in
     let same = same_service c.args.journal.now c.loop-turn.server c.args.server.now _ c.loop-turn.invariant.server in
     let before = repair_state (known c.loop-turn.ports.server) (known c.loop-turn.ports.requests) c.loop-turn.server
-    c.loop-turn.listener.arbiter c.loop-turn.listener.report in
+    c.loop-turn.listener.arbiter c.loop-turn.listener.report.outgoing in
     let made = repair_state (known c.round.new.ports.server) (known c.round.new.ports.requests) c.round.new.server
-    c.round.new.listener.arbiter c.round.new.listener.report in
+    c.round.new.listener.arbiter c.round.new.listener.report.outgoing in
     let done = c.in_ok-round.ensures.requested t in
     let has = round_is _ c.args.to (service_of c.args.journal.now c.loop-turn.server) c.in-Some.request
     done.0 before made (ap wanted (sym c.receiver.ensures) ∙ sym c.in-Some.ensures.wanted) done.1 in

@@ -13,11 +13,11 @@ invariant-loop-turn g l =
           g.D.Datagrams.tells ≡ true →
           Going (repairing l.to (service_of l.journal l.fn.server)) text_before
           (repair_state (known l.fn.ports.server) (known l.fn.ports.requests) l.fn.server l.fn.listener.arbiter
-          l.fn.listener.report)
+          l.fn.listener.report.outgoing)
           (g.K.Sink.held l.fn.sink)
           (g.K.Sink.held l.sink)
           l._turn
-          (repair_state (known l.ports.server) (known l.ports.requests) l.server l.listener.arbiter l.listener.report);
+          (repair_state (known l.ports.server) (known l.ports.requests) l.server l.listener.arbiter l.listener.report.outgoing);
       server : l.server ≡ record l.fn.server { answered = l.server.answered };
       publisher : l.ports.publisher ≡ l.fn.ports.publisher;
       sink : g.K.Sink.failed l.sink ≡ g.K.Sink.failed l.fn.sink;

@@ -8,7 +8,7 @@ pub returns-then-is_err-clause-requested : goal.returns-then-is_err-clause-reque
 returns-then-is_err-clause-requested g c = λ t.
     let known = g.D.Datagrams.port in
     let before = repair_state (known c.args.ports.now.server) (known c.args.ports.now.requests) c.args.server.now
-    c.args.listener.now.arbiter c.args.listener.now.report in (
+    c.args.listener.now.arbiter c.args.listener.now.report.outgoing in (
       (true, []),
       round_missed c.args.to (service_of c.args.journal.now c.args.server.now) c.args.request.now before _
           (known c.send.new.self) _ _ (sym c.if-is_err.ensures.value) c.encode.ensures.spelled (c.send.ensures.sent t)
@@ -19,7 +19,7 @@ pub returns-clause-requested : goal.returns-clause-requested
 returns-clause-requested g c = λ t.
     let known = g.D.Datagrams.port in
     let before = repair_state (known c.args.ports.now.server) (known c.args.ports.now.requests) c.args.server.now
-    c.args.listener.now.arbiter c.args.listener.now.report in
+    c.args.listener.now.arbiter c.args.listener.now.report.outgoing in
     let repaired = c.repair.ensures.repaired t in (
       (false, repaired.0),
       round_made c.repair.result c.args.to (service_of c.args.journal.now c.args.server.now) c.args.request.now

@@ -9,7 +9,7 @@ pub loop-answer-init : goal.loop-answer-init
 loop-answer-init g c = record {
   heard = λ t.
       ap (λ (n : ℕ). hear_answers n
-      (asking (g.D.Datagrams.port c.args.requests.now) c.args.listener.now.arbiter c.args.listener.now.report))
+      (asking (g.D.Datagrams.port c.args.requests.now) c.args.listener.now.arbiter c.args.listener.now.report.outgoing))
       (let e : c.args.count - 0 ≡ c.args.count = omega arith in e);
   sent = λ t. refl;
 }
@@ -18,8 +18,8 @@ pub loop-answer-preserved : goal.loop-answer-preserved
 loop-answer-preserved g c = record {
   heard = λ t.
       let before = asking (g.D.Datagrams.port c.loop-answer.requests) c.loop-answer.listener.arbiter
-      c.loop-answer.listener.report in
-      let after = asking (g.D.Datagrams.port c.hear_port.new.port) c.hear_port.new.arbiter c.hear_port.new.report in
+      c.loop-answer.listener.report.outgoing in
+      let after = asking (g.D.Datagrams.port c.hear_port.new.port) c.hear_port.new.arbiter c.hear_port.new.report.outgoing in
       let is : after ≡ stepped before =
       asking_is _ _ _ (stepped before) (c.hear_port.ensures.port t) (c.in_ok-hear_port.ensures.heard t) in
       one_heard (c.args.count - c.loop-answer._answer) (c.args.count - (c.loop-answer._answer + 1)) before after _

@@ -3,7 +3,7 @@ use Rattle.mold_publish.specs.Sending.{end_packet}
 use Rattle.mold_feed.specs.PublishLoop.{Sends, beat_packet, both, publication_of}
 use Rattle.mold_wire.specs.Packet.{spelling_of}
 use Rattle.mold_session.specs.Publisher.{PublisherState, closed}
-use Rattle.mold_feed.proofs.PublishLoopLemmas.{close_done, sends_more}
+use Rattle.mold_feed.proofs.SendingLemmas.{close_done, sends_more}
 use Rattle.mold_feed.proofs.sending.send_close.Goals as goal
 
 pub returns-clause-sends : goal.returns-clause-sends
@@ -19,7 +19,7 @@ returns-clause-sends g c tells unclosed =
     (subst
     (λ (p : PublisherState).
     Sends (both c.args.a c.args.b (replicate c.args.ends (spelling_of (end_packet p.journal))))
-    (publication_of (g.D.Datagrams.port c.send_beats.new.port) c.send_beats.new.failed)
-    (publication_of (g.D.Datagrams.port c.send_ends.new.port) c.send_ends.new.failed))
+    (publication_of (g.D.Datagrams.port c.send_beats.new.port) c.send_beats.new.outgoing)
+    (publication_of (g.D.Datagrams.port c.send_ends.new.port) c.send_ends.new.outgoing))
     (shut ∙ ap (λ (p : PublisherState). closed p) c.send_beats.ensures.same)
     (c.send_ends.ensures.sends tells))

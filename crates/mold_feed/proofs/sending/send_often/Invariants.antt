@@ -8,6 +8,6 @@ invariant-loop-time g l = record {
   sends :
       g.D.Datagrams.tells ≡ true →
       Sends (both l.fn.a l.fn.b (replicate l._time l.fn.bytes))
-      (publication_of (g.D.Datagrams.port l.fn.port) l.fn.failed)
-      (publication_of (g.D.Datagrams.port l.port) l.failed);
+      (publication_of (g.D.Datagrams.port l.fn.port) l.fn.outgoing)
+      (publication_of (g.D.Datagrams.port l.port) l.outgoing);
 }

@@ -1,8 +1,8 @@
 use Rattle.std.proofs.Common.{◌≡◌, ◌≤◌, ◌∙◌, ℕ, refl, sym, ap, subst, Ok, arith}
 use Rattle.mold_devices.specs.declared.fault.CommandFault.{CommandFault}
-use Rattle.mold_devices.specs.Devices.{one_more}
 use Rattle.mold_feed.specs.Serving.{Service, behind, serve_turn, service_of, serving, responder_of}
-use Rattle.mold_feed.proofs.ServingLemmas.{counts_memory, counts_write, rests_as, same_service, serving_is, wrote}
+use Rattle.mold_feed.proofs.ServingLemmas.{rests_as, same_service, serving_is, wrote}
+use Rattle.mold_feed.proofs.FaultLemmas.{counts_memory, counts_write}
 use Rattle.mold_session.specs.Server.{ServerState}
 use Rattle.mold_feed.specs.Runs.{Begins, Rests}
 use Rattle.mold_feed.proofs.RunLemmas.{going_init, going_on, going_sent, rests_cut, rests_end, rests_failed}
@@ -28,14 +28,14 @@ loop-turn-preserved g c = record {
       let made = turned.1.whole ∙ ap (λ (s : Service). serve_turn s turned.0 now) same in
       going_sent (serving_is service) _
       (going_on (serving_is service) turned.0 after (c.loop-turn.invariant.going tells) made refl)
-      c.in_ok-write_large.ensures.moved
-      (wrote _ c.take_turn.new.tally c.write_large.new.self _ _ c.in_ok-write_large.ensures.moved.parts
-      c.in_ok-write_large.ensures.same);
+      c.in_ok-send_large.ensures.moved
+      (wrote _ c.take_turn.new.tally c.send_large.new.self _ _ c.in_ok-send_large.ensures.moved.parts
+      c.in_ok-send_large.ensures.failures);
   server =
       c.in_ok-take_turn.ensures.server
       ∙ ap (λ (s : ServerState). record s { answered = c.take_turn.new.server.answered }) c.loop-turn.invariant.server;
   place = c.take_turn.auto.place ∙ c.loop-turn.invariant.place;
-  sink = c.in_ok-write_large.ensures.failures ∙ c.loop-turn.invariant.sink;
+  sink = c.in_ok-send_large.ensures.sink ∙ c.loop-turn.invariant.sink;
 }
 
 pub take_turn-requires-clause-longest : goal.take_turn-requires-clause-longest
@@ -69,37 +69,35 @@ returns-in_err-take_turn-clause-server g c =
 
 pub returns-in_err-take_turn-clause-sink : goal.returns-in_err-take_turn-clause-sink
 returns-in_err-take_turn-clause-sink g c =
-    counts_memory _ _ c.from_residual.result c.from_residual.ensures.0 c.from_residual.ensures.1
-    c.loop-turn.invariant.sink
+    counts_memory c.from_residual.result _ _ c.from_residual.ensures.1 c.loop-turn.invariant.sink
 
-pub returns-in_err-write_large-clause-rests : goal.returns-in_err-write_large-clause-rests
-returns-in_err-write_large-clause-rests g c tells =
+pub returns-in_err-send_large-clause-rests : goal.returns-in_err-send_large-clause-rests
+returns-in_err-send_large-clause-rests g c tells =
     let service = service_of c.args.journal.now c.args.server.now in
     let turned = c.in_ok-take_turn.ensures.turn tells in
     let now = responder_of (g.D.Datagrams.port c.loop-turn.port) c.loop-turn.tally c.loop-turn.server in
     let after = responder_of (g.D.Datagrams.port c.take_turn.new.port) c.take_turn.new.tally c.take_turn.new.server in
     let same =
     same_service c.args.journal.now c.loop-turn.server c.args.server.now _ c.loop-turn.invariant.server in
-    let failed = c.from_residual-in_err-write_large.ensures.0 in
-    rests_as service c.args.turns _ after _ c.from_residual-in_err-write_large.result _ _ refl failed
-    (rests_cut (serving_is service) c.from_residual-in_err-write_large.result c.args.turns turned.0 after
+    let failed = c.from_residual-in_err-send_large.ensures.0 in
+    rests_as service c.args.turns _ after _ c.from_residual-in_err-send_large.result _ _ refl failed
+    (rests_cut (serving_is service) c.from_residual-in_err-send_large.result c.args.turns turned.0 after
     (c.loop-turn.invariant.going tells)
     c.loop-turn-test.true
     (turned.1.whole ∙ ap (λ (s : Service). serve_turn s turned.0 now) same)
-    c.in_err-write_large.ensures.front
+    c.in_err-send_large.ensures.front
     failed)
 
-pub returns-in_err-write_large-clause-server : goal.returns-in_err-write_large-clause-server
-returns-in_err-write_large-clause-server g c =
+pub returns-in_err-send_large-clause-server : goal.returns-in_err-send_large-clause-server
+returns-in_err-send_large-clause-server g c =
     c.in_ok-take_turn.ensures.server
     ∙ ap (λ (s : ServerState). record s { answered = c.take_turn.new.server.answered }) c.loop-turn.invariant.server
 
-pub returns-in_err-write_large-clause-sink : goal.returns-in_err-write_large-clause-sink
-returns-in_err-write_large-clause-sink g c =
-    counts_write _ _ c.from_residual-in_err-write_large.result _ c.from_residual-in_err-write_large.ensures.0
-    c.from_residual-in_err-write_large.ensures.1
-    c.in_err-write_large.ensures.fault
-    (c.in_err-write_large.ensures.failures ∙ ap one_more c.loop-turn.invariant.sink)
+pub returns-in_err-send_large-clause-sink : goal.returns-in_err-send_large-clause-sink
+returns-in_err-send_large-clause-sink g c =
+    counts_write c.from_residual-in_err-send_large.result _ _ (g.K.Sink.failed c.loop-turn.sink) _
+    c.from_residual-in_err-send_large.ensures.1 c.in_err-send_large.ensures.fault c.in_err-send_large.ensures.sink
+    c.loop-turn.invariant.sink
 
 pub returns-clause-rests : goal.returns-clause-rests
 returns-clause-rests g c tells =

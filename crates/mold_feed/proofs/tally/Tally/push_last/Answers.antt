@@ -1,10 +1,11 @@
-use Rattle.std.proofs.Common.{◌≡◌, ◌++◌, subst}
-use Rattle.std.specs.Prelude.{OnOk}
-use Rattle.mold_feed.specs.Tally.{TallyState, last_line}
+use Rattle.std.proofs.Common.{ap}
+use Rattle.std.proofs.lemmas.Result.{on_ok_weaker}
+use Rattle.mold_feed.specs.Outgoing.{OutgoingState}
+use Rattle.mold_feed.specs.Tally.{with_outgoing}
 use Rattle.mold_feed.proofs.tally.Tally.push_last.Goals as goal
 
-pub returns-clause-text : goal.returns-clause-text
-returns-clause-text c =
-    subst (λ (t : TallyState). OnOk c.push_line.result (c.push_line.new.out.items ≡ t.text ++ last_line t))
-    c.self.view_is
-    c.push_line.ensures.line
+pub returns : goal.returns
+returns c =
+    on_ok_weaker c.push_line.result
+    (λ added. ap (λ (outgoing : OutgoingState). with_outgoing outgoing c.args.self.now) added)
+    (rw c.failures.ensures at c.push_line.ensures)

@@ -1,0 +1,138 @@
+//! Text that goes out, and the failures that are counted beside it.
+
+ghost use Rattle.std.specs.Prelude.{◌≡◌, ◌<◌, ◌≤◌, [], length, map, IfErr, IsOk, OnOk};
+ghost use Rattle.std.specs.Io.KnownBytes.{Appends};
+ghost use Rattle.mold_devices.specs.Devices.{AppendsFront, Counts};
+ghost use Rattle.mold_feed.specs.Outgoing.{failed_often, failed_once, nothing_out, with_more};
+ghost use Rattle.mold_feed.specs.Runs.{Moves};
+ghost use Rattle.mold_feed.specs.Text.{handed_text, refused_text};
+ghost use Rattle.mold_publish.specs.Publishing.{refused_text as line_refused_text};
+ghost use Rattle.mold_text.specs.Line.{line_of, word_text};
+ghost use Rattle.mold_text.specs.Text.{refusal_words, refused_line};
+
+use crate::handed::push_handed;
+use mold_devices::{CommandFault, LARGE, Sink, send};
+use mold_publish::{LineRefusal, push_line_refused};
+use mold_receiver::{Batch, Refused};
+use mold_refusals::push_answer_refusal;
+use mold_session::AnswerError;
+use mold_text::{Word, push_line, push_refusal};
+use std::alloc::{AllocError, Global};
+use std::marker::Model;
+
+/// The text that is still to be written, and how many sends and receives failed. The memory of a text that was
+/// written is kept for the next one.
+#[derive(Drop)]
+pub struct Outgoing {
+    text: Vec<u8>,
+    failures: u64,
+}
+
+impl Model for Outgoing {
+    ghost use Rattle.mold_feed.specs.Outgoing.{OutgoingState};
+
+    ghost Value = { OutgoingState };
+
+    ghost view = { λ d. record { text = d.text.items; failures = d.failures } };
+}
+
+impl Outgoing {
+    /// Nothing to write and no failure. It takes no memory yet.
+    pub fn new(alloc: Global) -> Outgoing
+        ensures { result ≡ nothing_out }
+    {
+        Outgoing {
+            text: Vec::new(alloc),
+            failures: 0,
+        }
+    }
+
+    /// How many sends and receives failed.
+    pub fn failures(&self) -> u64
+        ensures { result ≡ self.now.failures }
+    {
+        self.failures
+    }
+
+    /// Counts a failed send or receive. The count stays at 18446744073709551615.
+    pub fn count_failure(&mut self)
+        ensures { self.new ≡ failed_once self.old }
+    {
+        self.failures = self.failures.saturating_add(1);
+    }
+
+    /// Counts so many of them.
+    pub(crate) fn count_failures(&mut self, count: u64)
+        ensures { self.new ≡ failed_often count self.old }
+    {
+        self.failures = self.failures.saturating_add(count);
+    }
+
+    /// Adds the words as a line. After an error, which is want of memory, a part of the line stands after the text.
+    pub fn push_line(&mut self, words: &[Word<'_>]) -> Result<(), AllocError>
+        ensures { OnOk result (self.new ≡ with_more (line_of (map word_text words.now)) self.old) }
+    {
+        push_line(&mut self.text, words)
+    }
+
+    // Adds a line for each message of the batch.
+    pub(crate) fn push_handed(&mut self, batch: &Batch) -> Result<(), AllocError>
+        ensures { OnOk result (self.new ≡ with_more (handed_text batch.now.first batch.now.messages) self.old) }
+    {
+        push_handed(&mut self.text, batch)
+    }
+
+    // Adds why a receiver refuses a datagram.
+    pub(crate) fn push_refused(&mut self, why: Refused) -> Result<(), AllocError>
+        ensures { OnOk result (self.new ≡ with_more (refused_line (refusal_words why)) self.old) }
+    {
+        push_refusal(&mut self.text, &[Word::Text(b"refused")], why)
+    }
+
+    // Adds why a server refuses a request.
+    pub(crate) fn push_request_refused(&mut self, why: AnswerError) -> Result<(), AllocError>
+        ensures { OnOk result (self.new ≡ with_more (refused_text why) self.old) }
+    {
+        push_answer_refusal(&mut self.text, &[Word::Text(b"refused")], why)
+    }
+
+    // Adds why the line of this number is refused, the first line's being 1.
+    pub(crate) fn push_line_refused(
+        &mut self,
+        number: u64,
+        why: LineRefusal,
+    ) -> Result<(), AllocError>
+        ensures { OnOk result (self.new ≡ with_more (line_refused_text number why) self.old) }
+    {
+        push_line_refused(&mut self.text, number, why)
+    }
+
+    /// Writes the text where it has come to 65,536 bytes, and leaves it else. After a fault a front of it is
+    /// written.
+    pub fn send_large<K: Sink>(&mut self, sink: &mut K) -> Result<(), CommandFault>
+        ensures moved { OnOk result (Moves (K.held sink.old) (K.held sink.new) self.old.text self.new.text) }
+        ensures large { OnOk result (65536 ≤ length self.old.text → self.new.text ≡ []) }
+        ensures small { length self.old.text < 65536 → IsOk result × (self.new ≡ self.old) }
+        ensures failures { self.new.failures ≡ self.old.failures }
+        ensures front { AppendsFront (K.held sink.old) (K.held sink.new) self.old.text }
+        ensures fault { IfErr result (λ fault. fault ≡ CommandFault.Write) }
+        ensures sink { Counts (K.failed sink.old) (K.failed sink.new) result }
+    {
+        if self.text.len() < LARGE {
+            return Ok(());
+        }
+        self.send(sink)
+    }
+
+    /// Writes the text. After a fault a front of it is written.
+    pub fn send<K: Sink>(&mut self, sink: &mut K) -> Result<(), CommandFault>
+        ensures whole { OnOk result (Appends (K.held sink.old) (K.held sink.new) self.old.text) }
+        ensures empty { OnOk result (self.new.text ≡ []) }
+        ensures failures { self.new.failures ≡ self.old.failures }
+        ensures front { AppendsFront (K.held sink.old) (K.held sink.new) self.old.text }
+        ensures fault { IfErr result (λ fault. fault ≡ CommandFault.Write) }
+        ensures sink { Counts (K.failed sink.old) (K.failed sink.new) result }
+    {
+        send(sink, &mut self.text)
+    }
+}

@@ -1,0 +1,71 @@
+//! Single receives on ports in memory: what is taken as a line's datagram, and what as an answer.
+
+ghost use Rattle.std.specs.Prelude.{◌≡◌, length};
+
+use crate::comparisons::same_bytes;
+use crate::listen::{DATA_1, DATA_2, QUIET, SESSION, port};
+use mold_devices::MemorySink;
+use mold_feed::{LONGEST, Report, hear_port, push_last};
+use mold_ports::MemoryPort;
+use mold_receiver::{Arbiter, Line, Receiver};
+use std::alloc::Global;
+use std::process::Abort;
+use std::test::Fail;
+
+/// One line's port and the port of answers, with what listens to them and what it prints.
+#[derive(Drop)]
+struct Hearing {
+    line: MemoryPort,
+    answers: MemoryPort,
+    arbiter: Arbiter,
+    report: Report,
+    sink: MemorySink,
+}
+
+impl Hearing {
+    fn new(alloc: Global) -> Result<Self, Fail> {
+        let line = port(alloc, &[DATA_2, QUIET], Some(1))?;
+        let answers = port(alloc, &[DATA_1], None)?;
+        Ok(Hearing {
+            line,
+            answers,
+            arbiter: Arbiter::new(Receiver::new(alloc, SESSION, 1, 4)?),
+            report: Report::new(alloc),
+            sink: MemorySink::new(alloc),
+        })
+    }
+
+    /// Hears line B, or the answers where there is no line: whether a datagram came.
+    fn expect_heard(&mut self, rt: &impl Abort, line: Option<Line>, place: &mut [u8], came: bool)
+        requires { length place.old ≡ 65507 }
+    {
+        let (arbiter, report) = (&mut self.arbiter, &mut self.report);
+        let heard = match line {
+            Some(_) => hear_port(&mut self.line, line, place, arbiter, report),
+            None => hear_port(&mut self.answers, line, place, arbiter, report),
+        };
+        assert_eq!(rt; heard, Ok(came));
+    }
+
+    /// Prints the last line after the text.
+    fn expect_printed(&mut self, rt: &impl Abort, text: &[u8]) {
+        assert!(rt; self.report.outgoing.send_large(&mut self.sink).is_ok());
+        assert_eq!(rt; push_last(&self.arbiter, &mut self.report.outgoing), Ok(1));
+        assert!(rt; self.report.outgoing.send(&mut self.sink).is_ok());
+        same_bytes(rt, self.sink.bytes(), text);
+    }
+}
+
+#[test]
+fn ports_are_heard_one_by_one(rt: HostRuntime) -> Result<(), Fail> {
+    let mut place = vec![in rt.alloc(); 0; LONGEST]?;
+    let mut hearing = Hearing::new(rt.alloc())?;
+    let place = place.as_mut_slice();
+    hearing.expect_heard(&rt, Some(Line::B), place, true);
+    hearing.expect_heard(&rt, Some(Line::B), place, false);
+    hearing.expect_heard(&rt, None, place, true);
+    assert_eq!(rt; hearing.arbiter.report(Line::B).datagrams, 1);
+    hearing.report.outgoing.count_failure();
+    hearing.expect_printed(&rt, b"1 41\n2 42\nopen next 3 known 3 failed 2\n");
+    Ok(())
+}
