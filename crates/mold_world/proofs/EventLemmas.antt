@@ -20,7 +20,6 @@ use Rattle.mold_receiver.specs.Store.{from_next}
 use Rattle.mold_rule.specs.declared.refusal.Refusal.TheVariants.{Malformed, WrongSession}
 use Rattle.mold_receiver.specs.View.{IsWellFormed, View}
 use Rattle.mold_receiver.specs.Wanted.{IsGap, gap_end, wanted}
-use Rattle.mold_receiver.specs.declared.line.Line.{Line}
 use Rattle.mold_rule.specs.declared.refusal.Refusal.{Refusal as Refused}
 use Rattle.mold_session.specs.Answer.{IsPlan, PlanState, answer, plan_for, planned}
 use Rattle.mold_session.specs.Server.{IsAnswerable, asking}
@@ -33,10 +32,11 @@ use Rattle.mold_session.specs.declared.error.AppendError.{AppendError}
 use Rattle.mold_world.proofs.MachineLemmas.{append_cases, one_alone}
 use Rattle.mold_world.proofs.PlaceLemmas.{ReceiverLaws, given_kept, noise_kept, place_closed, place_published}
 use Rattle.mold_world.proofs.PlaceLemmas.{place_sent, renewed_kept}
-use Rattle.mold_world.specs.Effect.{Happening, Outcome, delivered, effect, is_own, noised, publishing, restarted}
+use Rattle.mold_world.specs.Event.{Happening}
+use Rattle.mold_world.specs.Effect.{Outcome, delivered, effect, is_own, noised, publishing, restarted}
 use Rattle.mold_world.specs.Effect.{after_event, after_outcome, answered, asked, asked_for, given, renewed, requested, run_events, sending, unsent_count}
 use Rattle.mold_world.specs.Effect.{with_place}
-use Rattle.mold_world.specs.Effect.Happening.{Publish, Datagram, Heartbeat, Close, End, Request, Ask, Deliver, Noise, Restart}
+use Rattle.mold_world.specs.declared.event.EventOf.TheVariants.{Publish, Datagram, Heartbeat, Close, End, Request, Ask, Deliver, Noise, Restart}
 use Rattle.mold_world.specs.Headline.{IsPrefix}
 use Rattle.mold_world.specs.Kept.{IsPlaceKept, IsWorld}
 use Rattle.mold_world.specs.World.{PlaceState, WorldState}
@@ -45,6 +45,7 @@ use Rattle.mold_world.specs.declared.report.Report.TheVariants as report
 use Rattle.mold_session.specs.declared.error.SessionError.TheVariants as session
 use Rattle.mold_world.specs.declared.report.WorldError.{WorldError}
 use Rattle.mold_world.specs.declared.report.WorldError.TheVariants.{NotReached, Layer as Refuses}
+use Rattle.mold_world.specs.declared.way.Way.{Way}
 
 -- what the laws of session and wire say
 pub record SendingLaws : Type 0 where
@@ -225,14 +226,14 @@ close_kept laws receivers w false done is none same =
     (omega (arith, ltb-false 0 (unsent_count w.publisher) none, is.publisher.published))) same
 
 deliver_kept :
-    (receivers : ReceiverLaws) (w : WorldState) (receiver at : ℕ) (line : Option Line) (place : Option PlaceState)
+    (receivers : ReceiverLaws) (w : WorldState) (receiver at : ℕ) (way : Way) (place : Option PlaceState)
     (datagram : Option (List ℕ)) (done : Report × WorldState) → IsWorld w → slice_get w.places receiver ≡ place →
-    slice_get w.sent at ≡ datagram → delivered w receiver line place datagram ≡ Ok done → IsWorld done.1
-deliver_kept receivers w receiver at line None datagram done is here sent same = err_world _ done same
-deliver_kept receivers w receiver at line (Some place) None done is here sent same = err_world _ done same
-deliver_kept receivers w receiver at line (Some place) (Some bytes) done is here sent same =
-    ok_world _ done (world_with_place w receiver (given place line bytes) is
-    (given_kept receivers w.publisher.journal w.sent place line bytes (is.places receiver place here)
+    slice_get w.sent at ≡ datagram → delivered w receiver way place datagram ≡ Ok done → IsWorld done.1
+deliver_kept receivers w receiver at way None datagram done is here sent same = err_world _ done same
+deliver_kept receivers w receiver at way (Some place) None done is here sent same = err_world _ done same
+deliver_kept receivers w receiver at way (Some place) (Some bytes) done is here sent same =
+    ok_world _ done (world_with_place w receiver (given place way bytes) is
+    (given_kept receivers w.publisher.journal w.sent place way bytes (is.places receiver place here)
     (record { place = at; found = sent; told = is.said at bytes sent }))) same
 
 -- bytes that are no packet of the session are refused
@@ -256,17 +257,17 @@ not_own view own (Ok packet) same other =
     )
 
 noise_given :
-    (w : WorldState) (receiver : ℕ) (line : Option Line) (bytes : List ℕ) (place : Option PlaceState) (own : Bool)
+    (w : WorldState) (receiver : ℕ) (way : Way) (bytes : List ℕ) (place : Option PlaceState) (own : Bool)
     (done : Report × WorldState) → IsWorld w → slice_get w.places receiver ≡ place →
-    is_own w.publisher.journal.session (reading bytes) ≡ own → noised w receiver line bytes place own ≡ Ok done →
+    is_own w.publisher.journal.session (reading bytes) ≡ own → noised w receiver way bytes place own ≡ Ok done →
     IsWorld done.1
-noise_given w receiver line bytes None own done is here mine same = err_world _ done same
-noise_given w receiver line bytes (Some place) true done is here mine same = err_world _ done same
-noise_given w receiver line bytes (Some place) false done is here mine same =
+noise_given w receiver way bytes None own done is here mine same = err_world _ done same
+noise_given w receiver way bytes (Some place) true done is here mine same = err_world _ done same
+noise_given w receiver way bytes (Some place) false done is here mine same =
     let kept = is.places receiver place here in
     let refused = not_own place.arbitration.view w.publisher.journal.session (reading bytes) kept.session mine in
-    ok_world _ done (world_with_place w receiver (given place line bytes) is
-    (noise_kept w.publisher.journal w.sent place line bytes refused.0 refused.1 kept)) same
+    ok_world _ done (world_with_place w receiver (given place way bytes) is
+    (noise_kept w.publisher.journal w.sent place way bytes refused.0 refused.1 kept)) same
 
 restart_given :
     (receivers : ReceiverLaws) (w : WorldState) (receiver next : ℕ) (place : PlaceState) (reached : Bool)
@@ -419,11 +420,11 @@ event_kept laws w (Request bytes) done is same =
     request_kept laws.answers w bytes (asking w.publisher.journal bytes) done is refl same
 event_kept laws w (Ask receiver) done is same =
     ask_kept laws.answers w receiver (slice_get w.places receiver) done is refl same
-event_kept laws w (Deliver receiver line at) done is same =
-    deliver_kept laws.receivers w receiver at line (slice_get w.places receiver) (slice_get w.sent at) done is refl refl
+event_kept laws w (Deliver receiver way at) done is same =
+    deliver_kept laws.receivers w receiver at way (slice_get w.places receiver) (slice_get w.sent at) done is refl refl
     same
-event_kept laws w (Noise receiver line bytes) done is same =
-    noise_given w receiver line bytes (slice_get w.places receiver)
+event_kept laws w (Noise receiver way bytes) done is same =
+    noise_given w receiver way bytes (slice_get w.places receiver)
     (is_own w.publisher.journal.session (reading bytes)) done is refl refl same
 event_kept laws w (Restart receiver next) done is same =
     restart_kept laws.receivers w receiver next (slice_get w.places receiver) done is refl same

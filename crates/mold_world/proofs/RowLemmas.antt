@@ -17,7 +17,7 @@ use Rattle.mold_session.specs.declared.error.AppendError.{AppendError}
 use Rattle.mold_session.specs.declared.error.AppendError.TheVariants.{Closed, TooLong, Full, Memory as AppendMemory}
 use Rattle.mold_session.specs.declared.error.Unsent.{Unsent}
 use Rattle.mold_world.specs.Effect.{Outcome, effect, publishing, sending, unsent_count}
-use Rattle.mold_world.specs.Effect.Happening.{Publish, Datagram, Heartbeat, Close, End}
+use Rattle.mold_world.specs.declared.event.EventOf.TheVariants.{Publish, Datagram, Heartbeat, Close, End}
 use Rattle.mold_world.specs.Refusals.{Refuses, append_error}
 use Rattle.mold_world.specs.Sending.{stored, stored_report}
 use Rattle.mold_world.specs.World.{WorldState}

@@ -13,7 +13,6 @@ use Rattle.mold_wire.specs.declared.request.Request.{Request as Asked}
 use Rattle.mold_receiver.specs.Receive.{Reception, handed_on, receive}
 use Rattle.mold_receiver.specs.View.{View}
 use Rattle.mold_receiver.specs.Wanted.{wanted}
-use Rattle.mold_receiver.specs.declared.line.Line.{Line}
 use Rattle.mold_rule.specs.declared.refusal.Refusal.{Refusal as Refused}
 use Rattle.mold_session.specs.Answer.{answer, from_number}
 use Rattle.mold_session.specs.Datagrams.{packing}
@@ -27,10 +26,11 @@ use Rattle.mold_world.proofs.EventLemmas.{AllLaws, answer_told, wanted_answerabl
 use Rattle.mold_world.proofs.HearingLemmas.{err_so, noise_hands_nothing, noise_unmoved, ok_so, sent_taken}
 use Rattle.mold_world.proofs.PlaceLemmas.{followed_messages, given_kept, handed_messages, same_Ok}
 use Rattle.std.specs.FinMap as finite
-use Rattle.mold_world.specs.Effect.{Happening, Outcome, answered, book_after, asked, asked_for, delivered, effect, given, is_own, noised}
+use Rattle.mold_world.specs.Event.{Happening}
+use Rattle.mold_world.specs.Effect.{Outcome, answered, book_after, asked, asked_for, delivered, effect, given, is_own, noised}
 use Rattle.mold_world.specs.Effect.{publishing, renewed, requested, restarted, sending, unsent_count, with_place}
-use Rattle.mold_world.specs.Effect.Happening.{Publish as PublishEvent, Datagram, Heartbeat, Close as CloseEvent, End}
-use Rattle.mold_world.specs.Effect.Happening.{Request, Ask, Deliver as DeliverEvent, Noise, Restart as RestartEvent}
+use Rattle.mold_world.specs.declared.event.EventOf.TheVariants.{Publish as PublishEvent, Datagram, Heartbeat, Close as CloseEvent, End}
+use Rattle.mold_world.specs.declared.event.EventOf.TheVariants.{Request, Ask, Deliver as DeliverEvent, Noise, Restart as RestartEvent}
 use Rattle.mold_world.specs.HandOns.{handed_at, handed_by, handed_of}
 use Rattle.mold_world.specs.Headline.{all_handed, handed_from}
 use Rattle.mold_world.specs.Hearing.{IsUnmoved}
@@ -45,6 +45,7 @@ use Rattle.mold_world.specs.declared.report.Report.{Report}
 use Rattle.mold_world.specs.declared.report.Report.TheVariants as report
 use Rattle.mold_session.specs.declared.error.SessionError.TheVariants as session
 use Rattle.mold_world.specs.declared.report.WorldError.TheVariants.{NotReached, Layer as Refuses}
+use Rattle.mold_world.specs.declared.way.Way.{Way}
 
 -- an event of a kind is its steps
 abbrev IsDone : WorldState → Happening → Report × WorldState → Type 0
@@ -287,11 +288,11 @@ pub record HandsOnSent (w : WorldState) (receiver : ℕ) (old new : PlaceState) 
       IsSentAs w.sent (old.arbitration.view.next + i) message
 
 deliver_made :
-    (w : WorldState) (receiver at : ℕ) (line : Option Line) (old new : PlaceState) (handed : List (List ℕ)) →
+    (w : WorldState) (receiver at : ℕ) (way : Way) (old new : PlaceState) (handed : List (List ℕ)) →
     HandsOnSent w receiver old new handed →
-    handed_by w (DeliverEvent receiver line at) ≡ handed_from receiver old.arbitration.view.next handed →
-    AreSteps w (DeliverEvent receiver line at) (with_place w receiver new)
-deliver_made w receiver at line old new handed hands so =
+    handed_by w (DeliverEvent receiver way at) ≡ handed_from receiver old.arbitration.view.next handed →
+    AreSteps w (DeliverEvent receiver way at) (with_place w receiver new)
+deliver_made w receiver at way old new handed hands so =
     let standing : Standing = standing_of (slice_get w.places receiver) in
     let book : standing.book ≡ old.book.messages =
     ap (λ (t : Option PlaceState). (standing_of t).book) hands.here
@@ -334,11 +335,11 @@ pub record HandsOnLaw : Type 0 where
 
 -- a receiver takes what was sent
 taken_hands :
-    (laws : AllLaws) (law : HandsOnLaw) (w : WorldState) (receiver at : ℕ) (line : Option Line) (place : PlaceState)
+    (laws : AllLaws) (law : HandsOnLaw) (w : WorldState) (receiver at : ℕ) (way : Way) (place : PlaceState)
     (bytes : List ℕ) (r : Reception) → IsWorld w → slice_get w.places receiver ≡ Some place →
     slice_get w.sent at ≡ Some bytes → receive place.arbitration.view bytes ≡ Ok r →
-    HandsOnSent w receiver place (given place line bytes) r.handed
-taken_hands laws law w receiver at line place bytes r is here found received =
+    HandsOnSent w receiver place (given place way bytes) r.handed
+taken_hands laws law w receiver at way place bytes r is here found received =
     let view : View = place.arbitration.view in
     let kept = is.places receiver place here in
     let told = is.said at bytes found in
@@ -351,7 +352,7 @@ taken_hands laws law w receiver at line place bytes r is here found received =
     record {
       here = here;
       kept = kept;
-      still = given_kept laws.receivers w.publisher.journal w.sent place line bytes kept
+      still = given_kept laws.receivers w.publisher.journal w.sent place way bytes kept
           (record { place = at; found = found; told = told });
       book = ap (λ (t : Result Reception Refused). (book_after place.book view.next t).messages) received
           ∙ followed_messages place.book view.next r.handed;
@@ -372,37 +373,37 @@ taken_hands laws law w receiver at line place bytes r is here found received =
 
 -- so what its event hands on is what its step does
 handed_taken :
-    (w : WorldState) (receiver at : ℕ) (line : Option Line) (place : PlaceState) (bytes : List ℕ) (r : Reception) →
+    (w : WorldState) (receiver at : ℕ) (way : Way) (place : PlaceState) (bytes : List ℕ) (r : Reception) →
     slice_get w.places receiver ≡ Some place → slice_get w.sent at ≡ Some bytes →
     receive place.arbitration.view bytes ≡ Ok r →
-    handed_by w (DeliverEvent receiver line at) ≡ handed_from receiver place.arbitration.view.next r.handed
-handed_taken w receiver at line place bytes r here found received =
+    handed_by w (DeliverEvent receiver way at) ≡ handed_from receiver place.arbitration.view.next r.handed
+handed_taken w receiver at way place bytes r here found received =
     (λ j. handed_at receiver (here j) (found j))
     ∙ ap (λ (t : Result Reception Refused). handed_of receiver place.arbitration.view.next t) received
 
 deliver_steps :
-    (laws : AllLaws) (law : HandsOnLaw) (w : WorldState) (receiver at : ℕ) (line : Option Line)
+    (laws : AllLaws) (law : HandsOnLaw) (w : WorldState) (receiver at : ℕ) (way : Way)
     (place : Option PlaceState) (datagram : Option (List ℕ)) (done : Report × WorldState) → IsWorld w →
     slice_get w.places receiver ≡ place → slice_get w.sent at ≡ datagram →
-    delivered w receiver line place datagram ≡ Ok done → AreSteps w (DeliverEvent receiver line at) done.1
-deliver_steps laws law w receiver at line None datagram done is here found same =
-    err_so (IsDone w (DeliverEvent receiver line at)) _ done same
-deliver_steps laws law w receiver at line (Some place) None done is here found same =
-    err_so (IsDone w (DeliverEvent receiver line at)) _ done same
-deliver_steps laws law w receiver at line (Some place) (Some bytes) done is here found same =
+    delivered w receiver way place datagram ≡ Ok done → AreSteps w (DeliverEvent receiver way at) done.1
+deliver_steps laws law w receiver at way None datagram done is here found same =
+    err_so (IsDone w (DeliverEvent receiver way at)) _ done same
+deliver_steps laws law w receiver at way (Some place) None done is here found same =
+    err_so (IsDone w (DeliverEvent receiver way at)) _ done same
+deliver_steps laws law w receiver at way (Some place) (Some bytes) done is here found same =
     let took = sent_taken laws.receivers.take w receiver at place bytes is here found in
-    ok_so (IsDone w (DeliverEvent receiver line at)) _ done same
-    (deliver_made w receiver at line place (given place line bytes) took.reception.handed
-    (taken_hands laws law w receiver at line place bytes took.reception is here found took.received)
-    (handed_taken w receiver at line place bytes took.reception here found took.received))
+    ok_so (IsDone w (DeliverEvent receiver way at)) _ done same
+    (deliver_made w receiver at way place (given place way bytes) took.reception.handed
+    (taken_hands laws law w receiver at way place bytes took.reception is here found took.received)
+    (handed_taken w receiver at way place bytes took.reception here found took.received))
 
 -- a receiver that refuses bytes is the same to the machine
 refused_made :
-    (w : WorldState) (receiver : ℕ) (line : Option Line) (bytes : List ℕ) (place : PlaceState) → IsWorld w →
-    slice_get w.places receiver ≡ Some place → IsUnmoved place line bytes →
-    AreSteps w (Noise receiver line bytes) (with_place w receiver (given place line bytes))
-refused_made w receiver line bytes place is here stays =
-    let new : PlaceState = given place line bytes in
+    (w : WorldState) (receiver : ℕ) (way : Way) (bytes : List ℕ) (place : PlaceState) → IsWorld w →
+    slice_get w.places receiver ≡ Some place → IsUnmoved place way bytes →
+    AreSteps w (Noise receiver way bytes) (with_place w receiver (given place way bytes))
+refused_made w receiver way bytes place is here stays =
+    let new : PlaceState = given place way bytes in
     let standing : standing_of (Some new) ≡ standing_of (Some place) =
     λ i. record { book = (stays.book i).messages; ended = is_finished (stays.view i) }
     in
@@ -419,21 +420,21 @@ refused_made w receiver line bytes place is here stays =
             (stands_at w receiver place new (standing_of (Some place)) here standing other
             ∙ stands_same w receiver place here other) i;
       };
-      handed = sym (noise_hands_nothing w receiver line bytes is);
+      handed = sym (noise_hands_nothing w receiver way bytes is);
     }
 
 noise_steps :
-    (w : WorldState) (receiver : ℕ) (line : Option Line) (bytes : List ℕ) (place : Option PlaceState) (own : Bool)
+    (w : WorldState) (receiver : ℕ) (way : Way) (bytes : List ℕ) (place : Option PlaceState) (own : Bool)
     (done : Report × WorldState) → IsWorld w → slice_get w.places receiver ≡ place →
-    is_own w.publisher.journal.session (reading bytes) ≡ own → noised w receiver line bytes place own ≡ Ok done →
-    AreSteps w (Noise receiver line bytes) done.1
-noise_steps w receiver line bytes None own done is here mine same =
-    err_so (IsDone w (Noise receiver line bytes)) _ done same
-noise_steps w receiver line bytes (Some place) true done is here mine same =
-    err_so (IsDone w (Noise receiver line bytes)) _ done same
-noise_steps w receiver line bytes (Some place) false done is here mine same =
-    ok_so (IsDone w (Noise receiver line bytes)) _ done same
-    (refused_made w receiver line bytes place is here (noise_unmoved w receiver line bytes place is here mine))
+    is_own w.publisher.journal.session (reading bytes) ≡ own → noised w receiver way bytes place own ≡ Ok done →
+    AreSteps w (Noise receiver way bytes) done.1
+noise_steps w receiver way bytes None own done is here mine same =
+    err_so (IsDone w (Noise receiver way bytes)) _ done same
+noise_steps w receiver way bytes (Some place) true done is here mine same =
+    err_so (IsDone w (Noise receiver way bytes)) _ done same
+noise_steps w receiver way bytes (Some place) false done is here mine same =
+    ok_so (IsDone w (Noise receiver way bytes)) _ done same
+    (refused_made w receiver way bytes place is here (noise_unmoved w receiver way bytes place is here mine))
 
 restart_at_steps :
     (w : WorldState) (receiver next : ℕ) (place : PlaceState) (reached : Bool) (done : Report × WorldState) →
@@ -509,10 +510,10 @@ event_steps laws law w (Request bytes) done is same =
 event_steps laws law w (Ask receiver) done is same =
     sent_steps w (Ask receiver) w.burst done (λ steps sends. sends) refl
     (ask_steps laws w receiver (slice_get w.places receiver) done is refl same)
-event_steps laws law w (DeliverEvent receiver line at) done is same =
-    deliver_steps laws law w receiver at line (slice_get w.places receiver) (slice_get w.sent at) done is refl refl same
-event_steps laws law w (Noise receiver line bytes) done is same =
-    noise_steps w receiver line bytes (slice_get w.places receiver)
+event_steps laws law w (DeliverEvent receiver way at) done is same =
+    deliver_steps laws law w receiver at way (slice_get w.places receiver) (slice_get w.sent at) done is refl refl same
+event_steps laws law w (Noise receiver way bytes) done is same =
+    noise_steps w receiver way bytes (slice_get w.places receiver)
     (is_own w.publisher.journal.session (reading bytes)) done is refl refl same
 event_steps laws law w (RestartEvent receiver next) done is same =
     restart_steps w receiver next (slice_get w.places receiver) done is refl same

@@ -16,7 +16,6 @@ use Rattle.mold_receiver.specs.Honest.{IsHonest, IsTakenHonestly}
 use Rattle.mold_receiver.specs.Receive.{IsTakenPacket, Reception, receive, view_after}
 use Rattle.mold_receiver.specs.View.{IsWellFormed, View}
 use Rattle.mold_receiver.specs.Wanted.{wanted}
-use Rattle.mold_receiver.specs.declared.line.Line.{Line}
 use Rattle.mold_rule.specs.declared.refusal.Refusal.{Refusal as Refused}
 use Rattle.mold_session.specs.Journal.{append_refusal}
 use Rattle.mold_session.specs.Publisher.{IsPublisher, PublisherState, after_datagram, closed, next_datagram}
@@ -26,10 +25,11 @@ use Rattle.mold_session.specs.Truthful.{TellsTruth}
 use Rattle.mold_session.specs.declared.error.AnswerError.{AnswerError}
 use Rattle.mold_session.specs.declared.error.AppendError.{AppendError}
 use Rattle.mold_world.proofs.PlaceLemmas.{same_Ok, view_refused, view_taken}
-use Rattle.mold_world.specs.Effect.{Happening, Outcome, after_event, after_outcome, asked, asked_for, delivered, effect}
+use Rattle.mold_world.specs.Event.{Happening}
+use Rattle.mold_world.specs.Effect.{Outcome, after_event, after_outcome, asked, asked_for, delivered, effect}
 use Rattle.mold_world.specs.Effect.{given, is_own, noised, publishing, renewed, requested, restarted, run_events}
 use Rattle.mold_world.specs.Effect.{sending, unsent_count, with_place}
-use Rattle.mold_world.specs.Effect.Happening.{Publish, Datagram, Heartbeat, Close, End, Request, Ask, Deliver, Noise, Restart}
+use Rattle.mold_world.specs.declared.event.EventOf.TheVariants.{Publish, Datagram, Heartbeat, Close, End, Request, Ask, Deliver, Noise, Restart}
 use Rattle.mold_world.specs.Kept.{IsWorld}
 use Rattle.mold_world.specs.Straight.{HasSent, IsDelivery, IsStraight}
 use Rattle.mold_world.specs.World.{PlaceState, WorldState}
@@ -38,6 +38,7 @@ use Rattle.mold_world.specs.declared.report.Report.TheVariants as report
 use Rattle.mold_session.specs.declared.error.SessionError.TheVariants as session
 use Rattle.mold_world.specs.declared.report.WorldError.{WorldError}
 use Rattle.mold_world.specs.declared.report.WorldError.TheVariants.{NotReached, Layer as Refuses}
+use Rattle.mold_world.specs.declared.way.Way.{Way}
 
 -- what the laws say
 pub record StraightLaws : Type 0 where
@@ -193,31 +194,31 @@ with_far w receiver other old new is far = record {
 
 -- what a datagram does to a receiver's next number
 outcome_next :
-    (laws : StraightLaws) (place : PlaceState) (line : Option Line) (bytes : List ℕ)
+    (laws : StraightLaws) (place : PlaceState) (way : Way) (bytes : List ℕ)
     (outcome : Result Reception Refused) → receive place.arbitration.view bytes ≡ outcome →
-    place.arbitration.view.next ≤ (given place line bytes).arbitration.view.next
-outcome_next laws place line bytes (Ok r) received =
+    place.arbitration.view.next ≤ (given place way bytes).arbitration.view.next
+outcome_next laws place way bytes (Ok r) received =
     let view : View = place.arbitration.view in
     let is = laws.taken view bytes r received in
-    let next : (given place line bytes).arbitration.view.next ≡ r.view.next =
-    rw (received) (ap (λ (t : View). t.next) (view_taken line bytes place.arbitration r))
+    let next : (given place way bytes).arbitration.view.next ≡ r.view.next =
+    rw (received) (ap (λ (t : View). t.next) (view_taken way bytes place.arbitration r))
     in
     omega (
       arith,
       next,
       ap (λ (t : Reception). t.view.next) is.taken,
     )
-outcome_next laws place line bytes (Err refused) received =
-    let next : (given place line bytes).arbitration.view.next ≡ place.arbitration.view.next =
-    rw (received) (ap (λ (t : View). t.next) (view_refused line bytes place.arbitration refused))
+outcome_next laws place way bytes (Err refused) received =
+    let next : (given place way bytes).arbitration.view.next ≡ place.arbitration.view.next =
+    rw (received) (ap (λ (t : View). t.next) (view_refused way bytes place.arbitration refused))
     in
     omega (arith, next)
 
 given_next :
-    (laws : StraightLaws) (place : PlaceState) (line : Option Line) (bytes : List ℕ) →
-    place.arbitration.view.next ≤ (given place line bytes).arbitration.view.next
-given_next laws place line bytes =
-    outcome_next laws place line bytes (receive place.arbitration.view bytes) refl
+    (laws : StraightLaws) (place : PlaceState) (way : Way) (bytes : List ℕ) →
+    place.arbitration.view.next ≤ (given place way bytes).arbitration.view.next
+given_next laws place way bytes =
+    outcome_next laws place way bytes (receive place.arbitration.view bytes) refl
 
 -- every event but a datagram of new messages, and a restart of the receiver
 publish_far :
@@ -258,24 +259,24 @@ ask_far w receiver None done same = err_far w receiver _ done same
 ask_far w receiver (Some place) done same = want_far w receiver (wanted place.arbitration.view) done same
 
 deliver_far :
-    (laws : StraightLaws) (w : WorldState) (receiver other : ℕ) (line : Option Line) (place : Option PlaceState)
+    (laws : StraightLaws) (w : WorldState) (receiver other : ℕ) (way : Way) (place : Option PlaceState)
     (datagram : Option (List ℕ)) (done : Report × WorldState) → slice_get w.places other ≡ place →
-    delivered w other line place datagram ≡ Ok done → IsAsFar w done.1 receiver
-deliver_far laws w receiver other line None datagram done is same = err_far w receiver _ done same
-deliver_far laws w receiver other line (Some place) None done is same = err_far w receiver _ done same
-deliver_far laws w receiver other line (Some place) (Some bytes) done is same =
-    ok_far w receiver _ done (with_far w receiver other place (given place line bytes) is (λ here.
-    given_next laws place line bytes)) same
+    delivered w other way place datagram ≡ Ok done → IsAsFar w done.1 receiver
+deliver_far laws w receiver other way None datagram done is same = err_far w receiver _ done same
+deliver_far laws w receiver other way (Some place) None done is same = err_far w receiver _ done same
+deliver_far laws w receiver other way (Some place) (Some bytes) done is same =
+    ok_far w receiver _ done (with_far w receiver other place (given place way bytes) is (λ here.
+    given_next laws place way bytes)) same
 
 noise_far :
-    (laws : StraightLaws) (w : WorldState) (receiver other : ℕ) (line : Option Line) (bytes : List ℕ)
+    (laws : StraightLaws) (w : WorldState) (receiver other : ℕ) (way : Way) (bytes : List ℕ)
     (place : Option PlaceState) (own : Bool) (done : Report × WorldState) → slice_get w.places other ≡ place →
-    noised w other line bytes place own ≡ Ok done → IsAsFar w done.1 receiver
-noise_far laws w receiver other line bytes None own done is same = err_far w receiver _ done same
-noise_far laws w receiver other line bytes (Some place) true done is same = err_far w receiver _ done same
-noise_far laws w receiver other line bytes (Some place) false done is same =
-    ok_far w receiver _ done (with_far w receiver other place (given place line bytes) is (λ here.
-    given_next laws place line bytes)) same
+    noised w other way bytes place own ≡ Ok done → IsAsFar w done.1 receiver
+noise_far laws w receiver other way bytes None own done is same = err_far w receiver _ done same
+noise_far laws w receiver other way bytes (Some place) true done is same = err_far w receiver _ done same
+noise_far laws w receiver other way bytes (Some place) false done is same =
+    ok_far w receiver _ done (with_far w receiver other place (given place way bytes) is (λ here.
+    given_next laws place way bytes)) same
 
 restart_at_far :
     (w : WorldState) (receiver other next : ℕ) (place : PlaceState) (reached : Bool) (done : Report × WorldState) →
@@ -312,10 +313,10 @@ event_far laws w receiver (Request bytes) done quiet stays same =
     request_far w receiver (asking w.publisher.journal bytes) done same
 event_far laws w receiver (Ask other) done quiet stays same =
     ask_far w receiver (slice_get w.places other) done same
-event_far laws w receiver (Deliver other line at) done quiet stays same =
-    deliver_far laws w receiver other line (slice_get w.places other) (slice_get w.sent at) done refl same
-event_far laws w receiver (Noise other line bytes) done quiet stays same =
-    noise_far laws w receiver other line bytes (slice_get w.places other)
+event_far laws w receiver (Deliver other way at) done quiet stays same =
+    deliver_far laws w receiver other way (slice_get w.places other) (slice_get w.sent at) done refl same
+event_far laws w receiver (Noise other way bytes) done quiet stays same =
+    noise_far laws w receiver other way bytes (slice_get w.places other)
     (is_own w.publisher.journal.session (reading bytes)) done refl same
 event_far laws w receiver (Restart other next) done quiet stays same =
     restart_far w receiver other next (slice_get w.places other) done refl (λ here.
@@ -336,8 +337,8 @@ is_datagram Close = inr (λ same. let e = same in cc)
 is_datagram End = inr (λ same. let e = same in cc)
 is_datagram (Request bytes) = inr (λ same. let e = same in cc)
 is_datagram (Ask receiver) = inr (λ same. let e = same in cc)
-is_datagram (Deliver receiver line at) = inr (λ same. let e = same in cc)
-is_datagram (Noise receiver line bytes) = inr (λ same. let e = same in cc)
+is_datagram (Deliver receiver way at) = inr (λ same. let e = same in cc)
+is_datagram (Noise receiver way bytes) = inr (λ same. let e = same in cc)
 is_datagram (Restart receiver next) = inr (λ same. let e = same in cc)
 
 -- the datagram that is sent next begins behind what was put in one, and ends with what is then
@@ -365,11 +366,11 @@ next_is publisher packet next =
 
 -- a receiver that is given it goes on to its end
 given_next_datagram :
-    (laws : StraightLaws) (w : WorldState) (receiver : ℕ) (place : PlaceState) (packet : Packet) (line : Option Line) →
+    (laws : StraightLaws) (w : WorldState) (receiver : ℕ) (place : PlaceState) (packet : Packet) (way : Way) →
     IsWorld w → slice_get w.places receiver ≡ Some place → w.publisher.sent < place.arbitration.view.next →
     next_datagram w.publisher ≡ Some packet →
-    (after_datagram w.publisher).sent < (given place line (spelling_of packet)).arbitration.view.next
-given_next_datagram laws w receiver place packet line is here beyond next =
+    (after_datagram w.publisher).sent < (given place way (spelling_of packet)).arbitration.view.next
+given_next_datagram laws w receiver place packet way is here beyond next =
     let view : View = place.arbitration.view in
     let bytes : List ℕ = spelling_of packet in
     let kept = is.places receiver place here in
@@ -383,9 +384,9 @@ given_next_datagram laws w receiver place packet line is here beyond next =
     in
     let datagram = next_is w.publisher packet next in
     let through = laws.through view packet kept.honest.well_formed (omega (arith, datagram.begins, beyond)) in
-    let now : (given place line bytes).arbitration.view.next ≡ (view_after view packet).next =
+    let now : (given place way bytes).arbitration.view.next ≡ (view_after view packet).next =
     rw (took.received)
-    (ap (λ (t : View). t.next) (view_taken line bytes place.arbitration took.reception)
+    (ap (λ (t : View). t.next) (view_taken way bytes place.arbitration took.reception)
     ∙ ap (λ (t : Reception). t.view.next) taken.taken
     ∙ ap (λ (t : Packet). (view_after view t).next) (sym same))
     in
@@ -397,28 +398,28 @@ last_at (first ∷ xs) x = last_at xs x
 
 -- the delivery of the datagram that was sent at once before
 deliver_beyond :
-    (laws : StraightLaws) (w : WorldState) (receiver : ℕ) (packet : Packet) (line : Option Line) → IsWorld w →
+    (laws : StraightLaws) (w : WorldState) (receiver : ℕ) (packet : Packet) (way : Way) → IsWorld w →
     IsBeyond w receiver → next_datagram w.publisher ≡ Some packet →
     IsBeyond (after_event
     (record w { publisher = after_datagram w.publisher; sent = w.sent ++ spelling_of packet ∷ [] })
-    (Deliver receiver line (length w.sent))) receiver
+    (Deliver receiver way (length w.sent))) receiver
 unfolding effect
-deliver_beyond laws w receiver packet line is up next =
+deliver_beyond laws w receiver packet way is up next =
     let new : WorldState =
     record w { publisher = after_datagram w.publisher; sent = w.sent ++ spelling_of packet ∷ [] }
     in
     let bytes : List ℕ = spelling_of packet in
     let last : slice_get (w.sent ++ bytes ∷ []) (length w.sent) ≡ Some bytes = last_at w.sent bytes in
-    let after : WorldState = with_place new receiver (given up.place line bytes) in
-    let so : after ≡ after_event new (Deliver receiver line (length w.sent)) =
-    ap (λ (t : Option (List ℕ)). after_outcome new (delivered new receiver line (Some up.place) t)) (sym last)
-    ∙ ap (λ (t : Option PlaceState). after_outcome new (delivered new receiver line t
+    let after : WorldState = with_place new receiver (given up.place way bytes) in
+    let so : after ≡ after_event new (Deliver receiver way (length w.sent)) =
+    ap (λ (t : Option (List ℕ)). after_outcome new (delivered new receiver way (Some up.place) t)) (sym last)
+    ∙ ap (λ (t : Option PlaceState). after_outcome new (delivered new receiver way t
     (slice_get (w.sent ++ bytes ∷ []) (length w.sent)))) (sym up.here)
     in
     subst (λ (t : WorldState). IsBeyond t receiver) so (record {
-      place = given up.place line bytes;
-      here = set_here w.places receiver (given up.place line bytes) up.place up.here;
-      beyond = given_next_datagram laws w receiver up.place packet line is up.here up.beyond next;
+      place = given up.place way bytes;
+      here = set_here w.places receiver (given up.place way bytes) up.place up.here;
+      beyond = given_next_datagram laws w receiver up.place packet way is up.here up.beyond next;
     })
 
 -- a datagram of new messages, and what comes right behind it: either nothing was sent, or the delivery
@@ -442,11 +443,11 @@ datagram_beyond laws w receiver behind (Some packet) is up next so given_at_once
     in
     let delivery = given_at_once (length w.sent) new so in
     inr (
-      Deliver receiver delivery.line (length w.sent),
+      Deliver receiver delivery.way (length w.sent),
       delivery.so,
       subst (λ (t : Outcome). IsBeyond (after_event (after_outcome w t)
-          (Deliver receiver delivery.line (length w.sent))) receiver) (sym so)
-          (deliver_beyond laws w receiver packet delivery.line is up next),
+          (Deliver receiver delivery.way (length w.sent))) receiver) (sym so)
+          (deliver_beyond laws w receiver packet delivery.way is up next),
     )
 
 datagram_effect :

@@ -3,9 +3,10 @@ use Rattle.std.specs.Prelude.{◌≡◌, ◌⊎◌, ℕ, List, Option, Some, Res
 use Rattle.std.specs.Prelude.{if◌then◌else◌, slice_get, position}
 use Rattle.std.specs.Option.{option_map}
 use Rattle.mold_receiver.specs.Receive.{IsCopied}
-use Rattle.mold_world.specs.Effect.{Happening, effect}
-use Rattle.mold_world.specs.Effect.Happening.{Publish, Datagram, Heartbeat, Close, End, Request, Ask, Deliver, Noise}
-use Rattle.mold_world.specs.Effect.Happening.{Restart}
+use Rattle.mold_world.specs.Event.{Happening}
+use Rattle.mold_world.specs.Effect.{effect}
+use Rattle.mold_world.specs.declared.event.EventOf.TheVariants.{Publish, Datagram, Heartbeat, Close, End}
+use Rattle.mold_world.specs.declared.event.EventOf.TheVariants.{Request, Ask, Deliver, Noise, Restart}
 use Rattle.mold_world.specs.World.{PlaceState, WorldState}
 use Rattle.mold_session.specs.declared.error.AppendError.{AppendError}
 use Rattle.mold_session.specs.declared.error.AppendError.TheVariants as append
@@ -52,8 +53,8 @@ MayWant w Close = ⊥
 MayWant w End = Unit {0}
 MayWant w (Request bytes) = IsOk (effect w (Request bytes))
 MayWant w (Ask receiver) = IsOk (effect w (Ask receiver))
-MayWant w (Deliver receiver line sent) = IsCopying w receiver sent
-MayWant w (Noise receiver line bytes) = ⊥
+MayWant w (Deliver receiver way sent) = IsCopying w receiver sent
+MayWant w (Noise receiver way bytes) = ⊥
 MayWant w (Restart receiver next) = IsOk (effect w (Restart receiver next))
 
 -- why an event is refused: memory is wanting where it may, or the rule refuses it

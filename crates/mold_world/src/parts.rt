@@ -6,11 +6,11 @@ ghost use Rattle.mold_messages.specs.Listed.{HasRoom};
 ghost use Rattle.mold_session.specs.Answer.{planned};
 ghost use Rattle.mold_wire.specs.Reading.{reading};
 ghost use Rattle.mold_world.specs.Effect.{bursting, is_own};
-ghost use Rattle.mold_world.specs.Effect.Happening.{Publish, Datagram, Heartbeat, Close, End, Request, Ask, Deliver};
-ghost use Rattle.mold_world.specs.Effect.Happening.{Noise, Restart};
+ghost use Rattle.mold_world.specs.declared.event.EventOf.TheVariants.{Publish, Datagram, Heartbeat, Close, End};
+ghost use Rattle.mold_world.specs.declared.event.EventOf.TheVariants.{Request, Ask, Deliver, Noise, Restart};
 ghost use Rattle.mold_world.specs.Inside.{AreParts, KeepsServing, world_of};
 ghost use Rattle.mold_world.specs.Refusals.{Applies};
-ghost use Rattle.mold_world.specs.Seen.{line_of, seen};
+ghost use Rattle.mold_world.specs.Event.{seen};
 ghost use Rattle.mold_world.specs.Sending.{stored, stored_report};
 ghost use Rattle.mold_world.specs.declared.report.WorldError.{WorldError};
 
@@ -187,7 +187,7 @@ impl Parts {
 
     fn deliver(&mut self, r: usize, way: Way, sent: usize) -> Result<Report, WorldError>
         requires { AreParts self.old }
-        ensures applied { Applies (world_of self.old) (Deliver r (line_of way) sent) result (world_of self.new) }
+        ensures applied { Applies (world_of self.old) (Deliver r way sent) result (world_of self.new) }
         ensures serves { KeepsServing self.old self.new }
     {
         let Some(place) = self.places.get_mut(r) else {
@@ -201,7 +201,7 @@ impl Parts {
 
     fn noise(&mut self, r: usize, way: Way, bytes: &[u8]) -> Result<Report, WorldError>
         requires { AreParts self.old }
-        ensures applied { Applies (world_of self.old) (Noise r (line_of way) bytes.now) result (world_of self.new) }
+        ensures applied { Applies (world_of self.old) (Noise r way bytes.now) result (world_of self.new) }
         ensures serves { KeepsServing self.old self.new }
     {
         let Some(place) = self.places.get_mut(r) else {

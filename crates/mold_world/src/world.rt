@@ -11,7 +11,7 @@ ghost use Rattle.mold_world.specs.Hearing.{Hears};
 ghost use Rattle.mold_world.specs.Kept.{IsWorld};
 ghost use Rattle.mold_world.specs.Refusals.{MayWant, Refuses, world_refusal};
 ghost use Rattle.mold_world.specs.Runs.{IsHeadline, IsStopped, applied};
-ghost use Rattle.mold_world.specs.Seen.{seen};
+ghost use Rattle.mold_world.specs.Event.{seen};
 ghost use Rattle.mold_world.specs.Steps.{AreSteps, AreStepsOfAll, is_finished};
 ghost use Rattle.mold_world.specs.Straight.{HasSent, IsStraight};
 ghost use Rattle.mold_world.specs.World.{beginning};
