@@ -1,7 +1,7 @@
 -- What every event keeps, and so every list of events.
 use Rattle.std.proofs.Common.{◌≡◌, ℕ, zero, suc, ◌+◌, ◌-◌, ◌<◌, ◌≤◌, cond, leb, ltb, List, [], ◌∷◌, ◌++◌, length, map, min, drop}
 use Rattle.std.proofs.Common.{refl, sym, ap, subst, ◌∙◌, inl, inr, arith}
-use Rattle.std.specs.Prelude.{◌⊎◌, ◌&&◌, Option, None, Some, Bool, true, false, not, Result, Ok, Err, slice_get, slice_set}
+use Rattle.std.specs.Prelude.{◌&&◌, Option, None, Some, Bool, true, false, not, Result, Ok, Err, slice_get}
 use Rattle.std.specs.Str.{bytes_eq}
 use Rattle.std.proofs.lemmas.Bool.{and_parts, leb-true, ltb-false}
 use Rattle.std.proofs.lemmas.Option.{none-some, same_Some}
@@ -46,6 +46,8 @@ use Rattle.mold_session.specs.declared.error.SessionError.TheVariants as session
 use Rattle.mold_world.specs.declared.report.WorldError.{WorldError}
 use Rattle.mold_world.specs.declared.report.WorldError.TheVariants.{NotReached, Layer as Refuses}
 use Rattle.mold_world.specs.declared.way.Way.{Way}
+use Rattle.mold_world.proofs.OutcomeLemmas.{ok_so, err_so}
+use Rattle.mold_world.proofs.SettingLemmas.{set_cases}
 
 -- what the laws of session and wire say
 pub record SendingLaws : Type 0 where
@@ -71,35 +73,47 @@ pub record SendingLaws : Type 0 where
       IsTrue packet (published ++ message ∷ []) false
   pub closes : (packet : Packet) (published : List (List ℕ)) → IsTrue packet published false → IsTrue packet published true
 
+-- a publisher with another journal of the same session, with messages that are as long: what was sent is true of
+-- it too, and receivers were told nothing else
+world_with_publisher :
+    (w : WorldState) (new : PublisherState) → IsWorld w → IsPublisher new →
+    new.journal.session ≡ w.publisher.journal.session → new.journal.max_message ≡ w.publisher.journal.max_message →
+    ((packet : Packet) → IsTrue packet w.publisher.journal.messages w.publisher.journal.closed →
+    IsTrue packet new.journal.messages new.journal.closed) →
+    ((place : PlaceState) → IsPlaceKept w.publisher.journal w.sent place → IsPlaceKept new.journal w.sent place) →
+    IsWorld (record w { publisher = new })
+world_with_publisher w new is publisher named longest still kept = record {
+  publisher = publisher;
+  answers = record {
+    journaled = publisher.journaled;
+    named = ap (λ (t : Session). length t.0) named ∙ is.answers.named;
+    limited = is.answers.limited;
+    room = omega (arith, longest, is.answers.room);
+  };
+  said = λ place bytes found.
+      let told = is.said place bytes found in
+      record {
+        packet = told.packet;
+        spelled = told.spelled;
+        session = told.session ∙ sym named;
+        so = still told.packet told.so;
+      };
+  places = λ receiver place found. kept place (is.places receiver place found);
+}
+
 -- a message that is published
 world_published :
     (laws : SendingLaws) (receivers : ReceiverLaws) (w : WorldState) (message : List ℕ) → IsWorld w →
     MayPublish w.publisher message → IsWorld (record w { publisher = published w.publisher message })
 world_published laws receivers w message is may =
-    let publisher = laws.published w.publisher message is.publisher may in
-    record {
-      publisher = publisher;
-      answers = record {
-        journaled = publisher.journaled;
-        named = is.answers.named;
-        limited = is.answers.limited;
-        room = is.answers.room;
-      };
-      said = λ place bytes found.
-          let told = is.said place bytes found in
-          record {
-            packet = told.packet;
-            spelled = told.spelled;
-            session = told.session;
-            so = subst (λ (t : Bool). IsTrue told.packet (w.publisher.journal.messages ++ message ∷ []) t)
-                (sym may.unclosed)
-                (laws.grows told.packet w.publisher.journal.messages message
-                (omega (arith, is.publisher.journaled.few, may.number))
-                (subst (λ (t : Bool). IsTrue told.packet w.publisher.journal.messages t) may.unclosed told.so));
-          };
-      places = λ receiver place found.
-          place_published receivers w.publisher.journal w.sent message place may.unclosed (is.places receiver place found);
-    }
+    let few = is.publisher.journaled.few in
+    world_with_publisher w (published w.publisher message) is (laws.published w.publisher message is.publisher may)
+    refl refl
+    (λ packet so.
+    subst (λ (t : Bool). IsTrue packet (w.publisher.journal.messages ++ message ∷ []) t) (sym may.unclosed)
+    (laws.grows packet w.publisher.journal.messages message (omega (arith, few, may.number))
+    (subst (λ (t : Bool). IsTrue packet w.publisher.journal.messages t) may.unclosed so)))
+    (λ place kept. place_published receivers w.publisher.journal w.sent message place may.unclosed kept)
 
 true_once_closed :
     (laws : SendingLaws) (packet : Packet) (messages : List (List ℕ)) (closed : Bool) → IsTrue packet messages closed →
@@ -112,26 +126,9 @@ world_closed :
     (laws : SendingLaws) (receivers : ReceiverLaws) (w : WorldState) → IsWorld w →
     w.publisher.sent ≡ length w.publisher.journal.messages → IsWorld (record w { publisher = closed w.publisher })
 world_closed laws receivers w is all =
-    let publisher = laws.closed w.publisher is.publisher all in
-    record {
-      publisher = publisher;
-      answers = record {
-        journaled = publisher.journaled;
-        named = is.answers.named;
-        limited = is.answers.limited;
-        room = is.answers.room;
-      };
-      said = λ place bytes found.
-          let told = is.said place bytes found in
-          record {
-            packet = told.packet;
-            spelled = told.spelled;
-            session = told.session;
-            so = true_once_closed laws told.packet w.publisher.journal.messages w.publisher.journal.closed told.so;
-          };
-      places = λ receiver place found.
-          place_closed receivers w.publisher.journal w.sent place (is.places receiver place found);
-    }
+    world_with_publisher w (closed w.publisher) is (laws.closed w.publisher is.publisher all) refl refl
+    (λ packet so. true_once_closed laws packet w.publisher.journal.messages w.publisher.journal.closed so)
+    (λ place kept. place_closed receivers w.publisher.journal w.sent place kept)
 
 -- datagrams that tell the truth are sent, by a publisher with the same journal
 world_sent :
@@ -155,16 +152,6 @@ world_sent w publisher more is still same true_all =
           (place_sent w.publisher.journal w.sent more place (is.places receiver place found));
     }
 
--- a receiver is another
-set_cases :
-    {X : Type 0} (xs : List X) (at : ℕ) (new : X) (place : ℕ) (x : X) → slice_get (slice_set xs at new) place ≡ Some x →
-    (new ≡ x) ⊎ (slice_get xs place ≡ Some x)
-set_cases [] at new place x is = inr is
-set_cases (first ∷ xs) zero new zero x is = inl (same_Some new x is)
-set_cases (first ∷ xs) zero new (suc place) x is = inr is
-set_cases (first ∷ xs) (suc at) new zero x is = inr is
-set_cases (first ∷ xs) (suc at) new (suc place) x is = set_cases xs at new place x is
-
 world_with_place :
     (w : WorldState) (receiver : ℕ) (new : PlaceState) → IsWorld w →
     IsPlaceKept w.publisher.journal w.sent new → IsWorld (with_place w receiver new)
@@ -182,13 +169,11 @@ world_with_place w receiver new is kept = record {
 -- what is answered is what it says
 ok_world :
     (here done : Report × WorldState) → IsWorld here.1 → ◌≡◌ {A = Outcome} (Ok here) (Ok done) → IsWorld done.1
-ok_world here done is same =
-    let path : here ≡ done = (let e = same in cc) in
-    subst (λ (t : Report × WorldState). IsWorld t.1) path is
+ok_world here done is same = ok_so (λ (t : Report × WorldState). IsWorld t.1) here done same is
 
 err_world :
     (refused : WorldError) (done : Report × WorldState) → ◌≡◌ {A = Outcome} (Err refused) (Ok done) → IsWorld done.1
-err_world refused done same = absurd (let e = same in cc)
+err_world refused done same = err_so (λ (t : Report × WorldState). IsWorld t.1) refused done same
 
 publish_kept :
     (laws : SendingLaws) (receivers : ReceiverLaws) (w : WorldState) (message : List ℕ) (refusal : Option AppendError)

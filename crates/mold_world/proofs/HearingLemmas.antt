@@ -1,9 +1,8 @@
 -- What the receivers of a world do with what comes to them.
-use Rattle.std.proofs.Common.{◌≡◌, ℕ, zero, suc, List, [], ◌∷◌, map, refl, sym, ap, subst, ◌∙◌, inl, inr}
-use Rattle.std.specs.Prelude.{Option, None, Some, Bool, true, false, Result, Ok, Err, slice_get, slice_set}
+use Rattle.std.proofs.Common.{◌≡◌, ℕ, List, [], refl, sym, ap, ◌∙◌, inl, inr}
+use Rattle.std.specs.Prelude.{Option, None, Some, Bool, true, false, Result, Ok, Err, slice_get}
 use Rattle.std.specs.Str.{bytes_eq}
 use Rattle.std.proofs.lemmas.Bool.{cases_Bool}
-use Rattle.std.proofs.lemmas.Option.{same_Some}
 use Rattle.std.proofs.lemmas.Slice.Eq.{bytes_eq-Decides}
 use Rattle.mold_wire.specs.Block.{IsBytes}
 use Rattle.mold_wire.specs.Packet.{Spells}
@@ -20,7 +19,7 @@ use Rattle.mold_rule.specs.declared.refusal.Refusal.{Refusal as Refused}
 use Rattle.mold_world.proofs.EventLemmas.{not_own}
 use Rattle.mold_world.proofs.PlaceLemmas.{view_refused}
 use Rattle.mold_world.specs.Event.{Happening, line_of}
-use Rattle.mold_world.specs.Effect.{Outcome, book_after, delivered, effect, given, is_own, noised, told}
+use Rattle.mold_world.specs.Effect.{book_after, delivered, effect, given, is_own, noised, told}
 use Rattle.mold_world.specs.declared.event.EventOf.TheVariants.{Publish, Datagram, Heartbeat, Close, End}
 use Rattle.mold_world.specs.declared.event.EventOf.TheVariants.{Request, Ask, Deliver, Noise, Restart}
 use Rattle.mold_world.specs.HandOns.{handed_at, handed_by, handed_of, handed_of_noise}
@@ -30,19 +29,8 @@ use Rattle.mold_world.specs.World.{PlaceState, WorldState}
 use Rattle.mold_world.specs.declared.report.Report.{Report}
 use Rattle.mold_world.specs.declared.report.WorldError.{WorldError}
 use Rattle.mold_world.specs.declared.way.Way.{Way}
-
--- what holds of what an event answers, and of what another one does not
-pub ok_so :
-    (P : Report × WorldState → Type 0) (here done : Report × WorldState) →
-    ◌≡◌ {A = Outcome} (Ok here) (Ok done) → P here → P done
-ok_so P here done same holds =
-    let path : here ≡ done = (let e = same in cc) in
-    subst P path holds
-
-pub err_so :
-    (P : Report × WorldState → Type 0) (refused : WorldError) (done : Report × WorldState) →
-    ◌≡◌ {A = Outcome} (Err refused) (Ok done) → P done
-err_so P refused done same = absurd (let e = same in cc)
+use Rattle.mold_world.proofs.OutcomeLemmas.{ok_so, err_so, ok_refused}
+use Rattle.mold_world.proofs.SettingLemmas.{map_set}
 
 -- what the receiver's law says of what is true
 abbrev pub TakesTruth : Type 0
@@ -125,10 +113,6 @@ noise_hands_nothing w receiver way bytes is =
     (is_own w.publisher.journal.session (reading bytes)) is refl refl
 
 -- nor does an event that is refused
-ok_refused :
-    {P : Type 0} (done : Report × WorldState) (error : WorldError) → ◌≡◌ {A = Outcome} (Ok done) (Err error) → P
-ok_refused done error same = absurd (let e = same in cc)
-
 refused_delivery :
     (w : WorldState) (receiver : ℕ) (way : Way) (place : Option PlaceState) (datagram : Option (List ℕ))
     (error : WorldError) → delivered w receiver way place datagram ≡ Err error → handed_at receiver place datagram ≡ []
@@ -161,16 +145,6 @@ refused_hands_nothing w (Noise receiver way bytes) error same =
     refused_noise w receiver way bytes (slice_get w.places receiver)
     (is_own w.publisher.journal.session (reading bytes)) error same
 refused_hands_nothing w (Restart receiver next) error same = refl
-
--- an element that is put in place of another of which the same is told
-map_set :
-    {X Y : Type 0} (f : X → Y) (xs : List X) (at : ℕ) (old new : X) → slice_get xs at ≡ Some old → f new ≡ f old →
-    map f (slice_set xs at new) ≡ map f xs
-map_set f [] at old new is same = refl
-map_set {Y = Y} f (x ∷ xs) zero old new is same =
-    ap (λ (t : Y). t ∷ map f xs) (same ∙ ap f (sym (same_Some x old is)))
-map_set {Y = Y} f (x ∷ xs) (suc at) old new is same =
-    ap (λ (t : List Y). f x ∷ t) (map_set f xs at old new is same)
 
 deliver_heard :
     (take : TakesTruth) (w : WorldState) (receiver at : ℕ) (way : Way) (place : Option PlaceState)

@@ -1,7 +1,7 @@
 -- What an event does to a receiver, by what the receiver's calls ensure.
-use Rattle.std.proofs.Common.{◌≡◌, ℕ, zero, suc, ◌<◌, cond, leb, ltb, List, [], ◌∷◌, length}
+use Rattle.std.proofs.Common.{◌≡◌, ℕ, ◌<◌, cond, leb, ltb, List, length}
 use Rattle.std.proofs.Common.{refl, sym, ap, subst, ◌∙◌, inl, inr, arith}
-use Rattle.std.specs.Prelude.{◌&&◌, Option, None, Some, Bool, true, false, Result, Ok, Err, IsOk, slice_get, slice_set}
+use Rattle.std.specs.Prelude.{◌&&◌, Option, None, Some, Bool, true, false, Result, Ok, Err, IsOk, slice_get}
 use Rattle.std.proofs.lemmas.Bool.{and_parts, le-leb, leb-true, ltb-false, ltb-true}
 use Rattle.std.proofs.lemmas.Option.{slice_get_past}
 use Rattle.mold_wire.specs.Reading.{reading}
@@ -19,6 +19,7 @@ use Rattle.mold_world.specs.declared.report.Report.TheVariants.{Restarted}
 use Rattle.mold_world.specs.declared.report.WorldError.{WorldError}
 use Rattle.mold_world.specs.declared.report.WorldError.TheVariants.{Memory, NoReceiver, NoSuchDatagram, NotNoise, NotReached}
 use Rattle.mold_world.specs.declared.way.Way.{Way}
+use Rattle.mold_world.proofs.SettingLemmas.{set_back}
 
 -- no element behind the last
 past_end :
@@ -32,12 +33,6 @@ pub none_there :
     {X : Type 0} (xs : List X) (count at : ℕ) → count ≡ length xs → (at < count → false ≡ true) →
     slice_get xs at ≡ None
 none_there xs count at same outside = past_end xs count at (ltb at count) refl same outside
-
--- an element put where it was
-set_back : {X : Type 0} (xs : List X) (at : ℕ) (x : X) → slice_get xs at ≡ Some x → slice_set xs at x ≡ xs
-set_back [] at x is = refl
-set_back (first ∷ xs) zero x is = let e : first ≡ x = (let s = is in cc) in ap (λ t. t ∷ xs) (sym e)
-set_back (first ∷ xs) (suc at) x is = ap (λ t. first ∷ t) (set_back xs at x is)
 
 pub put_back :
     (w : WorldState) (receiver : ℕ) (place new : PlaceState) → slice_get w.places receiver ≡ Some place →

@@ -42,6 +42,7 @@ use Rattle.mold_session.specs.declared.error.SessionError.TheVariants as session
 use Rattle.mold_world.specs.declared.report.WorldError.{WorldError}
 use Rattle.mold_world.specs.declared.report.WorldError.TheVariants.{NotReached, Layer as Refuses}
 use Rattle.mold_world.specs.declared.way.Way.{Way}
+use Rattle.mold_world.proofs.OutcomeLemmas.{ok_so, err_so}
 
 -- a world that begins is one
 place_of :
@@ -91,14 +92,12 @@ GrowsTo w new = (more : List (List ℕ)) × (new.publisher.journal.messages ≡ 
 ok_grows :
     (w : WorldState) (here done : Report × WorldState) → GrowsTo w here.1 → ◌≡◌ {A = Outcome} (Ok here) (Ok done) →
     GrowsTo w done.1
-ok_grows w here done grows same =
-    let path : here ≡ done = (let e = same in cc) in
-    subst (λ (t : Report × WorldState). GrowsTo w t.1) path grows
+ok_grows w here done grows same = ok_so (λ (t : Report × WorldState). GrowsTo w t.1) here done same grows
 
 err_grows :
     (w : WorldState) (refused : WorldError) (done : Report × WorldState) →
     ◌≡◌ {A = Outcome} (Err refused) (Ok done) → GrowsTo w done.1
-err_grows w refused done same = absurd (let e = same in cc)
+err_grows w refused done same = err_so (λ (t : Report × WorldState). GrowsTo w t.1) refused done same
 
 stays : (w : WorldState) → GrowsTo w w
 stays w = ([], sym (append-nil w.publisher.journal.messages))
