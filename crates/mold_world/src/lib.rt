@@ -14,6 +14,7 @@ mod way;
 mod world;
 
 pub use event::{Event, EventOf};
+pub use mold_messages::MessageIterator;
 pub use mold_rounds::{Memory, catch_up};
 pub use mold_session::SessionError;
 pub use report::{Report, WorldError};
