@@ -243,3 +243,38 @@ marked_none spans bytes none empty = rw (none, empty) refl
 pub within_none : (spans : List (ℕ × ℕ)) (bytes : List ℕ) → spans ≡ [] → AreWithin 0 spans (length bytes)
 unfolding AreWithin
 within_none spans bytes none = rw none (omega arith)
+
+-- parts one after the other: none, or the first of those that are left and the others
+pub parts_none : (spans : List (ℕ × ℕ)) (bytes : List ℕ) → length spans ≡ 0 → parts spans bytes ≡ []
+parts_none [] bytes none = refl
+parts_none (span ∷ spans) bytes none = absurd (omega arith)
+
+pub parts_first :
+    (left : List (ℕ × ℕ)) (span : ℕ × ℕ) (spans : List (ℕ × ℕ)) (bytes : List ℕ) → left ≡ span ∷ spans →
+    parts left bytes ≡ part_of span bytes ∷ parts spans bytes
+parts_first left span spans bytes some = ap (λ (t : List (ℕ × ℕ)). parts t bytes) some
+
+pub record IsFirst (span : ℕ × ℕ) (spans : List (ℕ × ℕ)) (total : ℕ) : Type 0 where
+  pub ordered : span.0 ≤ span.1
+  pub stops : span.1 ≤ total
+  pub rest : AreWithin 0 spans total
+
+within_later : (from : ℕ) (spans : List (ℕ × ℕ)) (total : ℕ) → AreWithin from spans total → AreWithin 0 spans total
+unfolding AreWithin
+within_later from [] total within = omega arith
+within_later from (span ∷ spans) total within = (omega arith, within.1, within.2)
+
+first_within : (span : ℕ × ℕ) (spans : List (ℕ × ℕ)) (total : ℕ) → AreWithin 0 (span ∷ spans) total →
+    IsFirst span spans total
+unfolding AreWithin
+first_within span spans total within = record {
+  ordered = within.1;
+  stops = omega (arith, end_later span.1 spans total within.2, within_end span.1 spans total within.2);
+  rest = within_later span.1 spans total within.2;
+}
+
+pub within_first :
+    (left : List (ℕ × ℕ)) (span : ℕ × ℕ) (spans : List (ℕ × ℕ)) (total : ℕ) → left ≡ span ∷ spans →
+    AreWithin 0 left total → IsFirst span spans total
+within_first left span spans total some within =
+    first_within span spans total (subst (λ (t : List (ℕ × ℕ)). AreWithin 0 t total) some within)

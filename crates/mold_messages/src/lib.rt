@@ -4,8 +4,10 @@
 mod iterator;
 mod list;
 mod part;
+mod part_iterator;
 mod parts;
 
 pub use iterator::MessageIterator;
 pub use list::MessageList;
+pub use part_iterator::PartIterator;
 pub use parts::PartList;

@@ -6,6 +6,7 @@ ghost use Rattle.std.specs.Option.{option_copied};
 ghost use Rattle.mold_messages.specs.Parts.{end_of};
 
 use crate::part::part;
+use crate::part_iterator::PartIterator;
 use std::alloc::{AllocError, Global};
 use std::marker::Model;
 
@@ -76,6 +77,13 @@ impl PartList {
         Some(part(&self.bytes, start, end))
     }
 
+    /// The messages in order, from the first.
+    pub fn iter(&self) -> PartIterator<'_>
+        ensures { result ≡ self.now.messages }
+    {
+        PartIterator::new(&self.spans, &self.bytes)
+    }
+
     /// Copies bytes behind the others, of which `mark` makes messages, and tells where they begin. An error
     /// comes where a growth is refused; all is then as before.
     pub fn append(&mut self, bytes: &[u8]) -> Result<usize, AllocError>
@@ -143,5 +151,17 @@ impl PartList {
     {
         self.spans.clear();
         self.bytes.clear();
+    }
+}
+
+impl<'a> IntoIterator for &'a PartList {
+    type Item = &'a [u8];
+
+    type IntoIter = PartIterator<'a>;
+
+    ghost into_iter_gives = { λ s r. r ≡ s.now.messages };
+
+    fn into_iter(self) -> PartIterator<'a> {
+        self.iter()
     }
 }

@@ -5,6 +5,9 @@ pub mod CaseLemmas
 pub mod BatchLemmas
 pub mod KeepLemmas
 pub mod ViewLemmas
+pub mod AboveLemmas
+pub mod NextLemmas
+pub mod NothingLemmas
 pub mod WantedLemmas
 pub mod LawLemmas
 pub mod RefusalLemmas

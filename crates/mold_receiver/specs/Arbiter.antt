@@ -1,5 +1,5 @@
 -- An arbiter of two lines as its users see it.
-use Rattle.std.specs.Prelude.{◌≡◌, ℕ, ◌+◌, ◌≤◌, min, max, List, Option, None, Some, Result, Ok, Err, refl}
+use Rattle.std.specs.Prelude.{◌≡◌, ◌⊎◌, ℕ, ◌+◌, ◌≤◌, min, max, List, Option, None, Some, Result, Ok, Err, refl}
 use Rattle.std.specs.Coded.{Coded, code_by, coded×, coded_ℕ}
 use Rattle.mold_wire.specs.Reading.{reading}
 use Rattle.mold_receiver.specs.declared.line.Line.{Line}
@@ -7,9 +7,10 @@ use Rattle.mold_receiver.specs.declared.line.Line.TheVariants.{A, B}
 use Rattle.mold_receiver.specs.declared.line.LineReport.{LineReport}
 use Rattle.mold_receiver.specs.declared.line.LineReports.{LineReports}
 use Rattle.mold_rule.specs.declared.refusal.Refusal.{Refusal as Refused}
+use Rattle.mold_rule.specs.declared.refusal.Refusal.TheVariants.{Memory}
 use Rattle.mold_receiver.specs.declared.taken.Taken.{Taken}
 use Rattle.mold_receiver.specs.Batch.{Handed, followed_by}
-use Rattle.mold_receiver.specs.Receive.{Reception, receive, top_read}
+use Rattle.mold_receiver.specs.Receive.{IsCopied, Reception, receive, top_read}
 use Rattle.mold_receiver.specs.View.{View, view_code}
 
 -- the receiver's view, and what came on each line
@@ -83,3 +84,10 @@ pub record HasArbitrated (line : Option Line) (old : Arbitration) (bytes : List 
   pub arbitration : new ≡ arbitrates line bytes old
   pub batch : after ≡ followed_by before old.view.next reception.handed
   pub told : taken ≡ reception.taken
+
+-- an arbiter refused a datagram: the memory for a copy was refused, and nothing has changed; or the rule refuses
+-- it, and the arbiter is what the rules say
+abbrev pub HasRefused : Option Line → Arbitration → List ℕ → Arbitration → Refused → Type 0
+HasRefused line old bytes new refused =
+    ((refused ≡ Memory) × IsCopied old.view bytes × (new ≡ old)) ⊎
+    ((receive old.view bytes ≡ Err refused) × (new ≡ arbitrates line bytes old))

@@ -81,6 +81,14 @@ view_after v p = view_at v p (v.next + length (handed_on v p.sequence (messages_
 abbrev pub taken_after : View → Packet → Taken
 taken_after v p = taken_of v p (view_after v p)
 
+-- a packet was taken: the new view, and what is told, are what the rule says
+abbrev pub HasTakenPacket : View → Packet → View → Taken → Type 0
+HasTakenPacket old p new taken = (new ≡ view_after old p) × (taken ≡ taken_after old p)
+
+-- something of a packet that is taken is handed on or stored: it is copied, and that takes memory
+abbrev pub TakesMemory : View → Packet → Type 0
+TakesMemory v p = 0 < (taken_after v p).handed + (taken_after v p).kept
+
 -- a packet is taken
 abbrev pub reception : View → Packet → Reception
 reception v p = record {

@@ -1,10 +1,9 @@
 //! The arbiter of two lines.
 
-ghost use Rattle.std.specs.Prelude.{◌≡◌, ◌⊎◌, ◌-◌, ◌≤◌, None, Some, Err, IfOk, IfErr, OnErr};
-ghost use Rattle.mold_receiver.specs.Arbiter.{HasArbitrated, arbitrates, report_on};
+ghost use Rattle.std.specs.Prelude.{◌≡◌, ◌-◌, ◌≤◌, None, Some, IfOk, IfErr, OnErr};
+ghost use Rattle.mold_receiver.specs.Arbiter.{HasArbitrated, HasRefused, report_on};
 ghost use Rattle.mold_receiver.specs.Batch.{Follows};
-ghost use Rattle.mold_receiver.specs.Receive.{IsCopied, IsRefusedFor, receive};
-ghost use Rattle.mold_rule.specs.declared.refusal.Refusal.TheVariants.{Memory as OutOfMemory};
+ghost use Rattle.mold_receiver.specs.Receive.{IsRefusedFor};
 
 use crate::batch::Batch;
 use crate::line::{Line, LineReport, LineReports};
@@ -52,9 +51,7 @@ impl Arbiter {
         ensures taken { IfOk result
             (λ taken. HasArbitrated (Some line) self.old bytes.now batch.old self.new batch.new taken) }
         ensures refused { IfErr result
-            (λ refused. ((refused ≡ OutOfMemory) × IsCopied self.old.view bytes.now × (self.new ≡ self.old)) ⊎
-            ((receive self.old.view bytes.now ≡ Err refused) ×
-            (self.new ≡ arbitrates (Some line) bytes.now self.old))) }
+            (λ refused. HasRefused (Some line) self.old bytes.now self.new refused) }
         ensures batch { OnErr result (batch.new ≡ batch.old) }
     {
         match self.receiver.accept(bytes, batch) {

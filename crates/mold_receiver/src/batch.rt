@@ -7,7 +7,7 @@ ghost use Rattle.mold_receiver.specs.Batch.{Handed, handed_from, first_of, after
 ghost use Rattle.mold_receiver.specs.Handing.{Grew, HasMore};
 ghost use Rattle.mold_wire.specs.Block.{blocks as packed};
 
-use mold_messages::PartList;
+use mold_messages::{PartIterator, PartList};
 use mold_wire::{Blocks, LENGTH_BYTES};
 use std::alloc::{AllocError, Global};
 use std::marker::Model;
@@ -87,6 +87,13 @@ impl Batch {
         self.list.get(i)
     }
 
+    /// The messages in order, from the first.
+    pub fn iter(&self) -> PartIterator<'_>
+        ensures { result ≡ self.now.messages }
+    {
+        self.list.iter()
+    }
+
     /// Keeps the first `keep` messages, all where there are no more, and the room of all.
     pub fn truncate(&mut self, keep: usize)
         ensures { self.new ≡ handed_from self.old.first (take keep self.old.messages) }
@@ -138,6 +145,18 @@ impl Batch {
             self.first = next;
         }
         mark_blocks(&mut self.list, begin, blocks)
+    }
+}
+
+impl<'a> IntoIterator for &'a Batch {
+    type Item = &'a [u8];
+
+    type IntoIter = PartIterator<'a>;
+
+    ghost into_iter_gives = { λ s r. r ≡ s.now.messages };
+
+    fn into_iter(self) -> PartIterator<'a> {
+        self.iter()
     }
 }
 

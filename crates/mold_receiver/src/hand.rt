@@ -1,11 +1,9 @@
 //! A packet with the message that is to be handed on next.
 
 ghost use Rattle.std.specs.Prelude.{◌≡◌, ◌+◌, ◌-◌, ◌<◌, ◌≤◌, ◌^◌, ◌++◌, ◌∷◌, [], max, nat_lt, if◌then◌else◌, length};
-ghost use Rattle.std.specs.Prelude.{drop, ℕ, Some, OnOk, OnErr, IfOk, IfErr};
-ghost use Rattle.mold_receiver.specs.Batch.{Follows, followed_by, handed_from};
-ghost use Rattle.mold_receiver.specs.Handing.{Grew, run_in, run_of};
-ghost use Rattle.mold_receiver.specs.Slots.{slot_at};
-ghost use Rattle.mold_receiver.specs.Store.{Message};
+ghost use Rattle.std.specs.Prelude.{drop, OnOk, OnErr, IfOk};
+ghost use Rattle.mold_receiver.specs.Batch.{Follows, followed_by};
+ghost use Rattle.mold_receiver.specs.Handing.{AreNumbered, Grew, HasHandedOn, HasNext, run_in, run_of};
 
 use crate::batch::Batch;
 use crate::slots::Slots;
@@ -60,7 +58,7 @@ fn push_stored(
 ) -> Result<usize, AllocError>
     requires follows { Follows batch.old (next + start) }
     requires counted { next + start < 2 ^ 64 }
-    requires numbered { (i : ℕ) (m : Message) → slot_at slots.now i ≡ Some m → next + i + 1 < 2 ^ 64 }
+    requires numbered { AreNumbered slots.now next }
     ensures handed { OnOk result (batch.new ≡ followed_by batch.old (next + start) (run_in slots.now start)) }
     ensures stopped { IfOk result (λ end. end ≡ start + length (run_in slots.now start)) }
     ensures fits { IfOk result (λ end. next + end < 2 ^ 64) }
@@ -83,13 +81,10 @@ fn push_run(
     blocks: &Blocks<'_>,
     slots: &Slots,
 ) -> Result<u64, AllocError>
-    requires follows { Follows batch.old next }
-    requires begun { first ≤ next }
-    requires ahead { next < top }
-    requires top { first + length blocks.now ≡ top }
-    requires numbered { (i : ℕ) (m : Message) → slot_at slots.now i ≡ Some m → next + i + 1 < 2 ^ 64 }
-    ensures handed { OnOk result (batch.new ≡ followed_by batch.old next (run_of slots.now next first top blocks.now)) }
-    ensures next { IfOk result (λ new. new ≡ next + length (run_of slots.now next first top blocks.now)) }
+    requires packet { HasNext batch.old next first top blocks.now }
+    requires numbered { AreNumbered slots.now next }
+    ensures handed { IfOk result
+        (λ after. HasHandedOn batch.old batch.new next (run_of slots.now next first top blocks.now) after) }
     ensures grew { OnErr result (Grew batch.old batch.new next) }
 {
     push_messages(batch, next, first, blocks)?;
@@ -107,13 +102,10 @@ pub(crate) fn hand_on(
     blocks: &Blocks<'_>,
     slots: &Slots,
 ) -> Result<u64, AllocError>
-    requires follows { Follows batch.old next }
-    requires begun { first ≤ next }
-    requires ahead { next < top }
-    requires top { first + length blocks.now ≡ top }
-    requires numbered { (i : ℕ) (m : Message) → slot_at slots.now i ≡ Some m → next + i + 1 < 2 ^ 64 }
-    ensures handed { OnOk result (batch.new ≡ followed_by batch.old next (run_of slots.now next first top blocks.now)) }
-    ensures next { IfOk result (λ new. new ≡ next + length (run_of slots.now next first top blocks.now)) }
+    requires packet { HasNext batch.old next first top blocks.now }
+    requires numbered { AreNumbered slots.now next }
+    ensures handed { IfOk result
+        (λ after. HasHandedOn batch.old batch.new next (run_of slots.now next first top blocks.now) after) }
     ensures same { OnErr result (batch.new ≡ batch.old) }
 {
     let before = batch.len();

@@ -18,6 +18,7 @@ pub use arbiter::Arbiter;
 pub use batch::Batch;
 pub use error::ReceiverError;
 pub use line::{Line, LineReport};
+pub use mold_messages::PartIterator;
 pub use mold_rule::Refusal as Refused;
-pub use receiver::Receiver;
+pub use receiver::{MAX_WINDOW, Receiver};
 pub use taken::Taken;

@@ -7,8 +7,9 @@ ghost use Rattle.mold_wire.specs.Packet.{IsBody, messages_of, top_of};
 ghost use Rattle.mold_wire.specs.Reading.{reading};
 ghost use Rattle.mold_wire.specs.declared.packet.Body.TheVariants.{Data};
 ghost use Rattle.mold_receiver.specs.Batch.{Follows, followed_by};
-ghost use Rattle.mold_receiver.specs.Receive.{HasTaken, IsRefusedFor, data_packet, ended_after, handed_on};
-ghost use Rattle.mold_receiver.specs.Receive.{refusal, taken_after, top_read, view_after};
+ghost use Rattle.mold_receiver.specs.Handing.{HasNext};
+ghost use Rattle.mold_receiver.specs.Receive.{HasTaken, HasTakenPacket, IsRefusedFor, TakesMemory, data_packet};
+ghost use Rattle.mold_receiver.specs.Receive.{ended_after, handed_on, refusal, top_read};
 ghost use Rattle.mold_receiver.specs.Store.{first_conflict, from_next};
 ghost use Rattle.mold_receiver.specs.Wanted.{wanted};
 ghost use Rattle.mold_receiver.specs.View.{View, IsWellFormed, IsWindow, fresh};
@@ -28,7 +29,7 @@ use std::alloc::{AllocError, Global};
 use std::marker::Model;
 
 /// The greatest window.
-const GREATEST: u32 = 65536;
+pub const MAX_WINDOW: u32 = 65536;
 
 /// The most messages that a request asks for.
 const MOST_WANTED: u64 = 65534;
@@ -95,7 +96,7 @@ impl Receiver {
         if next == 0 {
             return Err(ReceiverError::NextZero);
         }
-        if window == 0 || window > GREATEST {
+        if window == 0 || window > MAX_WINDOW {
             return Err(ReceiverError::Window);
         }
         match Slots::new(alloc, window) {
@@ -117,12 +118,11 @@ impl Receiver {
         requires top { first + length blocks.now ≡ top }
         requires end { past_end self.old.ended (Data blocks.now) top ≡ None }
         requires same { first_conflict self.old.store (from_next self.old.next first blocks.now) ≡ None }
-        ensures view { OnOk result (self.new ≡ view_after self.old (data_packet self.old.session first blocks.now)) }
         ensures taken { IfOk result
-            (λ taken. taken ≡ taken_after self.old (data_packet self.old.session first blocks.now)) }
+            (λ taken. HasTakenPacket self.old (data_packet self.old.session first blocks.now) self.new taken) }
         ensures handed { handed_on self.old first blocks.now ≡ [] }
         ensures needed { OnErr result
-            (0 < (taken_after self.old (data_packet self.old.session first blocks.now)).kept) }
+            (TakesMemory self.old (data_packet self.old.session first blocks.now)) }
         ensures unchanged { OnErr result (self.new ≡ self.old) }
     {
         let copies = copy_fresh(self.alloc, &self.slots, first - self.next, blocks)?;
@@ -145,19 +145,15 @@ impl Receiver {
         blocks: &Blocks<'_>,
         batch: &mut Batch,
     ) -> Result<Taken, AllocError>
-        requires follows { Follows batch.old self.old.next }
-        requires begun { first ≤ self.old.next }
-        requires ahead { self.old.next < top }
+        requires packet { HasNext batch.old self.old.next first top blocks.now }
         requires few { length blocks.now < 65535 }
-        requires top { first + length blocks.now ≡ top }
         requires end { past_end self.old.ended (Data blocks.now) top ≡ None }
-        ensures view { OnOk result (self.new ≡ view_after self.old (data_packet self.old.session first blocks.now)) }
+        ensures taken { IfOk result
+            (λ taken. HasTakenPacket self.old (data_packet self.old.session first blocks.now) self.new taken) }
         ensures handed { OnOk result
             (batch.new ≡ followed_by batch.old self.old.next (handed_on self.old first blocks.now)) }
-        ensures taken { IfOk result
-            (λ taken. taken ≡ taken_after self.old (data_packet self.old.session first blocks.now)) }
         ensures needed { OnErr result
-            (0 < (taken_after self.old (data_packet self.old.session first blocks.now)).handed) }
+            (TakesMemory self.old (data_packet self.old.session first blocks.now)) }
         ensures unchanged { OnErr result (self.new ≡ self.old) }
         ensures batch { OnErr result (batch.new ≡ batch.old) }
     {
@@ -181,9 +177,8 @@ impl Receiver {
         requires nothing { (top ≤ self.old.next) ⊎ (messages_of packet.now.body ≡ []) }
         requires below { end_below packet.now.body packet.now.sequence self.old.known ≡ None }
         requires past { past_end self.old.ended packet.now.body top ≡ None }
-        ensures view { self.new ≡ view_after self.old packet.now }
+        ensures taken { HasTakenPacket self.old packet.now self.new result }
         ensures handed { handed_on self.old packet.now.sequence (messages_of packet.now.body) ≡ [] }
-        ensures taken { result ≡ taken_after self.old packet.now }
     {
         self.known = self.known.max(top);
         self.ended = told_end(packet, self.ended);
@@ -218,13 +213,11 @@ impl Receiver {
         requires top { top_of packet.now ≡ top }
         requires body { IsBody packet.now.body }
         requires taken { refusal self.old packet.now ≡ None }
-        ensures view { OnOk result (self.new ≡ view_after self.old packet.now) }
+        ensures taken { IfOk result (λ taken. HasTakenPacket self.old packet.now self.new taken) }
         ensures handed { OnOk result
             (batch.new ≡ followed_by batch.old self.old.next
             (handed_on self.old packet.now.sequence (messages_of packet.now.body))) }
-        ensures taken { IfOk result (λ taken. taken ≡ taken_after self.old packet.now) }
-        ensures needed { OnErr result
-            (0 < (taken_after self.old packet.now).handed + (taken_after self.old packet.now).kept) }
+        ensures needed { OnErr result (TakesMemory self.old packet.now) }
         ensures unchanged { OnErr result (self.new ≡ self.old) }
         ensures batch { OnErr result (batch.new ≡ batch.old) }
     {

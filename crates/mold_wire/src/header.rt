@@ -15,13 +15,13 @@ const COUNT_LENGTH: usize = 2;
 const COUNT_AT: usize = SESSION_LENGTH + SEQUENCE_LENGTH;
 
 /// The bytes of a header.
-pub(crate) const HEADER_LENGTH: usize = COUNT_AT + COUNT_LENGTH;
+pub const HEADER_LENGTH: usize = COUNT_AT + COUNT_LENGTH;
 
 /// The message count of a heartbeat.
 pub(crate) const HEARTBEAT: u16 = 0;
 
-/// The message count that ends a session.
-pub(crate) const END: u16 = 65535;
+/// The message count of an end packet, which has no messages.
+pub const END_OF_SESSION: u16 = 65535;
 
 /// Session, sequence number and message count. A request says with them what it asks for.
 #[derive(Clone, Copy)]

@@ -7,16 +7,12 @@ ghost use Rattle.mold_wire.specs.Header.{recounted};
 
 use crate::block::{LENGTH_BYTES, put_block};
 use crate::error::PackerError;
-use crate::header::{END, HEADER_LENGTH, HEARTBEAT, Header, put_count};
+use crate::header::{END_OF_SESSION, HEADER_LENGTH, HEARTBEAT, Header, put_count};
+use crate::limits::{MAX_LIMIT, MIN_LIMIT};
 use crate::session::Session;
 use std::alloc::Global;
 use std::boxed::BoxedSlice;
 use std::marker::Model;
-
-// The least and the greatest limit of a datagram.
-const LEAST: usize = 64;
-
-const GREATEST: usize = 65507;
 
 // Writes a block behind the bytes that are used, and the new message count in their header.
 fn put_message(buffer: &mut [u8], used: usize, count: u16, message: &[u8])
@@ -68,7 +64,7 @@ impl Packer {
         ensures limit { (result ≡ Err PackerError.Limit) ↔ (¬ IsLimit limit) }
         ensures memory { result ≡ Err PackerError.Memory → IsLimit limit }
     {
-        if limit < LEAST || GREATEST < limit {
+        if limit < MIN_LIMIT || MAX_LIMIT < limit {
             return Err(PackerError::Limit);
         }
         let Ok(buffer) = vec![in alloc; 0; limit] else {
@@ -132,7 +128,7 @@ impl Packer {
         Header {
             session,
             sequence,
-            count: END,
+            count: END_OF_SESSION,
         }
         .put(&mut self.buffer);
         self.used = HEADER_LENGTH;

@@ -11,14 +11,14 @@ ghost use Rattle.mold_wire.specs.declared.packet.Packet.{Packet};
 use crate::block::skip_blocks;
 use crate::blocks::Blocks;
 use crate::error::DecodeError;
-use crate::header::{END, HEARTBEAT, Header};
+use crate::header::{END_OF_SESSION, HEARTBEAT, Header};
 use crate::packet::{Body, Packet};
 
 // How many blocks a message count states.
 fn stated(count: u16) -> u16
     ensures { result ≡ stated_blocks count }
 {
-    if count == END { 0 } else { count }
+    if count == END_OF_SESSION { 0 } else { count }
 }
 
 // What the message count makes of the blocks that it states.
@@ -28,7 +28,7 @@ fn body_from(count: u16, blocks: &[u8]) -> Body<'_>
 {
     match count {
         HEARTBEAT => Body::Heartbeat,
-        END => Body::End,
+        END_OF_SESSION => Body::End,
         _ => Body::Data(Blocks::new(count, blocks)),
     }
 }

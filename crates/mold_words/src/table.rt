@@ -45,6 +45,42 @@ pub(crate) fn value_name(option: &str) -> &'static str {
     }
 }
 
+// The name of a session that is made or listened to.
+const SESSION: OptionRow = OptionRow {
+    name: "session",
+    kind: Kind::Required,
+    help: "The session's name, 1 to 10 characters from space to ~",
+};
+
+// The most bytes of what is sent in one datagram.
+const LIMIT: OptionRow = OptionRow {
+    name: "limit",
+    kind: Kind::Optional,
+    help: "The most bytes of a packet, 64 to 65507 [default: 1400]",
+};
+
+// The most bytes of an answer's datagram.
+const SERVER_LIMIT: OptionRow = OptionRow {
+    name: "server-limit",
+    kind: Kind::Optional,
+    help: "The most bytes of an answer, 64 to 65507 [default: 1400]\n\
+        It is not below the limit",
+};
+
+// How far a receiver looks ahead.
+const WINDOW: OptionRow = OptionRow {
+    name: "window",
+    kind: Kind::Optional,
+    help: "How many messages a receiver looks ahead, 1 to 65536 [default: 1024]",
+};
+
+// How many datagrams answer a request.
+const BURST: OptionRow = OptionRow {
+    name: "burst",
+    kind: Kind::Optional,
+    help: "The most packets that answer a request, 1 to 64 [default: 1]",
+};
+
 /// The commands, in the order in which help lists them.
 pub static COMMANDS: [CommandRow; 9] = [
     CommandRow {
@@ -60,55 +96,23 @@ pub static COMMANDS: [CommandRow; 9] = [
     CommandRow {
         name: "pack",
         about: "Print the packets of a session whose messages standard input gives",
-        options: &[
-            OptionRow {
-                name: "session",
-                kind: Kind::Required,
-                help: "The session's name, 1 to 10 characters from space to ~",
-            },
-            OptionRow {
-                name: "limit",
-                kind: Kind::Optional,
-                help: "The most bytes of a packet, 64 to 65507 [default: 1400]",
-            },
-        ],
+        options: &[SESSION, LIMIT],
         example: "Example:\n  printf '4142\\n4344\\n' | mold pack --session SESSION001",
     },
     CommandRow {
         name: "sim",
         about: "Run the script of events that standard input gives, and print what each does",
         options: &[
-            OptionRow {
-                name: "session",
-                kind: Kind::Required,
-                help: "The session's name, 1 to 10 characters from space to ~",
-            },
-            OptionRow {
-                name: "limit",
-                kind: Kind::Optional,
-                help: "The most bytes of a packet, 64 to 65507 [default: 1400]",
-            },
-            OptionRow {
-                name: "server-limit",
-                kind: Kind::Optional,
-                help: "The most bytes of an answer, 64 to 65507 [default: 1400]\n\
-                    It is not below the limit",
-            },
-            OptionRow {
-                name: "window",
-                kind: Kind::Optional,
-                help: "How many messages a receiver looks ahead, 1 to 65536 [default: 1024]",
-            },
+            SESSION,
+            LIMIT,
+            SERVER_LIMIT,
+            WINDOW,
             OptionRow {
                 name: "receivers",
                 kind: Kind::Optional,
                 help: "How many receivers there are, 1 to 8 [default: 2]",
             },
-            OptionRow {
-                name: "burst",
-                kind: Kind::Optional,
-                help: "The most packets that answer a request, 1 to 64 [default: 1]",
-            },
+            BURST,
         ],
         example: "Example:\n  printf '%s\\n' 'publish 41' datagram 'deliver 0 a 0' | mold sim --session SESSION001",
     },
@@ -126,16 +130,8 @@ pub static COMMANDS: [CommandRow; 9] = [
         name: "publish",
         about: "Send a session, whose messages standard input gives, on two lines",
         options: &[
-            OptionRow {
-                name: "session",
-                kind: Kind::Required,
-                help: "The session's name, 1 to 10 characters from space to ~",
-            },
-            OptionRow {
-                name: "limit",
-                kind: Kind::Optional,
-                help: "The most bytes of a packet, 64 to 65507 [default: 1400]",
-            },
+            SESSION,
+            LIMIT,
             OptionRow {
                 name: "a",
                 kind: Kind::Required,
@@ -174,16 +170,8 @@ pub static COMMANDS: [CommandRow; 9] = [
                 kind: Kind::Required,
                 help: "The file of the journal",
             },
-            OptionRow {
-                name: "limit",
-                kind: Kind::Optional,
-                help: "The most bytes of a packet, 64 to 65507 [default: 1400]",
-            },
-            OptionRow {
-                name: "burst",
-                kind: Kind::Optional,
-                help: "The most packets that answer a request, 1 to 64 [default: 1]",
-            },
+            LIMIT,
+            BURST,
             OptionRow {
                 name: "bind",
                 kind: Kind::Required,
@@ -202,21 +190,13 @@ pub static COMMANDS: [CommandRow; 9] = [
         name: "listen",
         about: "Print the messages of a session that come on two lines, and request what is missing",
         options: &[
-            OptionRow {
-                name: "session",
-                kind: Kind::Required,
-                help: "The session's name, 1 to 10 characters from space to ~",
-            },
+            SESSION,
             OptionRow {
                 name: "next",
                 kind: Kind::Optional,
                 help: "The number of the first message, 1 to 9223372036854775807 [default: 1]",
             },
-            OptionRow {
-                name: "window",
-                kind: Kind::Optional,
-                help: "How many messages a receiver looks ahead, 1 to 65536 [default: 1024]",
-            },
+            WINDOW,
             OptionRow {
                 name: "a",
                 kind: Kind::Required,
@@ -232,11 +212,7 @@ pub static COMMANDS: [CommandRow; 9] = [
                 kind: Kind::Required,
                 help: "The address that requests go to",
             },
-            OptionRow {
-                name: "burst",
-                kind: Kind::Optional,
-                help: "The most packets that answer a request, 1 to 64 [default: 1]",
-            },
+            BURST,
             OptionRow {
                 name: "turns",
                 kind: Kind::Optional,
@@ -252,32 +228,11 @@ pub static COMMANDS: [CommandRow; 9] = [
         name: "loop",
         about: "Publish, serve and listen in one process over ports of 127.0.0.1",
         options: &[
-            OptionRow {
-                name: "session",
-                kind: Kind::Required,
-                help: "The session's name, 1 to 10 characters from space to ~",
-            },
-            OptionRow {
-                name: "limit",
-                kind: Kind::Optional,
-                help: "The most bytes of a packet, 64 to 65507 [default: 1400]",
-            },
-            OptionRow {
-                name: "server-limit",
-                kind: Kind::Optional,
-                help: "The most bytes of an answer, 64 to 65507 [default: 1400]\n\
-                    It is not below the limit",
-            },
-            OptionRow {
-                name: "window",
-                kind: Kind::Optional,
-                help: "How many messages a receiver looks ahead, 1 to 65536 [default: 1024]",
-            },
-            OptionRow {
-                name: "burst",
-                kind: Kind::Optional,
-                help: "The most packets that answer a request, 1 to 64 [default: 1]",
-            },
+            SESSION,
+            LIMIT,
+            SERVER_LIMIT,
+            WINDOW,
+            BURST,
             OptionRow {
                 name: "drop-a",
                 kind: Kind::Optional,

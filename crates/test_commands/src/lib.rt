@@ -2,8 +2,16 @@
 #![tactic(auto)]
 
 #[cfg(test)]
-mod commands;
-#[cfg(test)]
 mod comparisons;
 #[cfg(test)]
 mod folder;
+#[cfg(test)]
+mod pack;
+#[cfg(test)]
+mod running;
+#[cfg(test)]
+mod show;
+#[cfg(test)]
+mod sim;
+#[cfg(test)]
+mod upgrade;

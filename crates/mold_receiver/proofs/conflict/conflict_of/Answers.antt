@@ -2,7 +2,8 @@ use Rattle.std.proofs.Common.{sym, ◌∙◌, arith}
 use Rattle.mold_wire.specs.Packet.{messages_of}
 use Rattle.mold_receiver.specs.Slots.{store_of}
 use Rattle.mold_receiver.specs.Store.{from_next}
-use Rattle.mold_receiver.proofs.ViewLemmas.{below_no_conflict, empty_no_conflict, none_held}
+use Rattle.mold_receiver.proofs.ViewLemmas.{none_held}
+use Rattle.mold_receiver.proofs.NothingLemmas.{below_no_conflict, empty_no_conflict}
 use Rattle.mold_receiver.proofs.conflict.conflict_of.Goals as goal
 
 pub returns-then-top-next : goal.returns-then-top-next

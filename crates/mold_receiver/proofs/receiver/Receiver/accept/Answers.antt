@@ -14,9 +14,9 @@ returns-in-Ok-take_packet-clause-taken c =
       reception = reception v p;
       received = ap (receive_read v) read
           ∙ ap (λ (o : Option Refused). decide o (reception v p)) (rw c.in_ok-top.was at c.check.ensures.taken);
-      view = c.in-Ok-take_packet.ensures.view;
+      view = c.in-Ok-take_packet.ensures.taken.0;
       batch = c.in-Ok-take_packet.ensures.handed;
-      told = c.in-Ok-take_packet.ensures.taken;
+      told = c.in-Ok-take_packet.ensures.taken.1;
     }
 
 pub returns-in-Err-take_packet-clause-refused : goal.returns-in-Err-take_packet-clause-refused

@@ -1,0 +1,171 @@
+-- What becomes of a view over slots where a packet begins above `next`.
+use Rattle.std.proofs.Common.{◌≡◌, ℕ, suc, ◌+◌, ◌-◌, ◌<◌, ◌≤◌, max, Bool, true, false, cond, ltb, ◌&&◌, List, [], ◌∷◌}
+use Rattle.std.proofs.Common.{length, get_or, refl, sym, ap, ◌∙◌, inl, inr, arith}
+use Rattle.std.specs.Prelude.{Option, None, Some, is_some, is_none, slice_get}
+use Rattle.std.specs.List.{filter}
+use Rattle.std.specs.FinMap as finite
+use Rattle.std.specs.Option.{option_or}
+use Rattle.std.proofs.lemmas.Bool.{cases_lt, cond-true, lt-ltb, le-ltb}
+use Rattle.std.proofs.lemmas.Option.{slice_get-get_or}
+use Rattle.mold_wire.specs.declared.session.Session.{Session}
+use Rattle.mold_wire.specs.Truth.{message_at}
+use Rattle.mold_receiver.specs.Keeping.{is_fresh, fresh, put_pairs}
+use Rattle.mold_receiver.specs.Receive.{handed_on, count_kept, count_beyond, view_at, view_after, taken_of}
+use Rattle.mold_receiver.specs.Receive.{data_packet}
+use Rattle.mold_receiver.specs.Slots.{Slot, store_of}
+use Rattle.mold_receiver.specs.Store.{Message, numbered, from_next, available, cut, first_conflict}
+use Rattle.mold_receiver.specs.View.{View, IsWellFormed, view_over}
+use Rattle.mold_receiver.proofs.CaseLemmas.{ahead_handed, ahead_stored}
+use Rattle.mold_receiver.proofs.KeepLemmas.{slot_fresh, length-put_pairs}
+use Rattle.mold_receiver.proofs.RuleLemmas.{message_below, message_within, count_same, count_from}
+use Rattle.mold_receiver.proofs.ViewLemmas.{between_of, get_from, get_below}
+
+message_shifted : (next n : ℕ) (ms : List Message) (q : ℕ) → next ≤ n → next ≤ q →
+    message_at (n - next) ms (q - next) ≡ message_at n ms q
+message_shifted next n ms q low at =
+    elim (cases_lt q n) [
+      | inl below ↦ message_below (n - next) ms (q - next) (omega arith) ∙ sym (message_below n ms q below)
+      | inr above ↦
+          let same : q - next - (n - next) ≡ q - n = omega arith in
+          message_within (n - next) ms (q - next) (omega arith) ∙ ap (slice_get ms) same
+          ∙ sym (message_within n ms q above)
+    ]
+
+limit_shifted : (next window q : ℕ) → next ≤ q → ltb (q - next) window ≡ ltb q (next + window)
+limit_shifted next window q low =
+    elim (cases_lt q (next + window)) [
+      | inl below ↦ lt-ltb (q - next) window (omega arith) ∙ sym (lt-ltb q (next + window) below)
+      | inr past ↦ le-ltb (q - next) window (omega arith) ∙ sym (le-ltb q (next + window) past)
+    ]
+
+-- what is stored when the fresh messages were put into their slots
+pub ahead_looks : (next n : ℕ) (slots : List Slot) (ms : List Message) → next < n → (q : ℕ)
+    → finite.get (store_of next (put_pairs slots (fresh slots (n - next) ms))) q ≡ option_or
+    (finite.get (store_of next slots) q) (cond (ltb q (next + length slots)) (message_at n ms q) None)
+ahead_looks next n slots ms above q =
+    elim (cases_lt q next) [
+      | inl below ↦
+          get_below next (put_pairs slots (fresh slots (n - next) ms)) q below
+          ∙ sym (ap (λ (o : Option Message). option_or o (cond (ltb q (next + length slots)) (message_at n ms q) None))
+          (get_below next slots q below)
+          ∙ cond-true (ltb q (next + length slots)) (message_at n ms q) None
+          (lt-ltb q (next + length slots) (omega arith)) ∙ message_below n ms q (omega arith))
+      | inr low ↦
+          get_from next (put_pairs slots (fresh slots (n - next) ms)) q low
+          ∙ slot_fresh slots (n - next) ms (q - next)
+          ∙ ap (λ (o : Option Message). option_or o
+          (cond (ltb (q - next) (length slots)) (message_at (n - next) ms (q - next)) None))
+          (sym (get_from next slots q low))
+          ∙ ap (λ (b : Bool). option_or (finite.get (store_of next slots) q)
+          (cond b (message_at (n - next) ms (q - next)) None)) (limit_shifted next (length slots) q low)
+          ∙ ap (λ (o : Option Message). option_or (finite.get (store_of next slots) q)
+          (cond (ltb q (next + length slots)) o None)) (message_shifted next n ms q (omega arith) low)
+    ]
+
+-- a packet above `next`: the new view is over the slots with its fresh messages
+pub ahead_view : (session : Session) (next known : ℕ) (ended : Option ℕ) (slots : List Slot) (n top : ℕ)
+    (ms : List Message)
+    → IsWellFormed (view_over session next known ended slots) → next < n → n + length ms ≡ top
+    → first_conflict (store_of next slots) (from_next next n ms) ≡ None
+    → view_after (view_over session next known ended slots) (data_packet session n ms) ≡ view_over session next
+    (max known top) ended (put_pairs slots (fresh slots (n - next) ms))
+ahead_view session next known ended slots n top ms well above tops none =
+    let v = view_over session next known ended slots in
+    let kept = put_pairs slots (fresh slots (n - next) ms) in
+    let nothing : handed_on v n ms ≡ [] =
+    ahead_handed v.store next v.window (max known (n + length ms) - next) n ms (between_of v well) above in
+    let here : next + length (handed_on v n ms) ≡ next = ap (λ (t : List Message). next + length t) nothing
+    ∙ (let e : next + 0 ≡ next = omega arith in e) in
+    let stored : cut (available v.store next n ms) next v.window ≡ store_of next kept =
+    ahead_stored v.store (store_of next kept) next v.window n ms (between_of v well) above none
+    (ahead_looks next n slots ms above)
+    in
+    let size : length slots ≡ length kept = sym (length-put_pairs slots (fresh slots (n - next) ms)) in
+    ap (view_at v (data_packet session n ms)) here
+    ∙ (λ i. record {
+      session = session;
+      next = next;
+      known = max known (tops i);
+      ended = ended;
+      store = stored i;
+      window = size i;
+    })
+
+filter_short : (test : ℕ × Message → Bool) (pairs : List (ℕ × Message)) → length (filter test pairs) ≤ length pairs
+filter_short test [] = omega arith
+filter_short test (pair ∷ pairs) =
+    elim (test pair) as (λ b. length (cond b (pair ∷ filter test pairs) (filter test pairs)) ≤ suc (length pairs)) [
+      | true ↦ omega (arith, filter_short test pairs)
+      | false ↦ omega (arith, filter_short test pairs)
+    ]
+
+length-numbered : (n : ℕ) (ms : List Message) → length (numbered n ms) ≡ length ms
+length-numbered n [] = refl
+length-numbered n (m ∷ ms) = ap suc (length-numbered (suc n) ms)
+
+pub fresh_short : (slots : List Slot) (first : ℕ) (ms : List Message) → length (fresh slots first ms) ≤ length ms
+fresh_short slots first ms =
+    omega (arith, filter_short (λ pair. is_fresh slots pair.0) (numbered first ms), length-numbered first ms)
+
+new_or_not : (o p : Option Message) (b : Bool) (m : Message) → p ≡ Some m →
+    (is_some (option_or o (cond b p None)) && is_none o) ≡ (b && is_none o)
+new_or_not None p true m is = ap (λ (o : Option Message). is_some o && true) is
+new_or_not None p false m is = refl
+new_or_not (Some x) p true m is = refl
+new_or_not (Some x) p false m is = refl
+
+-- as many messages are kept as there are fresh ones
+pub ahead_kept : (next n : ℕ) (slots : List Slot) (ms : List Message) → next < n
+    → count_kept (store_of next slots) (store_of next (put_pairs slots (fresh slots (n - next) ms)))
+    (numbered n ms) ≡ length (fresh slots (n - next) ms)
+ahead_kept next n slots ms above =
+    let old = store_of next slots in
+    let new = store_of next (put_pairs slots (fresh slots (n - next) ms)) in
+    count_same (λ q. is_some (finite.get new q) && is_none (finite.get old q)) (is_fresh slots) n (n - next) ms
+    (λ i within.
+    let place : n + i - n ≡ i = omega arith in
+    let shifted : n + i - next ≡ n - next + i = omega arith in
+    let there : message_at n ms (n + i) ≡ Some (get_or ms i []) = message_within n ms (n + i) (omega arith)
+    ∙ ap (slice_get ms) place ∙ slice_get-get_or ms i [] within in
+    ap (λ (o : Option Message). is_some o && is_none (finite.get old (n + i)))
+    (ahead_looks next n slots ms above (n + i))
+    ∙ new_or_not (finite.get old (n + i)) (message_at n ms (n + i)) (ltb (n + i) (next + length slots))
+    (get_or ms i []) there
+    ∙ ap (λ (b : Bool). b && is_none (finite.get old (n + i)))
+    (sym (limit_shifted next (length slots) (n + i) (omega arith)))
+    ∙ ap (λ (o : Option Message). ltb (n + i - next) (length slots) && is_none o)
+    (get_from next slots (n + i) (omega arith))
+    ∙ ap (is_fresh slots) shifted)
+
+-- the counts of a packet above `next`
+pub ahead_taken : (session : Session) (next known : ℕ) (ended : Option ℕ) (slots : List Slot) (n top : ℕ)
+    (ms : List Message)
+    → IsWellFormed (view_over session next known ended slots) → next < n → n + length ms ≡ top
+    → first_conflict (store_of next slots) (from_next next n ms) ≡ None
+    → taken_of (view_over session next known ended slots) (data_packet session n ms)
+    (view_after (view_over session next known ended slots) (data_packet session n ms))
+    ≡ record { handed = 0; kept = length (fresh slots (n - next) ms); beyond = top - max n (next + length slots) }
+ahead_taken session next known ended slots n top ms well above tops none =
+    let v = view_over session next known ended slots in
+    let new = put_pairs slots (fresh slots (n - next) ms) in
+    let zero_handed : next - next ≡ 0 = omega arith in
+    let past : count_beyond (next + length slots) (numbered n ms) ≡ top - max n (next + length slots) =
+    count_from (next + length slots) n ms ∙ ap (λ (k : ℕ). k - max n (next + length slots)) tops in
+    ap (taken_of v (data_packet session n ms)) (ahead_view session next known ended slots n top ms well above tops none)
+    ∙ (λ i. record { handed = zero_handed i; kept = ahead_kept next n slots ms above i; beyond = past i })
+
+-- the fields after a packet above `next`, and after one that has it, are those of the new view
+pub kept_view : (session : Session) (next known : ℕ) (ended : Option ℕ) (slots : List Slot) (n top : ℕ)
+    (ms : List Message) (new_known : ℕ) (new_slots : List Slot)
+    → IsWellFormed (view_over session next known ended slots) → next < n → n + length ms ≡ top
+    → first_conflict (store_of next slots) (from_next next n ms) ≡ None
+    → new_known ≡ max known top → new_slots ≡ put_pairs slots (fresh slots (n - next) ms)
+    → view_over session next new_known ended new_slots ≡ view_after (view_over session next known ended slots)
+    (data_packet session n ms)
+kept_view session next known ended slots n top ms new_known new_slots well above tops none knows puts =
+    (λ i. view_over session next (knows i) ended (puts i))
+    ∙ sym (ahead_view session next known ended slots n top ms well above tops none)
+
+pub above_handed : (v : View) (n : ℕ) (ms : List Message) → IsWellFormed v → v.next < n → handed_on v n ms ≡ []
+above_handed v n ms well above =
+    ahead_handed v.store v.next v.window (max v.known (n + length ms) - v.next) n ms (between_of v well) above

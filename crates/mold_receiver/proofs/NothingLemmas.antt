@@ -1,0 +1,92 @@
+-- What becomes of a view where a packet has no message from `next` on.
+use Rattle.std.proofs.Common.{◌≡◌, ℕ, suc, ◌+◌, ◌-◌, ◌≤◌, max, leb, List, [], ◌∷◌, length, refl, ap, ◌∙◌, inl, inr}
+use Rattle.std.proofs.Common.{◌⊎◌, arith, nat_cmp}
+use Rattle.std.specs.Prelude.{Option, None, Some, slice_get}
+use Rattle.std.specs.FinMap as finite
+use Rattle.std.proofs.lemmas.Bool.{cases_lt, cond-false, lt-leb}
+use Rattle.mold_wire.specs.Packet.{messages_of, top_of}
+use Rattle.mold_wire.specs.declared.packet.Packet.{Packet}
+use Rattle.mold_wire.specs.Truth.{message_at}
+use Rattle.mold_receiver.specs.Receive.{handed_on, count_beyond, ended_after, view_at, view_after, taken_of}
+use Rattle.mold_receiver.specs.Store.{Message, Store, differs, numbered, from_next, first_conflict}
+use Rattle.mold_receiver.specs.View.{View, IsWellFormed}
+use Rattle.mold_receiver.proofs.CaseLemmas.{nothing_handed, nothing_stored, nothing_kept}
+use Rattle.mold_receiver.proofs.RuleLemmas.{message_below, message_past, message_within, count_from}
+use Rattle.mold_receiver.proofs.ViewLemmas.{between_of}
+
+-- a packet of which nothing is at or above `next`
+pub nothing_view : (v : View) (p : Packet) (top : ℕ) → IsWellFormed v → top_of p ≡ top →
+    ((q : ℕ) → v.next ≤ q → message_at p.sequence (messages_of p.body) q ≡ None)
+    → view_after v p ≡ record v { known = max v.known top; ended = ended_after p.body p.sequence v.ended }
+nothing_view v p top well tops nothing =
+    let ms = messages_of p.body in
+    let none : handed_on v p.sequence ms ≡ [] =
+    nothing_handed v.store v.next v.window (max v.known (top_of p) - v.next) p.sequence ms
+    (between_of v well) nothing in
+    let here : v.next + length (handed_on v p.sequence ms) ≡ v.next = ap (λ (t : List Message). v.next + length t) none
+    ∙ (let e : v.next + 0 ≡ v.next = omega arith in e) in
+    let stored = nothing_stored v.store v.next v.window p.sequence ms (between_of v well) nothing in
+    ap (view_at v p) here
+    ∙ (λ i. record {
+      session = v.session;
+      next = v.next;
+      known = max v.known (tops i);
+      ended =
+          ended_after p.body p.sequence v.ended;
+      store = stored i;
+      window = v.window;
+    })
+
+pub nothing_taken : (v : View) (p : Packet) (top : ℕ) → IsWellFormed v → top_of p ≡ top →
+    ((q : ℕ) → v.next ≤ q → message_at p.sequence (messages_of p.body) q ≡ None)
+    → count_beyond (v.next + v.window) (numbered p.sequence (messages_of p.body)) ≡ 0
+    → taken_of v p (view_after v p) ≡ record { handed = 0; kept = 0; beyond = 0 }
+nothing_taken v p top well tops nothing past =
+    let zero_handed : v.next - v.next ≡ 0 = omega arith in
+    ap (taken_of v p) (nothing_view v p top well tops nothing)
+    ∙ (λ i. record {
+      handed = zero_handed i;
+      kept = nothing_kept v.store p.sequence (messages_of p.body) i;
+      beyond =
+          past i;
+    })
+
+-- where the packet ends at or below `next`, or has no messages, nothing of it is at or above `next`
+pub nothing_there : (next n : ℕ) (ms : List Message) → (n + length ms ≤ next) ⊎ (ms ≡ []) → (q : ℕ) → next ≤ q →
+    message_at n ms q ≡ None
+nothing_there next n ms (inl below) q low = message_past n ms q (omega arith)
+nothing_there next n ms (inr none) q low =
+    elim (cases_lt q n) [
+      | inl below ↦ message_below n ms q below
+      | inr above ↦ message_within n ms q above ∙ ap (λ (t : List Message). slice_get t (q - n)) none
+    ]
+
+pub nothing_beyond : (next n window : ℕ) (ms : List Message) → (n + length ms ≤ next) ⊎ (ms ≡ []) →
+    count_beyond (next + window) (numbered n ms) ≡ 0
+nothing_beyond next n window ms (inl below) = count_from (next + window) n ms
+    ∙ (let e : n + length ms - max n (next + window) ≡ 0 = omega arith in e)
+nothing_beyond next n window ms (inr none) = ap (λ (t : List Message). count_beyond (next + window) (numbered n t)) none
+
+pub none_handed : (v : View) (n : ℕ) (ms : List Message) → IsWellFormed v → (n + length ms ≤ v.next) ⊎ (ms ≡ []) →
+    handed_on v n ms ≡ []
+none_handed v n ms well nothing =
+    nothing_handed v.store v.next v.window (max v.known (n + length ms) - v.next) n ms (between_of v well)
+    (nothing_there v.next n ms nothing)
+
+-- a packet wholly below `next` meets no conflict, and none does where nothing is stored
+pub below_no_conflict : (s : Store) (next n : ℕ) (ms : List Message) → n + length ms ≤ next →
+    first_conflict s (from_next next n ms) ≡ None
+below_no_conflict s next n [] below = refl
+below_no_conflict s next n (m ∷ ms) below =
+    ap (first_conflict s)
+    (cond-false (leb next n) ((n, m) ∷ from_next next (suc n) ms) (from_next next (suc n) ms)
+    (lt-leb next n (omega arith)))
+    ∙ below_no_conflict s next (suc n) ms (omega (arith, below))
+
+pub empty_no_conflict : (s : Store) (pairs : List (ℕ × Message)) → s ≡ finite.empty → first_conflict s pairs ≡ None
+empty_no_conflict s [] empty = refl
+empty_no_conflict s (pair ∷ pairs) empty =
+    let none : finite.get s pair.0 ≡ None = ap (λ (t : Store). finite.get t pair.0) empty
+    ∙ finite.get-empty nat_cmp pair.0 in
+    cond-false (differs (finite.get s pair.0) pair.1) (Some pair.0) (first_conflict s pairs)
+    (ap (λ (o : Option Message). differs o pair.1) none) ∙ empty_no_conflict s pairs empty
