@@ -26,31 +26,31 @@ pub record Awaits (v : View) (journal : JournalState) (plan : PlanState) : Type 
 
 -- the plan's next packet was taken, and the batch has what was handed on
 pub record TakesOne (v : View) (before : Handed) (journal : JournalState) (limit : ℕ) (plan : PlanState) (w : View)
-    (after : Handed) (behind : PlanState) : Type 0 where
+    (after : Handed) (left : PlanState) : Type 0 where
   pub part : List Message
   pub begins : plan.from ≡ v.next
-  pub moved : behind.from ≡ plan.from + length part
-  pub to : behind.to ≡ plan.to
+  pub moved : left.from ≡ plan.from + length part
+  pub to : left.to ≡ plan.to
   pub sent : planned journal.messages limit plan
-      ≡ data_packet v.session v.next part ∷ planned journal.messages limit behind
+      ≡ data_packet v.session v.next part ∷ planned journal.messages limit left
   pub view : w ≡ view_after v (data_packet v.session v.next part)
   pub took : Took v (length part) w
   pub fewer : missing v ≡ length part + missing w
-  pub awaits : Awaits w journal behind
+  pub awaits : Awaits w journal left
   pub batch : after ≡ followed_by before v.next (filled v journal.messages w.next)
 
 -- nothing was left of the plan, and all is as it was
 pub record TakesNone (v : View) (before : Handed) (journal : JournalState) (limit : ℕ) (plan : PlanState) (w : View)
-    (after : Handed) (behind : PlanState) : Type 0 where
+    (after : Handed) (left : PlanState) : Type 0 where
   pub spent : planned journal.messages limit plan ≡ []
   pub view : w ≡ v
   pub batch : after ≡ before
-  pub plan_same : behind ≡ plan
+  pub plan_same : left ≡ plan
 
 -- whether a packet was left, and what taking it did
 abbrev pub TakesNext : Bool → View → Handed → JournalState → ℕ → PlanState → View → Handed → PlanState → Type 0
-TakesNext true v before journal limit plan w after behind = TakesOne v before journal limit plan w after behind
-TakesNext false v before journal limit plan w after behind = TakesNone v before journal limit plan w after behind
+TakesNext true v before journal limit plan w after left = TakesOne v before journal limit plan w after left
+TakesNext false v before journal limit plan w after left = TakesNone v before journal limit plan w after left
 
 -- a later view of the same receiver: it lacks no more above `next` than it did
 pub record IsAhead (old new : View) : Type 0 where

@@ -7,7 +7,8 @@ use Rattle.mold_devices.specs.declared.turn.Turn.TheVariants.{More, Done}
 use Rattle.mold_sim.specs.Reports.{receiver_lines}
 use Rattle.mold_sim.specs.Script.{happening_of}
 use Rattle.mold_sim.specs.Sim.{SimState, told, told_by, told_of, events_of, then_events, lines_text, lines_refused, script_text, sim_printing}
-use Rattle.mold_world.specs.Effect.{Happening, Outcome, after_outcome, effect, run_events}
+use Rattle.mold_world.specs.Effect.{Outcome, after_outcome, effect, run_events}
+use Rattle.mold_world.specs.Event.{Happening}
 use Rattle.mold_world.specs.World.{WorldState}
 
 or_assoc : (a b c : Bool) → a || (b || c) ≡ (a || b) || c

@@ -1,4 +1,3 @@
-pub mod Actions
 pub mod Reports
 pub mod Script
 pub mod Sim

@@ -6,11 +6,12 @@ use Rattle.hex.specs.Hex.{decode_of}
 use Rattle.hex.specs.declared.error.FromHexError.{FromHexError}
 use Rattle.mold_devices.specs.Lines.{onto_first}
 use Rattle.mold_digits.specs.Numbers.{decimal_of as number_in}
-use Rattle.mold_receiver.specs.declared.line.Line.{Line}
 use Rattle.mold_receiver.specs.declared.line.Line.TheVariants.{A, B}
-use Rattle.mold_world.specs.Effect.{Happening}
-use Rattle.mold_world.specs.Effect.Happening.{Publish, Datagram, Heartbeat, Close, End, Request, Ask, Deliver, Noise}
-use Rattle.mold_world.specs.Effect.Happening.{Restart}
+use Rattle.mold_world.specs.Event.{Happening}
+use Rattle.mold_world.specs.declared.event.EventOf.TheVariants.{Publish, Datagram, Heartbeat, Close, End}
+use Rattle.mold_world.specs.declared.event.EventOf.TheVariants.{Request, Ask, Deliver, Noise, Restart}
+use Rattle.mold_world.specs.declared.way.Way.{Way}
+use Rattle.mold_world.specs.declared.way.Way.TheVariants.{Answer, Line}
 
 -- the words of a line: it is cut at each space, so that a space too many makes a word without bytes
 abbrev pub words_of : List ℕ → List (List ℕ)
@@ -29,11 +30,11 @@ bytes_in (byte ∷ bytes) =
     if bytes_eq (byte ∷ bytes) (codes "-") then Some [] else spelled (decode_of (byte ∷ bytes))
 
 -- the way on which a datagram comes: a line, or as an answer
-abbrev pub way_in : List ℕ → Option (Option Line)
+abbrev pub way_in : List ℕ → Option Way
 way_in word =
-    if bytes_eq word (codes "a") then Some (Some A)
-    else if bytes_eq word (codes "b") then Some (Some B)
-    else if bytes_eq word (codes "answer") then Some None
+    if bytes_eq word (codes "a") then Some (Line A)
+    else if bytes_eq word (codes "b") then Some (Line B)
+    else if bytes_eq word (codes "answer") then Some Answer
     else None
 
 -- the events without a number or bytes
@@ -45,7 +46,7 @@ plain name =
     else if bytes_eq name (codes "close") then Some Close
     else None
 
--- those with one word behind their name
+-- those with one word after their name
 abbrev pub with_one : List ℕ → List ℕ → Option Happening
 with_one name value =
     if bytes_eq name (codes "publish") then option_map (λ bytes. Publish bytes) (bytes_in value)
@@ -63,17 +64,17 @@ abbrev pub with_two : List ℕ → List ℕ → List ℕ → Option Happening
 with_two name receiver next =
     if bytes_eq name (codes "restart") then restart_at (number_in receiver) (number_in next) else None
 
-abbrev pub delivery : Option ℕ → Option (Option Line) → Option ℕ → Option Happening
+abbrev pub delivery : Option ℕ → Option Way → Option ℕ → Option Happening
 delivery None way place = None
 delivery (Some receiver) None place = None
-delivery (Some receiver) (Some line) None = None
-delivery (Some receiver) (Some line) (Some place) = Some (Deliver receiver line place)
+delivery (Some receiver) (Some way) None = None
+delivery (Some receiver) (Some way) (Some place) = Some (Deliver receiver way place)
 
-abbrev pub noise : Option ℕ → Option (Option Line) → Option (List ℕ) → Option Happening
+abbrev pub noise : Option ℕ → Option Way → Option (List ℕ) → Option Happening
 noise None way bytes = None
 noise (Some receiver) None bytes = None
-noise (Some receiver) (Some line) None = None
-noise (Some receiver) (Some line) (Some bytes) = Some (Noise receiver line bytes)
+noise (Some receiver) (Some way) None = None
+noise (Some receiver) (Some way) (Some bytes) = Some (Noise receiver way bytes)
 
 -- those with three
 abbrev pub with_three : List ℕ → List ℕ → List ℕ → List ℕ → Option Happening

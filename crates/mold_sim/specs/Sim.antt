@@ -10,7 +10,8 @@ use Rattle.mold_text.specs.Line.{line_of}
 use Rattle.mold_text.specs.Text.{refused_line}
 use Rattle.mold_wire.specs.declared.session.Session.{Session}
 use Rattle.mold_world.specs.Codes.{world_code}
-use Rattle.mold_world.specs.Effect.{Happening, Outcome, effect, run_events}
+use Rattle.mold_world.specs.Effect.{Outcome, effect, run_events}
+use Rattle.mold_world.specs.Event.{Happening}
 use Rattle.mold_world.specs.World.{WorldState, beginning}
 
 -- what comes of a line: its text, whether it is refused, and the world afterwards
@@ -54,7 +55,7 @@ events_of [] = []
 events_of ([] ∷ lines) = events_of lines
 events_of ((byte ∷ bytes) ∷ lines) = then_events (happening_of (byte ∷ bytes)) (events_of lines)
 
--- what a script prints: each line's text, and behind the last the receivers of the world that its events lead to
+-- what a script prints: each line's text, and after the last the receivers of the world that its events lead to
 abbrev pub script_text : WorldState → List (List ℕ) → List ℕ
 script_text w lines = lines_text w lines ++ receiver_lines 0 (run_events w (events_of lines)).places
 

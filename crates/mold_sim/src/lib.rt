@@ -2,7 +2,6 @@
 //! it is printed.
 #![tactic(auto)]
 
-mod action;
 mod reading;
 mod refusal;
 mod report;

@@ -1,39 +1,41 @@
 //! What a line says.
 
-ghost use Rattle.std.specs.Prelude.{◌≡◌, ℕ, List, true, false, IfOk, MatchOption};
-ghost use Rattle.std.specs.Option.{option_map};
+ghost use Rattle.std.specs.Prelude.{◌≡◌, IfOk};
+ghost use Rattle.std.specs.Option.{option_copied, option_map};
 ghost use Rattle.mold_digits.specs.Numbers.{decimal_of};
-ghost use Rattle.mold_sim.specs.Actions.{happenings_with};
 ghost use Rattle.mold_sim.specs.Script.{bytes_in, delivery, happening_of, noise, plain, way_in};
 ghost use Rattle.mold_sim.specs.Script.{with_one, with_three, with_two};
-ghost use Rattle.mold_world.specs.Effect.Happening.{Ask};
-ghost use Rattle.mold_world.specs.Seen.{line_of};
+ghost use Rattle.mold_world.specs.Event.{seen};
+ghost use Rattle.mold_world.specs.declared.event.EventOf.TheVariants.{Ask};
 
-use crate::action::Action;
 use crate::words::{Words, cut};
 use mold_digits::read_number;
 use mold_receiver::Line;
-use mold_world::Way;
+use mold_world::{Event, Way};
 use std::alloc::AllocError;
 
-// Replaces what `bytes` holds by the bytes that the word spells, and answers whether it spells any.
+// The bytes that the word spells, if it spells any. They take the place of what `bytes` holds.
 #[tactic(auto, unfolding(crate::specs::Script::bytes_in))]
-fn read_bytes(word: &[u8], bytes: &mut Vec<u8>) -> Result<bool, AllocError>
-    ensures { IfOk result (λ spelled. MatchOption (bytes_in word.now) (spelled ≡ false)
-        (λ found. (spelled ≡ true) × (bytes.new.items ≡ found))) }
+fn read_bytes<'a>(word: &[u8], bytes: &'a mut Vec<u8>) -> Result<Option<&'a [u8]>, AllocError>
+    ensures { IfOk result (λ found. option_copied found ≡ bytes_in word.now) }
 {
     if word.is_empty() {
-        return Ok(false);
+        return Ok(None);
     }
     if word == b"-".as_slice() {
         bytes.clear();
-        return Ok(true);
+        return Ok(Some(bytes.as_slice()));
     }
-    mold_digits::decode(word, bytes)
+    let spelled = mold_digits::decode(word, bytes)?;
+    Ok(if spelled {
+        Some(bytes.as_slice())
+    } else {
+        None
+    })
 }
 
 fn read_way(word: &[u8]) -> Option<Way>
-    ensures { option_map line_of result ≡ way_in word.now }
+    ensures { result ≡ way_in word.now }
 {
     if word == b"a".as_slice() {
         return Some(Way::Line(Line::A));
@@ -55,38 +57,42 @@ fn read_index(word: &[u8]) -> Option<usize>
     Some(number as usize)
 }
 
-fn read_plain(name: &[u8]) -> Option<Action>
-    ensures { (bytes : List ℕ) → happenings_with bytes result ≡ plain name.now }
+fn read_plain<'a>(name: &[u8]) -> Option<Event<'a>>
+    ensures { option_map seen result ≡ plain name.now }
 {
     if name == b"datagram".as_slice() {
-        return Some(Action::Datagram);
+        return Some(Event::Datagram);
     }
     if name == b"heartbeat".as_slice() {
-        return Some(Action::Heartbeat);
+        return Some(Event::Heartbeat);
     }
     if name == b"end".as_slice() {
-        return Some(Action::End);
+        return Some(Event::End);
     }
     if name == b"close".as_slice() {
-        return Some(Action::Close);
+        return Some(Event::Close);
     }
     None
 }
 
-fn read_with_one(
+fn read_with_one<'a>(
     name: &[u8],
     value: &[u8],
-    bytes: &mut Vec<u8>,
-) -> Result<Option<Action>, AllocError>
-    ensures { IfOk result (λ action. happenings_with bytes.new.items action ≡ with_one name.now value.now) }
+    bytes: &'a mut Vec<u8>,
+) -> Result<Option<Event<'a>>, AllocError>
+    ensures { IfOk result (λ event. option_map seen event ≡ with_one name.now value.now) }
 {
     if name == b"publish".as_slice() {
-        let spelled = read_bytes(value, bytes)?;
-        return Ok(if spelled { Some(Action::Publish) } else { None });
+        let Some(message) = read_bytes(value, bytes)? else {
+            return Ok(None);
+        };
+        return Ok(Some(Event::Publish(message)));
     }
     if name == b"request".as_slice() {
-        let spelled = read_bytes(value, bytes)?;
-        return Ok(if spelled { Some(Action::Request) } else { None });
+        let Some(request) = read_bytes(value, bytes)? else {
+            return Ok(None);
+        };
+        return Ok(Some(Event::Request(request)));
     }
     if name == b"ask".as_slice() {
         return Ok(read_ask(value));
@@ -94,42 +100,40 @@ fn read_with_one(
     Ok(None)
 }
 
-fn read_ask(receiver: &[u8]) -> Option<Action>
-    ensures { (bytes : List ℕ) → happenings_with bytes result ≡
-        option_map (λ r. Ask r) (decimal_of receiver.now) }
+fn read_ask<'a>(receiver: &[u8]) -> Option<Event<'a>>
+    ensures { option_map seen result ≡ option_map (λ r. Ask r) (decimal_of receiver.now) }
 {
     let receiver = read_index(receiver)?;
-    Some(Action::Ask(receiver))
+    Some(Event::Ask(receiver))
 }
 
-fn read_with_two(name: &[u8], receiver: &[u8], next: &[u8]) -> Option<Action>
-    ensures { (bytes : List ℕ) → happenings_with bytes result ≡ with_two name.now receiver.now next.now }
+fn read_with_two<'a>(name: &[u8], receiver: &[u8], next: &[u8]) -> Option<Event<'a>>
+    ensures { option_map seen result ≡ with_two name.now receiver.now next.now }
 {
     if name != b"restart".as_slice() {
         return None;
     }
     let r = read_index(receiver)?;
     let next = read_number(next)?;
-    Some(Action::Restart { r, next })
+    Some(Event::Restart { r, next })
 }
 
-fn read_delivery(receiver: &[u8], way: &[u8], sent: &[u8]) -> Option<Action>
-    ensures { (bytes : List ℕ) → happenings_with bytes result ≡
-        delivery (decimal_of receiver.now) (way_in way.now) (decimal_of sent.now) }
+fn read_delivery<'a>(receiver: &[u8], way: &[u8], sent: &[u8]) -> Option<Event<'a>>
+    ensures { option_map seen result ≡ delivery (decimal_of receiver.now) (way_in way.now) (decimal_of sent.now) }
 {
     let r = read_index(receiver)?;
     let way = read_way(way)?;
     let sent = read_index(sent)?;
-    Some(Action::Deliver { r, way, sent })
+    Some(Event::Deliver { r, way, sent })
 }
 
-fn read_noise(
+fn read_noise<'a>(
     receiver: &[u8],
     way: &[u8],
     digits: &[u8],
-    bytes: &mut Vec<u8>,
-) -> Result<Option<Action>, AllocError>
-    ensures { IfOk result (λ action. happenings_with bytes.new.items action ≡
+    bytes: &'a mut Vec<u8>,
+) -> Result<Option<Event<'a>>, AllocError>
+    ensures { IfOk result (λ event. option_map seen event ≡
         noise (decimal_of receiver.now) (way_in way.now) (bytes_in digits.now)) }
 {
     let Some(r) = read_index(receiver) else {
@@ -138,22 +142,20 @@ fn read_noise(
     let Some(way) = read_way(way) else {
         return Ok(None);
     };
-    let spelled = read_bytes(digits, bytes)?;
-    Ok(if spelled {
-        Some(Action::Noise { r, way })
-    } else {
-        None
-    })
+    let Some(bytes) = read_bytes(digits, bytes)? else {
+        return Ok(None);
+    };
+    Ok(Some(Event::Noise { r, way, bytes }))
 }
 
-fn read_with_three(
+fn read_with_three<'a>(
     name: &[u8],
     receiver: &[u8],
     way: &[u8],
     value: &[u8],
-    bytes: &mut Vec<u8>,
-) -> Result<Option<Action>, AllocError>
-    ensures { IfOk result (λ action. happenings_with bytes.new.items action ≡
+    bytes: &'a mut Vec<u8>,
+) -> Result<Option<Event<'a>>, AllocError>
+    ensures { IfOk result (λ event. option_map seen event ≡
         with_three name.now receiver.now way.now value.now) }
 {
     if name == b"deliver".as_slice() {
@@ -165,11 +167,11 @@ fn read_with_three(
     Ok(None)
 }
 
-/// The event that the line says, the bytes of which go into `bytes`, whatever that held; none where the line
-/// says no event. Memory is taken only for bytes that find no room there.
+/// The event that the line says, if it says one. Its bytes take the place of what `bytes` holds, from which they
+/// are lent. Memory is taken only for bytes that find no room there.
 #[tactic(auto, unfolding(crate::specs::Script::happening_of))]
-pub fn read_line(line: &[u8], bytes: &mut Vec<u8>) -> Result<Option<Action>, AllocError>
-    ensures { IfOk result (λ action. happenings_with bytes.new.items action ≡ happening_of line.now) }
+pub fn read_line<'a>(line: &[u8], bytes: &'a mut Vec<u8>) -> Result<Option<Event<'a>>, AllocError>
+    ensures { IfOk result (λ event. option_map seen event ≡ happening_of line.now) }
 {
     match cut(line) {
         Some(Words::One(name)) => Ok(read_plain(name)),

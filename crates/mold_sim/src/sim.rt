@@ -17,7 +17,7 @@ use std::marker::Model;
 const RECEIVERS: usize = 8;
 
 // Applies the event that the line says and writes what came of it, and answers whether the line is refused.
-// The event's bytes go into `bytes`, whatever that held.
+// The event's bytes take the place of what `bytes` holds.
 #[tactic(auto, unfolding(crate::specs::Sim::told))]
 fn tell_line(
     world: &mut World,
@@ -33,11 +33,11 @@ fn tell_line(
     if line.is_empty() {
         return Ok(false);
     }
-    let Some(action) = read_line(line, bytes)? else {
+    let Some(event) = read_line(line, bytes)? else {
         push_refused(out, &[Word::Text(b"Syntax")])?;
         return Ok(true);
     };
-    match world.apply(&action.with(bytes.as_slice())) {
+    match world.apply(&event) {
         Ok(report) => {
             push_report(out, report)?;
             Ok(false)

@@ -15,7 +15,7 @@ pub enum Words<'a> {
     Four(&'a [u8], &'a [u8], &'a [u8], &'a [u8]),
 }
 
-// The first word and what stands behind the space that ends it; none where no space is left.
+// The first word and what follows the space that ends it; none where no space is left.
 fn split_word(line: &[u8]) -> Option<(&[u8], &[u8])>
     ensures { MatchOption result (words_of line.now ≡ line.now ∷ [])
         (λ parts. words_of line.now ≡ parts.0.now ∷ words_of parts.1.now) }
@@ -31,17 +31,17 @@ pub fn cut(line: &[u8]) -> Option<Words<'_>>
     ensures { MatchOption result (4 < length (words_of line.now))
         (λ words. words_of line.now ≡ words_in words) }
 {
-    let Some((first, behind)) = split_word(line) else {
+    let Some((first, rest)) = split_word(line) else {
         return Some(Words::One(line));
     };
-    let Some((second, behind)) = split_word(behind) else {
-        return Some(Words::Two(first, behind));
+    let Some((second, rest)) = split_word(rest) else {
+        return Some(Words::Two(first, rest));
     };
-    let Some((third, behind)) = split_word(behind) else {
-        return Some(Words::Three(first, second, behind));
+    let Some((third, rest)) = split_word(rest) else {
+        return Some(Words::Three(first, second, rest));
     };
-    match split_word(behind) {
+    match split_word(rest) {
         Some(_) => None,
-        None => Some(Words::Four(first, second, third, behind)),
+        None => Some(Words::Four(first, second, third, rest)),
     }
 }

@@ -6,15 +6,15 @@ use Rattle.mold_wire.specs.Reading.{reading}
 use Rattle.mold_wire.specs.declared.packet.Packet.{Packet}
 use Rattle.mold_wire.specs.declared.request.Request.{Request as Asked}
 use Rattle.mold_receiver.specs.Wanted.{wanted}
-use Rattle.mold_receiver.specs.declared.line.Line.{Line}
 use Rattle.mold_session.specs.Journal.{append_refusal}
 use Rattle.mold_session.specs.Publisher.{PublisherState, after_datagram, closed, next_datagram, next_end, next_heartbeat}
 use Rattle.mold_session.specs.Server.{asking}
 use Rattle.mold_session.specs.declared.error.AnswerError.{AnswerError}
 use Rattle.mold_session.specs.declared.error.AppendError.{AppendError}
-use Rattle.mold_world.specs.Effect.{Happening, Outcome, asked, asked_for, delivered, effect, is_own, noised, publishing}
+use Rattle.mold_world.specs.Event.{Happening}
+use Rattle.mold_world.specs.Effect.{Outcome, asked, asked_for, delivered, effect, is_own, noised, publishing}
 use Rattle.mold_world.specs.Effect.{renewed, requested, restarted, sending, unsent_count, with_place}
-use Rattle.mold_world.specs.Effect.Happening.{Publish, Datagram, Heartbeat, Close, End, Request, Ask, Deliver, Noise, Restart}
+use Rattle.mold_world.specs.declared.event.EventOf.TheVariants.{Publish, Datagram, Heartbeat, Close, End, Request, Ask, Deliver, Noise, Restart}
 use Rattle.mold_world.specs.Hearing.{Hears}
 use Rattle.mold_world.specs.Kept.{IsWorld}
 use Rattle.mold_world.specs.Refusals.{Applies, MayWant, Refuses}
@@ -25,6 +25,7 @@ use Rattle.mold_world.specs.declared.report.Report.TheVariants as report
 use Rattle.mold_session.specs.declared.error.SessionError.TheVariants as session
 use Rattle.mold_world.specs.declared.report.WorldError.{WorldError}
 use Rattle.mold_world.specs.declared.report.WorldError.TheVariants.{Memory, NotReached, Layer as SessionRefuses}
+use Rattle.mold_world.specs.declared.way.Way.{Way}
 
 pub applied_kept :
     (kept : (w new : WorldState) (happening : Happening) (says : Report) → IsWorld w →
@@ -105,18 +106,18 @@ ask_none w None is = other_none _ (λ e. let f = e in cc) is
 ask_none w (Some place) is = want_none w (wanted place.arbitration.view) is
 
 deliver_none :
-    (w : WorldState) (receiver : ℕ) (line : Option Line) (place : Option PlaceState) (datagram : Option (List ℕ)) →
-    delivered w receiver line place datagram ≡ Err Memory → ⊥
-deliver_none w receiver line None datagram is = other_none _ (λ e. let f = e in cc) is
-deliver_none w receiver line (Some place) None is = other_none _ (λ e. let f = e in cc) is
-deliver_none w receiver line (Some place) (Some bytes) is = ok_none _ is
+    (w : WorldState) (receiver : ℕ) (way : Way) (place : Option PlaceState) (datagram : Option (List ℕ)) →
+    delivered w receiver way place datagram ≡ Err Memory → ⊥
+deliver_none w receiver way None datagram is = other_none _ (λ e. let f = e in cc) is
+deliver_none w receiver way (Some place) None is = other_none _ (λ e. let f = e in cc) is
+deliver_none w receiver way (Some place) (Some bytes) is = ok_none _ is
 
 noise_none :
-    (w : WorldState) (receiver : ℕ) (line : Option Line) (bytes : List ℕ) (place : Option PlaceState) (own : Bool) →
-    noised w receiver line bytes place own ≡ Err Memory → ⊥
-noise_none w receiver line bytes None own is = other_none _ (λ e. let f = e in cc) is
-noise_none w receiver line bytes (Some place) true is = other_none _ (λ e. let f = e in cc) is
-noise_none w receiver line bytes (Some place) false is = ok_none _ is
+    (w : WorldState) (receiver : ℕ) (way : Way) (bytes : List ℕ) (place : Option PlaceState) (own : Bool) →
+    noised w receiver way bytes place own ≡ Err Memory → ⊥
+noise_none w receiver way bytes None own is = other_none _ (λ e. let f = e in cc) is
+noise_none w receiver way bytes (Some place) true is = other_none _ (λ e. let f = e in cc) is
+noise_none w receiver way bytes (Some place) false is = ok_none _ is
 
 restart_none_at :
     (w : WorldState) (receiver next : ℕ) (place : PlaceState) (reached : Bool) →
@@ -139,10 +140,10 @@ effect_never_wants w Close is = close_none w (ltb 0 (unsent_count w.publisher)) 
 effect_never_wants w End is = send_none w (next_end w.publisher) w.publisher is
 effect_never_wants w (Request bytes) is = request_none w (asking w.publisher.journal bytes) is
 effect_never_wants w (Ask receiver) is = ask_none w (slice_get w.places receiver) is
-effect_never_wants w (Deliver receiver line at) is =
-    deliver_none w receiver line (slice_get w.places receiver) (slice_get w.sent at) is
-effect_never_wants w (Noise receiver line bytes) is =
-    noise_none w receiver line bytes (slice_get w.places receiver)
+effect_never_wants w (Deliver receiver way at) is =
+    deliver_none w receiver way (slice_get w.places receiver) (slice_get w.sent at) is
+effect_never_wants w (Noise receiver way bytes) is =
+    noise_none w receiver way bytes (slice_get w.places receiver)
     (is_own w.publisher.journal.session (reading bytes)) is
 effect_never_wants w (Restart receiver next) is = restart_none w receiver next (slice_get w.places receiver) is
 

@@ -1,7 +1,7 @@
 -- What every event keeps, and so every list of events.
 use Rattle.std.proofs.Common.{◌≡◌, ℕ, zero, suc, ◌+◌, ◌-◌, ◌<◌, ◌≤◌, cond, leb, ltb, List, [], ◌∷◌, ◌++◌, length, map, min, drop}
 use Rattle.std.proofs.Common.{refl, sym, ap, subst, ◌∙◌, inl, inr, arith}
-use Rattle.std.specs.Prelude.{◌⊎◌, ◌&&◌, Option, None, Some, Bool, true, false, not, Result, Ok, Err, slice_get, slice_set}
+use Rattle.std.specs.Prelude.{◌&&◌, Option, None, Some, Bool, true, false, not, Result, Ok, Err, slice_get}
 use Rattle.std.specs.Str.{bytes_eq}
 use Rattle.std.proofs.lemmas.Bool.{and_parts, leb-true, ltb-false}
 use Rattle.std.proofs.lemmas.Option.{none-some, same_Some}
@@ -20,7 +20,6 @@ use Rattle.mold_receiver.specs.Store.{from_next}
 use Rattle.mold_rule.specs.declared.refusal.Refusal.TheVariants.{Malformed, WrongSession}
 use Rattle.mold_receiver.specs.View.{IsWellFormed, View}
 use Rattle.mold_receiver.specs.Wanted.{IsGap, gap_end, wanted}
-use Rattle.mold_receiver.specs.declared.line.Line.{Line}
 use Rattle.mold_rule.specs.declared.refusal.Refusal.{Refusal as Refused}
 use Rattle.mold_session.specs.Answer.{IsPlan, PlanState, answer, plan_for, planned}
 use Rattle.mold_session.specs.Server.{IsAnswerable, asking}
@@ -33,10 +32,11 @@ use Rattle.mold_session.specs.declared.error.AppendError.{AppendError}
 use Rattle.mold_world.proofs.MachineLemmas.{append_cases, one_alone}
 use Rattle.mold_world.proofs.PlaceLemmas.{ReceiverLaws, given_kept, noise_kept, place_closed, place_published}
 use Rattle.mold_world.proofs.PlaceLemmas.{place_sent, renewed_kept}
-use Rattle.mold_world.specs.Effect.{Happening, Outcome, delivered, effect, is_own, noised, publishing, restarted}
+use Rattle.mold_world.specs.Event.{Happening}
+use Rattle.mold_world.specs.Effect.{Outcome, delivered, effect, is_own, noised, publishing, restarted}
 use Rattle.mold_world.specs.Effect.{after_event, after_outcome, answered, asked, asked_for, given, renewed, requested, run_events, sending, unsent_count}
 use Rattle.mold_world.specs.Effect.{with_place}
-use Rattle.mold_world.specs.Effect.Happening.{Publish, Datagram, Heartbeat, Close, End, Request, Ask, Deliver, Noise, Restart}
+use Rattle.mold_world.specs.declared.event.EventOf.TheVariants.{Publish, Datagram, Heartbeat, Close, End, Request, Ask, Deliver, Noise, Restart}
 use Rattle.mold_world.specs.Headline.{IsPrefix}
 use Rattle.mold_world.specs.Kept.{IsPlaceKept, IsWorld}
 use Rattle.mold_world.specs.World.{PlaceState, WorldState}
@@ -45,6 +45,9 @@ use Rattle.mold_world.specs.declared.report.Report.TheVariants as report
 use Rattle.mold_session.specs.declared.error.SessionError.TheVariants as session
 use Rattle.mold_world.specs.declared.report.WorldError.{WorldError}
 use Rattle.mold_world.specs.declared.report.WorldError.TheVariants.{NotReached, Layer as Refuses}
+use Rattle.mold_world.specs.declared.way.Way.{Way}
+use Rattle.mold_world.proofs.OutcomeLemmas.{ok_so, err_so}
+use Rattle.mold_world.proofs.SettingLemmas.{set_cases}
 
 -- what the laws of session and wire say
 pub record SendingLaws : Type 0 where
@@ -70,35 +73,47 @@ pub record SendingLaws : Type 0 where
       IsTrue packet (published ++ message ∷ []) false
   pub closes : (packet : Packet) (published : List (List ℕ)) → IsTrue packet published false → IsTrue packet published true
 
+-- a publisher with another journal of the same session, with messages that are as long: what was sent is true of
+-- it too, and receivers were told nothing else
+world_with_publisher :
+    (w : WorldState) (new : PublisherState) → IsWorld w → IsPublisher new →
+    new.journal.session ≡ w.publisher.journal.session → new.journal.max_message ≡ w.publisher.journal.max_message →
+    ((packet : Packet) → IsTrue packet w.publisher.journal.messages w.publisher.journal.closed →
+    IsTrue packet new.journal.messages new.journal.closed) →
+    ((place : PlaceState) → IsPlaceKept w.publisher.journal w.sent place → IsPlaceKept new.journal w.sent place) →
+    IsWorld (record w { publisher = new })
+world_with_publisher w new is publisher named longest still kept = record {
+  publisher = publisher;
+  answers = record {
+    journaled = publisher.journaled;
+    named = ap (λ (t : Session). length t.0) named ∙ is.answers.named;
+    limited = is.answers.limited;
+    room = omega (arith, longest, is.answers.room);
+  };
+  said = λ place bytes found.
+      let told = is.said place bytes found in
+      record {
+        packet = told.packet;
+        spelled = told.spelled;
+        session = told.session ∙ sym named;
+        so = still told.packet told.so;
+      };
+  places = λ receiver place found. kept place (is.places receiver place found);
+}
+
 -- a message that is published
 world_published :
     (laws : SendingLaws) (receivers : ReceiverLaws) (w : WorldState) (message : List ℕ) → IsWorld w →
     MayPublish w.publisher message → IsWorld (record w { publisher = published w.publisher message })
 world_published laws receivers w message is may =
-    let publisher = laws.published w.publisher message is.publisher may in
-    record {
-      publisher = publisher;
-      answers = record {
-        journaled = publisher.journaled;
-        named = is.answers.named;
-        limited = is.answers.limited;
-        room = is.answers.room;
-      };
-      said = λ place bytes found.
-          let told = is.said place bytes found in
-          record {
-            packet = told.packet;
-            spelled = told.spelled;
-            session = told.session;
-            so = subst (λ (t : Bool). IsTrue told.packet (w.publisher.journal.messages ++ message ∷ []) t)
-                (sym may.unclosed)
-                (laws.grows told.packet w.publisher.journal.messages message
-                (omega (arith, is.publisher.journaled.few, may.number))
-                (subst (λ (t : Bool). IsTrue told.packet w.publisher.journal.messages t) may.unclosed told.so));
-          };
-      places = λ receiver place found.
-          place_published receivers w.publisher.journal w.sent message place may.unclosed (is.places receiver place found);
-    }
+    let few = is.publisher.journaled.few in
+    world_with_publisher w (published w.publisher message) is (laws.published w.publisher message is.publisher may)
+    refl refl
+    (λ packet so.
+    subst (λ (t : Bool). IsTrue packet (w.publisher.journal.messages ++ message ∷ []) t) (sym may.unclosed)
+    (laws.grows packet w.publisher.journal.messages message (omega (arith, few, may.number))
+    (subst (λ (t : Bool). IsTrue packet w.publisher.journal.messages t) may.unclosed so)))
+    (λ place kept. place_published receivers w.publisher.journal w.sent message place may.unclosed kept)
 
 true_once_closed :
     (laws : SendingLaws) (packet : Packet) (messages : List (List ℕ)) (closed : Bool) → IsTrue packet messages closed →
@@ -111,26 +126,9 @@ world_closed :
     (laws : SendingLaws) (receivers : ReceiverLaws) (w : WorldState) → IsWorld w →
     w.publisher.sent ≡ length w.publisher.journal.messages → IsWorld (record w { publisher = closed w.publisher })
 world_closed laws receivers w is all =
-    let publisher = laws.closed w.publisher is.publisher all in
-    record {
-      publisher = publisher;
-      answers = record {
-        journaled = publisher.journaled;
-        named = is.answers.named;
-        limited = is.answers.limited;
-        room = is.answers.room;
-      };
-      said = λ place bytes found.
-          let told = is.said place bytes found in
-          record {
-            packet = told.packet;
-            spelled = told.spelled;
-            session = told.session;
-            so = true_once_closed laws told.packet w.publisher.journal.messages w.publisher.journal.closed told.so;
-          };
-      places = λ receiver place found.
-          place_closed receivers w.publisher.journal w.sent place (is.places receiver place found);
-    }
+    world_with_publisher w (closed w.publisher) is (laws.closed w.publisher is.publisher all) refl refl
+    (λ packet so. true_once_closed laws packet w.publisher.journal.messages w.publisher.journal.closed so)
+    (λ place kept. place_closed receivers w.publisher.journal w.sent place kept)
 
 -- datagrams that tell the truth are sent, by a publisher with the same journal
 world_sent :
@@ -154,16 +152,6 @@ world_sent w publisher more is still same true_all =
           (place_sent w.publisher.journal w.sent more place (is.places receiver place found));
     }
 
--- a receiver is another
-set_cases :
-    {X : Type 0} (xs : List X) (at : ℕ) (new : X) (place : ℕ) (x : X) → slice_get (slice_set xs at new) place ≡ Some x →
-    (new ≡ x) ⊎ (slice_get xs place ≡ Some x)
-set_cases [] at new place x is = inr is
-set_cases (first ∷ xs) zero new zero x is = inl (same_Some new x is)
-set_cases (first ∷ xs) zero new (suc place) x is = inr is
-set_cases (first ∷ xs) (suc at) new zero x is = inr is
-set_cases (first ∷ xs) (suc at) new (suc place) x is = set_cases xs at new place x is
-
 world_with_place :
     (w : WorldState) (receiver : ℕ) (new : PlaceState) → IsWorld w →
     IsPlaceKept w.publisher.journal w.sent new → IsWorld (with_place w receiver new)
@@ -181,13 +169,11 @@ world_with_place w receiver new is kept = record {
 -- what is answered is what it says
 ok_world :
     (here done : Report × WorldState) → IsWorld here.1 → ◌≡◌ {A = Outcome} (Ok here) (Ok done) → IsWorld done.1
-ok_world here done is same =
-    let path : here ≡ done = (let e = same in cc) in
-    subst (λ (t : Report × WorldState). IsWorld t.1) path is
+ok_world here done is same = ok_so (λ (t : Report × WorldState). IsWorld t.1) here done same is
 
 err_world :
     (refused : WorldError) (done : Report × WorldState) → ◌≡◌ {A = Outcome} (Err refused) (Ok done) → IsWorld done.1
-err_world refused done same = absurd (let e = same in cc)
+err_world refused done same = err_so (λ (t : Report × WorldState). IsWorld t.1) refused done same
 
 publish_kept :
     (laws : SendingLaws) (receivers : ReceiverLaws) (w : WorldState) (message : List ℕ) (refusal : Option AppendError)
@@ -225,14 +211,14 @@ close_kept laws receivers w false done is none same =
     (omega (arith, ltb-false 0 (unsent_count w.publisher) none, is.publisher.published))) same
 
 deliver_kept :
-    (receivers : ReceiverLaws) (w : WorldState) (receiver at : ℕ) (line : Option Line) (place : Option PlaceState)
+    (receivers : ReceiverLaws) (w : WorldState) (receiver at : ℕ) (way : Way) (place : Option PlaceState)
     (datagram : Option (List ℕ)) (done : Report × WorldState) → IsWorld w → slice_get w.places receiver ≡ place →
-    slice_get w.sent at ≡ datagram → delivered w receiver line place datagram ≡ Ok done → IsWorld done.1
-deliver_kept receivers w receiver at line None datagram done is here sent same = err_world _ done same
-deliver_kept receivers w receiver at line (Some place) None done is here sent same = err_world _ done same
-deliver_kept receivers w receiver at line (Some place) (Some bytes) done is here sent same =
-    ok_world _ done (world_with_place w receiver (given place line bytes) is
-    (given_kept receivers w.publisher.journal w.sent place line bytes (is.places receiver place here)
+    slice_get w.sent at ≡ datagram → delivered w receiver way place datagram ≡ Ok done → IsWorld done.1
+deliver_kept receivers w receiver at way None datagram done is here sent same = err_world _ done same
+deliver_kept receivers w receiver at way (Some place) None done is here sent same = err_world _ done same
+deliver_kept receivers w receiver at way (Some place) (Some bytes) done is here sent same =
+    ok_world _ done (world_with_place w receiver (given place way bytes) is
+    (given_kept receivers w.publisher.journal w.sent place way bytes (is.places receiver place here)
     (record { place = at; found = sent; told = is.said at bytes sent }))) same
 
 -- bytes that are no packet of the session are refused
@@ -256,17 +242,17 @@ not_own view own (Ok packet) same other =
     )
 
 noise_given :
-    (w : WorldState) (receiver : ℕ) (line : Option Line) (bytes : List ℕ) (place : Option PlaceState) (own : Bool)
+    (w : WorldState) (receiver : ℕ) (way : Way) (bytes : List ℕ) (place : Option PlaceState) (own : Bool)
     (done : Report × WorldState) → IsWorld w → slice_get w.places receiver ≡ place →
-    is_own w.publisher.journal.session (reading bytes) ≡ own → noised w receiver line bytes place own ≡ Ok done →
+    is_own w.publisher.journal.session (reading bytes) ≡ own → noised w receiver way bytes place own ≡ Ok done →
     IsWorld done.1
-noise_given w receiver line bytes None own done is here mine same = err_world _ done same
-noise_given w receiver line bytes (Some place) true done is here mine same = err_world _ done same
-noise_given w receiver line bytes (Some place) false done is here mine same =
+noise_given w receiver way bytes None own done is here mine same = err_world _ done same
+noise_given w receiver way bytes (Some place) true done is here mine same = err_world _ done same
+noise_given w receiver way bytes (Some place) false done is here mine same =
     let kept = is.places receiver place here in
     let refused = not_own place.arbitration.view w.publisher.journal.session (reading bytes) kept.session mine in
-    ok_world _ done (world_with_place w receiver (given place line bytes) is
-    (noise_kept w.publisher.journal w.sent place line bytes refused.0 refused.1 kept)) same
+    ok_world _ done (world_with_place w receiver (given place way bytes) is
+    (noise_kept w.publisher.journal w.sent place way bytes refused.0 refused.1 kept)) same
 
 restart_given :
     (receivers : ReceiverLaws) (w : WorldState) (receiver next : ℕ) (place : PlaceState) (reached : Bool)
@@ -419,11 +405,11 @@ event_kept laws w (Request bytes) done is same =
     request_kept laws.answers w bytes (asking w.publisher.journal bytes) done is refl same
 event_kept laws w (Ask receiver) done is same =
     ask_kept laws.answers w receiver (slice_get w.places receiver) done is refl same
-event_kept laws w (Deliver receiver line at) done is same =
-    deliver_kept laws.receivers w receiver at line (slice_get w.places receiver) (slice_get w.sent at) done is refl refl
+event_kept laws w (Deliver receiver way at) done is same =
+    deliver_kept laws.receivers w receiver at way (slice_get w.places receiver) (slice_get w.sent at) done is refl refl
     same
-event_kept laws w (Noise receiver line bytes) done is same =
-    noise_given w receiver line bytes (slice_get w.places receiver)
+event_kept laws w (Noise receiver way bytes) done is same =
+    noise_given w receiver way bytes (slice_get w.places receiver)
     (is_own w.publisher.journal.session (reading bytes)) done is refl refl same
 event_kept laws w (Restart receiver next) done is same =
     restart_kept laws.receivers w receiver next (slice_get w.places receiver) done is refl same

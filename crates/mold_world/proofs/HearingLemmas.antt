@@ -1,9 +1,8 @@
 -- What the receivers of a world do with what comes to them.
-use Rattle.std.proofs.Common.{◌≡◌, ℕ, zero, suc, List, [], ◌∷◌, map, refl, sym, ap, subst, ◌∙◌, inl, inr}
-use Rattle.std.specs.Prelude.{Option, None, Some, Bool, true, false, Result, Ok, Err, slice_get, slice_set}
+use Rattle.std.proofs.Common.{◌≡◌, ℕ, List, [], refl, sym, ap, ◌∙◌, inl, inr}
+use Rattle.std.specs.Prelude.{Option, None, Some, Bool, true, false, Result, Ok, Err, slice_get}
 use Rattle.std.specs.Str.{bytes_eq}
 use Rattle.std.proofs.lemmas.Bool.{cases_Bool}
-use Rattle.std.proofs.lemmas.Option.{same_Some}
 use Rattle.std.proofs.lemmas.Slice.Eq.{bytes_eq-Decides}
 use Rattle.mold_wire.specs.Block.{IsBytes}
 use Rattle.mold_wire.specs.Packet.{Spells}
@@ -16,32 +15,22 @@ use Rattle.mold_receiver.specs.Arbiter.{arbitrated}
 use Rattle.mold_receiver.specs.Honest.{IsHonest, IsTakenHonestly}
 use Rattle.mold_receiver.specs.Receive.{Reception, receive}
 use Rattle.mold_receiver.specs.View.{View}
-use Rattle.mold_receiver.specs.declared.line.Line.{Line}
 use Rattle.mold_rule.specs.declared.refusal.Refusal.{Refusal as Refused}
 use Rattle.mold_world.proofs.EventLemmas.{not_own}
 use Rattle.mold_world.proofs.PlaceLemmas.{view_refused}
-use Rattle.mold_world.specs.Effect.{Happening, Outcome, book_after, delivered, effect, given, is_own, noised, told}
-use Rattle.mold_world.specs.Effect.Happening.{Publish, Datagram, Heartbeat, Close, End}
-use Rattle.mold_world.specs.Effect.Happening.{Request, Ask, Deliver, Noise, Restart}
+use Rattle.mold_world.specs.Event.{Happening, line_of}
+use Rattle.mold_world.specs.Effect.{book_after, delivered, effect, given, is_own, noised, told}
+use Rattle.mold_world.specs.declared.event.EventOf.TheVariants.{Publish, Datagram, Heartbeat, Close, End}
+use Rattle.mold_world.specs.declared.event.EventOf.TheVariants.{Request, Ask, Deliver, Noise, Restart}
 use Rattle.mold_world.specs.HandOns.{handed_at, handed_by, handed_of, handed_of_noise}
 use Rattle.mold_world.specs.Hearing.{AreStrange, Hears, IsUnmoved, KeepsBooks, TellsRefused, TellsTaken}
 use Rattle.mold_world.specs.Kept.{IsWorld}
 use Rattle.mold_world.specs.World.{PlaceState, WorldState}
 use Rattle.mold_world.specs.declared.report.Report.{Report}
 use Rattle.mold_world.specs.declared.report.WorldError.{WorldError}
-
--- what holds of what an event answers, and of what another one does not
-pub ok_so :
-    (P : Report × WorldState → Type 0) (here done : Report × WorldState) →
-    ◌≡◌ {A = Outcome} (Ok here) (Ok done) → P here → P done
-ok_so P here done same holds =
-    let path : here ≡ done = (let e = same in cc) in
-    subst P path holds
-
-pub err_so :
-    (P : Report × WorldState → Type 0) (refused : WorldError) (done : Report × WorldState) →
-    ◌≡◌ {A = Outcome} (Err refused) (Ok done) → P done
-err_so P refused done same = absurd (let e = same in cc)
+use Rattle.mold_world.specs.declared.way.Way.{Way}
+use Rattle.mold_world.proofs.OutcomeLemmas.{ok_so, err_so, ok_refused}
+use Rattle.mold_world.proofs.SettingLemmas.{map_set}
 
 -- what the receiver's law says of what is true
 abbrev pub TakesTruth : Type 0
@@ -62,25 +51,25 @@ sent_taken take w receiver at place bytes is here found =
 
 -- a receiver that refuses bytes
 pub unmoved :
-    (place : PlaceState) (line : Option Line) (bytes : List ℕ) (refused : Refused) →
-    receive place.arbitration.view bytes ≡ Err refused → IsUnmoved place line bytes
-unmoved place line bytes refused is = record {
+    (place : PlaceState) (way : Way) (bytes : List ℕ) (refused : Refused) →
+    receive place.arbitration.view bytes ≡ Err refused → IsUnmoved place way bytes
+unmoved place way bytes refused is = record {
   refused = refused;
   received = is;
-  view = ap (λ (t : Result Reception Refused). (arbitrated line bytes place.arbitration t).view) is
-      ∙ view_refused line bytes place.arbitration refused;
+  view = ap (λ (t : Result Reception Refused). (arbitrated (line_of way) bytes place.arbitration t).view) is
+      ∙ view_refused way bytes place.arbitration refused;
   book = ap (λ (t : Result Reception Refused). book_after place.book place.arbitration.view.next t) is;
 }
 
 pub noise_unmoved :
-    (w : WorldState) (receiver : ℕ) (line : Option Line) (bytes : List ℕ) (place : PlaceState) → IsWorld w →
+    (w : WorldState) (receiver : ℕ) (way : Way) (bytes : List ℕ) (place : PlaceState) → IsWorld w →
     slice_get w.places receiver ≡ Some place → is_own w.publisher.journal.session (reading bytes) ≡ false →
-    IsUnmoved place line bytes
-noise_unmoved w receiver line bytes place is here other =
+    IsUnmoved place way bytes
+noise_unmoved w receiver way bytes place is here other =
     let refused = not_own place.arbitration.view w.publisher.journal.session (reading bytes)
     (is.places receiver place here).session other
     in
-    unmoved place line bytes refused.0 refused.1
+    unmoved place way bytes refused.0 refused.1
 
 -- bytes that spell no packet of the session are read as none
 read_strange :
@@ -98,50 +87,46 @@ read_strange spelled session bytes (Ok packet) are is strange =
 
 pub strange_unmoved :
     (spelled : (packet : Packet) (bytes : List ℕ) → IsBytes bytes → reading bytes ≡ Ok packet → Spells packet bytes)
-    (w : WorldState) (receiver : ℕ) (place : PlaceState) (line : Option Line) (bytes : List ℕ) → IsWorld w →
+    (w : WorldState) (receiver : ℕ) (place : PlaceState) (way : Way) (bytes : List ℕ) → IsWorld w →
     slice_get w.places receiver ≡ Some place → IsBytes bytes → AreStrange w.publisher.journal.session bytes →
-    IsUnmoved place line bytes
-strange_unmoved spelled w receiver place line bytes is here are strange =
-    noise_unmoved w receiver line bytes place is here
+    IsUnmoved place way bytes
+strange_unmoved spelled w receiver place way bytes is here are strange =
+    noise_unmoved w receiver way bytes place is here
     (read_strange spelled w.publisher.journal.session bytes (reading bytes) are refl strange)
 
 -- noise hands nothing on
 noise_hands :
-    (w : WorldState) (receiver : ℕ) (line : Option Line) (bytes : List ℕ) (place : Option PlaceState) (own : Bool) →
+    (w : WorldState) (receiver : ℕ) (way : Way) (bytes : List ℕ) (place : Option PlaceState) (own : Bool) →
     IsWorld w → slice_get w.places receiver ≡ place → is_own w.publisher.journal.session (reading bytes) ≡ own →
     handed_of_noise receiver place bytes own ≡ []
-noise_hands w receiver line bytes place true is here mine = refl
-noise_hands w receiver line bytes None false is here mine = refl
-noise_hands w receiver line bytes (Some place) false is here mine =
+noise_hands w receiver way bytes place true is here mine = refl
+noise_hands w receiver way bytes None false is here mine = refl
+noise_hands w receiver way bytes (Some place) false is here mine =
     ap (λ (t : Result Reception Refused). handed_of receiver place.arbitration.view.next t)
-    (noise_unmoved w receiver line bytes place is here mine).received
+    (noise_unmoved w receiver way bytes place is here mine).received
 
 pub noise_hands_nothing :
-    (w : WorldState) (receiver : ℕ) (line : Option Line) (bytes : List ℕ) → IsWorld w →
-    handed_by w (Noise receiver line bytes) ≡ []
-noise_hands_nothing w receiver line bytes is =
-    noise_hands w receiver line bytes (slice_get w.places receiver)
+    (w : WorldState) (receiver : ℕ) (way : Way) (bytes : List ℕ) → IsWorld w →
+    handed_by w (Noise receiver way bytes) ≡ []
+noise_hands_nothing w receiver way bytes is =
+    noise_hands w receiver way bytes (slice_get w.places receiver)
     (is_own w.publisher.journal.session (reading bytes)) is refl refl
 
 -- nor does an event that is refused
-ok_refused :
-    {P : Type 0} (done : Report × WorldState) (error : WorldError) → ◌≡◌ {A = Outcome} (Ok done) (Err error) → P
-ok_refused done error same = absurd (let e = same in cc)
-
 refused_delivery :
-    (w : WorldState) (receiver : ℕ) (line : Option Line) (place : Option PlaceState) (datagram : Option (List ℕ))
-    (error : WorldError) → delivered w receiver line place datagram ≡ Err error → handed_at receiver place datagram ≡ []
-refused_delivery w receiver line None datagram error same = refl
-refused_delivery w receiver line (Some place) None error same = refl
-refused_delivery w receiver line (Some place) (Some bytes) error same = ok_refused _ error same
+    (w : WorldState) (receiver : ℕ) (way : Way) (place : Option PlaceState) (datagram : Option (List ℕ))
+    (error : WorldError) → delivered w receiver way place datagram ≡ Err error → handed_at receiver place datagram ≡ []
+refused_delivery w receiver way None datagram error same = refl
+refused_delivery w receiver way (Some place) None error same = refl
+refused_delivery w receiver way (Some place) (Some bytes) error same = ok_refused _ error same
 
 refused_noise :
-    (w : WorldState) (receiver : ℕ) (line : Option Line) (bytes : List ℕ) (place : Option PlaceState) (own : Bool)
-    (error : WorldError) → noised w receiver line bytes place own ≡ Err error →
+    (w : WorldState) (receiver : ℕ) (way : Way) (bytes : List ℕ) (place : Option PlaceState) (own : Bool)
+    (error : WorldError) → noised w receiver way bytes place own ≡ Err error →
     handed_of_noise receiver place bytes own ≡ []
-refused_noise w receiver line bytes place true error same = refl
-refused_noise w receiver line bytes None false error same = refl
-refused_noise w receiver line bytes (Some place) false error same = ok_refused _ error same
+refused_noise w receiver way bytes place true error same = refl
+refused_noise w receiver way bytes None false error same = refl
+refused_noise w receiver way bytes (Some place) false error same = ok_refused _ error same
 
 pub refused_hands_nothing :
     (w : WorldState) (happening : Happening) (error : WorldError) → effect w happening ≡ Err error →
@@ -154,53 +139,43 @@ refused_hands_nothing w Close error same = refl
 refused_hands_nothing w End error same = refl
 refused_hands_nothing w (Request bytes) error same = refl
 refused_hands_nothing w (Ask receiver) error same = refl
-refused_hands_nothing w (Deliver receiver line at) error same =
-    refused_delivery w receiver line (slice_get w.places receiver) (slice_get w.sent at) error same
-refused_hands_nothing w (Noise receiver line bytes) error same =
-    refused_noise w receiver line bytes (slice_get w.places receiver)
+refused_hands_nothing w (Deliver receiver way at) error same =
+    refused_delivery w receiver way (slice_get w.places receiver) (slice_get w.sent at) error same
+refused_hands_nothing w (Noise receiver way bytes) error same =
+    refused_noise w receiver way bytes (slice_get w.places receiver)
     (is_own w.publisher.journal.session (reading bytes)) error same
 refused_hands_nothing w (Restart receiver next) error same = refl
 
--- an element that is put in place of another of which the same is told
-map_set :
-    {X Y : Type 0} (f : X → Y) (xs : List X) (at : ℕ) (old new : X) → slice_get xs at ≡ Some old → f new ≡ f old →
-    map f (slice_set xs at new) ≡ map f xs
-map_set f [] at old new is same = refl
-map_set {Y = Y} f (x ∷ xs) zero old new is same =
-    ap (λ (t : Y). t ∷ map f xs) (same ∙ ap f (sym (same_Some x old is)))
-map_set {Y = Y} f (x ∷ xs) (suc at) old new is same =
-    ap (λ (t : List Y). f x ∷ t) (map_set f xs at old new is same)
-
 deliver_heard :
-    (take : TakesTruth) (w : WorldState) (receiver at : ℕ) (line : Option Line) (place : Option PlaceState)
+    (take : TakesTruth) (w : WorldState) (receiver at : ℕ) (way : Way) (place : Option PlaceState)
     (datagram : Option (List ℕ)) (done : Report × WorldState) → IsWorld w → slice_get w.places receiver ≡ place →
-    slice_get w.sent at ≡ datagram → delivered w receiver line place datagram ≡ Ok done → TellsTaken done.0
-deliver_heard take w receiver at line None datagram done is here found same =
+    slice_get w.sent at ≡ datagram → delivered w receiver way place datagram ≡ Ok done → TellsTaken done.0
+deliver_heard take w receiver at way None datagram done is here found same =
     err_so (λ (t : Report × WorldState). TellsTaken t.0) _ done same
-deliver_heard take w receiver at line (Some place) None done is here found same =
+deliver_heard take w receiver at way (Some place) None done is here found same =
     err_so (λ (t : Report × WorldState). TellsTaken t.0) _ done same
-deliver_heard take w receiver at line (Some place) (Some bytes) done is here found same =
+deliver_heard take w receiver at way (Some place) (Some bytes) done is here found same =
     let took = sent_taken take w receiver at place bytes is here found in
     ok_so (λ (t : Report × WorldState). TellsTaken t.0) _ done same
     (record { taken = took.reception.taken; so = ap told took.received })
 
 noise_heard :
-    (w : WorldState) (receiver : ℕ) (line : Option Line) (bytes : List ℕ) (place : Option PlaceState) (own : Bool)
+    (w : WorldState) (receiver : ℕ) (way : Way) (bytes : List ℕ) (place : Option PlaceState) (own : Bool)
     (done : Report × WorldState) → IsWorld w → slice_get w.places receiver ≡ place →
-    is_own w.publisher.journal.session (reading bytes) ≡ own → noised w receiver line bytes place own ≡ Ok done →
+    is_own w.publisher.journal.session (reading bytes) ≡ own → noised w receiver way bytes place own ≡ Ok done →
     TellsRefused done.0 × KeepsBooks w done.1
-noise_heard w receiver line bytes None own done is here mine same =
+noise_heard w receiver way bytes None own done is here mine same =
     err_so (λ (t : Report × WorldState). TellsRefused t.0 × KeepsBooks w t.1) _ done same
-noise_heard w receiver line bytes (Some place) true done is here mine same =
+noise_heard w receiver way bytes (Some place) true done is here mine same =
     err_so (λ (t : Report × WorldState). TellsRefused t.0 × KeepsBooks w t.1) _ done same
-noise_heard w receiver line bytes (Some place) false done is here mine same =
-    let stays = noise_unmoved w receiver line bytes place is here mine in
+noise_heard w receiver way bytes (Some place) false done is here mine same =
+    let stays = noise_unmoved w receiver way bytes place is here mine in
     ok_so (λ (t : Report × WorldState). TellsRefused t.0 × KeepsBooks w t.1) _ done same (
       record { refused = stays.refused; so = ap told stays.received },
       record {
-        views = map_set (λ (t : PlaceState). t.arbitration.view) w.places receiver place (given place line bytes) here
+        views = map_set (λ (t : PlaceState). t.arbitration.view) w.places receiver place (given place way bytes) here
             stays.view;
-        books = map_set (λ (t : PlaceState). t.book) w.places receiver place (given place line bytes) here stays.book;
+        books = map_set (λ (t : PlaceState). t.book) w.places receiver place (given place way bytes) here stays.book;
       },
     )
 
@@ -216,9 +191,9 @@ event_heard take w Close done is same = tt
 event_heard take w End done is same = tt
 event_heard take w (Request bytes) done is same = tt
 event_heard take w (Ask receiver) done is same = tt
-event_heard take w (Deliver receiver line at) done is same =
-    deliver_heard take w receiver at line (slice_get w.places receiver) (slice_get w.sent at) done is refl refl same
-event_heard take w (Noise receiver line bytes) done is same =
-    noise_heard w receiver line bytes (slice_get w.places receiver)
+event_heard take w (Deliver receiver way at) done is same =
+    deliver_heard take w receiver at way (slice_get w.places receiver) (slice_get w.sent at) done is refl refl same
+event_heard take w (Noise receiver way bytes) done is same =
+    noise_heard w receiver way bytes (slice_get w.places receiver)
     (is_own w.publisher.journal.session (reading bytes)) done is refl refl same
 event_heard take w (Restart receiver next) done is same = tt

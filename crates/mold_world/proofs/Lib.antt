@@ -1,8 +1,12 @@
+pub mod SettingLemmas
+pub mod OutcomeLemmas
 pub mod MachineLemmas
 pub mod PlaceLemmas
 pub mod EventLemmas
 pub mod HearingLemmas
 pub mod RunLemmas
+pub mod StandingLemmas
+pub mod SendStepLemmas
 pub mod StepLemmas
 pub mod GivingLemmas
 pub mod RowLemmas
@@ -11,4 +15,5 @@ pub mod PlaceRowLemmas
 pub mod RequestRowLemmas
 pub mod ApplyLemmas
 pub mod RunningLemmas
+pub mod FarLemmas
 pub mod StraightLemmas

@@ -2,7 +2,7 @@
 -- refuses bytes, and when it begins anew.
 use Rattle.std.proofs.Common.{◌≡◌, ℕ, zero, suc, ◌+◌, ◌-◌, ◌<◌, ◌≤◌, List, [], ◌∷◌, ◌++◌, length}
 use Rattle.std.proofs.Common.{take, drop, refl, sym, ap, subst, ◌∙◌, inl, inr, arith}
-use Rattle.std.specs.Prelude.{◌⊎◌, Option, None, Some, Bool, true, false, Result, Ok, Err, slice_get}
+use Rattle.std.specs.Prelude.{◌⊎◌, Option, Some, Bool, true, false, Result, Ok, Err, slice_get}
 use Rattle.std.specs.FinMap as finite
 use Rattle.std.specs.Ordering.{nat_cmp}
 use Rattle.std.proofs.Math.Seq.{take-add}
@@ -20,7 +20,6 @@ use Rattle.mold_receiver.specs.Batch.{Follows, Handed, followed_by, handed_from}
 use Rattle.mold_receiver.specs.Honest.{IsHonest, IsTakenHonestly}
 use Rattle.mold_receiver.specs.Receive.{IsTakenPacket, Reception, ended_after, receive, view_after}
 use Rattle.mold_receiver.specs.View.{View, fresh}
-use Rattle.mold_receiver.specs.declared.line.Line.{Line}
 use Rattle.mold_rule.specs.declared.refusal.Refusal.{Refusal as Refused}
 use Rattle.mold_session.specs.Journal.{JournalState, appended}
 use Rattle.mold_session.specs.Truthful.{TellsTruth}
@@ -29,6 +28,9 @@ use Rattle.mold_world.specs.Effect.{book_after, given, renewed}
 use Rattle.mold_world.specs.Kept.{IsPlaceKept}
 use Rattle.mold_world.specs.Machine.{IsEndSent, IsSentAs, end_packet}
 use Rattle.mold_world.specs.World.{PlaceState}
+use Rattle.mold_world.specs.Event.{line_of}
+use Rattle.mold_world.specs.declared.way.Way.{Way}
+use Rattle.mold_world.specs.declared.way.Way.TheVariants.{Answer, Line}
 
 -- what the laws of the receiver and of the wire say
 pub record ReceiverLaws : Type 0 where
@@ -133,23 +135,23 @@ place_closed laws journal sent place kept = record {
 }
 
 -- a receiver by what the rule makes of what it is given
-abbrev given_by : PlaceState → Option Line → List ℕ → Result Reception Refused → PlaceState
-given_by place line bytes outcome = record {
-  arbitration = arbitrated line bytes place.arbitration outcome;
+abbrev given_by : PlaceState → Way → List ℕ → Result Reception Refused → PlaceState
+given_by place way bytes outcome = record {
+  arbitration = arbitrated (line_of way) bytes place.arbitration outcome;
   book = book_after place.book place.arbitration.view.next outcome;
 }
 
 pub view_taken :
-    (line : Option Line) (bytes : List ℕ) (old : Arbitration) (r : Reception) →
-    (arbitrated line bytes old (Ok r)).view ≡ r.view
-view_taken None bytes old r = refl
-view_taken (Some line) bytes old r = refl
+    (way : Way) (bytes : List ℕ) (old : Arbitration) (r : Reception) →
+    (arbitrated (line_of way) bytes old (Ok r)).view ≡ r.view
+view_taken Answer bytes old r = refl
+view_taken (Line line) bytes old r = refl
 
 pub view_refused :
-    (line : Option Line) (bytes : List ℕ) (old : Arbitration) (refused : Refused) →
-    (arbitrated line bytes old (Err refused)).view ≡ old.view
-view_refused None bytes old refused = refl
-view_refused (Some line) bytes old refused = refl
+    (way : Way) (bytes : List ℕ) (old : Arbitration) (refused : Refused) →
+    (arbitrated (line_of way) bytes old (Err refused)).view ≡ old.view
+view_refused Answer bytes old refused = refl
+view_refused (Line line) bytes old refused = refl
 
 pub followed_messages :
     (book : Handed) (next : ℕ) (messages : List (List ℕ)) →
@@ -213,13 +215,13 @@ is_end_packet packet session end named body number =
 
 -- a receiver that took a packet which was sent
 taken_kept :
-    (laws : ReceiverLaws) (journal : JournalState) (sent : List (List ℕ)) (place : PlaceState) (line : Option Line)
+    (laws : ReceiverLaws) (journal : JournalState) (sent : List (List ℕ)) (place : PlaceState) (way : Way)
     (bytes : List ℕ) (r : Reception) → IsPlaceKept journal sent place → IsSentTruly journal sent bytes →
     receive place.arbitration.view bytes ≡ Ok r → IsHonest r.view journal.messages journal.closed →
     ((i : ℕ) (message : List ℕ) → slice_get r.handed i ≡ Some message →
     published_at journal.messages (place.arbitration.view.next + i) ≡ Some message) →
-    IsPlaceKept journal sent (given_by place line bytes (Ok r))
-taken_kept laws journal sent place line bytes r kept truly received honest handed =
+    IsPlaceKept journal sent (given_by place way bytes (Ok r))
+taken_kept laws journal sent place way bytes r kept truly received honest handed =
     let v : View = place.arbitration.view in
     let is = laws.taken v bytes r received in
     let packet : Packet = is.packet in
@@ -233,8 +235,8 @@ taken_kept laws journal sent place line bytes r kept truly received honest hande
     ap (λ (t : View). t.next) view
     ∙ ap (λ (t : List (List ℕ)). v.next + length t) (sym (ap (λ (t : Reception). t.handed) is.taken))
     in
-    let now : (given_by place line bytes (Ok r)).arbitration.view ≡ r.view =
-    view_taken line bytes place.arbitration r
+    let now : (given_by place way bytes (Ok r)).arbitration.view ≡ r.view =
+    view_taken way bytes place.arbitration r
     in
     record {
       session = ap (λ (t : View). t.session) now ∙ ap (λ (t : View). t.session) view ∙ kept.session;
@@ -274,28 +276,28 @@ taken_kept laws journal sent place line bytes r kept truly received honest hande
 
 -- so a receiver stays what it is when it is given what was sent
 pub given_kept :
-    (laws : ReceiverLaws) (journal : JournalState) (sent : List (List ℕ)) (place : PlaceState) (line : Option Line)
+    (laws : ReceiverLaws) (journal : JournalState) (sent : List (List ℕ)) (place : PlaceState) (way : Way)
     (bytes : List ℕ) → IsPlaceKept journal sent place → IsSentTruly journal sent bytes →
-    IsPlaceKept journal sent (given place line bytes)
-given_kept laws journal sent place line bytes kept truly =
+    IsPlaceKept journal sent (given place way bytes)
+given_kept laws journal sent place way bytes kept truly =
     let v : View = place.arbitration.view in
     let told = truly.told in
     let took = laws.take v told.packet bytes journal.messages journal.closed kept.honest told.spelled
     (told.session ∙ sym kept.session) told.so
     in
-    subst (λ (t : Result Reception Refused). IsPlaceKept journal sent (given_by place line bytes t))
+    subst (λ (t : Result Reception Refused). IsPlaceKept journal sent (given_by place way bytes t))
     (sym took.received)
-    (taken_kept laws journal sent place line bytes took.reception kept truly took.received took.honest took.handed)
+    (taken_kept laws journal sent place way bytes took.reception kept truly took.received took.honest took.handed)
 
 -- or refuses bytes: then only a report changes
 refused_kept :
-    (journal : JournalState) (sent : List (List ℕ)) (place : PlaceState) (line : Option Line) (bytes : List ℕ)
+    (journal : JournalState) (sent : List (List ℕ)) (place : PlaceState) (way : Way) (bytes : List ℕ)
     (refused : Refused) → IsPlaceKept journal sent place →
-    IsPlaceKept journal sent (given_by place line bytes (Err refused))
-refused_kept journal sent place line bytes refused kept =
-    let now = view_refused line bytes place.arbitration refused in
+    IsPlaceKept journal sent (given_by place way bytes (Err refused))
+refused_kept journal sent place way bytes refused kept =
+    let now = view_refused way bytes place.arbitration refused in
     subst (λ (t : View). IsPlaceKept journal sent (record {
-      arbitration = record { view = t; reports = (arbitrated line bytes place.arbitration (Err refused)).reports };
+      arbitration = record { view = t; reports = (arbitrated (line_of way) bytes place.arbitration (Err refused)).reports };
       book = place.book;
     })) (sym now)
     (record {
@@ -308,12 +310,12 @@ refused_kept journal sent place line bytes refused kept =
     })
 
 pub noise_kept :
-    (journal : JournalState) (sent : List (List ℕ)) (place : PlaceState) (line : Option Line) (bytes : List ℕ)
+    (journal : JournalState) (sent : List (List ℕ)) (place : PlaceState) (way : Way) (bytes : List ℕ)
     (refused : Refused) → receive place.arbitration.view bytes ≡ Err refused → IsPlaceKept journal sent place →
-    IsPlaceKept journal sent (given place line bytes)
-noise_kept journal sent place line bytes refused is kept =
-    subst (λ (t : Result Reception Refused). IsPlaceKept journal sent (given_by place line bytes t)) (sym is)
-    (refused_kept journal sent place line bytes refused kept)
+    IsPlaceKept journal sent (given place way bytes)
+noise_kept journal sent place way bytes refused is kept =
+    subst (λ (t : Result Reception Refused). IsPlaceKept journal sent (given_by place way bytes t)) (sym is)
+    (refused_kept journal sent place way bytes refused kept)
 
 -- some messages cut to their first ones
 cut_from :

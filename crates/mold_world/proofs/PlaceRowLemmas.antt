@@ -1,16 +1,15 @@
 -- What an event does to a receiver, by what the receiver's calls ensure.
-use Rattle.std.proofs.Common.{◌≡◌, ℕ, zero, suc, ◌<◌, cond, leb, ltb, List, [], ◌∷◌, length}
+use Rattle.std.proofs.Common.{◌≡◌, ℕ, ◌<◌, cond, leb, ltb, List, length}
 use Rattle.std.proofs.Common.{refl, sym, ap, subst, ◌∙◌, inl, inr, arith}
-use Rattle.std.specs.Prelude.{◌&&◌, Option, None, Some, Bool, true, false, Result, Ok, Err, IsOk, slice_get, slice_set}
+use Rattle.std.specs.Prelude.{◌&&◌, Option, None, Some, Bool, true, false, Result, Ok, Err, IsOk, slice_get}
 use Rattle.std.proofs.lemmas.Bool.{and_parts, le-leb, leb-true, ltb-false, ltb-true}
 use Rattle.std.proofs.lemmas.Option.{slice_get_past}
 use Rattle.mold_wire.specs.Reading.{reading}
 use Rattle.mold_receiver.specs.Receive.{IsCopied, Reception, receive}
-use Rattle.mold_receiver.specs.declared.line.Line.{Line}
 use Rattle.mold_rule.specs.declared.refusal.Refusal.{Refusal as Refused}
 use Rattle.mold_world.proofs.EventLemmas.{not_own}
 use Rattle.mold_world.specs.Effect.{Outcome, delivered, effect, given, is_own, noised, renewed, restarted, told, with_place}
-use Rattle.mold_world.specs.Effect.Happening.{Deliver, Noise, Restart}
+use Rattle.mold_world.specs.declared.event.EventOf.TheVariants.{Deliver, Noise, Restart}
 use Rattle.mold_world.specs.Kept.{IsWorld}
 use Rattle.mold_world.specs.Refusals.{Applies, Refuses}
 use Rattle.mold_world.specs.Renewals.{HasReached, Renews}
@@ -19,6 +18,8 @@ use Rattle.mold_world.specs.declared.report.Report.{Report}
 use Rattle.mold_world.specs.declared.report.Report.TheVariants.{Restarted}
 use Rattle.mold_world.specs.declared.report.WorldError.{WorldError}
 use Rattle.mold_world.specs.declared.report.WorldError.TheVariants.{Memory, NoReceiver, NoSuchDatagram, NotNoise, NotReached}
+use Rattle.mold_world.specs.declared.way.Way.{Way}
+use Rattle.mold_world.proofs.SettingLemmas.{set_back}
 
 -- no element behind the last
 past_end :
@@ -33,12 +34,6 @@ pub none_there :
     slice_get xs at ≡ None
 none_there xs count at same outside = past_end xs count at (ltb at count) refl same outside
 
--- an element put where it was
-set_back : {X : Type 0} (xs : List X) (at : ℕ) (x : X) → slice_get xs at ≡ Some x → slice_set xs at x ≡ xs
-set_back [] at x is = refl
-set_back (first ∷ xs) zero x is = let e : first ≡ x = (let s = is in cc) in ap (λ t. t ∷ xs) (sym e)
-set_back (first ∷ xs) (suc at) x is = ap (λ t. first ∷ t) (set_back xs at x is)
-
 pub put_back :
     (w : WorldState) (receiver : ℕ) (place new : PlaceState) → slice_get w.places receiver ≡ Some place →
     new ≡ place → with_place w receiver new ≡ w
@@ -47,74 +42,74 @@ put_back w receiver place new here same =
     ∙ ap (λ (t : List PlaceState). record w { places = t }) (set_back w.places receiver place here)
 
 pub deliver_nobody :
-    (w : WorldState) (receiver : ℕ) (line : Option Line) (at : ℕ) → slice_get w.places receiver ≡ None →
-    Refuses w (Deliver receiver line at) NoReceiver
+    (w : WorldState) (receiver : ℕ) (way : Way) (at : ℕ) → slice_get w.places receiver ≡ None →
+    Refuses w (Deliver receiver way at) NoReceiver
 unfolding effect
-deliver_nobody w receiver line at none =
-    inr (ap (λ (t : Option PlaceState). delivered w receiver line t (slice_get w.sent at)) none)
+deliver_nobody w receiver way at none =
+    inr (ap (λ (t : Option PlaceState). delivered w receiver way t (slice_get w.sent at)) none)
 
 -- the row at a receiver and a datagram that are known to be there, or not
 deliver_at :
-    (w : WorldState) (receiver : ℕ) (line : Option Line) (at : ℕ) (place : PlaceState)
+    (w : WorldState) (receiver : ℕ) (way : Way) (at : ℕ) (place : PlaceState)
     (datagram : Option (List ℕ)) → slice_get w.places receiver ≡ Some place → slice_get w.sent at ≡ datagram →
-    effect w (Deliver receiver line at) ≡ delivered w receiver line (Some place) datagram
+    effect w (Deliver receiver way at) ≡ delivered w receiver way (Some place) datagram
 unfolding effect
-deliver_at w receiver line at place datagram here found =
-    λ j. delivered w receiver line (here j) (found j)
+deliver_at w receiver way at place datagram here found =
+    λ j. delivered w receiver way (here j) (found j)
 
 pub deliver_nothing :
-    (w : WorldState) (receiver : ℕ) (line : Option Line) (at : ℕ) (place new : PlaceState) →
+    (w : WorldState) (receiver : ℕ) (way : Way) (at : ℕ) (place new : PlaceState) →
     slice_get w.places receiver ≡ Some place → slice_get w.sent at ≡ None → new ≡ place →
-    Refuses w (Deliver receiver line at) NoSuchDatagram × (with_place w receiver new ≡ w)
-deliver_nothing w receiver line at place new here none same =
-    (inr (deliver_at w receiver line at place None here none), put_back w receiver place new here same)
+    Refuses w (Deliver receiver way at) NoSuchDatagram × (with_place w receiver new ≡ w)
+deliver_nothing w receiver way at place new here none same =
+    (inr (deliver_at w receiver way at place None here none), put_back w receiver place new here same)
 
 pub deliver_done :
-    (w : WorldState) (receiver : ℕ) (line : Option Line) (at : ℕ) (place new : PlaceState) (bytes : List ℕ)
+    (w : WorldState) (receiver : ℕ) (way : Way) (at : ℕ) (place new : PlaceState) (bytes : List ℕ)
     (says : Report) → slice_get w.places receiver ≡ Some place → slice_get w.sent at ≡ Some bytes →
-    says ≡ told (receive place.arbitration.view bytes) → new ≡ given place line bytes →
-    effect w (Deliver receiver line at) ≡ Ok (says, with_place w receiver new)
-deliver_done w receiver line at place new bytes says here found reported is =
-    deliver_at w receiver line at place (Some bytes) here found
+    says ≡ told (receive place.arbitration.view bytes) → new ≡ given place way bytes →
+    effect w (Deliver receiver way at) ≡ Ok (says, with_place w receiver new)
+deliver_done w receiver way at place new bytes says here found reported is =
+    deliver_at w receiver way at place (Some bytes) here found
     ∙ (λ j. Ok (sym reported j, with_place w receiver (sym is j)))
 
 pub deliver_wanting :
-    (w : WorldState) (receiver : ℕ) (line : Option Line) (at : ℕ) (place new : PlaceState) (bytes : List ℕ) →
+    (w : WorldState) (receiver : ℕ) (way : Way) (at : ℕ) (place new : PlaceState) (bytes : List ℕ) →
     slice_get w.places receiver ≡ Some place → slice_get w.sent at ≡ Some bytes →
     IsCopied place.arbitration.view bytes → new ≡ place →
-    Refuses w (Deliver receiver line at) Memory × (with_place w receiver new ≡ w)
-deliver_wanting w receiver line at place new bytes here found copied same = (
+    Refuses w (Deliver receiver way at) Memory × (with_place w receiver new ≡ w)
+deliver_wanting w receiver way at place new bytes here found copied same = (
   inl (refl, record { place = place; bytes = bytes; here = here; found = found; copied = copied }),
   put_back w receiver place new here same,
 )
 
 noise_at :
-    (w : WorldState) (receiver : ℕ) (line : Option Line) (bytes : List ℕ) (place : Option PlaceState) (own : Bool) →
+    (w : WorldState) (receiver : ℕ) (way : Way) (bytes : List ℕ) (place : Option PlaceState) (own : Bool) →
     slice_get w.places receiver ≡ place → own ≡ is_own w.publisher.journal.session (reading bytes) →
-    effect w (Noise receiver line bytes) ≡ noised w receiver line bytes place own
+    effect w (Noise receiver way bytes) ≡ noised w receiver way bytes place own
 unfolding effect
-noise_at w receiver line bytes place own here mine = λ j. noised w receiver line bytes (here j) (sym mine j)
+noise_at w receiver way bytes place own here mine = λ j. noised w receiver way bytes (here j) (sym mine j)
 
 pub noise_nobody :
-    (w : WorldState) (receiver : ℕ) (line : Option Line) (bytes : List ℕ) → slice_get w.places receiver ≡ None →
-    Refuses w (Noise receiver line bytes) NoReceiver
-noise_nobody w receiver line bytes none =
-    inr (noise_at w receiver line bytes None (is_own w.publisher.journal.session (reading bytes)) none refl)
+    (w : WorldState) (receiver : ℕ) (way : Way) (bytes : List ℕ) → slice_get w.places receiver ≡ None →
+    Refuses w (Noise receiver way bytes) NoReceiver
+noise_nobody w receiver way bytes none =
+    inr (noise_at w receiver way bytes None (is_own w.publisher.journal.session (reading bytes)) none refl)
 
 pub noise_own :
-    (w : WorldState) (receiver : ℕ) (line : Option Line) (bytes : List ℕ) (place new : PlaceState) →
+    (w : WorldState) (receiver : ℕ) (way : Way) (bytes : List ℕ) (place new : PlaceState) →
     slice_get w.places receiver ≡ Some place → true ≡ is_own w.publisher.journal.session (reading bytes) →
-    new ≡ place → Refuses w (Noise receiver line bytes) NotNoise × (with_place w receiver new ≡ w)
-noise_own w receiver line bytes place new here mine same =
-    (inr (noise_at w receiver line bytes (Some place) true here mine), put_back w receiver place new here same)
+    new ≡ place → Refuses w (Noise receiver way bytes) NotNoise × (with_place w receiver new ≡ w)
+noise_own w receiver way bytes place new here mine same =
+    (inr (noise_at w receiver way bytes (Some place) true here mine), put_back w receiver place new here same)
 
 pub noise_done :
-    (w : WorldState) (receiver : ℕ) (line : Option Line) (bytes : List ℕ) (place new : PlaceState) (says : Report) →
+    (w : WorldState) (receiver : ℕ) (way : Way) (bytes : List ℕ) (place new : PlaceState) (says : Report) →
     slice_get w.places receiver ≡ Some place → false ≡ is_own w.publisher.journal.session (reading bytes) →
-    says ≡ told (receive place.arbitration.view bytes) → new ≡ given place line bytes →
-    effect w (Noise receiver line bytes) ≡ Ok (says, with_place w receiver new)
-noise_done w receiver line bytes place new says here other reported is =
-    noise_at w receiver line bytes (Some place) false here other
+    says ≡ told (receive place.arbitration.view bytes) → new ≡ given place way bytes →
+    effect w (Noise receiver way bytes) ≡ Ok (says, with_place w receiver new)
+noise_done w receiver way bytes place new says here other reported is =
+    noise_at w receiver way bytes (Some place) false here other
     ∙ (λ j. Ok (sym reported j, with_place w receiver (sym is j)))
 
 -- nothing of bytes that are no packet of the session is copied

@@ -8,7 +8,7 @@ use Rattle.mold_session.specs.Journal.{JournalState}
 use Rattle.mold_session.specs.Server.{IsAnswerable, asking, plan_of, planning}
 use Rattle.mold_session.specs.declared.error.AnswerError.{AnswerError}
 use Rattle.mold_world.specs.Effect.{Outcome, answered, asked, asked_for, bursting, effect, requested}
-use Rattle.mold_world.specs.Effect.Happening.{Ask, Request}
+use Rattle.mold_world.specs.declared.event.EventOf.TheVariants.{Ask, Request}
 use Rattle.mold_world.specs.Refusals.{Applies, Refuses}
 use Rattle.mold_world.specs.World.{PlaceState, WorldState}
 use Rattle.mold_world.specs.declared.report.Report.{Report}

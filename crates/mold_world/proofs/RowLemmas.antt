@@ -1,15 +1,15 @@
 -- What an event does, by what the calls of publisher and server ensure.
 use Rattle.std.proofs.Common.{◌≡◌, ℕ, zero, suc, ◌+◌, ◌≤◌, cond, ltb, List, [], ◌∷◌, ◌++◌, length, drop}
 use Rattle.std.proofs.Common.{refl, sym, ap, subst, ◌∙◌, inl, inr, arith}
-use Rattle.std.specs.Prelude.{◌==◌, Option, None, Some, Bool, true, false, Ok, Err, unwrap_or, IsOk, IfSome}
+use Rattle.std.specs.Prelude.{◌==◌, Option, None, Some, Bool, true, false, Ok, Err, unwrap_or, IsOk, IfSome, IsSome, Result, IfOk, IfErr, OnOk, OnErr}
 use Rattle.std.proofs.lemmas.Bool.{lt-ltb, eqb-true}
 use Rattle.std.proofs.lemmas.Option.{none-some, same_Some}
 use Rattle.std.proofs.Math.Seq.{drop-length}
 use Rattle.mold_messages.specs.Listed.{HasRoom, Listed}
 use Rattle.mold_wire.specs.Packet.{Spells, messages_of}
-use Rattle.mold_wire.specs.Packing.{Fits, IsFront, front, packet_length}
+use Rattle.mold_wire.specs.Packing.{Fits, IsFront, front}
 use Rattle.mold_wire.specs.declared.packet.Packet.{Packet}
-use Rattle.mold_wire.specs.declared.packet.Body.TheVariants.{Data, Heartbeat as HeartbeatBody, End as EndBody}
+use Rattle.mold_wire.specs.declared.packet.Body.TheVariants.{Data}
 use Rattle.mold_session.specs.Journal.{append_refusal}
 use Rattle.mold_session.specs.Publisher.{IsPublisher, Lends, PublisherState, after_datagram, closed, next_datagram, next_end}
 use Rattle.mold_session.specs.Publisher.{next_front, next_heartbeat, published, unsent_of}
@@ -17,15 +17,16 @@ use Rattle.mold_session.specs.declared.error.AppendError.{AppendError}
 use Rattle.mold_session.specs.declared.error.AppendError.TheVariants.{Closed, TooLong, Full, Memory as AppendMemory}
 use Rattle.mold_session.specs.declared.error.Unsent.{Unsent}
 use Rattle.mold_world.specs.Effect.{Outcome, effect, publishing, sending, unsent_count}
-use Rattle.mold_world.specs.Effect.Happening.{Publish, Datagram, Heartbeat, Close, End}
-use Rattle.mold_world.specs.Refusals.{Refuses, append_error}
+use Rattle.mold_world.specs.declared.event.EventOf.TheVariants.{Publish, Datagram, Heartbeat, Close, End}
+use Rattle.mold_world.specs.Refusals.{Applies, MayWant, Refuses, append_error}
+use Rattle.mold_world.specs.Event.{Happening}
 use Rattle.mold_world.specs.Sending.{stored, stored_report}
 use Rattle.mold_world.specs.World.{WorldState}
 use Rattle.mold_world.specs.declared.report.Report.{Report}
 use Rattle.mold_world.specs.declared.report.Report.TheVariants as report
 use Rattle.mold_session.specs.declared.error.SessionError.TheVariants as session
 use Rattle.mold_world.specs.declared.report.WorldError.{WorldError}
-use Rattle.mold_world.specs.declared.report.WorldError.TheVariants.{Layer as Refused}
+use Rattle.mold_world.specs.declared.report.WorldError.TheVariants.{Memory, Layer as Refused}
 
 -- a message is published
 pub publish_done :
@@ -106,69 +107,44 @@ sent_row w next publisher told new sent idle is =
     send_stored w next publisher is.lent is.lends idle
     ∙ (λ j. Ok (sym is.reported j, record w { publisher = sym is.left j; sent = sym is.now j }))
 
-pub heartbeat_row :
-    (w : WorldState) (told : Report) (new : PublisherState) (sent : List (List ℕ)) →
-    IsStored w (next_heartbeat w.publisher) w.publisher told new sent →
-    effect w Heartbeat ≡ Ok (told, record w { publisher = new; sent = sent })
+-- it is stored, or the room for it is wanting
+pub record IsStoredOr (w : WorldState) (next : Option Packet) (result : Result Report WorldError)
+    (new : PublisherState) (sent : List (List ℕ)) : Type 0 where
+  pub lent : Option (List ℕ)
+  pub lends : Lends next lent
+  pub left : new ≡ w.publisher
+  pub told : IfOk result (λ told. told ≡ stored_report w.sent lent)
+  pub now : OnOk result (sent ≡ stored w.sent lent)
+  pub some : OnErr result (IsSome lent)
+  pub same : OnErr result (sent ≡ w.sent)
+  pub memory : IfErr result (λ error. error ≡ Memory)
+
+lends_some : (next : Option Packet) (lent : Option (List ℕ)) → Lends next lent → IsSome lent → IsSome next
+lends_some None None lends some = some
+lends_some None (Some bytes) lends some = absurd lends
+lends_some (Some packet) lent lends some = refl
+
+-- so an event that sends it happens, or is refused
+pub sent_applied :
+    (w : WorldState) (happening : Happening) (next : Option Packet) (result : Result Report WorldError)
+    (new : PublisherState) (sent : List (List ℕ)) → effect w happening ≡ sending w next w.publisher →
+    (IsSome next → MayWant w happening) → IsStoredOr w next result new sent →
+    Applies w happening result (record w { publisher = new; sent = sent })
+sent_applied w happening next (Ok told) new sent row wants is =
+    row ∙ sent_row w next w.publisher told new sent (λ _. refl)
+    (record { lent = is.lent; lends = is.lends; left = is.left; reported = is.told; now = is.now })
+sent_applied w happening next (Err error) new sent row wants is = (
+  inl (is.memory, wants (lends_some next is.lent is.lends is.some)),
+  λ i. record w { publisher = is.left i; sent = is.same i },
+)
+
+pub heartbeat_row : (w : WorldState) → effect w Heartbeat ≡ sending w (next_heartbeat w.publisher) w.publisher
 unfolding effect
-heartbeat_row w told new sent is = sent_row w (next_heartbeat w.publisher) w.publisher told new sent (λ _. refl) is
+heartbeat_row w = refl
 
-pub end_row :
-    (w : WorldState) (told : Report) (new : PublisherState) (sent : List (List ℕ)) →
-    IsStored w (next_end w.publisher) w.publisher told new sent →
-    effect w End ≡ Ok (told, record w { publisher = new; sent = sent })
+pub end_row : (w : WorldState) → effect w End ≡ sending w (next_end w.publisher) w.publisher
 unfolding effect
-end_row w told new sent is = sent_row w (next_end w.publisher) w.publisher told new sent (λ _. refl) is
-
--- a datagram without messages that is lent has the room of a header
-pub record HeaderLaws : Type 0 where
-  pub spelled : (packet : Packet) (bytes : List ℕ) → Spells packet bytes →
-      length bytes ≡ packet_length (messages_of packet.body)
-  pub none : packet_length [] ≡ 20
-
-header_room :
-    (laws : HeaderLaws) (next : Option Packet) (list : Listed) (lent : Option (List ℕ)) →
-    ((packet : Packet) → next ≡ Some packet → messages_of packet.body ≡ []) → HasRoom list 1 20 → Lends next lent →
-    IfSome lent (λ bytes. HasRoom list 1 (length bytes))
-header_room laws next list None bare room lends = tt
-header_room laws None list (Some bytes) bare room lends = absurd lends
-header_room laws (Some packet) list (Some bytes) bare room lends =
-    let header : length bytes ≡ 20 =
-    laws.spelled packet bytes lends ∙ ap packet_length (bare packet refl) ∙ laws.none
-    in
-    record { messages = room.messages; bytes = omega (arith, room.bytes, header) }
-
-bare_heartbeat :
-    (publisher : PublisherState) (shut : Bool) (packet : Packet) →
-    cond {A = Option Packet} shut None (Some (record {
-      session = publisher.journal.session;
-      sequence = publisher.sent + 1;
-      body = HeartbeatBody;
-    })) ≡ Some packet → messages_of packet.body ≡ []
-bare_heartbeat publisher true packet is = absurd (none-some packet is)
-bare_heartbeat publisher false packet is = ap (λ (t : Packet). messages_of t.body) (sym (same_Some _ packet is))
-
-pub heartbeat_room :
-    (laws : HeaderLaws) (publisher : PublisherState) (list : Listed) (lent : Option (List ℕ)) → HasRoom list 1 20 →
-    Lends (next_heartbeat publisher) lent → IfSome lent (λ bytes. HasRoom list 1 (length bytes))
-heartbeat_room laws publisher list lent room lends =
-    header_room laws (next_heartbeat publisher) list lent (bare_heartbeat publisher publisher.journal.closed) room lends
-
-bare_end :
-    (publisher : PublisherState) (shut : Bool) (packet : Packet) →
-    cond {A = Option Packet} shut (Some (record {
-      session = publisher.journal.session;
-      sequence = length publisher.journal.messages + 1;
-      body = EndBody;
-    })) None ≡ Some packet → messages_of packet.body ≡ []
-bare_end publisher true packet is = ap (λ (t : Packet). messages_of t.body) (sym (same_Some _ packet is))
-bare_end publisher false packet is = absurd (none-some packet is)
-
-pub end_room :
-    (laws : HeaderLaws) (publisher : PublisherState) (list : Listed) (lent : Option (List ℕ)) → HasRoom list 1 20 →
-    Lends (next_end publisher) lent → IfSome lent (λ bytes. HasRoom list 1 (length bytes))
-end_room laws publisher list lent room lends =
-    header_room laws (next_end publisher) list lent (bare_end publisher publisher.journal.closed) room lends
+end_row w = refl
 
 front_nothing : (limit most : ℕ) → front limit [] most ≡ []
 unfolding front

@@ -17,8 +17,9 @@ use Rattle.mold_session.specs.declared.error.AppendError.{AppendError}
 use Rattle.mold_world.proofs.EventLemmas.{AllLaws, event_kept, outcome_kept}
 use Rattle.mold_world.proofs.HearingLemmas.{noise_hands_nothing, sent_taken}
 use Rattle.mold_world.proofs.MachineLemmas.{both_published, each_later, handed_published}
-use Rattle.mold_world.specs.Effect.{Happening, Outcome, after_event, after_outcome, effect, run_events}
-use Rattle.mold_world.specs.Effect.Happening.{Publish, Datagram, Heartbeat, Close, End, Request, Ask, Deliver, Noise, Restart}
+use Rattle.mold_world.specs.Event.{Happening}
+use Rattle.mold_world.specs.Effect.{Outcome, after_event, after_outcome, effect, run_events}
+use Rattle.mold_world.specs.declared.event.EventOf.TheVariants.{Publish, Datagram, Heartbeat, Close, End, Request, Ask, Deliver, Noise, Restart}
 use Rattle.mold_world.specs.HandOns.{handed_at, handed_by, handed_by_all, handed_of}
 use Rattle.mold_world.specs.Headline.{ArePublished, HandOn}
 use Rattle.mold_world.specs.Kept.{IsPlaceKept, IsWorld}
@@ -29,7 +30,6 @@ use Rattle.mold_wire.specs.Reading.{reading}
 use Rattle.mold_wire.specs.declared.request.Request.{Request as Asked}
 use Rattle.mold_receiver.specs.View.{View}
 use Rattle.mold_receiver.specs.Wanted.{wanted}
-use Rattle.mold_receiver.specs.declared.line.Line.{Line}
 use Rattle.mold_session.specs.Journal.{JournalState}
 use Rattle.mold_session.specs.Publisher.{after_datagram, closed, next_datagram, next_end, next_heartbeat}
 use Rattle.mold_session.specs.Server.{asking}
@@ -41,6 +41,8 @@ use Rattle.mold_world.specs.declared.report.Report.TheVariants as report
 use Rattle.mold_session.specs.declared.error.SessionError.TheVariants as session
 use Rattle.mold_world.specs.declared.report.WorldError.{WorldError}
 use Rattle.mold_world.specs.declared.report.WorldError.TheVariants.{NotReached, Layer as Refuses}
+use Rattle.mold_world.specs.declared.way.Way.{Way}
+use Rattle.mold_world.proofs.OutcomeLemmas.{ok_so, err_so}
 
 -- a world that begins is one
 place_of :
@@ -90,14 +92,12 @@ GrowsTo w new = (more : List (List ℕ)) × (new.publisher.journal.messages ≡ 
 ok_grows :
     (w : WorldState) (here done : Report × WorldState) → GrowsTo w here.1 → ◌≡◌ {A = Outcome} (Ok here) (Ok done) →
     GrowsTo w done.1
-ok_grows w here done grows same =
-    let path : here ≡ done = (let e = same in cc) in
-    subst (λ (t : Report × WorldState). GrowsTo w t.1) path grows
+ok_grows w here done grows same = ok_so (λ (t : Report × WorldState). GrowsTo w t.1) here done same grows
 
 err_grows :
     (w : WorldState) (refused : WorldError) (done : Report × WorldState) →
     ◌≡◌ {A = Outcome} (Err refused) (Ok done) → GrowsTo w done.1
-err_grows w refused done same = absurd (let e = same in cc)
+err_grows w refused done same = err_so (λ (t : Report × WorldState). GrowsTo w t.1) refused done same
 
 stays : (w : WorldState) → GrowsTo w w
 stays w = ([], sym (append-nil w.publisher.journal.messages))
@@ -144,18 +144,18 @@ ask_grows w None done same = err_grows w _ done same
 ask_grows w (Some place) done same = want_grows w (wanted place.arbitration.view) done same
 
 deliver_grows :
-    (w : WorldState) (receiver : ℕ) (line : Option Line) (place : Option PlaceState) (datagram : Option (List ℕ))
-    (done : Report × WorldState) → delivered w receiver line place datagram ≡ Ok done → GrowsTo w done.1
-deliver_grows w receiver line None datagram done same = err_grows w _ done same
-deliver_grows w receiver line (Some place) None done same = err_grows w _ done same
-deliver_grows w receiver line (Some place) (Some bytes) done same = ok_grows w _ done (stays w) same
+    (w : WorldState) (receiver : ℕ) (way : Way) (place : Option PlaceState) (datagram : Option (List ℕ))
+    (done : Report × WorldState) → delivered w receiver way place datagram ≡ Ok done → GrowsTo w done.1
+deliver_grows w receiver way None datagram done same = err_grows w _ done same
+deliver_grows w receiver way (Some place) None done same = err_grows w _ done same
+deliver_grows w receiver way (Some place) (Some bytes) done same = ok_grows w _ done (stays w) same
 
 noise_grows :
-    (w : WorldState) (receiver : ℕ) (line : Option Line) (bytes : List ℕ) (place : Option PlaceState) (own : Bool)
-    (done : Report × WorldState) → noised w receiver line bytes place own ≡ Ok done → GrowsTo w done.1
-noise_grows w receiver line bytes None own done same = err_grows w _ done same
-noise_grows w receiver line bytes (Some place) true done same = err_grows w _ done same
-noise_grows w receiver line bytes (Some place) false done same = ok_grows w _ done (stays w) same
+    (w : WorldState) (receiver : ℕ) (way : Way) (bytes : List ℕ) (place : Option PlaceState) (own : Bool)
+    (done : Report × WorldState) → noised w receiver way bytes place own ≡ Ok done → GrowsTo w done.1
+noise_grows w receiver way bytes None own done same = err_grows w _ done same
+noise_grows w receiver way bytes (Some place) true done same = err_grows w _ done same
+noise_grows w receiver way bytes (Some place) false done same = ok_grows w _ done (stays w) same
 
 restart_at_grows :
     (w : WorldState) (receiver next : ℕ) (place : PlaceState) (reached : Bool) (done : Report × WorldState) →
@@ -184,10 +184,10 @@ event_grows w Close done same = close_grows w (ltb 0 (unsent_count w.publisher))
 event_grows w End done same = send_grows w (next_end w.publisher) w.publisher done refl same
 event_grows w (Request bytes) done same = request_grows w (asking w.publisher.journal bytes) done same
 event_grows w (Ask receiver) done same = ask_grows w (slice_get w.places receiver) done same
-event_grows w (Deliver receiver line at) done same =
-    deliver_grows w receiver line (slice_get w.places receiver) (slice_get w.sent at) done same
-event_grows w (Noise receiver line bytes) done same =
-    noise_grows w receiver line bytes (slice_get w.places receiver)
+event_grows w (Deliver receiver way at) done same =
+    deliver_grows w receiver way (slice_get w.places receiver) (slice_get w.sent at) done same
+event_grows w (Noise receiver way bytes) done same =
+    noise_grows w receiver way bytes (slice_get w.places receiver)
     (is_own w.publisher.journal.session (reading bytes)) done same
 event_grows w (Restart receiver next) done same = restart_grows w receiver next (slice_get w.places receiver) done same
 
@@ -244,11 +244,11 @@ handed_in_event laws w Close is = tt
 handed_in_event laws w End is = tt
 handed_in_event laws w (Request bytes) is = tt
 handed_in_event laws w (Ask receiver) is = tt
-handed_in_event laws w (Deliver receiver line at) is =
+handed_in_event laws w (Deliver receiver way at) is =
     handed_here laws w receiver at (slice_get w.places receiver) (slice_get w.sent at) is refl refl
-handed_in_event laws w (Noise receiver line bytes) is =
+handed_in_event laws w (Noise receiver way bytes) is =
     subst (λ (t : List HandOn). ArePublished w.publisher.journal.messages t)
-    (sym (noise_hands_nothing w receiver line bytes is)) tt
+    (sym (noise_hands_nothing w receiver way bytes is)) tt
 handed_in_event laws w (Restart receiver next) is = tt
 
 -- and stays so to the end of a run

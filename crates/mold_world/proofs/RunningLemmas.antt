@@ -1,21 +1,21 @@
 -- A run of events, one after the other.
-use Rattle.std.proofs.Common.{◌≡◌, ℕ, ◌+◌, ◌<◌, ◌≤◌, List, [], ◌∷◌, ◌++◌, length, map, take, get_or, append_assoc}
+use Rattle.std.proofs.Common.{◌≡◌, ℕ, ◌+◌, ◌<◌, ◌≤◌, List, [], ◌∷◌, ◌++◌, length, map, take, get_or, append_assoc, Bor}
 use Rattle.std.proofs.Common.{refl, sym, ap, subst, ◌∙◌, arith}
 use Rattle.std.specs.Prelude.{true, false, Some, Result, Ok, Err, OnErr, OnOk, is_err, slice_get}
 use Rattle.std.proofs.lemmas.List.{get_or-map, length-map, take_all, take_more}
 use Rattle.std.proofs.lemmas.Option.{slice_get-get_or}
 use Rattle.mold_world.proofs.HearingLemmas.{refused_hands_nothing}
-use Rattle.mold_world.specs.Effect.{Happening, Outcome, after_event, after_outcome, effect, run_events}
+use Rattle.mold_world.specs.Event.{Happening, seen}
+use Rattle.mold_world.specs.Effect.{Outcome, after_event, after_outcome, effect, run_events}
 use Rattle.mold_world.specs.HandOns.{handed_by}
 use Rattle.mold_world.specs.Headline.{HandOn, IsPrefix, all_handed, handed_in}
 use Rattle.mold_world.specs.Kept.{IsWorld}
 use Rattle.mold_world.specs.Machine.{AreAllowed, Machine, Step, after as after_step, run}
 use Rattle.mold_world.specs.Refusals.{MayWant}
 use Rattle.mold_world.specs.Runs.{IsHeadline, IsStopped}
-use Rattle.mold_world.specs.Seen.{seen}
 use Rattle.mold_world.specs.Steps.{AreSteps, AreStepsOfAll, NamesAfter, machine_of}
 use Rattle.mold_world.specs.World.{PlaceState, WorldState}
-use Rattle.mold_world.specs.declared.event.Event.{Event}
+use Rattle.mold_world.specs.declared.event.EventOf.{EventOf}
 use Rattle.mold_world.specs.declared.report.Report.{Report}
 
 -- the laws of runs
@@ -44,6 +44,10 @@ run_more :
     run_events w (happenings ++ happening ∷ []) ≡ after_event (run_events w happenings) happening
 run_more w [] happening = refl
 run_more w (first ∷ happenings) happening = run_more (after_event w first) happenings happening
+
+-- an event of the program
+abbrev Event : Type 0
+Event = EventOf (Bor (List ℕ))
 
 seen_at : (events : List Event) (at : ℕ) (none : Event) → at < length events →
     get_or (map seen events) at (seen none) ≡ seen (get_or events at none)

@@ -1,85 +1,49 @@
 -- What an event does to the world is made of steps of the machine.
-use Rattle.std.proofs.Common.{◌≡◌, ℕ, zero, suc, ◌+◌, ◌-◌, ◌≤◌, cond, leb, ltb, List, [], ◌∷◌, ◌++◌, length, map}
-use Rattle.std.proofs.Common.{take, refl, sym, ap, subst, ◌∙◌, append_assoc, inl, inr, arith}
-use Rattle.std.specs.Prelude.{◌⊎◌, ◌&&◌, ◌==◌, Option, None, Some, Bool, true, false, Result, Ok, Err, slice_get, slice_set}
-use Rattle.std.proofs.lemmas.Bool.{and_parts, cond-false, cond-true, cases_eq, eq-eqb, eqb-true, false≢true, leb-true, ne_eqb}
-use Rattle.std.proofs.lemmas.List.{append-nil, length-map, length-take}
-use Rattle.std.proofs.lemmas.Option.{none-some}
-use Rattle.mold_wire.specs.Packet.{Spells, messages_of, spelling_of}
+use Rattle.std.proofs.Common.{◌≡◌, ℕ, ◌+◌, ◌-◌, cond, leb, ltb, List, [], ◌∷◌, ◌++◌, length}
+use Rattle.std.proofs.Common.{take, refl, sym, ap, subst, ◌∙◌, inl, inr, arith}
+use Rattle.std.specs.Prelude.{◌⊎◌, ◌&&◌, Option, None, Some, Bool, true, false, Result, Ok, Err, slice_get}
+use Rattle.std.proofs.lemmas.Bool.{and_parts, leb-true}
+use Rattle.std.proofs.lemmas.List.{append-nil}
+use Rattle.mold_wire.specs.Packet.{Spells, messages_of}
 use Rattle.mold_wire.specs.Reading.{reading}
 use Rattle.mold_wire.specs.Truth.{Carries}
 use Rattle.mold_wire.specs.declared.packet.Packet.{Packet}
-use Rattle.mold_wire.specs.declared.request.Request.{Request as Asked}
 use Rattle.mold_receiver.specs.Receive.{Reception, handed_on, receive}
 use Rattle.mold_receiver.specs.View.{View}
-use Rattle.mold_receiver.specs.Wanted.{wanted}
-use Rattle.mold_receiver.specs.declared.line.Line.{Line}
 use Rattle.mold_rule.specs.declared.refusal.Refusal.{Refusal as Refused}
-use Rattle.mold_session.specs.Answer.{answer, from_number}
-use Rattle.mold_session.specs.Datagrams.{packing}
-use Rattle.mold_session.specs.Journal.{JournalState, append_refusal}
-use Rattle.mold_session.specs.Publisher.{PublisherState, after_datagram, closed, next_datagram, next_end, next_heartbeat}
-use Rattle.mold_session.specs.Server.{IsAnswerable, asking}
-use Rattle.mold_session.specs.Truthful.{TellsTruth}
-use Rattle.mold_session.specs.declared.error.AnswerError.{AnswerError}
+use Rattle.mold_session.specs.Journal.{append_refusal}
+use Rattle.mold_session.specs.Publisher.{after_datagram, closed, next_datagram, next_end, next_heartbeat}
+use Rattle.mold_session.specs.Server.{asking}
 use Rattle.mold_session.specs.declared.error.AppendError.{AppendError}
-use Rattle.mold_world.proofs.EventLemmas.{AllLaws, answer_told, wanted_answerable}
-use Rattle.mold_world.proofs.HearingLemmas.{err_so, noise_hands_nothing, noise_unmoved, ok_so, sent_taken}
+use Rattle.mold_world.proofs.EventLemmas.{AllLaws}
+use Rattle.mold_world.proofs.HearingLemmas.{noise_hands_nothing, noise_unmoved, sent_taken}
 use Rattle.mold_world.proofs.PlaceLemmas.{followed_messages, given_kept, handed_messages, same_Ok}
 use Rattle.std.specs.FinMap as finite
-use Rattle.mold_world.specs.Effect.{Happening, Outcome, answered, book_after, asked, asked_for, delivered, effect, given, is_own, noised}
-use Rattle.mold_world.specs.Effect.{publishing, renewed, requested, restarted, sending, unsent_count, with_place}
-use Rattle.mold_world.specs.Effect.Happening.{Publish as PublishEvent, Datagram, Heartbeat, Close as CloseEvent, End}
-use Rattle.mold_world.specs.Effect.Happening.{Request, Ask, Deliver as DeliverEvent, Noise, Restart as RestartEvent}
+use Rattle.mold_world.specs.Event.{Happening}
+use Rattle.mold_world.specs.Effect.{Outcome, book_after, delivered, effect, given, is_own, noised}
+use Rattle.mold_world.specs.Effect.{publishing, renewed, restarted, sending, unsent_count, with_place}
+use Rattle.mold_world.specs.declared.event.EventOf.TheVariants.{Publish as PublishEvent, Datagram, Heartbeat, Close as CloseEvent, End}
+use Rattle.mold_world.specs.declared.event.EventOf.TheVariants.{Request, Ask, Deliver as DeliverEvent, Noise, Restart as RestartEvent}
 use Rattle.mold_world.specs.HandOns.{handed_at, handed_by, handed_of}
-use Rattle.mold_world.specs.Headline.{all_handed, handed_from}
+use Rattle.mold_world.specs.Headline.{handed_from}
 use Rattle.mold_world.specs.Hearing.{IsUnmoved}
 use Rattle.mold_world.specs.Kept.{IsPlaceKept, IsWorld}
-use Rattle.mold_world.specs.Machine.{AreAllowed, IsEndSent, IsSaid, IsSentAs, Machine, Standing, Step, after, run, standing_at}
-use Rattle.mold_world.specs.Machine.{start}
-use Rattle.mold_world.specs.Machine.Step.{Publish, Close, Send, Deliver, Restart}
-use Rattle.mold_world.specs.Steps.{AreSends, AreSteps, Names, is_end, is_finished, machine_of, standing_of}
-use Rattle.mold_wire.specs.declared.session.Session.{Session}
-use Rattle.mold_world.specs.World.{PlaceState, WorldState, beginning, place_at}
+use Rattle.mold_world.specs.Machine.{IsEndSent, IsSentAs, Standing}
+use Rattle.mold_world.specs.Machine.Step.{Publish, Close, Deliver, Restart}
+use Rattle.mold_world.specs.Steps.{AreSteps, is_finished, standing_of}
+use Rattle.mold_world.specs.World.{PlaceState, WorldState}
 use Rattle.mold_world.specs.declared.report.Report.{Report}
 use Rattle.mold_world.specs.declared.report.Report.TheVariants as report
 use Rattle.mold_session.specs.declared.error.SessionError.TheVariants as session
 use Rattle.mold_world.specs.declared.report.WorldError.TheVariants.{NotReached, Layer as Refuses}
+use Rattle.mold_world.specs.declared.way.Way.{Way}
+use Rattle.mold_world.proofs.OutcomeLemmas.{ok_so, err_so}
+use Rattle.mold_world.proofs.StandingLemmas.{stands_at, machine_with, end_is, stands_same, book_length}
+use Rattle.mold_world.proofs.SendStepLemmas.{sent_steps, send_steps, request_steps, ask_steps}
 
 -- an event of a kind is its steps
 abbrev IsDone : WorldState → Happening → Report × WorldState → Type 0
 IsDone w happening done = AreSteps w happening done.1
-
--- datagrams are sent, no more than so many
-record DidSend (most : ℕ) (w new : WorldState) : Type 0 where
-  more : List (List ℕ)
-  few : length more ≤ most
-  allowed : AreAllowed (machine_of w) (map Send more)
-  made : machine_of new ≡ run (machine_of w) (map Send more)
-
-abbrev IsSent : ℕ → WorldState → Report × WorldState → Type 0
-IsSent most w done = DidSend most w done.1
-
--- none is, in a world that stays
-none : (most : ℕ) (w : WorldState) → DidSend most w w
-none most w = record { more = []; few = omega arith; allowed = tt; made = refl }
-
--- what sends hands nothing on
-sends_handed : (machine : Machine) (more : List (List ℕ)) → all_handed machine (map Send more) ≡ []
-sends_handed machine [] = refl
-sends_handed machine (bytes ∷ more) = sends_handed (after machine (Send bytes)) more
-
-sent_steps :
-    (w : WorldState) (happening : Happening) (most : ℕ) (done : Report × WorldState) →
-    ((steps : List Step) → AreSends most steps → Names w happening steps) → handed_by w happening ≡ [] →
-    DidSend most w done.1 → AreSteps w happening done.1
-sent_steps w happening most done names nothing sent = record {
-  steps = map Send sent.more;
-  named = names (map Send sent.more) (record { sent = sent.more; few = sent.few; so = refl });
-  allowed = sent.allowed;
-  made = sent.made;
-  handed = sends_handed (machine_of w) sent.more ∙ sym nothing;
-}
 
 publish_steps :
     (laws : AllLaws) (w : WorldState) (message : List ℕ) (refusal : Option AppendError) (done : Report × WorldState) →
@@ -96,32 +60,6 @@ publish_steps laws w message None done is free same =
     })
 publish_steps laws w message (Some refusal) done is some same = err_so (IsDone w (PublishEvent message)) _ done same
 
--- what tells the truth may be said
-said_of :
-    (w : WorldState) (bytes : List ℕ) → TellsTruth w.publisher.journal bytes → IsSaid (machine_of w) bytes
-said_of w bytes told =
-    record { packet = told.packet; spelled = told.spelled; named = told.session; is_true = told.so }
-
-send_steps :
-    (w : WorldState) (next : Option Packet) (publisher : PublisherState) (done : Report × WorldState) →
-    publisher.journal ≡ w.publisher.journal →
-    ((packet : Packet) → next ≡ Some packet → TellsTruth w.publisher.journal (spelling_of packet)) →
-    sending w next publisher ≡ Ok done → DidSend 1 w done.1
-send_steps w None publisher done journal told same = ok_so (IsSent 1 w) _ done same (none 1 w)
-send_steps w (Some packet) publisher done journal told same =
-    ok_so (IsSent 1 w) _ done same (record {
-      more = spelling_of packet ∷ [];
-      few = omega arith;
-      allowed = (said_of w (spelling_of packet) (told packet refl), tt);
-      made = ap (λ (t : JournalState). record {
-        session = t.session;
-        published = t.messages;
-        closed = t.closed;
-        sent = w.sent ++ spelling_of packet ∷ [];
-        standings = λ receiver. standing_of (slice_get w.places receiver);
-      }) journal;
-    })
-
 close_steps :
     (w : WorldState) (unsent : Bool) (done : Report × WorldState) →
     cond {A = Outcome} unsent (Err (Refuses (session.Close (record { count = unsent_count w.publisher }))))
@@ -130,152 +68,6 @@ close_steps w true done same = err_so (IsDone w CloseEvent) _ done same
 close_steps w false done same =
     ok_so (IsDone w CloseEvent) _ done same
     (record { steps = Close ∷ []; named = refl; allowed = (tt, tt); made = refl; handed = refl })
-
--- datagrams that are sent one after the other
-sends_allowed :
-    (machine : Machine) (more : List (List ℕ)) →
-    ((place : ℕ) (bytes : List ℕ) → slice_get more place ≡ Some bytes → IsSaid machine bytes) →
-    AreAllowed machine (map Send more)
-sends_allowed machine [] said = tt
-sends_allowed machine (bytes ∷ more) said = (
-  said zero bytes refl,
-  sends_allowed (after machine (Send bytes)) more (λ place other found.
-      let told = said (suc place) other found in
-      record { packet = told.packet; spelled = told.spelled; named = told.named; is_true = told.is_true }),
-)
-
-sends_made :
-    (machine : Machine) (more : List (List ℕ)) →
-    run machine (map Send more) ≡ record machine { sent = machine.sent ++ more }
-sends_made machine [] = ap (λ (t : List (List ℕ)). record machine { sent = t }) (sym (append-nil machine.sent))
-sends_made machine (bytes ∷ more) =
-    sends_made (after machine (Send bytes)) more
-    ∙ ap (λ (t : List (List ℕ)). record machine { sent = t }) (append_assoc machine.sent (bytes ∷ []) more)
-
-few_sent : (packets : List Packet) (most : ℕ) → length (map spelling_of (take most packets)) ≤ most
-few_sent packets most = omega (arith, length-map (take most packets) spelling_of, length-take most packets)
-
-answer_steps :
-    (laws : AllLaws) (w : WorldState) (request : Asked) (done : Report × WorldState) → IsWorld w →
-    IsAnswerable w.publisher.journal request → answered w request ≡ Ok done → DidSend w.burst w done.1
-answer_steps laws w request done is may same =
-    let more : List (List ℕ) = map spelling_of (answer w.publisher.journal.messages w.publisher.journal.session
-    w.server_limit request.sequence request.count w.burst)
-    in
-    ok_so (IsSent w.burst w) _ done same (record {
-      more = more;
-      few = few_sent (packing w.server_limit w.publisher.journal.session request.sequence
-          (take request.count (from_number w.publisher.journal.messages request.sequence))) w.burst;
-      allowed = sends_allowed (machine_of w) more (λ place bytes found.
-          said_of w bytes (answer_told laws.answers w request is may place bytes found));
-      made = sym (sends_made (machine_of w) more);
-    })
-
-request_steps :
-    (laws : AllLaws) (w : WorldState) (bytes : List ℕ) (asks : Result Asked AnswerError)
-    (done : Report × WorldState) → IsWorld w → asking w.publisher.journal bytes ≡ asks →
-    requested w asks ≡ Ok done → DidSend w.burst w done.1
-request_steps laws w bytes (Ok request) done is asked_now same =
-    answer_steps laws w request done is (laws.answers.answerable w.publisher.journal request bytes asked_now) same
-request_steps laws w bytes (Err refusal) done is asked_now same = err_so (IsSent w.burst w) _ done same
-
-want_steps :
-    (laws : AllLaws) (w : WorldState) (place : PlaceState) (want : Option Asked) (done : Report × WorldState) →
-    IsWorld w → IsPlaceKept w.publisher.journal w.sent place → wanted place.arbitration.view ≡ want →
-    asked_for w want ≡ Ok done → DidSend w.burst w done.1
-want_steps laws w place None done is kept want same = ok_so (IsSent w.burst w) _ done same (none w.burst w)
-want_steps laws w place (Some request) done is kept want same =
-    answer_steps laws w request done is
-    (wanted_answerable laws.answers w.publisher.journal w.sent place request kept want) same
-
-ask_steps :
-    (laws : AllLaws) (w : WorldState) (receiver : ℕ) (place : Option PlaceState) (done : Report × WorldState) →
-    IsWorld w → slice_get w.places receiver ≡ place → asked w place ≡ Ok done → DidSend w.burst w done.1
-ask_steps laws w receiver None done is here same = err_so (IsSent w.burst w) _ done same
-ask_steps laws w receiver (Some place) done is here same =
-    want_steps laws w place (wanted place.arbitration.view) done is (is.places receiver place here) refl same
-
--- a receiver is another: so the machine sees it
-get_set_same :
-    {X : Type 0} (xs : List X) (at : ℕ) (old new : X) → slice_get xs at ≡ Some old →
-    slice_get (slice_set xs at new) at ≡ Some new
-get_set_same [] at old new is = absurd (none-some old is)
-get_set_same (x ∷ xs) zero old new is = refl
-get_set_same (x ∷ xs) (suc at) old new is = get_set_same xs at old new is
-
-get_set_other :
-    {X : Type 0} (xs : List X) (at : ℕ) (new : X) (place : ℕ) → (place ≡ at → ⊥) →
-    slice_get (slice_set xs at new) place ≡ slice_get xs place
-get_set_other [] at new place other = refl
-get_set_other (x ∷ xs) zero new zero other = absurd (other refl)
-get_set_other (x ∷ xs) zero new (suc place) other = refl
-get_set_other (x ∷ xs) (suc at) new zero other = refl
-get_set_other (x ∷ xs) (suc at) new (suc place) other =
-    get_set_other xs at new place (λ same. other (let z : suc place ≡ suc at = omega (arith, same) in z))
-
-stands_at :
-    (w : WorldState) (receiver : ℕ) (old new : PlaceState) (standing : Standing) →
-    slice_get w.places receiver ≡ Some old → standing_of (Some new) ≡ standing → (other : ℕ) →
-    standing_of (slice_get (slice_set w.places receiver new) other)
-    ≡ standing_at (λ (q : ℕ). standing_of (slice_get w.places q)) receiver standing other
-stands_at w receiver old new standing here same other =
-    elim (cases_eq other receiver) [
-      | inl is ↦
-          ap (λ (t : ℕ). standing_of (slice_get (slice_set w.places receiver new) t)) is
-          ∙ ap standing_of (get_set_same w.places receiver old new here)
-          ∙ same
-          ∙ sym (cond-true (other == receiver) standing (standing_of (slice_get w.places other)) (eq-eqb other receiver is))
-      | inr differs ↦
-          ap standing_of (get_set_other w.places receiver new other differs)
-          ∙ sym (cond-false (other == receiver) standing (standing_of (slice_get w.places other)) (ne_eqb other receiver differs))
-    ]
-
-machine_with :
-    (w : WorldState) (receiver : ℕ) (old new : PlaceState) (standing : Standing) →
-    slice_get w.places receiver ≡ Some old → standing_of (Some new) ≡ standing →
-    machine_of (with_place w receiver new)
-    ≡ record (machine_of w) { standings = standing_at (machine_of w).standings receiver standing }
-machine_with w receiver old new standing here same =
-    λ i. record {
-      session = w.publisher.journal.session;
-      published = w.publisher.journal.messages;
-      closed = w.publisher.journal.closed;
-      sent = w.sent;
-      standings = λ other. stands_at w receiver old new standing here same other i;
-    }
-
-end_is : (ended : Option ℕ) (next : ℕ) → is_end ended next ≡ true → ended ≡ Some next
-end_is None next is = absurd (false≢true is)
-end_is (Some end) next is = ap (λ (t : ℕ). Some t) (eqb-true end next is)
-
-stands_same :
-    (w : WorldState) (receiver : ℕ) (place : PlaceState) → slice_get w.places receiver ≡ Some place → (other : ℕ) →
-    standing_at (λ (q : ℕ). standing_of (slice_get w.places q)) receiver (standing_of (Some place)) other
-    ≡ standing_of (slice_get w.places other)
-stands_same w receiver place here other =
-    elim (cases_eq other receiver) [
-      | inl is ↦
-          cond-true (other == receiver) (standing_of (Some place)) (standing_of (slice_get w.places other))
-          (eq-eqb other receiver is)
-          ∙ sym (ap standing_of (ap (λ (t : ℕ). slice_get w.places t) is ∙ here))
-      | inr differs ↦
-          cond-false (other == receiver) (standing_of (Some place)) (standing_of (slice_get w.places other))
-          (ne_eqb other receiver differs)
-    ]
-
--- how long a book is
-book_length :
-    (journal : JournalState) (sent : List (List ℕ)) (place : PlaceState) → IsPlaceKept journal sent place →
-    length place.book.messages + 1 ≡ place.arbitration.view.next
-book_length journal sent place kept =
-    omega (
-      arith,
-      ap (λ (t : List (List ℕ)). length t) kept.book,
-      length-take (place.arbitration.view.next - 1) journal.messages,
-      kept.honest.well_formed.first,
-      kept.honest.well_formed.ahead,
-      kept.honest.known,
-    )
 
 -- what is handed on was sent
 pub record HandsOnSent (w : WorldState) (receiver : ℕ) (old new : PlaceState) (handed : List (List ℕ)) : Type 0 where
@@ -287,11 +79,11 @@ pub record HandsOnSent (w : WorldState) (receiver : ℕ) (old new : PlaceState) 
       IsSentAs w.sent (old.arbitration.view.next + i) message
 
 deliver_made :
-    (w : WorldState) (receiver at : ℕ) (line : Option Line) (old new : PlaceState) (handed : List (List ℕ)) →
+    (w : WorldState) (receiver at : ℕ) (way : Way) (old new : PlaceState) (handed : List (List ℕ)) →
     HandsOnSent w receiver old new handed →
-    handed_by w (DeliverEvent receiver line at) ≡ handed_from receiver old.arbitration.view.next handed →
-    AreSteps w (DeliverEvent receiver line at) (with_place w receiver new)
-deliver_made w receiver at line old new handed hands so =
+    handed_by w (DeliverEvent receiver way at) ≡ handed_from receiver old.arbitration.view.next handed →
+    AreSteps w (DeliverEvent receiver way at) (with_place w receiver new)
+deliver_made w receiver at way old new handed hands so =
     let standing : Standing = standing_of (slice_get w.places receiver) in
     let book : standing.book ≡ old.book.messages =
     ap (λ (t : Option PlaceState). (standing_of t).book) hands.here
@@ -334,11 +126,11 @@ pub record HandsOnLaw : Type 0 where
 
 -- a receiver takes what was sent
 taken_hands :
-    (laws : AllLaws) (law : HandsOnLaw) (w : WorldState) (receiver at : ℕ) (line : Option Line) (place : PlaceState)
+    (laws : AllLaws) (law : HandsOnLaw) (w : WorldState) (receiver at : ℕ) (way : Way) (place : PlaceState)
     (bytes : List ℕ) (r : Reception) → IsWorld w → slice_get w.places receiver ≡ Some place →
     slice_get w.sent at ≡ Some bytes → receive place.arbitration.view bytes ≡ Ok r →
-    HandsOnSent w receiver place (given place line bytes) r.handed
-taken_hands laws law w receiver at line place bytes r is here found received =
+    HandsOnSent w receiver place (given place way bytes) r.handed
+taken_hands laws law w receiver at way place bytes r is here found received =
     let view : View = place.arbitration.view in
     let kept = is.places receiver place here in
     let told = is.said at bytes found in
@@ -351,7 +143,7 @@ taken_hands laws law w receiver at line place bytes r is here found received =
     record {
       here = here;
       kept = kept;
-      still = given_kept laws.receivers w.publisher.journal w.sent place line bytes kept
+      still = given_kept laws.receivers w.publisher.journal w.sent place way bytes kept
           (record { place = at; found = found; told = told });
       book = ap (λ (t : Result Reception Refused). (book_after place.book view.next t).messages) received
           ∙ followed_messages place.book view.next r.handed;
@@ -372,37 +164,37 @@ taken_hands laws law w receiver at line place bytes r is here found received =
 
 -- so what its event hands on is what its step does
 handed_taken :
-    (w : WorldState) (receiver at : ℕ) (line : Option Line) (place : PlaceState) (bytes : List ℕ) (r : Reception) →
+    (w : WorldState) (receiver at : ℕ) (way : Way) (place : PlaceState) (bytes : List ℕ) (r : Reception) →
     slice_get w.places receiver ≡ Some place → slice_get w.sent at ≡ Some bytes →
     receive place.arbitration.view bytes ≡ Ok r →
-    handed_by w (DeliverEvent receiver line at) ≡ handed_from receiver place.arbitration.view.next r.handed
-handed_taken w receiver at line place bytes r here found received =
+    handed_by w (DeliverEvent receiver way at) ≡ handed_from receiver place.arbitration.view.next r.handed
+handed_taken w receiver at way place bytes r here found received =
     (λ j. handed_at receiver (here j) (found j))
     ∙ ap (λ (t : Result Reception Refused). handed_of receiver place.arbitration.view.next t) received
 
 deliver_steps :
-    (laws : AllLaws) (law : HandsOnLaw) (w : WorldState) (receiver at : ℕ) (line : Option Line)
+    (laws : AllLaws) (law : HandsOnLaw) (w : WorldState) (receiver at : ℕ) (way : Way)
     (place : Option PlaceState) (datagram : Option (List ℕ)) (done : Report × WorldState) → IsWorld w →
     slice_get w.places receiver ≡ place → slice_get w.sent at ≡ datagram →
-    delivered w receiver line place datagram ≡ Ok done → AreSteps w (DeliverEvent receiver line at) done.1
-deliver_steps laws law w receiver at line None datagram done is here found same =
-    err_so (IsDone w (DeliverEvent receiver line at)) _ done same
-deliver_steps laws law w receiver at line (Some place) None done is here found same =
-    err_so (IsDone w (DeliverEvent receiver line at)) _ done same
-deliver_steps laws law w receiver at line (Some place) (Some bytes) done is here found same =
+    delivered w receiver way place datagram ≡ Ok done → AreSteps w (DeliverEvent receiver way at) done.1
+deliver_steps laws law w receiver at way None datagram done is here found same =
+    err_so (IsDone w (DeliverEvent receiver way at)) _ done same
+deliver_steps laws law w receiver at way (Some place) None done is here found same =
+    err_so (IsDone w (DeliverEvent receiver way at)) _ done same
+deliver_steps laws law w receiver at way (Some place) (Some bytes) done is here found same =
     let took = sent_taken laws.receivers.take w receiver at place bytes is here found in
-    ok_so (IsDone w (DeliverEvent receiver line at)) _ done same
-    (deliver_made w receiver at line place (given place line bytes) took.reception.handed
-    (taken_hands laws law w receiver at line place bytes took.reception is here found took.received)
-    (handed_taken w receiver at line place bytes took.reception here found took.received))
+    ok_so (IsDone w (DeliverEvent receiver way at)) _ done same
+    (deliver_made w receiver at way place (given place way bytes) took.reception.handed
+    (taken_hands laws law w receiver at way place bytes took.reception is here found took.received)
+    (handed_taken w receiver at way place bytes took.reception here found took.received))
 
 -- a receiver that refuses bytes is the same to the machine
 refused_made :
-    (w : WorldState) (receiver : ℕ) (line : Option Line) (bytes : List ℕ) (place : PlaceState) → IsWorld w →
-    slice_get w.places receiver ≡ Some place → IsUnmoved place line bytes →
-    AreSteps w (Noise receiver line bytes) (with_place w receiver (given place line bytes))
-refused_made w receiver line bytes place is here stays =
-    let new : PlaceState = given place line bytes in
+    (w : WorldState) (receiver : ℕ) (way : Way) (bytes : List ℕ) (place : PlaceState) → IsWorld w →
+    slice_get w.places receiver ≡ Some place → IsUnmoved place way bytes →
+    AreSteps w (Noise receiver way bytes) (with_place w receiver (given place way bytes))
+refused_made w receiver way bytes place is here stays =
+    let new : PlaceState = given place way bytes in
     let standing : standing_of (Some new) ≡ standing_of (Some place) =
     λ i. record { book = (stays.book i).messages; ended = is_finished (stays.view i) }
     in
@@ -419,21 +211,21 @@ refused_made w receiver line bytes place is here stays =
             (stands_at w receiver place new (standing_of (Some place)) here standing other
             ∙ stands_same w receiver place here other) i;
       };
-      handed = sym (noise_hands_nothing w receiver line bytes is);
+      handed = sym (noise_hands_nothing w receiver way bytes is);
     }
 
 noise_steps :
-    (w : WorldState) (receiver : ℕ) (line : Option Line) (bytes : List ℕ) (place : Option PlaceState) (own : Bool)
+    (w : WorldState) (receiver : ℕ) (way : Way) (bytes : List ℕ) (place : Option PlaceState) (own : Bool)
     (done : Report × WorldState) → IsWorld w → slice_get w.places receiver ≡ place →
-    is_own w.publisher.journal.session (reading bytes) ≡ own → noised w receiver line bytes place own ≡ Ok done →
-    AreSteps w (Noise receiver line bytes) done.1
-noise_steps w receiver line bytes None own done is here mine same =
-    err_so (IsDone w (Noise receiver line bytes)) _ done same
-noise_steps w receiver line bytes (Some place) true done is here mine same =
-    err_so (IsDone w (Noise receiver line bytes)) _ done same
-noise_steps w receiver line bytes (Some place) false done is here mine same =
-    ok_so (IsDone w (Noise receiver line bytes)) _ done same
-    (refused_made w receiver line bytes place is here (noise_unmoved w receiver line bytes place is here mine))
+    is_own w.publisher.journal.session (reading bytes) ≡ own → noised w receiver way bytes place own ≡ Ok done →
+    AreSteps w (Noise receiver way bytes) done.1
+noise_steps w receiver way bytes None own done is here mine same =
+    err_so (IsDone w (Noise receiver way bytes)) _ done same
+noise_steps w receiver way bytes (Some place) true done is here mine same =
+    err_so (IsDone w (Noise receiver way bytes)) _ done same
+noise_steps w receiver way bytes (Some place) false done is here mine same =
+    ok_so (IsDone w (Noise receiver way bytes)) _ done same
+    (refused_made w receiver way bytes place is here (noise_unmoved w receiver way bytes place is here mine))
 
 restart_at_steps :
     (w : WorldState) (receiver next : ℕ) (place : PlaceState) (reached : Bool) (done : Report × WorldState) →
@@ -509,30 +301,10 @@ event_steps laws law w (Request bytes) done is same =
 event_steps laws law w (Ask receiver) done is same =
     sent_steps w (Ask receiver) w.burst done (λ steps sends. sends) refl
     (ask_steps laws w receiver (slice_get w.places receiver) done is refl same)
-event_steps laws law w (DeliverEvent receiver line at) done is same =
-    deliver_steps laws law w receiver at line (slice_get w.places receiver) (slice_get w.sent at) done is refl refl same
-event_steps laws law w (Noise receiver line bytes) done is same =
-    noise_steps w receiver line bytes (slice_get w.places receiver)
+event_steps laws law w (DeliverEvent receiver way at) done is same =
+    deliver_steps laws law w receiver at way (slice_get w.places receiver) (slice_get w.sent at) done is refl refl same
+event_steps laws law w (Noise receiver way bytes) done is same =
+    noise_steps w receiver way bytes (slice_get w.places receiver)
     (is_own w.publisher.journal.session (reading bytes)) done is refl refl same
 event_steps laws law w (RestartEvent receiver next) done is same =
     restart_steps w receiver next (slice_get w.places receiver) done is refl same
-
--- at the start no receiver has handed anything on
-empty_standing :
-    (session_name : Session) (windows : List ℕ) (receiver : ℕ) →
-    standing_of (slice_get (map (place_at session_name) windows) receiver) ≡ record { book = []; ended = false }
-empty_standing session_name [] receiver = refl
-empty_standing session_name (window ∷ windows) zero = refl
-empty_standing session_name (window ∷ windows) (suc receiver) = empty_standing session_name windows receiver
-
-pub begins_as_machine :
-    (session_name : Session) (limit server_limit burst : ℕ) (windows : List ℕ) →
-    machine_of (beginning session_name limit server_limit burst windows) ≡ start session_name
-begins_as_machine session_name limit server_limit burst windows =
-    λ i. record {
-      session = session_name;
-      published = [];
-      closed = false;
-      sent = [];
-      standings = λ receiver. empty_standing session_name windows receiver i;
-    }

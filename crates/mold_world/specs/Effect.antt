@@ -15,7 +15,6 @@ use Rattle.mold_receiver.specs.Batch.{Handed, followed_by, handed_from}
 use Rattle.mold_receiver.specs.Receive.{Reception, receive}
 use Rattle.mold_receiver.specs.View.{fresh}
 use Rattle.mold_receiver.specs.Wanted.{wanted}
-use Rattle.mold_receiver.specs.declared.line.Line.{Line}
 use Rattle.mold_rule.specs.declared.refusal.Refusal.{Refusal as Refused}
 use Rattle.mold_session.specs.Answer.{answer}
 use Rattle.mold_session.specs.Journal.{append_refusal}
@@ -24,28 +23,17 @@ use Rattle.mold_session.specs.Publisher.{next_heartbeat, published}
 use Rattle.mold_session.specs.Server.{asking}
 use Rattle.mold_session.specs.declared.error.AnswerError.{AnswerError}
 use Rattle.mold_session.specs.declared.error.AppendError.{AppendError}
+use Rattle.mold_world.specs.Event.{Happening, line_of}
 use Rattle.mold_world.specs.World.{PlaceState, WorldState}
+use Rattle.mold_world.specs.declared.event.EventOf.TheVariants.{Publish, Datagram, Heartbeat, Close, End}
+use Rattle.mold_world.specs.declared.event.EventOf.TheVariants.{Request, Ask, Deliver, Noise, Restart}
 use Rattle.mold_world.specs.declared.report.Report.{Report}
 use Rattle.mold_world.specs.declared.report.Report.TheVariants as report
 use Rattle.mold_session.specs.declared.error.SessionError.TheVariants as session
 use Rattle.mold_world.specs.declared.report.WorldError.{WorldError}
 use Rattle.mold_world.specs.declared.report.WorldError.TheVariants.{NoReceiver, NoSuchDatagram, NotNoise, NotReached}
 use Rattle.mold_world.specs.declared.report.WorldError.TheVariants.{Layer as Refuses}
-
--- what may happen: the publisher's and the server's calls; a receiver's request; a datagram sent before that
--- comes to a receiver on a line or, where none is named, as an answer; bytes that are none of the session's
--- packets; a receiver that begins anew
-pub data Happening : Type 0 where
-  Publish : List ℕ → Happening
-  Datagram : Happening
-  Heartbeat : Happening
-  Close : Happening
-  End : Happening
-  Request : List ℕ → Happening
-  Ask : ℕ → Happening
-  Deliver : ℕ → Option Line → ℕ → Happening
-  Noise : ℕ → Option Line → List ℕ → Happening
-  Restart : ℕ → ℕ → Happening
+use Rattle.mold_world.specs.declared.way.Way.{Way}
 
 -- what is reported and the world afterwards, or why the event is refused
 abbrev pub Outcome : Type 0
@@ -108,9 +96,9 @@ book_after book next (Ok reception) = followed_by book next reception.handed
 book_after book next (Err refused) = book
 
 -- a receiver when it was given a datagram, taken or refused
-abbrev pub given : PlaceState → Option Line → List ℕ → PlaceState
-given place line bytes = record {
-  arbitration = arbitrates line bytes place.arbitration;
+abbrev pub given : PlaceState → Way → List ℕ → PlaceState
+given place way bytes = record {
+  arbitration = arbitrates (line_of way) bytes place.arbitration;
   book = book_after place.book place.arbitration.view.next (receive place.arbitration.view bytes);
 }
 
@@ -118,25 +106,25 @@ abbrev pub told : Result Reception Refused → Report
 told (Ok reception) = report.Delivered reception.taken
 told (Err refused) = report.NoiseRefused refused
 
-abbrev pub giving : WorldState → ℕ → PlaceState → Option Line → List ℕ → Outcome
-giving w receiver place line bytes =
-    Ok (told (receive place.arbitration.view bytes), with_place w receiver (given place line bytes))
+abbrev pub giving : WorldState → ℕ → PlaceState → Way → List ℕ → Outcome
+giving w receiver place way bytes =
+    Ok (told (receive place.arbitration.view bytes), with_place w receiver (given place way bytes))
 
 -- a datagram comes that was sent before
-abbrev pub delivered : WorldState → ℕ → Option Line → Option PlaceState → Option (List ℕ) → Outcome
-delivered w receiver line None datagram = Err NoReceiver
-delivered w receiver line (Some place) None = Err NoSuchDatagram
-delivered w receiver line (Some place) (Some bytes) = giving w receiver place line bytes
+abbrev pub delivered : WorldState → ℕ → Way → Option PlaceState → Option (List ℕ) → Outcome
+delivered w receiver way None datagram = Err NoReceiver
+delivered w receiver way (Some place) None = Err NoSuchDatagram
+delivered w receiver way (Some place) (Some bytes) = giving w receiver place way bytes
 
 -- bytes come that are no packet of the session
 abbrev pub is_own : Session → Result Packet DecodeError → Bool
 is_own own (Ok packet) = bytes_eq packet.session.0 own.0
 is_own own (Err error) = false
 
-abbrev pub noised : WorldState → ℕ → Option Line → List ℕ → Option PlaceState → Bool → Outcome
-noised w receiver line bytes None own = Err NoReceiver
-noised w receiver line bytes (Some place) true = Err NotNoise
-noised w receiver line bytes (Some place) false = giving w receiver place line bytes
+abbrev pub noised : WorldState → ℕ → Way → List ℕ → Option PlaceState → Bool → Outcome
+noised w receiver way bytes None own = Err NoReceiver
+noised w receiver way bytes (Some place) true = Err NotNoise
+noised w receiver way bytes (Some place) false = giving w receiver place way bytes
 
 -- a receiver that begins anew at a number that it had reached: its view and its reports are new, and its
 -- book is cut to the messages before
@@ -168,10 +156,10 @@ effect w Close = closing w
 effect w End = sending w (next_end w.publisher) w.publisher
 effect w (Request bytes) = requested w (asking w.publisher.journal bytes)
 effect w (Ask receiver) = asked w (slice_get w.places receiver)
-effect w (Deliver receiver line place) =
-    delivered w receiver line (slice_get w.places receiver) (slice_get w.sent place)
-effect w (Noise receiver line bytes) =
-    noised w receiver line bytes (slice_get w.places receiver) (is_own w.publisher.journal.session (reading bytes))
+effect w (Deliver receiver way place) =
+    delivered w receiver way (slice_get w.places receiver) (slice_get w.sent place)
+effect w (Noise receiver way bytes) =
+    noised w receiver way bytes (slice_get w.places receiver) (is_own w.publisher.journal.session (reading bytes))
 effect w (Restart receiver next) = restarted w receiver next (slice_get w.places receiver)
 
 -- the world after an event, refused or not, and after some events in order

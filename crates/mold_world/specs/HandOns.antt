@@ -3,9 +3,10 @@ use Rattle.std.specs.Prelude.{ℕ, List, [], ◌∷◌, ◌++◌, Bool, true, fa
 use Rattle.mold_wire.specs.Reading.{reading}
 use Rattle.mold_receiver.specs.Receive.{Reception, receive}
 use Rattle.mold_rule.specs.declared.refusal.Refusal.{Refusal as Refused}
-use Rattle.mold_world.specs.Effect.{Happening, after_event, is_own}
-use Rattle.mold_world.specs.Effect.Happening.{Publish, Datagram, Heartbeat, Close, End, Request, Ask, Deliver, Noise}
-use Rattle.mold_world.specs.Effect.Happening.{Restart}
+use Rattle.mold_world.specs.Event.{Happening}
+use Rattle.mold_world.specs.Effect.{after_event, is_own}
+use Rattle.mold_world.specs.declared.event.EventOf.TheVariants.{Publish, Datagram, Heartbeat, Close, End}
+use Rattle.mold_world.specs.declared.event.EventOf.TheVariants.{Request, Ask, Deliver, Noise, Restart}
 use Rattle.mold_world.specs.Headline.{HandOn, handed_from}
 use Rattle.mold_world.specs.World.{PlaceState, WorldState}
 
@@ -35,9 +36,9 @@ handed_by w Close = []
 handed_by w End = []
 handed_by w (Request bytes) = []
 handed_by w (Ask receiver) = []
-handed_by w (Deliver receiver line place) =
+handed_by w (Deliver receiver way place) =
     handed_at receiver (slice_get w.places receiver) (slice_get w.sent place)
-handed_by w (Noise receiver line bytes) =
+handed_by w (Noise receiver way bytes) =
     handed_of_noise receiver (slice_get w.places receiver) bytes (is_own w.publisher.journal.session (reading bytes))
 handed_by w (Restart receiver next) = []
 

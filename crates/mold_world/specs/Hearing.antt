@@ -1,29 +1,30 @@
 -- What the receivers of a world do with what comes to them.
-use Rattle.std.specs.Prelude.{◌≡◌, ℕ, List, map, Option, Err}
+use Rattle.std.specs.Prelude.{◌≡◌, ℕ, List, map, Err}
 use Rattle.mold_wire.specs.Packet.{Spells}
 use Rattle.mold_wire.specs.declared.packet.Packet.{Packet}
 use Rattle.mold_wire.specs.declared.session.Session.{Session}
 use Rattle.mold_receiver.specs.Receive.{receive}
-use Rattle.mold_receiver.specs.declared.line.Line.{Line}
 use Rattle.mold_rule.specs.declared.refusal.Refusal.{Refusal as Refused}
 use Rattle.mold_receiver.specs.declared.taken.Taken.{Taken}
-use Rattle.mold_world.specs.Effect.{Happening, given}
-use Rattle.mold_world.specs.Effect.Happening.{Publish, Datagram, Heartbeat, Close, End}
-use Rattle.mold_world.specs.Effect.Happening.{Request, Ask, Deliver, Noise, Restart}
+use Rattle.mold_world.specs.Event.{Happening}
+use Rattle.mold_world.specs.Effect.{given}
+use Rattle.mold_world.specs.declared.event.EventOf.TheVariants.{Publish, Datagram, Heartbeat, Close, End}
+use Rattle.mold_world.specs.declared.event.EventOf.TheVariants.{Request, Ask, Deliver, Noise, Restart}
 use Rattle.mold_world.specs.World.{PlaceState, WorldState}
 use Rattle.mold_world.specs.declared.report.Report.{Report}
 use Rattle.mold_world.specs.declared.report.Report.TheVariants.{Delivered, NoiseRefused}
+use Rattle.mold_world.specs.declared.way.Way.{Way}
 
 -- the bytes spell no packet of the session
 abbrev pub AreStrange : Session → List ℕ → Type 0
 AreStrange session bytes = (packet : Packet) → Spells packet bytes → packet.session ≡ session → ⊥
 
 -- a receiver refuses bytes that come on a line or as an answer, and its view and its book stay
-pub record IsUnmoved (place : PlaceState) (line : Option Line) (bytes : List ℕ) : Type 0 where
+pub record IsUnmoved (place : PlaceState) (way : Way) (bytes : List ℕ) : Type 0 where
   pub refused : Refused
   pub received : receive place.arbitration.view bytes ≡ Err refused
-  pub view : (given place line bytes).arbitration.view ≡ place.arbitration.view
-  pub book : (given place line bytes).book ≡ place.book
+  pub view : (given place way bytes).arbitration.view ≡ place.arbitration.view
+  pub book : (given place way bytes).book ≡ place.book
 
 -- a datagram was taken
 pub record TellsTaken (told : Report) : Type 0 where
@@ -51,6 +52,6 @@ Hears Close told old new = Unit {0}
 Hears End told old new = Unit {0}
 Hears (Request bytes) told old new = Unit {0}
 Hears (Ask receiver) told old new = Unit {0}
-Hears (Deliver receiver line place) told old new = TellsTaken told
-Hears (Noise receiver line bytes) told old new = TellsRefused told × KeepsBooks old new
+Hears (Deliver receiver way place) told old new = TellsTaken told
+Hears (Noise receiver way bytes) told old new = TellsRefused told × KeepsBooks old new
 Hears (Restart receiver next) told old new = Unit {0}

@@ -6,7 +6,7 @@ pub mod HandOns
 pub mod Hearing
 pub mod Kept
 pub mod Steps
-pub mod Seen
+pub mod Event
 pub mod Refusals
 pub mod Runs
 pub mod Codes

@@ -1,12 +1,14 @@
 -- Why a world is not made, why an event is refused, and where memory may be wanting.
-use Rattle.std.specs.Prelude.{◌≡◌, ◌⊎◌, ℕ, List, Option, Some, Result, Ok, Err, IsOk, not, Bool, ◌&&◌, nat_le}
+use Rattle.std.specs.Prelude.{◌≡◌, ◌⊎◌, ℕ, List, Option, Some, Result, Ok, Err, IsOk, IsSome, not, Bool, ◌&&◌, nat_le}
 use Rattle.std.specs.Prelude.{if◌then◌else◌, slice_get, position}
 use Rattle.std.specs.Option.{option_map}
 use Rattle.mold_receiver.specs.Receive.{IsCopied}
-use Rattle.mold_world.specs.Effect.{Happening, effect}
-use Rattle.mold_world.specs.Effect.Happening.{Publish, Datagram, Heartbeat, Close, End, Request, Ask, Deliver, Noise}
-use Rattle.mold_world.specs.Effect.Happening.{Restart}
+use Rattle.mold_world.specs.Event.{Happening}
+use Rattle.mold_world.specs.Effect.{effect}
+use Rattle.mold_world.specs.declared.event.EventOf.TheVariants.{Publish, Datagram, Heartbeat, Close, End}
+use Rattle.mold_world.specs.declared.event.EventOf.TheVariants.{Request, Ask, Deliver, Noise, Restart}
 use Rattle.mold_world.specs.World.{PlaceState, WorldState}
+use Rattle.mold_session.specs.Publisher.{next_end, next_heartbeat}
 use Rattle.mold_session.specs.declared.error.AppendError.{AppendError}
 use Rattle.mold_session.specs.declared.error.AppendError.TheVariants as append
 use Rattle.mold_world.specs.declared.report.Report.{Report}
@@ -41,19 +43,19 @@ pub record IsCopying (w : WorldState) (receiver sent : ℕ) : Type 0 where
   pub found : slice_get w.sent sent ≡ Some bytes
   pub copied : IsCopied place.arbitration.view bytes
 
--- where memory may be wanting: in place of a message's publication, before the publisher sends, in place of an
--- answer, where a receiver is that asks, where a datagram is copied, and in place of a restart; so an event that
--- is refused for another cause is refused for that
+-- where memory may be wanting: in place of a message's publication, before new messages are sent, in place of a
+-- heartbeat, an end packet or an answer, where a receiver is that asks, where a datagram is copied, and in place of
+-- a restart; so an event that is refused for another cause is refused for that
 abbrev pub MayWant : WorldState → Happening → Type 0
 MayWant w (Publish message) = IsOk (effect w (Publish message))
 MayWant w Datagram = Unit {0}
-MayWant w Heartbeat = Unit {0}
+MayWant w Heartbeat = IsSome (next_heartbeat w.publisher)
 MayWant w Close = ⊥
-MayWant w End = Unit {0}
+MayWant w End = IsSome (next_end w.publisher)
 MayWant w (Request bytes) = IsOk (effect w (Request bytes))
 MayWant w (Ask receiver) = IsOk (effect w (Ask receiver))
-MayWant w (Deliver receiver line sent) = IsCopying w receiver sent
-MayWant w (Noise receiver line bytes) = ⊥
+MayWant w (Deliver receiver way sent) = IsCopying w receiver sent
+MayWant w (Noise receiver way bytes) = ⊥
 MayWant w (Restart receiver next) = IsOk (effect w (Restart receiver next))
 
 -- why an event is refused: memory is wanting where it may, or the rule refuses it

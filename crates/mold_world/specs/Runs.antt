@@ -1,6 +1,7 @@
 -- A run of events, and what it promises.
 use Rattle.std.specs.Prelude.{◌≡◌, ℕ, List, take, Some, Result, Ok, Err, true, slice_get}
-use Rattle.mold_world.specs.Effect.{Happening, run_events}
+use Rattle.mold_world.specs.Event.{Happening}
+use Rattle.mold_world.specs.Effect.{run_events}
 use Rattle.mold_world.specs.Headline.{IsPrefix}
 use Rattle.mold_world.specs.Refusals.{MayWant}
 use Rattle.mold_world.specs.World.{PlaceState, WorldState}

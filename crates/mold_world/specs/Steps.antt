@@ -2,9 +2,11 @@
 use Rattle.std.specs.Prelude.{◌≡◌, ℕ, ◌≤◌, Bool, false, List, [], ◌∷◌, ◌++◌, length, map}
 use Rattle.std.specs.Prelude.{Option, None, Some, Ok, Err, ◌==◌, slice_get}
 use Rattle.mold_receiver.specs.View.{View}
-use Rattle.mold_world.specs.Effect.{Happening, Outcome, after_event, effect}
-use Rattle.mold_world.specs.Effect.Happening.{Publish as PublishEvent, Datagram, Heartbeat, Close as CloseEvent, End}
-use Rattle.mold_world.specs.Effect.Happening.{Request, Ask, Deliver as DeliverEvent, Noise, Restart as RestartEvent}
+use Rattle.mold_world.specs.Event.{Happening}
+use Rattle.mold_world.specs.Effect.{Outcome, after_event, effect}
+use Rattle.mold_world.specs.declared.event.EventOf.TheVariants.{Publish as PublishEvent, Datagram, Heartbeat}
+use Rattle.mold_world.specs.declared.event.EventOf.TheVariants.{Close as CloseEvent, End, Request, Ask}
+use Rattle.mold_world.specs.declared.event.EventOf.TheVariants.{Deliver as DeliverEvent, Noise, Restart as RestartEvent}
 use Rattle.mold_world.specs.HandOns.{handed_by, handed_by_all}
 use Rattle.mold_world.specs.Headline.{all_handed}
 use Rattle.mold_world.specs.Machine.{AreAllowed, Machine, Standing, Step, run}
@@ -57,8 +59,8 @@ Names w CloseEvent steps = steps ≡ Close ∷ []
 Names w End steps = AreSends 1 steps
 Names w (Request bytes) steps = AreSends w.burst steps
 Names w (Ask receiver) steps = AreSends w.burst steps
-Names w (DeliverEvent receiver line place) steps = AreDelivery receiver steps
-Names w (Noise receiver line bytes) steps = steps ≡ []
+Names w (DeliverEvent receiver way place) steps = AreDelivery receiver steps
+Names w (Noise receiver way bytes) steps = steps ≡ []
 Names w (RestartEvent receiver next) steps = steps ≡ Restart receiver next ∷ []
 
 -- a world became another by an event: the steps that it names lead there, the machine may make them, and what is

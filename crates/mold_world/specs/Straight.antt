@@ -1,18 +1,19 @@
 -- The straight path: a receiver that is given each datagram of new messages as soon as it is sent, and that
 -- does not begin anew.
 use Rattle.std.specs.Prelude.{◌≡◌, ℕ, ◌+◌, List, take, Option, Some, Ok, slice_get}
-use Rattle.mold_receiver.specs.declared.line.Line.{Line}
-use Rattle.mold_world.specs.Effect.{Happening, effect, run_events}
-use Rattle.mold_world.specs.Effect.Happening.{Datagram, Deliver, Restart}
+use Rattle.mold_world.specs.Event.{Happening}
+use Rattle.mold_world.specs.Effect.{effect, run_events}
+use Rattle.mold_world.specs.declared.event.EventOf.TheVariants.{Datagram, Deliver, Restart}
 use Rattle.mold_world.specs.Headline.{IsPrefix}
 use Rattle.mold_world.specs.World.{PlaceState, WorldState}
 use Rattle.mold_world.specs.declared.report.Report.{Report}
 use Rattle.mold_world.specs.declared.report.Report.TheVariants as report
+use Rattle.mold_world.specs.declared.way.Way.{Way}
 
 -- what happens is that the datagram sent at a place comes to the receiver, on a line or as an answer
 pub record IsDelivery (receiver place : ℕ) (happening : Option Happening) : Type 0 where
-  pub line : Option Line
-  pub so : happening ≡ Some (Deliver receiver line place)
+  pub way : Way
+  pub so : happening ≡ Some (Deliver receiver way place)
 
 -- each datagram of new messages is delivered to the receiver right after it is sent, and no restart of the
 -- receiver is applied

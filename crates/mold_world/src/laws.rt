@@ -3,13 +3,13 @@
 ghost use Rattle.std.specs.Prelude.{◌≡◌, ℕ, Bool, List, Ok, Option, Some, slice_get, true};
 ghost use Rattle.mold_receiver.specs.Honest.{IsHonest, IsTakenHonestly};
 ghost use Rattle.mold_receiver.specs.View.{View};
-ghost use Rattle.mold_receiver.specs.declared.line.Line.{Line};
 ghost use Rattle.mold_wire.specs.Block.{IsBytes};
 ghost use Rattle.mold_wire.specs.Packet.{Spells};
 ghost use Rattle.mold_wire.specs.Truth.{IsTrue};
 ghost use Rattle.mold_wire.specs.declared.packet.Packet.{Packet};
 ghost use Rattle.mold_wire.specs.declared.session.Session.{Session};
-ghost use Rattle.mold_world.specs.Effect.{Happening, effect, run_events};
+ghost use Rattle.mold_world.specs.Event.{Happening};
+ghost use Rattle.mold_world.specs.Effect.{effect, run_events};
 ghost use Rattle.mold_world.specs.HandOns.{handed_by_all};
 ghost use Rattle.mold_world.specs.Headline.{ArePublished, HasAll, IsPrefix, all_handed};
 ghost use Rattle.mold_world.specs.Hearing.{AreStrange, Hears, IsUnmoved};
@@ -19,6 +19,7 @@ ghost use Rattle.mold_world.specs.Machine.{AreAllowed, Step, run, start};
 ghost use Rattle.mold_world.specs.Straight.{HasSent, IsStraight};
 ghost use Rattle.mold_world.specs.World.{MayBegin, PlaceState, WorldState, beginning};
 ghost use Rattle.mold_world.specs.declared.report.Report.{Report};
+ghost use Rattle.mold_world.specs.declared.way.Way.{Way};
 
 use mold_receiver::laws::{
     followed_law, honest_stays_law, honest_take_law, nothing_new_law, taken_law, through_law,
@@ -105,9 +106,9 @@ pub fn hearing_law()
     ensures sent { (w : WorldState) (receiver at : ℕ) (place : PlaceState) (bytes : List ℕ) → IsWorld w →
         slice_get w.places receiver ≡ Some place → slice_get w.sent at ≡ Some bytes →
         IsTakenHonestly place.arbitration.view bytes w.publisher.journal.messages w.publisher.journal.closed }
-    ensures strange { (w : WorldState) (receiver : ℕ) (place : PlaceState) (line : Option Line) (bytes : List ℕ) →
+    ensures strange { (w : WorldState) (receiver : ℕ) (place : PlaceState) (way : Way) (bytes : List ℕ) →
         IsWorld w → slice_get w.places receiver ≡ Some place → IsBytes bytes →
-        AreStrange w.publisher.journal.session bytes → IsUnmoved place line bytes }
+        AreStrange w.publisher.journal.session bytes → IsUnmoved place way bytes }
     ensures heard { (w new : WorldState) (happening : Happening) (report : Report) → IsWorld w →
         effect w happening ≡ Ok (report, new) → Hears happening report w new }
 {

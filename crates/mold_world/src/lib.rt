@@ -13,7 +13,8 @@ mod stopped;
 mod way;
 mod world;
 
-pub use event::Event;
+pub use event::{Event, EventOf};
+pub use mold_messages::MessageIterator;
 pub use mold_rounds::{Memory, catch_up};
 pub use mold_session::SessionError;
 pub use report::{Report, WorldError};

@@ -1,16 +1,16 @@
 //! What a world is made of.
 
-ghost use Rattle.std.specs.Prelude.{◌≡◌, ◌≤◌, ◌+◌, None, Some, Ok, length, IfOk, IfErr, IfSome, IsOk, OnOk, OnErr};
+ghost use Rattle.std.specs.Prelude.{◌≡◌, ◌≤◌, ◌+◌, None, Some, Ok, length, IfOk, IfErr, IfSome, IsOk, IsSome, OnOk, OnErr};
 ghost use Rattle.std.specs.Option.{option_copied};
 ghost use Rattle.mold_messages.specs.Listed.{HasRoom};
 ghost use Rattle.mold_session.specs.Answer.{planned};
 ghost use Rattle.mold_wire.specs.Reading.{reading};
 ghost use Rattle.mold_world.specs.Effect.{bursting, is_own};
-ghost use Rattle.mold_world.specs.Effect.Happening.{Publish, Datagram, Heartbeat, Close, End, Request, Ask, Deliver};
-ghost use Rattle.mold_world.specs.Effect.Happening.{Noise, Restart};
+ghost use Rattle.mold_world.specs.declared.event.EventOf.TheVariants.{Publish, Datagram, Heartbeat, Close, End};
+ghost use Rattle.mold_world.specs.declared.event.EventOf.TheVariants.{Request, Ask, Deliver, Noise, Restart};
 ghost use Rattle.mold_world.specs.Inside.{AreParts, KeepsServing, world_of};
 ghost use Rattle.mold_world.specs.Refusals.{Applies};
-ghost use Rattle.mold_world.specs.Seen.{line_of, seen};
+ghost use Rattle.mold_world.specs.Event.{seen};
 ghost use Rattle.mold_world.specs.Sending.{stored, stored_report};
 ghost use Rattle.mold_world.specs.declared.report.WorldError.{WorldError};
 
@@ -23,15 +23,12 @@ use mold_messages::MessageList;
 use mold_receiver::laws::wanted_law;
 use mold_session::laws::{answered_law, sending_law};
 use mold_session::{Plan, Publisher, Server, SessionError};
-use mold_wire::laws::{front_law, packet_length_law, spelling_length_law};
+use mold_wire::laws::{front_law, spelling_length_law};
 use mold_wire::{Session, decode};
 use std::alloc::Global;
 
 /// The bytes of a datagram beside a message that stands alone in it: a header and the message's length.
 const BESIDE: usize = 22;
-
-/// The bytes of a datagram without messages: a header.
-const HEADER: usize = 20;
 
 /// A publisher, a re-request server, all that they ever sent, and receivers.
 #[derive(Debug, Drop)]
@@ -48,6 +45,7 @@ fn store(sent: &mut MessageList, datagram: Option<&[u8]>) -> Result<Report, Worl
     ensures stored { OnOk result (sent.new.messages ≡ stored sent.old.messages (option_copied datagram.entry)) }
     ensures told { IfOk result (λ report. report ≡ stored_report sent.old.messages (option_copied datagram.entry)) }
     ensures same { OnErr result (sent.new.messages ≡ sent.old.messages) }
+    ensures some { OnErr result (IsSome (option_copied datagram.entry)) }
     ensures memory { IfErr result (λ error. error ≡ WorldError.Memory) }
     ensures room { IfSome (option_copied datagram.entry) (λ bytes. HasRoom sent.old 1 (length bytes)) → IsOk result }
 {
@@ -93,16 +91,12 @@ impl Parts {
         Ok(stored.unwrap())
     }
 
-    // Sends a heartbeat. Its room is made first.
+    // Sends a heartbeat.
     fn heartbeat(&mut self) -> Result<Report, WorldError>
         ensures applied { Applies (world_of self.old) Heartbeat result (world_of self.new) }
         ensures serves { KeepsServing self.old self.new }
     {
-        packet_length_law();
-        spelling_length_law();
-        self.sent.reserve(1, HEADER)?;
-        let stored = store(&mut self.sent, self.publisher.heartbeat());
-        Ok(stored.unwrap())
+        store(&mut self.sent, self.publisher.heartbeat())
     }
 
     fn close(&mut self) -> Result<Report, WorldError>
@@ -115,16 +109,12 @@ impl Parts {
         }
     }
 
-    // Sends an end packet. Its room is made first.
+    // Sends an end packet.
     fn end(&mut self) -> Result<Report, WorldError>
         ensures applied { Applies (world_of self.old) End result (world_of self.new) }
         ensures serves { KeepsServing self.old self.new }
     {
-        packet_length_law();
-        spelling_length_law();
-        self.sent.reserve(1, HEADER)?;
-        let stored = store(&mut self.sent, self.publisher.end());
-        Ok(stored.unwrap())
+        store(&mut self.sent, self.publisher.end())
     }
 
     // Sends all that a plan has left, or nothing of it where memory is refused.
@@ -187,7 +177,7 @@ impl Parts {
 
     fn deliver(&mut self, r: usize, way: Way, sent: usize) -> Result<Report, WorldError>
         requires { AreParts self.old }
-        ensures applied { Applies (world_of self.old) (Deliver r (line_of way) sent) result (world_of self.new) }
+        ensures applied { Applies (world_of self.old) (Deliver r way sent) result (world_of self.new) }
         ensures serves { KeepsServing self.old self.new }
     {
         let Some(place) = self.places.get_mut(r) else {
@@ -201,7 +191,7 @@ impl Parts {
 
     fn noise(&mut self, r: usize, way: Way, bytes: &[u8]) -> Result<Report, WorldError>
         requires { AreParts self.old }
-        ensures applied { Applies (world_of self.old) (Noise r (line_of way) bytes.now) result (world_of self.new) }
+        ensures applied { Applies (world_of self.old) (Noise r way bytes.now) result (world_of self.new) }
         ensures serves { KeepsServing self.old self.new }
     {
         let Some(place) = self.places.get_mut(r) else {

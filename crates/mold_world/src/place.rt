@@ -6,7 +6,6 @@ ghost use Rattle.mold_receiver.specs.Batch.{Follows};
 ghost use Rattle.mold_receiver.specs.Receive.{IsCopied, receive};
 ghost use Rattle.mold_world.specs.Effect.{given, told};
 ghost use Rattle.mold_world.specs.Renewals.{Renews};
-ghost use Rattle.mold_world.specs.Seen.{line_of};
 ghost use Rattle.mold_world.specs.World.{place_at};
 
 use crate::report::{Report, WorldError};
@@ -73,7 +72,7 @@ impl Place {
     pub(crate) fn give(&mut self, way: Way, bytes: &[u8]) -> Result<Report, AllocError>
         requires { Follows self.old.book self.old.arbitration.view.next }
         ensures told { IfOk result (λ report. report ≡ told (receive self.old.arbitration.view bytes.now)) }
-        ensures given { OnOk result (self.new ≡ given self.old (line_of way) bytes.now) }
+        ensures given { OnOk result (self.new ≡ given self.old way bytes.now) }
         ensures copied { OnErr result (IsCopied self.old.arbitration.view bytes.now) }
         ensures same { OnErr result (self.new ≡ self.old) }
     {

@@ -11,7 +11,7 @@ ghost use Rattle.mold_world.specs.Hearing.{Hears};
 ghost use Rattle.mold_world.specs.Kept.{IsWorld};
 ghost use Rattle.mold_world.specs.Refusals.{MayWant, Refuses, world_refusal};
 ghost use Rattle.mold_world.specs.Runs.{IsHeadline, IsStopped, applied};
-ghost use Rattle.mold_world.specs.Seen.{seen};
+ghost use Rattle.mold_world.specs.Event.{seen};
 ghost use Rattle.mold_world.specs.Steps.{AreSteps, AreStepsOfAll, is_finished};
 ghost use Rattle.mold_world.specs.Straight.{HasSent, IsStraight};
 ghost use Rattle.mold_world.specs.World.{beginning};
@@ -23,7 +23,7 @@ use crate::laws::{hearing_law, run_law, straight_law};
 use crate::parts::Parts;
 use crate::report::{Report, WorldError};
 use crate::stopped::Stopped;
-use mold_messages::MessageList;
+use mold_messages::{MessageIterator, MessageList};
 use mold_receiver::{Batch, Line, LineReport, Receiver};
 use mold_session::{Journal, Publisher, Server};
 use mold_wire::Session;
@@ -177,6 +177,13 @@ impl World {
         ensures { result ≡ length self.now.sent }
     {
         self.parts.sent.len()
+    }
+
+    /// The datagrams that were ever sent, in order.
+    pub fn sent(&self) -> MessageIterator<'_>
+        ensures { result ≡ self.now.sent }
+    {
+        self.parts.sent.iter()
     }
 
     /// The datagram sent at place `i`, counted from 0; none where there are no more than `i`.

@@ -7,3 +7,7 @@ mod check;
 mod sim;
 #[cfg(test)]
 mod world;
+#[cfg(test)]
+mod world_checks;
+#[cfg(test)]
+mod world_events;

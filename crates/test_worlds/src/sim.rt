@@ -286,7 +286,7 @@ fn lines_of_another_form(rt: HostRuntime) -> Result<(), Fail> {
 
 #[test]
 fn each_read_that_fails_leaves_a_beginning(rt: HostRuntime) -> Result<(), Fail> {
-    // Each byte is a read, and so is the end behind them.
+    // Each byte is a read, and so is the end after them.
     for call in 1..=ONE_RECEIVER.len() as u64 + 1 {
         let mut source = MemorySource::new(ONE_RECEIVER);
         source.at_most(1);

@@ -1,6 +1,7 @@
 use Rattle.mold_world.proofs.EventLemmas.{AllLaws, event_kept, run_kept, world_books, world_whole}
 use Rattle.mold_world.proofs.RunLemmas.{begins, handed_run}
-use Rattle.mold_world.proofs.StepLemmas.{begins_as_machine, event_steps}
+use Rattle.mold_world.proofs.StandingLemmas.{begins_as_machine}
+use Rattle.mold_world.proofs.StepLemmas.{event_steps}
 use Rattle.mold_world.proofs.laws.run_law.Goals.{After-answered_law}
 use Rattle.mold_world.proofs.laws.run_law.Goals as goal
 

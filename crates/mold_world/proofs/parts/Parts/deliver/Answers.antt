@@ -3,13 +3,12 @@ use Rattle.std.proofs.lemmas.Option.{slice_get_read}
 use Rattle.std.proofs.lemmas.Result.{err_from_is_err_and}
 use Rattle.mold_world.proofs.PlaceRowLemmas.{deliver_done, deliver_nobody, deliver_nothing, deliver_wanting, none_there}
 use Rattle.mold_world.specs.Inside.{world_of}
-use Rattle.mold_world.specs.Seen.{line_of}
 use Rattle.mold_world.specs.declared.report.WorldError.{WorldError}
 use Rattle.mold_world.proofs.parts.Parts.deliver.Goals as goal
 
 pub returns-in_default-clause-applied : goal.returns-in_default-clause-applied
 returns-in_default-clause-applied c = (
-  deliver_nobody (world_of c.args.self.now) c.args.r (line_of c.args.way) c.args.sent
+  deliver_nobody (world_of c.args.self.now) c.args.r c.args.way c.args.sent
       (none_there c.args.self.now.places.items _ c.args.r c.args.self.now.places.ok.0 c.in_default.ensures.variant.1),
   refl,
 )
@@ -20,7 +19,7 @@ returns-in_default-get-clause-applied c =
     (let within = c.in-Some.ensures.variant.0 refl in omega (arith, within, c.args.self.now.places.ok.0))
     c.in-Some.ensures.value
     in
-    deliver_nothing (world_of c.args.self.now) c.args.r (line_of c.args.way) c.args.sent c.in-Some.place.now _ here
+    deliver_nothing (world_of c.args.self.now) c.args.r c.args.way c.args.sent c.in-Some.place.now _ here
     (sym c.in_default-get.ensures) refl
 
 pub give-requires : goal.give-requires
@@ -39,7 +38,7 @@ returns-in_err-give-clause-applied c =
     in
     let e = err_from_is_err_and c.from_residual.result c.from_residual.ensures.1 in
     rw (e.1 ∙ ap (λ (t : WorldError). Err t) e.2)
-    (deliver_wanting (world_of c.args.self.now) c.args.r (line_of c.args.way) c.args.sent c.in-Some.place.now
+    (deliver_wanting (world_of c.args.self.now) c.args.r c.args.way c.args.sent c.in-Some.place.now
     c.give.new.self c.in-Some-get.bytes.now here (sym c.in-Some-get.ensures) c.in_err-give.ensures.copied
     c.in_err-give.ensures.same)
 
@@ -49,6 +48,6 @@ returns-clause-applied c =
     (let within = c.in-Some.ensures.variant.0 refl in omega (arith, within, c.args.self.now.places.ok.0))
     c.in-Some.ensures.value
     in
-    deliver_done (world_of c.args.self.now) c.args.r (line_of c.args.way) c.args.sent c.in-Some.place.now
+    deliver_done (world_of c.args.self.now) c.args.r c.args.way c.args.sent c.in-Some.place.now
     c.give.new.self c.in-Some-get.bytes.now _ here (sym c.in-Some-get.ensures) c.in_ok-give.ensures.told
     c.in_ok-give.ensures.given

@@ -1,25 +1,21 @@
-use Rattle.mold_world.proofs.RowLemmas.{HeaderLaws, heartbeat_room, heartbeat_row}
+use Rattle.mold_session.specs.Publisher.{next_heartbeat}
+use Rattle.mold_world.proofs.RowLemmas.{heartbeat_row, sent_applied}
 use Rattle.mold_world.specs.Inside.{world_of}
+use Rattle.mold_world.specs.World.{WorldState}
+use Rattle.mold_world.specs.declared.event.EventOf.TheVariants.{Heartbeat}
 use Rattle.mold_world.proofs.parts.Parts.heartbeat.Goals as goal
-
-pub unwrap-requires : goal.unwrap-requires
-unwrap-requires c =
-    let laws : HeaderLaws = record {
-      spelled = c.spelling_length_law.ensures.packet;
-      none = c.packet_length_law.ensures.none;
-    } in
-    c.store-stored.ensures.room
-    (heartbeat_room laws c.args.self.now.publisher c.reserve.new.self _ c.in_ok-reserve.ensures.room c.heartbeat.ensures.lent)
 
 pub returns-clause-applied : goal.returns-clause-applied
 returns-clause-applied c =
-    let stored = rw c.unwrap.ensures at c.store-stored.ensures.stored in
-    let reported = rw c.unwrap.ensures at c.store-stored.ensures.told in
-    heartbeat_row (world_of c.args.self.now) c.unwrap.result c.heartbeat.follows.lender-at-none
-    c.store-stored.new.sent.messages (record {
+    let w : WorldState = world_of c.args.self.now in
+    sent_applied w Heartbeat (next_heartbeat w.publisher) c.store.result c.heartbeat.follows.lender-at-none c.store.new.sent.messages
+    (heartbeat_row w) (λ some. some) (record {
       lent = _;
       lends = c.heartbeat.ensures.lent;
       left = c.heartbeat.follows.holds-at-none;
-      reported = rw c.in_ok-reserve.ensures.same at reported;
-      now = rw c.in_ok-reserve.ensures.same at stored;
+      told = c.store.ensures.told;
+      now = c.store.ensures.stored;
+      some = c.store.ensures.some;
+      same = c.store.ensures.same;
+      memory = c.store.ensures.memory;
     })

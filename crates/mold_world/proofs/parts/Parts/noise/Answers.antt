@@ -5,12 +5,11 @@ use Rattle.mold_wire.specs.declared.session.Session.{Session}
 use Rattle.mold_world.proofs.PlaceRowLemmas.{noise_done, noise_never_wants, noise_nobody, noise_own, none_there}
 use Rattle.mold_world.specs.Effect.{is_own}
 use Rattle.mold_world.specs.Inside.{world_of}
-use Rattle.mold_world.specs.Seen.{line_of}
 use Rattle.mold_world.proofs.parts.Parts.noise.Goals as goal
 
 pub returns-in_default-clause-applied : goal.returns-in_default-clause-applied
 returns-in_default-clause-applied c = (
-  noise_nobody (world_of c.args.self.now) c.args.r (line_of c.args.way) c.args.bytes.now
+  noise_nobody (world_of c.args.self.now) c.args.r c.args.way c.args.bytes.now
       (none_there c.args.self.now.places.items _ c.args.r c.args.self.now.places.ok.0 c.in_default.ensures.variant.1),
   refl,
 )
@@ -22,7 +21,7 @@ returns-then-is_own-clause-applied c =
     c.in-Some.ensures.value
     in
     let named = c.session.ensures ∙ ap (λ t. t.session) c.journal.ensures in
-    noise_own (world_of c.args.self.now) c.args.r (line_of c.args.way) c.args.bytes.now c.in-Some.place.now _ here
+    noise_own (world_of c.args.self.now) c.args.r c.args.way c.args.bytes.now c.in-Some.place.now _ here
     (c.if-is_own.ensures ∙ ap (λ (t : Session). is_own t (reading c.args.bytes.now)) named) refl
 
 pub give-requires : goal.give-requires
@@ -52,7 +51,7 @@ returns-clause-applied c =
     c.in-Some.ensures.value
     in
     let named = c.session.ensures ∙ ap (λ t. t.session) c.journal.ensures in
-    noise_done (world_of c.args.self.now) c.args.r (line_of c.args.way) c.args.bytes.now c.in-Some.place.now
+    noise_done (world_of c.args.self.now) c.args.r c.args.way c.args.bytes.now c.in-Some.place.now
     c.give.new.self _ here
     (c.if-is_own.ensures ∙ ap (λ (t : Session). is_own t (reading c.args.bytes.now)) named)
     c.in_ok-give.ensures.told c.in_ok-give.ensures.given

@@ -1,7 +1,7 @@
 use Rattle.std.proofs.Common.{arith}
 use Rattle.mold_world.proofs.ApplyLemmas.{applied_done, applied_heard, applied_kept, applied_refused, applied_same, applied_steps}
 use Rattle.mold_world.specs.Inside.{world_of}
-use Rattle.mold_world.specs.Seen.{seen}
+use Rattle.mold_world.specs.Event.{seen}
 use Rattle.mold_world.proofs.world.World.apply.Goals as goal
 
 pub invariant_of-self : goal.invariant_of-self

@@ -1,5 +1,5 @@
 use Rattle.mold_world.proofs.ApplyLemmas.{wanting_where_memory}
-use Rattle.mold_world.specs.Seen.{seen}
+use Rattle.mold_world.specs.Event.{seen}
 use Rattle.mold_world.proofs.world.World.pass.Goals as goal
 
 pub returns-in-Err-Memory-clause-wanting : goal.returns-in-Err-Memory-clause-wanting

@@ -1,9 +1,8 @@
 use Rattle.std.proofs.Common.{List, map, take, sym, subst, ◌∙◌}
 use Rattle.mold_world.proofs.RunningLemmas.{RunLaws, headline_of, on_err, on_ok, passed_all, passed_more, run_steps, stopped_at}
-use Rattle.mold_world.specs.Effect.{Happening}
+use Rattle.mold_world.specs.Event.{Happening, seen}
 use Rattle.mold_world.specs.HandOns.{handed_by_all}
 use Rattle.mold_world.specs.Headline.{ArePublished}
-use Rattle.mold_world.specs.Seen.{seen}
 use Rattle.mold_world.specs.Steps.{AreStepsOfAll}
 use Rattle.mold_world.specs.Straight.{HasSent}
 use Rattle.mold_world.specs.World.{WorldState}

@@ -1,6 +1,6 @@
 use Rattle.std.proofs.Common.{◌≡◌, map, take}
 use Rattle.mold_world.specs.Effect.{run_events}
-use Rattle.mold_world.specs.Seen.{seen}
+use Rattle.mold_world.specs.Event.{seen}
 use Rattle.mold_world.proofs.world.World.run.Given as goal
 
 -- the events so far happened

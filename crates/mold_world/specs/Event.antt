@@ -1,0 +1,31 @@
+-- What may happen to a world: the events of the program, but with their bytes as lists.
+use Rattle.std.specs.Prelude.{ℕ, List, Option, None, Some}
+use Rattle.std.specs.Borrow.{Bor}
+use Rattle.mold_receiver.specs.declared.line.Line.{Line as ReceiverLine}
+use Rattle.mold_world.specs.declared.event.EventOf.{EventOf}
+use Rattle.mold_world.specs.declared.event.EventOf.TheVariants.{Publish, Datagram, Heartbeat, Close, End}
+use Rattle.mold_world.specs.declared.event.EventOf.TheVariants.{Request, Ask, Deliver, Noise, Restart}
+use Rattle.mold_world.specs.declared.way.Way.{Way}
+use Rattle.mold_world.specs.declared.way.Way.TheVariants.{Answer, Line}
+
+-- what may happen: an event with its bytes
+abbrev pub Happening : Type 0
+Happening = EventOf (List ℕ)
+
+-- what happens in an event of the program, which lends its bytes
+abbrev pub seen : EventOf (Bor (List ℕ)) → Happening
+seen (Publish message) = Publish message.now
+seen Datagram = Datagram
+seen Heartbeat = Heartbeat
+seen Close = Close
+seen End = End
+seen (Request bytes) = Request bytes.now
+seen (Ask receiver) = Ask receiver
+seen (Deliver receiver way sent) = Deliver receiver way sent
+seen (Noise receiver way bytes) = Noise receiver way bytes.now
+seen (Restart receiver next) = Restart receiver next
+
+-- the line that a datagram comes on; none for the answer to a request
+abbrev pub line_of : Way → Option ReceiverLine
+line_of (Line line) = Some line
+line_of Answer = None

@@ -1,0 +1,285 @@
+//! What tests of a world compare. Where a growth is refused they see that nothing changed, and make the call once
+//! more.
+
+use crate::world_events::{Answer, FIVE, MESSAGES, SESSION, SESSION_LENGTH, Standing};
+use mold_receiver::{Line, LineReport};
+use mold_world::{Event, Stopped, World, WorldError};
+use std::alloc::Global;
+use std::process::Abort;
+
+/// A world, made once more where memory was refused.
+pub fn world(alloc: Global, burst: u16, windows: &[u32]) -> Result<World, WorldError> {
+    match World::new(alloc, SESSION, 64, 64, burst, windows) {
+        Err(WorldError::Memory) => World::new(alloc, SESSION, 64, 64, burst, windows),
+        made => made,
+    }
+}
+
+/// How a receiver stands, if there is one.
+pub fn standing_of(world: &World, r: usize) -> Option<Standing> {
+    let receiver = world.receiver(r)?;
+    let book = world.book(r)?.len();
+    let finished = world.finished(r)?;
+    Some((
+        receiver.next(),
+        receiver.known(),
+        receiver.stored(),
+        book,
+        finished,
+    ))
+}
+
+/// What came to it on either line.
+pub fn reports_of(world: &World, r: usize) -> Option<(LineReport, LineReport)> {
+    Some((world.report(r, Line::A)?, world.report(r, Line::B)?))
+}
+
+/// The same of a line, as counts and a front.
+pub fn counts_of(world: &World, r: usize, line: Line) -> Option<(u64, u64, u64)> {
+    let report = world.report(r, line)?;
+    Some((report.datagrams, report.refused, report.front))
+}
+
+/// The number of the first message of its book.
+pub fn first_of(world: &World, r: usize) -> Option<u64> {
+    world.book(r)?.first()
+}
+
+/// A message of its book.
+pub fn message_of(world: &World, r: usize, i: usize) -> Option<&[u8]> {
+    world.book(r)?.get(i)
+}
+
+/// What can be counted of a world of up to two receivers: what is published, whether it is closed, what was
+/// sent, what of the receivers and of their books, and what came to them.
+#[derive(Clone, Copy, PartialEq)]
+pub struct Counts {
+    pub published: u64,
+    pub closed: bool,
+    pub sent: usize,
+    pub standings: (Option<Standing>, Option<Standing>),
+    pub reports: (
+        Option<(LineReport, LineReport)>,
+        Option<(LineReport, LineReport)>,
+    ),
+}
+
+/// What can be counted of a world now.
+pub fn count(world: &World) -> Counts {
+    Counts {
+        published: world.published().next(),
+        closed: world.is_closed(),
+        sent: world.sent_len(),
+        standings: (standing_of(world, 0), standing_of(world, 1)),
+        reports: (reports_of(world, 0), reports_of(world, 1)),
+    }
+}
+
+/// Fails where two counts differ.
+pub fn same_counts(rt: &impl Abort, found: Counts, wanted: Counts) {
+    assert!(rt; found == wanted, "other counts");
+}
+
+/// Fails where a fact does not hold.
+pub fn holds(rt: &impl Abort, fact: bool) {
+    assert!(rt; fact);
+}
+
+/// Fails where two sizes differ.
+pub fn same_size(rt: &impl Abort, found: usize, wanted: usize) {
+    assert_eq!(rt; found, wanted);
+}
+
+/// Fails where bytes differ.
+pub fn same_bytes(rt: &impl Abort, found: Option<&[u8]>, wanted: Option<&[u8]>) {
+    assert!(rt; found == wanted, "other bytes");
+}
+
+/// Fails where a refusal is another.
+pub fn same_refusal(rt: &impl Abort, found: Option<WorldError>, wanted: WorldError) {
+    assert_eq!(rt; found, Some(wanted));
+}
+
+/// An event, once more where memory was refused: the world was then as before.
+pub fn apply_again(
+    rt: &impl Abort,
+    world: &mut World,
+    event: &Event<'_>,
+) -> Result<Answer, WorldError> {
+    let before = count(world);
+    let answer = world.apply(event);
+    if answer != Err(WorldError::Memory) {
+        return Ok(answer);
+    }
+    same_counts(rt, count(world), before);
+    match world.apply(event) {
+        Err(WorldError::Memory) => Err(WorldError::Memory),
+        answer => Ok(answer),
+    }
+}
+
+/// An event is answered so.
+pub fn expect(
+    rt: &impl Abort,
+    world: &mut World,
+    event: &Event<'_>,
+    want: Answer,
+) -> Result<(), WorldError> {
+    assert_eq!(rt; apply_again(rt, world, event)?, want);
+    Ok(())
+}
+
+/// Each of some events is.
+pub fn expect_all(
+    rt: &impl Abort,
+    world: &mut World,
+    events: &[Event<'_>],
+    answers: &[Answer],
+) -> Result<(), WorldError> {
+    for (event, want) in events.iter().zip(answers) {
+        expect(rt, world, event, *want)?;
+    }
+    Ok(())
+}
+
+/// No event of the session of five messages is refused.
+pub fn expect_session(rt: &impl Abort, world: &mut World) -> Result<(), WorldError> {
+    for event in &FIVE[..SESSION_LENGTH] {
+        holds(rt, apply_again(rt, world, event)?.is_ok());
+    }
+    Ok(())
+}
+
+/// A run that stops is want of memory.
+pub fn run_whole(world: &mut World, events: &[Event<'_>]) -> Result<(), WorldError> {
+    match world.run(events) {
+        Ok(()) => Ok(()),
+        Err(Stopped { at: _ }) => Err(WorldError::Memory),
+    }
+}
+
+/// What can be counted of a world with bursts of one datagram after these events.
+pub fn counts_after(
+    alloc: Global,
+    windows: &[u32],
+    events: &[Event<'_>],
+) -> Result<Counts, WorldError> {
+    let mut twin = World::new(alloc, SESSION, 64, 64, 1, windows)?;
+    run_whole(&mut twin, events)?;
+    Ok(count(&twin))
+}
+
+/// What was sent are the first of these datagrams.
+pub fn expect_sent<'w, 'd>(rt: &impl Abort, world: &World, sent: &'w [&'d [u8]]) {
+    let count = world.sent_len();
+    holds(rt, count <= sent.len());
+    for (i, bytes) in sent.iter().enumerate() {
+        let want = if i < count { Some(*bytes) } else { None };
+        same_bytes(rt, world.sent_at(i), want);
+    }
+    expect_same_sent(rt, world);
+}
+
+// What was sent is the same one after the other as by its places.
+fn expect_same_sent(rt: &impl Abort, world: &World) {
+    let mut place = 0usize;
+    for bytes in world.sent() {
+        same_bytes(rt, Some(bytes), world.sent_at(place));
+        place = place.saturating_add(1);
+    }
+    same_size(rt, place, world.sent_len());
+}
+
+/// A book has the first of these messages.
+pub fn expect_front<'w, 'm>(rt: &impl Abort, world: &World, r: usize, messages: &'w [&'m [u8]]) {
+    for (i, message) in messages.iter().enumerate() {
+        if let Some(found) = message_of(world, r, i) {
+            same_bytes(rt, Some(found), Some(*message));
+        }
+    }
+    holds(rt, message_of(world, r, messages.len()).is_none());
+}
+
+/// What was published are the first of these messages.
+pub fn expect_published<'w, 'm>(rt: &impl Abort, world: &World, messages: &'w [&'m [u8]]) {
+    let mut number = 1u64;
+    for message in messages {
+        if let Some(found) = world.published().get(number) {
+            same_bytes(rt, Some(found), Some(*message));
+        }
+        number = number.saturating_add(1);
+    }
+    holds(rt, world.published().get(number).is_none());
+}
+
+/// What was published, both books and what was sent are beginnings of these.
+pub fn expect_fronts<'w, 'd>(
+    rt: &impl Abort,
+    world: &World,
+    sent: &'w [&'d [u8]],
+    messages: &'w [&'d [u8]],
+) {
+    expect_published(rt, world, messages);
+    expect_sent(rt, world, sent);
+    expect_front(rt, world, 0, messages);
+    expect_front(rt, world, 1, messages);
+}
+
+/// A run in a world with bursts of one datagram, which where memory was refused goes on from the event at
+/// which it stopped: the world was then as after the events before that one, by its counts, and by the bytes of
+/// its messages, books and datagrams, which are beginnings of all of them.
+pub fn run_again<'w, 'd>(
+    rt: &(impl Abort + AllocGlobal),
+    world: &mut World,
+    windows: &[u32],
+    events: &[Event<'_>],
+    sent: &'w [&'d [u8]],
+    messages: &'w [&'d [u8]],
+) -> Result<(), WorldError> {
+    if let Err(Stopped { at }) = world.run(events) {
+        let (before, rest) = events.split_at(at);
+        expect_fronts(rt, world, sent, messages);
+        same_counts(rt, count(world), counts_after(rt.alloc(), windows, before)?);
+        run_whole(world, rest)?;
+    }
+    expect_fronts(rt, world, sent, messages);
+    Ok(())
+}
+
+/// The receiver stands so.
+pub fn expect_receiver(rt: &impl Abort, world: &World, r: usize, want: Standing) {
+    assert_eq!(rt; standing_of(world, r), Some(want));
+}
+
+/// How many datagrams were taken on a line, how many were refused, and its front.
+pub fn expect_report(rt: &impl Abort, world: &World, r: usize, line: Line, want: (u64, u64, u64)) {
+    assert_eq!(rt; counts_of(world, r, line), Some(want));
+}
+
+/// The book has the five messages from number 1 on.
+pub fn expect_five(rt: &impl Abort, world: &World, r: usize) {
+    holds(rt, first_of(world, r) == Some(1));
+    for (i, message) in MESSAGES.iter().enumerate() {
+        same_bytes(rt, message_of(world, r, i), Some(*message));
+    }
+}
+
+/// Both receivers have the whole session.
+pub fn expect_end(rt: &impl Abort, world: &World) {
+    holds(rt, world.is_closed());
+    holds(rt, world.published().next() == 6);
+    same_size(rt, world.sent_len(), 5);
+    same_size(rt, world.receivers(), 2);
+    for r in 0..2 {
+        expect_receiver(rt, world, r, (6, 6, 0, 5, true));
+        expect_five(rt, world, r);
+        expect_report(rt, world, r, Line::A, (3, 0, 6));
+        expect_report(rt, world, r, Line::B, (2, 0, 6));
+    }
+}
+
+/// How the receivers stand after the events of `sim-two-receivers`.
+pub fn expect_two_standings(rt: &impl Abort, world: &World) {
+    expect_receiver(rt, world, 0, (3, 3, 0, 2, true));
+    expect_receiver(rt, world, 1, (1, 1, 0, 0, false));
+}

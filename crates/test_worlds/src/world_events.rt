@@ -1,0 +1,357 @@
+//! Events of worlds, what they are answered, and what they publish and send.
+
+use mold_receiver::{Line, Refused, Taken};
+use mold_session::{AppendError, Unsent};
+use mold_wire::{DecodeError, Session};
+use mold_world::{Event, Report, SessionError, Way, WorldError};
+
+/// The session of all worlds.
+pub const SESSION: Session = Session(*b"SESSION001");
+
+/// On line A.
+pub const A: Way = Way::Line(Line::A);
+
+/// On line B.
+pub const B: Way = Way::Line(Line::B);
+
+/// Asks for 65,535 messages from 2 on.
+pub const FROM_TWO: &[u8] = b"SESSION001\0\0\0\0\0\0\0\x02\xff\xff";
+
+/// The first datagram that answers it, of messages 2 and 3; the second is of messages 4 and 5.
+pub const TWO_AND_THREE: &[u8] = b"SESSION001\0\0\0\0\0\0\0\x02\0\x02\
+    \0\x14\x02\x02\x02\x02\x02\x02\x02\x02\x02\x02\x02\x02\x02\x02\x02\x02\x02\x02\x02\x02\
+    \0\x14\x03\x03\x03\x03\x03\x03\x03\x03\x03\x03\x03\x03\x03\x03\x03\x03\x03\x03\x03\x03";
+
+/// The second of them.
+pub const FOUR_AND_FIVE: &[u8] = b"SESSION001\0\0\0\0\0\0\0\x04\0\x02\
+    \0\x14\x04\x04\x04\x04\x04\x04\x04\x04\x04\x04\x04\x04\x04\x04\x04\x04\x04\x04\x04\x04\
+    \0\x14\x05\x05\x05\x05\x05\x05\x05\x05\x05\x05\x05\x05\x05\x05\x05\x05\x05\x05\x05\x05";
+
+/// The heartbeat of a session without messages, as bytes that would be none of its packets.
+pub const OWN: &[u8] = b"SESSION001\0\0\0\0\0\0\0\x01\0\0";
+
+/// What an event is answered.
+pub type Answer = Result<Report, WorldError>;
+
+/// A delivery of which no message is handed on, kept or beyond the window.
+pub const NONE_HANDED: Answer = Ok(Report::Delivered(Taken {
+    handed: 0,
+    kept: 0,
+    beyond: 0,
+}));
+
+/// One message is handed on.
+pub const ONE_HANDED: Answer = Ok(Report::Delivered(Taken {
+    handed: 1,
+    kept: 0,
+    beyond: 0,
+}));
+
+/// Two are.
+pub const TWO_HANDED: Answer = Ok(Report::Delivered(Taken {
+    handed: 2,
+    kept: 0,
+    beyond: 0,
+}));
+
+/// Four are.
+pub const FOUR_HANDED: Answer = Ok(Report::Delivered(Taken {
+    handed: 4,
+    kept: 0,
+    beyond: 0,
+}));
+
+/// Two are kept.
+pub const TWO_KEPT: Answer = Ok(Report::Delivered(Taken {
+    handed: 0,
+    kept: 2,
+    beyond: 0,
+}));
+
+/// One is beyond the window.
+pub const ONE_BEYOND: Answer = Ok(Report::Delivered(Taken {
+    handed: 0,
+    kept: 0,
+    beyond: 1,
+}));
+
+/// The events of `sim-two-receivers`.
+pub const TWO_RECEIVERS: [Event<'static>; 16] = [
+    Event::Publish(b"\x41"),
+    Event::Datagram,
+    Event::Publish(b"\x42"),
+    Event::Close,
+    Event::Datagram,
+    Event::Close,
+    Event::Publish(b"\x43"),
+    Event::End,
+    Event::Deliver {
+        r: 0,
+        way: A,
+        sent: 0,
+    },
+    Event::Deliver {
+        r: 0,
+        way: A,
+        sent: 2,
+    },
+    Event::Restart { r: 0, next: 9 },
+    Event::Restart { r: 0, next: 2 },
+    Event::Request(b"SESSION001\0\0\0\0\0\0\0\x01\0\x02"),
+    Event::Deliver {
+        r: 0,
+        way: Way::Answer,
+        sent: 3,
+    },
+    Event::Deliver {
+        r: 0,
+        way: B,
+        sent: 2,
+    },
+    Event::Noise {
+        r: 1,
+        way: A,
+        bytes: b"\0",
+    },
+];
+
+/// And what they are answered.
+pub const TWO_ANSWERS: [Answer; 16] = [
+    Ok(Report::Published { number: 1 }),
+    Ok(Report::Sent { place: 0 }),
+    Ok(Report::Published { number: 2 }),
+    Err(WorldError::Layer(SessionError::Close(Unsent { count: 1 }))),
+    Ok(Report::Sent { place: 1 }),
+    Ok(Report::Closed),
+    Err(WorldError::Layer(SessionError::Append(AppendError::Closed))),
+    Ok(Report::Sent { place: 2 }),
+    ONE_HANDED,
+    NONE_HANDED,
+    Err(WorldError::NotReached { next: 2 }),
+    Ok(Report::Restarted { next: 2 }),
+    Ok(Report::Burst { first: 3, count: 1 }),
+    ONE_HANDED,
+    NONE_HANDED,
+    Ok(Report::NoiseRefused(Refused::Malformed(DecodeError::Short { len: 1 }))),
+];
+
+/// The messages that these events publish.
+pub const TWO_MESSAGES: [&[u8]; 2] = [b"\x41", b"\x42"];
+
+/// The datagrams that they send.
+pub const TWO_SENT: [&[u8]; 4] = [
+    b"SESSION001\0\0\0\0\0\0\0\x01\0\x01\0\x01\x41",
+    b"SESSION001\0\0\0\0\0\0\0\x02\0\x01\0\x01\x42",
+    b"SESSION001\0\0\0\0\0\0\0\x03\xff\xff",
+    b"SESSION001\0\0\0\0\0\0\0\x01\0\x02\0\x01\x41\0\x01\x42",
+];
+
+/// Events of a world of one receiver without messages.
+pub const LACKING: [Event<'static>; 8] = [
+    Event::Deliver {
+        r: 1,
+        way: A,
+        sent: 0,
+    },
+    Event::Deliver {
+        r: 0,
+        way: A,
+        sent: 0,
+    },
+    Event::Noise {
+        r: 0,
+        way: A,
+        bytes: OWN,
+    },
+    Event::Ask(1),
+    Event::Ask(0),
+    Event::Datagram,
+    Event::End,
+    Event::Heartbeat,
+];
+
+/// And what they are answered.
+pub const LACKING_ANSWERS: [Answer; 8] = [
+    Err(WorldError::NoReceiver),
+    Err(WorldError::NoSuchDatagram),
+    Err(WorldError::NotNoise),
+    Err(WorldError::NoReceiver),
+    Ok(Report::Nothing),
+    Ok(Report::Nothing),
+    Ok(Report::Nothing),
+    Ok(Report::Sent { place: 0 }),
+];
+
+/// How many of the next events are the session.
+pub const SESSION_LENGTH: usize = 10;
+
+/// Five messages, the k-th of which is twenty bytes of the value k, in three datagrams, and the session's end;
+/// then their deliveries to two receivers.
+pub const FIVE: [Event<'static>; 22] = [
+    Event::Publish(&[1; 20]),
+    Event::Publish(&[2; 20]),
+    Event::Publish(&[3; 20]),
+    Event::Publish(&[4; 20]),
+    Event::Publish(&[5; 20]),
+    Event::Datagram,
+    Event::Datagram,
+    Event::Datagram,
+    Event::Close,
+    Event::End,
+    Event::Deliver {
+        r: 0,
+        way: A,
+        sent: 3,
+    },
+    Event::Deliver {
+        r: 0,
+        way: B,
+        sent: 2,
+    },
+    Event::Deliver {
+        r: 0,
+        way: A,
+        sent: 1,
+    },
+    Event::Deliver {
+        r: 0,
+        way: A,
+        sent: 0,
+    },
+    Event::Deliver {
+        r: 0,
+        way: B,
+        sent: 2,
+    },
+    Event::Deliver {
+        r: 1,
+        way: A,
+        sent: 0,
+    },
+    Event::Deliver {
+        r: 1,
+        way: A,
+        sent: 0,
+    },
+    Event::Deliver {
+        r: 1,
+        way: B,
+        sent: 2,
+    },
+    Event::Ask(1),
+    Event::Deliver {
+        r: 1,
+        way: Way::Answer,
+        sent: 4,
+    },
+    Event::Deliver {
+        r: 1,
+        way: A,
+        sent: 3,
+    },
+    Event::Deliver {
+        r: 1,
+        way: B,
+        sent: 2,
+    },
+];
+
+/// The session's messages.
+pub const MESSAGES: [&[u8]; 5] = [&[1; 20], &[2; 20], &[3; 20], &[4; 20], &[5; 20]];
+
+/// The first datagram.
+pub const ONE_AND_TWO: &[u8] = b"SESSION001\0\0\0\0\0\0\0\x01\0\x02\
+    \0\x14\x01\x01\x01\x01\x01\x01\x01\x01\x01\x01\x01\x01\x01\x01\x01\x01\x01\x01\x01\x01\
+    \0\x14\x02\x02\x02\x02\x02\x02\x02\x02\x02\x02\x02\x02\x02\x02\x02\x02\x02\x02\x02\x02";
+
+/// The second.
+pub const THREE_AND_FOUR: &[u8] = b"SESSION001\0\0\0\0\0\0\0\x03\0\x02\
+    \0\x14\x03\x03\x03\x03\x03\x03\x03\x03\x03\x03\x03\x03\x03\x03\x03\x03\x03\x03\x03\x03\
+    \0\x14\x04\x04\x04\x04\x04\x04\x04\x04\x04\x04\x04\x04\x04\x04\x04\x04\x04\x04\x04\x04";
+
+/// The third.
+pub const FIVE_ALONE: &[u8] = b"SESSION001\0\0\0\0\0\0\0\x05\0\x01\
+    \0\x14\x05\x05\x05\x05\x05\x05\x05\x05\x05\x05\x05\x05\x05\x05\x05\x05\x05\x05\x05\x05";
+
+/// The end packet.
+pub const END_AFTER_FIVE: &[u8] = b"SESSION001\0\0\0\0\0\0\0\x06\xff\xff";
+
+/// The datagrams that those events send; the last answers the receiver that lacks messages 3 to 5.
+pub const SENT: [&[u8]; 5] = [
+    ONE_AND_TWO,
+    THREE_AND_FOUR,
+    FIVE_ALONE,
+    END_AFTER_FIVE,
+    THREE_AND_FOUR,
+];
+
+/// `next`, `known`, how many are stored, how many the book has, and whether the receiver is finished.
+pub type Standing = (u64, u64, u32, usize, bool);
+
+/// What each delivery is answered, to which receiver it comes, and how that stands then.
+pub const DELIVERED: [(Answer, usize, Standing); 12] = [
+    (NONE_HANDED, 0, (1, 6, 0, 0, false)),
+    (ONE_BEYOND, 0, (1, 6, 0, 0, false)),
+    (TWO_KEPT, 0, (1, 6, 2, 0, false)),
+    (FOUR_HANDED, 0, (5, 6, 0, 4, false)),
+    (ONE_HANDED, 0, (6, 6, 0, 5, true)),
+    (TWO_HANDED, 1, (3, 3, 0, 2, false)),
+    (NONE_HANDED, 1, (3, 3, 0, 2, false)),
+    (ONE_BEYOND, 1, (3, 6, 0, 2, false)),
+    (
+        Ok(Report::Burst { first: 4, count: 1 }),
+        1,
+        (3, 6, 0, 2, false),
+    ),
+    (TWO_HANDED, 1, (5, 6, 0, 4, false)),
+    (NONE_HANDED, 1, (5, 6, 0, 4, false)),
+    (ONE_HANDED, 1, (6, 6, 0, 5, true)),
+];
+
+/// A limit, the server's, a burst, the window of receiver 1, and why there is no such world.
+pub const REFUSED: [(usize, usize, u16, u32, WorldError); 8] = [
+    (63, 64, 0, 0, WorldError::BadLimit),
+    (65508, 65508, 1, 4, WorldError::BadLimit),
+    (64, 65508, 1, 4, WorldError::BadLimit),
+    (65, 64, 1, 4, WorldError::BadLimit),
+    (64, 64, 0, 0, WorldError::BadBurst),
+    (64, 64, 65, 4, WorldError::BadBurst),
+    (64, 64, 64, 0, WorldError::BadWindow { r: 1 }),
+    (64, 64, 1, 65537, WorldError::BadWindow { r: 1 }),
+];
+
+/// Events that take no memory.
+pub const WITHOUT_MEMORY: [Event<'static>; 6] = [
+    Event::Noise {
+        r: 0,
+        way: A,
+        bytes: b"\0",
+    },
+    Event::Noise {
+        r: 0,
+        way: B,
+        bytes: b"SESSION002\0\0\0\0\0\0\0\x01\0\0",
+    },
+    Event::Noise {
+        r: 0,
+        way: Way::Answer,
+        bytes: OWN,
+    },
+    Event::Noise {
+        r: 1,
+        way: A,
+        bytes: b"\0",
+    },
+    Event::Close,
+    Event::Close,
+];
+
+/// And what they are answered.
+pub const WITHOUT_MEMORY_ANSWERS: [Answer; 6] = [
+    Ok(Report::NoiseRefused(Refused::Malformed(DecodeError::Short { len: 1 }))),
+    Ok(Report::NoiseRefused(Refused::WrongSession)),
+    Err(WorldError::NotNoise),
+    Err(WorldError::NoReceiver),
+    Ok(Report::Closed),
+    Ok(Report::Closed),
+];
