@@ -28,6 +28,7 @@ pub use memory_sink::MemorySink;
 pub use memory_source::MemorySource;
 pub use new_file::NewFile;
 pub use output::{LARGE, send};
+pub use piece::Piece;
 pub use sink::{Sink, write_all};
 pub use source::Source;
 pub use turn::Turn;

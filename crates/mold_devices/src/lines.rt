@@ -12,6 +12,9 @@ use memchr::memchr;
 use std::alloc::{AllocError, Global};
 use std::marker::Model;
 
+/// How many bytes are read at once, at most.
+const PIECE: usize = 65536;
+
 /// The byte that ends a line.
 const LINE_END: u8 = b'\n';
 
@@ -19,7 +22,7 @@ const LINE_END: u8 = b'\n';
 /// nothing ends it.
 #[derive(Drop)]
 pub struct Lines {
-    piece: Piece,
+    piece: Box<Piece<PIECE>>,
     joined: Vec<u8>,
     inside: Option<usize>,
 }
@@ -32,11 +35,11 @@ impl Model for Lines {
     ghost Value = { LineState };
 
     ghost view = { λ l. record {
-      line = line_in l.inside l.joined.items l.piece;
-      rest = rest_in l.inside l.piece;
+      line = line_in l.inside l.joined.items l.piece.value;
+      rest = rest_in l.inside l.piece.value;
     } };
 
-    ghost invariant = { λ l. ForSome l.inside (λ len. (len < length l.piece) × (len < 65536)) };
+    ghost invariant = { λ l. ForSome l.inside (λ len. (len < length l.piece.value) × (len < 65536)) };
 }
 
 impl Lines {
@@ -44,7 +47,7 @@ impl Lines {
         ensures { IfOk result (λ lines. lines.rest ≡ []) }
     {
         Ok(Lines {
-            piece: Piece::new(alloc)?,
+            piece: Box::new(alloc, Piece::new())?,
             joined: Vec::new(alloc),
             inside: None,
         })
@@ -85,7 +88,7 @@ impl Lines {
 
 // Joins the line that begins in the piece and goes on behind it; false where there is no byte left.
 fn join_line<S: Source>(
-    piece: &mut Piece,
+    piece: &mut Piece<PIECE>,
     joined: &mut Vec<u8>,
     source: &mut S,
 ) -> Result<bool, ReadFault>

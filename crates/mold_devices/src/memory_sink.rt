@@ -11,7 +11,7 @@ use std::alloc::Global;
 use std::marker::Model;
 
 /// Memory as a sink. It fails only where `fail_at` says, or where it asks for memory and gets none.
-#[derive(Drop)]
+#[derive(Debug, Drop)]
 pub struct MemorySink {
     held: Vec<u8>,
     plan: Plan,

@@ -12,7 +12,7 @@ use crate::source::Source;
 use std::marker::Model;
 
 /// Bytes in memory as a source. It fails only where `fail_at` says.
-#[derive(Drop)]
+#[derive(Debug, Drop)]
 pub struct MemorySource<'a> {
     left: &'a [u8],
     plan: Plan,

@@ -6,7 +6,7 @@ ghost use Rattle.mold_devices.specs.Devices.{Counts, one_more};
 use crate::device_fault::DeviceFault;
 
 /// How the calls of a device in memory go: which one fails, and how much one moves.
-#[derive(Clone, Copy)]
+#[derive(Clone, Copy, Debug)]
 pub struct Plan {
     /// The call that fails, counted from 1 for the next one. 0 is none.
     pub fails_at: u64,

@@ -23,7 +23,7 @@ use std::alloc::Global;
 use std::marker::Model;
 
 /// The most messages that a session may have.
-const MOST: u64 = 18446744073709551614;
+pub const MAX_MESSAGES: u64 = 18446744073709551614;
 
 /// The journal of a session: its messages, the first of which has number 1. It is open until it is
 /// closed, and only then takes messages.
@@ -142,7 +142,7 @@ impl Journal {
         if message.len() > usize::from(self.max_message) {
             return Err(AppendError::TooLong { len: message.len() });
         }
-        if self.list.len() as u64 == MOST {
+        if self.list.len() as u64 == MAX_MESSAGES {
             return Err(AppendError::Full);
         }
         match self.list.push(message) {

@@ -20,9 +20,9 @@ mod upgrading;
 pub use error::{
     AnswerError, AppendError, FileError, PublisherError, ServerError, SessionError, Unsent,
 };
-pub use journal::Journal;
+pub use journal::{Journal, MAX_MESSAGES};
 pub use mold_devices::{DeviceFault, FromRead, IntoWrite, MemorySink, MemorySource, Sink, Source};
 pub use plan::Plan;
 pub use publisher::Publisher;
-pub use server::Server;
+pub use server::{MAX_BURST, Server};
 pub use upgrading::{Upgraded, upgrade};

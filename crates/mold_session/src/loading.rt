@@ -11,16 +11,14 @@ ghost use Rattle.mold_session.specs.Loading.{work_left, ReadsNumbers, NumbersFau
 ghost use Rattle.mold_session.specs.Loading.{TakesMessage, TakesBlock, Refuses, CountsLoad};
 
 use crate::error::FileError;
+use crate::journal::MAX_MESSAGES;
 use crate::magic::{MAGIC_LENGTH, first_magic, second_magic};
-use crate::piece::Piece;
+use crate::piece::{Piece, has_more, next_byte};
 use byteorder::{BigEndian, ByteOrder};
 use mold_devices::{ReadFault, Source};
 use mold_messages::MessageList;
-use mold_wire::Session;
+use mold_wire::{SESSION_LENGTH, Session};
 use std::alloc::Global;
-
-/// The most messages that a session may have.
-const MOST: u64 = 18446744073709551614;
 
 /// What stands before the blocks of a file.
 #[derive(Clone, Copy)]
@@ -42,7 +40,7 @@ fn fill<S: Source>(piece: &mut Piece, source: &mut S, place: &mut [u8]) -> Resul
 {
     let mut count = 0;
     while count < place.len() {
-        let Some(byte) = piece.next_byte(source)? else {
+        let Some(byte) = next_byte(piece, source)? else {
             return Ok(count);
         };
         place[count] = byte;
@@ -103,7 +101,7 @@ fn read_head<S: Source>(piece: &mut Piece, source: &mut S) -> Result<FileHead, F
         return Err(FileError::Short { len: count });
     }
     let (magic, name) = front.split_at(MAGIC_LENGTH);
-    let mut session = Session([0; 10]);
+    let mut session = Session([0; SESSION_LENGTH]);
     session.0.copy_from_slice(name);
     if magic == first_magic().as_slice() {
         return Ok(FileHead {
@@ -137,7 +135,7 @@ fn take_message<S: Source>(
     list.push(&[])?;
     let mut missing = len;
     while missing > 0 {
-        if !piece.has_more(source)? {
+        if !has_more(piece, source)? {
             return Ok(false);
         }
         let count = piece.rest().len().min(missing);
@@ -169,15 +167,15 @@ fn next_block<S: Source>(
         (work_left (S.bound source.new) piece.new < work_left (S.bound source.old) piece.old)) }
     ensures failures { CountsLoad (S.failed source.old) (S.failed source.new) result }
 {
-    let Some(high) = piece.next_byte(source)? else {
+    let Some(high) = next_byte(piece, source)? else {
         return Ok(false);
     };
     let count = list.len() as u64;
-    if count == MOST {
+    if count == MAX_MESSAGES {
         return Err(FileError::Full);
     }
     let number = count + 1;
-    let Some(low) = piece.next_byte(source)? else {
+    let Some(low) = next_byte(piece, source)? else {
         return Err(FileError::BlockCut { number });
     };
     let len = BigEndian::read_u16(&[high, low]);

@@ -16,18 +16,9 @@ use crate::error::{AppendError, PublisherError, Unsent};
 use crate::journal::Journal;
 use crate::packing::pack_front;
 use mold_wire::laws::{front_law, packet_length_law, true_packet_law};
-use mold_wire::{Packer, PackerError, Session};
+use mold_wire::{HEADER_LENGTH, LENGTH_BYTES, MESSAGE_OVERHEAD, Packer, PackerError, Session};
 use std::alloc::Global;
 use std::marker::Model;
-
-/// The bytes of a datagram beside a message that stands alone in it: a header and the message's length.
-const BESIDE: usize = 22;
-
-/// The bytes of a header.
-const HEADER: usize = 20;
-
-/// The bytes of a message block's length.
-const LENGTH: usize = 2;
 
 /// Publishes the messages of a session: it keeps them in a journal, and puts them into datagrams, each
 /// the longest front of what was not yet put in one. Only `new` and `publish` take memory. What a call
@@ -76,7 +67,7 @@ impl Publisher {
             Err(PackerError::Memory) => return Err(PublisherError::Memory),
         };
         Ok(Publisher {
-            journal: Journal::new(alloc, session, (limit - BESIDE) as u16),
+            journal: Journal::new(alloc, session, (limit - MESSAGE_OVERHEAD) as u16),
             packer,
             limit,
             sent: 0,
@@ -109,12 +100,12 @@ impl Publisher {
         ensures full { IsTrue result ↔ (¬ Fits self.now.limit (unsent_of self.now)) }
         ensures publisher { IsPublisher self.now }
     {
-        let room = self.limit - HEADER;
+        let room = self.limit - HEADER_LENGTH;
         let lengths = self.unsent();
-        if lengths > (room / LENGTH) as u64 {
+        if lengths > (room / LENGTH_BYTES) as u64 {
             return true;
         }
-        self.journal.joined_from(self.sent) > room - LENGTH * lengths as usize
+        self.journal.joined_from(self.sent) > room - LENGTH_BYTES * lengths as usize
     }
 
     /// Lends a datagram of the longest front that fits of the messages that were not yet put in one, and

@@ -14,21 +14,13 @@ use crate::error::{AnswerError, ServerError};
 use crate::journal::Journal;
 use crate::plan::Plan;
 use crate::serving::{asked, pack_next};
-use mold_wire::Packer;
 use mold_wire::laws::{front_law, packet_length_law, true_packet_law};
+use mold_wire::{MAX_LIMIT, MESSAGE_OVERHEAD, MIN_LIMIT, Packer};
 use std::alloc::Global;
 use std::marker::Model;
 
-/// The bytes of a datagram beside a message that stands alone in it: a header and the message's length.
-const BESIDE: usize = 22;
-
-/// The least and the greatest limit of a datagram; the latter is the greatest payload of UDP over IPv4.
-const LEAST: usize = 64;
-
-const GREATEST: usize = 65507;
-
 /// The most datagrams that answer a request.
-const MOST: u16 = 64;
+pub const MAX_BURST: u16 = 64;
 
 /// Answers requests for messages of a session from its journal: with at most so many datagrams, the
 /// burst, each the longest front that fits of what is left of what was asked and the journal has. Only
@@ -88,11 +80,11 @@ impl Server {
         ensures refused { IfErr result (λ error.
             error ≡ unwrap_or (server_refusal limit max_message burst) ServerError.Memory) }
     {
-        let longest = usize::from(max_message) + BESIDE;
-        if limit < LEAST || GREATEST < limit || limit < longest {
+        let longest = usize::from(max_message) + MESSAGE_OVERHEAD;
+        if limit < MIN_LIMIT || MAX_LIMIT < limit || limit < longest {
             return Err(ServerError::Limit);
         }
-        if burst == 0 || MOST < burst {
+        if burst == 0 || MAX_BURST < burst {
             return Err(ServerError::Burst);
         }
         match Packer::new(alloc, limit) {

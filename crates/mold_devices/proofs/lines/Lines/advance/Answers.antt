@@ -9,24 +9,25 @@ use Rattle.mold_devices.proofs.lines.Lines.advance.Goals.{in-Some, in_default}
 pub returns-in-Some-memchr-clause-line : goal.returns-in-Some-memchr-clause-line
 returns-in-Some-memchr-clause-line g c =
     let known = g.S.Source.left c.args.source.now in
-    let piece = c.match-self.self-inside.piece in
+    let piece = c.match-self.self-inside.piece.value in
     let at = c.in-Some-memchr.at in
-    let shown : c.args.self.now.rest ≡ rest_in c.self.inside.inside c.self.inside.piece =
+    let shown : c.args.self.now.rest ≡ rest_in c.self.inside.inside c.self.inside.piece.value =
     sym (ap (λ (s : LineState). s.rest) c.self.view_is)
     in
     let same : c.args.self.now.rest ≡ piece =
     elim c.match-self.branch [
       | in-Some w ↦
           shown
-          ∙ ap (λ (o : Option ℕ). rest_in o c.self.inside.piece) w.in-Some.is
+          ∙ ap (λ (o : Option ℕ). rest_in o c.self.inside.piece.value) w.in-Some.is
+          ∙ ap (λ (t : List ℕ). drop (w.in-Some.len + 1) t) (sym w.deref_mut.ensures.value)
           ∙ sym w.skip.ensures
-          ∙ sym (ap (λ (l : Inside). l.piece) w.self-inside-is)
+          ∙ sym (ap (λ (l : Inside). l.piece.value) w.self-inside-is)
       | in_default w ↦
           shown
-          ∙ ap (λ (o : Option ℕ). rest_in o c.self.inside.piece) w.in_default.is
-          ∙ sym (ap (λ (l : Inside). l.piece) w.self-inside-is)
+          ∙ ap (λ (o : Option ℕ). rest_in o c.self.inside.piece.value) w.in_default.is
+          ∙ sym (ap (λ (l : Inside). l.piece.value) w.self-inside-is)
     ]
     in
     let behind = prepend_known (drop (at + 1) piece) known in
     subst (λ (t : List ℕ). GivesLine (prepend_known t known) behind true (take at piece)) (sym same)
-    (gives_read known piece at (found_end c.rest.result.now piece at c.rest.ensures.value c.in-Some-memchr.ensures))
+    (gives_read known piece at (found_end c.rest.result.now piece at (c.rest.ensures.value ∙ c.deref.ensures) c.in-Some-memchr.ensures))

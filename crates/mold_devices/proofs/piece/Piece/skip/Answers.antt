@@ -4,8 +4,8 @@ use Rattle.mold_devices.proofs.LineLemmas.{skipped}
 use Rattle.mold_devices.proofs.piece.Piece.skip.Goals as goal
 
 pub returns : goal.returns
-returns c =
-    let bytes = c.self.inside.bytes.items in
+returns g c =
+    let bytes = c.self.inside.bytes in
     let start = c.self.inside.start in
     let end = c.self.inside.end in
     let is = ap (λ (t : List ℕ). length t) c.self.view_is in
