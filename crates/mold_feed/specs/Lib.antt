@@ -1,5 +1,6 @@
 pub mod Answering
 pub mod Listening
+pub mod Looping
 pub mod Passing
 pub mod PublishLoop
 pub mod Repairing
