@@ -1,9 +1,14 @@
 pub mod AnsweringLemmas
 pub mod FaultLemmas
 pub mod HandedLemmas
+pub mod HeardLemmas
+pub mod HearsLemmas
 pub mod ListenLemmas
+pub mod LoopEndLemmas
+pub mod LoopLemmas
 pub mod OutgoingLemmas
 pub mod PassingLemmas
+pub mod PrintingLemmas
 pub mod PublishLoopLemmas
 pub mod RepairLemmas
 pub mod RunLemmas

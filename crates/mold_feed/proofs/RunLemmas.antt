@@ -87,7 +87,7 @@ behind_if loop part true after rest grows = begins_whole (part after)
 behind_if loop part false after rest grows = grows
 
 -- what only grows in a turn only grows in a run
-grows_in : {C S M A : Type 0} (loop : Loop C S M) (part : S → List A) →
+pub grows_in : {C S M A : Type 0} (loop : Loop C S M) (part : S → List A) →
     ((choice : C) (s : S) → Begins (part s) (part (loop.turn choice s))) →
     (choices : List C) (s : S) → Begins (part s) (part (run loop choices s))
 unfolding run

@@ -38,7 +38,7 @@ heard_before front line (Datagram from bytes) e =
 heard_before front line Quiet e = refl
 heard_before front line Failure e = refl
 
-hear_before : {P : Type 0} (front : List ℕ) (line : Option Line) (port : Port P) (e : Hearing) →
+pub hear_before : {P : Type 0} (front : List ℕ) (line : Option Line) (port : Port P) (e : Hearing) →
     hear line port (hearing_before front e) ≡ hearing_before front (hear line port e)
 unfolding hear
 hear_before front line port e = heard_before front line (cut longest (next_of port)) e
@@ -87,7 +87,7 @@ heard_prints line (Datagram from bytes) e =
 heard_prints line Quiet e = begins_whole e.outgoing.text
 heard_prints line Failure e = begins_whole e.outgoing.text
 
-hear_prints : {P : Type 0} (line : Option Line) (port : Port P) (e : Hearing) →
+pub hear_prints : {P : Type 0} (line : Option Line) (port : Port P) (e : Hearing) →
     Begins e.outgoing.text (hear line port e).outgoing.text
 unfolding hear
 hear_prints line port e = heard_prints line (cut longest (next_of port)) e

@@ -1,5 +1,6 @@
 pub mod Answering
 pub mod Listening
+pub mod Looping
 pub mod Outgoing
 pub mod Passing
 pub mod PublishLoop

@@ -1,10 +1,15 @@
 //! A publisher, its re-request server and a listener in one process.
 
-ghost use Rattle.std.specs.Prelude.{◌≡◌, ◌≤◌, true, IfSome};
+ghost use Rattle.std.specs.Prelude.{◌≡◌, ◌≤◌, ◌++◌, true, IfOk, IfSome};
+ghost use Rattle.std.specs.Io.KnownBytes.{Appends};
+ghost use Rattle.mold_devices.specs.Devices.{AppendsFront};
 ghost use Rattle.mold_devices.specs.Faults.{CountsCommand, CountsSink};
 ghost use Rattle.mold_devices.specs.Lines.{lines_of};
+ghost use Rattle.mold_feed.specs.Listening.{hearing, hearing_line, hearing_status};
+ghost use Rattle.mold_feed.specs.Looping.{LoopRun, line_state};
 ghost use Rattle.mold_feed.specs.Passing.{LoopSends};
-ghost use Rattle.mold_publish.specs.Publishing.{HasRoom, lines_published};
+ghost use Rattle.mold_feed.specs.Repairing.{repair_state};
+ghost use Rattle.mold_publish.specs.Publishing.{HasRoom, lines_published, refused_text};
 
 use crate::hearing::LONGEST;
 use crate::listening::push_last;
@@ -26,6 +31,9 @@ fn print_refused<K: Sink>(
     why: LineRefusal,
     sink: &mut K,
 ) -> Result<u8, CommandFault>
+    ensures whole { IfOk result (λ status.
+        Appends (K.held sink.old) (K.held sink.new) (outgoing.old.text ++ refused_text number why) × (status ≡ 2)) }
+    ensures front { AppendsFront (K.held sink.old) (K.held sink.new) (outgoing.old.text ++ refused_text number why) }
     ensures sink { CountsSink (K.failed sink.old) (K.failed sink.new) result }
 {
     outgoing.send(sink)?;
@@ -36,6 +44,12 @@ fn print_refused<K: Sink>(
 
 // Prints how far the listener came, and answers the status.
 fn print_last<K: Sink>(listener: &mut Listener, sink: &mut K) -> Result<u8, CommandFault>
+    ensures whole { IfOk result (λ status. Appends (K.held sink.old) (K.held sink.new)
+        (listener.old.report.outgoing.text ++ hearing_line (hearing listener.old.arbiter listener.old.report.outgoing))
+        × (status ≡ hearing_status (hearing listener.old.arbiter listener.old.report.outgoing))) }
+    ensures front { AppendsFront (K.held sink.old) (K.held sink.new)
+        (listener.old.report.outgoing.text ++ hearing_line (hearing listener.old.arbiter listener.old.report.outgoing)) }
+    ensures arbiter { listener.new.arbiter ≡ listener.old.arbiter }
     ensures sink { CountsSink (K.failed sink.old) (K.failed sink.new) result }
 {
     let Listener { arbiter, report } = listener;
@@ -48,9 +62,10 @@ fn print_last<K: Sink>(listener: &mut Listener, sink: &mut K) -> Result<u8, Comm
 /// where it is left out; after the last one the session is closed and its end is sent, and what is missing
 /// is requested in at most `turns` rounds. What is handed on is printed as a listener prints it, with its last
 /// line and its status. A refused line ends it: what was handed on stays printed, then comes the refusal,
-/// and the status is 2. A failed send or receive is counted. The publisher's messages may have at most as many
-/// bytes as the server's, so that each request is answered. After a fault a beginning of what the publisher
-/// sends was sent. `Read` and `Write` come only where the source or the sink failed.
+/// and the status is 2. A failed send or receive is counted, and nothing is received on a line where the send
+/// failed. The publisher's messages may have at most as many bytes as the server's, so that each request is
+/// answered. After a fault a beginning of the text is written, and beginnings of what the publisher and the
+/// port of requests send were sent. `Read` and `Write` come only where the source or the sink failed.
 pub fn session_loop<D: Datagrams + Drop, S: Source, K: Sink>(
     alloc: Global,
     ports: &mut LoopPorts<D>,
@@ -69,6 +84,18 @@ pub fn session_loop<D: Datagrams + Drop, S: Source, K: Sink>(
         LoopSends drops peers.now.a peers.now.b publisher.old.limit publisher.old.sent
         (lines_published publisher.old.journal (lines_of input)) result
         (D.port ports.old.publisher) (D.port ports.new.publisher)) }
+    ensures run { D.tells ≡ true → IfSome (S.left source.old) (λ input.
+        LoopRun drops peers.now.a peers.now.b peers.now.server turns publisher.old.limit publisher.old.sent
+        (lines_published publisher.old.journal (lines_of input)) server.old
+        (line_state (D.port ports.old.publisher) (D.port ports.old.a) (D.port ports.old.b) listener.old.arbiter
+        listener.old.report.outgoing)
+        (repair_state (D.port ports.old.server) (D.port ports.old.requests) server.old listener.old.arbiter
+        listener.old.report.outgoing)
+        result (K.held sink.old) (K.held sink.new)
+        (line_state (D.port ports.new.publisher) (D.port ports.new.a) (D.port ports.new.b) listener.new.arbiter
+        listener.new.report.outgoing)
+        (repair_state (D.port ports.new.server) (D.port ports.new.requests) server.new listener.new.arbiter
+        listener.new.report.outgoing)) }
     ensures failures { CountsCommand (S.failed source.old) (S.failed source.new) (K.failed sink.old) (K.failed sink.new)
         result }
 {

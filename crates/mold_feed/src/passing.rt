@@ -1,12 +1,14 @@
 //! What a loop's publisher sends on the lines, and what comes there.
 
-ghost use Rattle.std.specs.Prelude.{◌≡◌, ◌+◌, ◌≤◌, true, None, length, IfOk, OnOk};
+ghost use Rattle.std.specs.Prelude.{◌≡◌, ◌+◌, ◌≤◌, [], ◌∷◌, true, None, length, IfOk, OnOk};
 ghost use Rattle.mold_devices.specs.Faults.{CountsCommand};
+ghost use Rattle.mold_feed.specs.Looping.{ComesOf, ComesOfBoth, HasPassed, HearsLines, heard_on, line_state, routed};
+ghost use Rattle.mold_feed.specs.Looping.{routed_end};
 ghost use Rattle.mold_feed.specs.Passing.{Offers, PassesLines, data_letters, end_letters, goes, letter, letters};
 ghost use Rattle.mold_feed.specs.Passing.{routes_of};
 ghost use Rattle.mold_feed.specs.PublishLoop.{spelled_some};
 ghost use Rattle.mold_publish.specs.Publishing.{HasRoom};
-ghost use Rattle.mold_session.specs.Publisher.{after_datagram, next_datagram};
+ghost use Rattle.mold_session.specs.Publisher.{after_datagram, closed, next_datagram};
 
 use crate::hearing::hear_port;
 use crate::loop_parts::{Drops, Listener, LoopPeers, LoopPorts, Routes};
@@ -46,7 +48,9 @@ fn is_sent<D: Datagrams>(
     datagram: &[u8],
     outgoing: &mut Outgoing,
 ) -> bool
-    ensures { D.tells ≡ true → Offers (letter on to datagram.now) (D.port port.old) (D.port port.new) }
+    ensures offers { D.tells ≡ true → Offers (letter on to datagram.now) (D.port port.old) (D.port port.new) }
+    ensures comes { D.tells ≡ true →
+        ComesOf on result to datagram.now (D.port port.old) (D.port port.new) outgoing.old outgoing.new }
 {
     if !on {
         return false;
@@ -66,8 +70,10 @@ fn send_on<D: Datagrams>(
     datagram: &[u8],
     outgoing: &mut Outgoing,
 ) -> Routes
-    ensures { D.tells ≡ true →
+    ensures offers { D.tells ≡ true →
         Offers (letters routes peers.now.a peers.now.b datagram.now) (D.port port.old) (D.port port.new) }
+    ensures comes { D.tells ≡ true → ComesOfBoth routes result peers.now.a peers.now.b datagram.now
+        (D.port port.old) (D.port port.new) outgoing.old outgoing.new }
 {
     Routes {
         a: is_sent(port, routes.a, peers.a, datagram, outgoing),
@@ -83,7 +89,14 @@ fn hear_on<D: Datagrams + Drop>(
     listener: &mut Listener,
 ) -> Result<(), AllocError>
     requires { length place.old ≡ 65507 }
-    ensures { ports.new.publisher ≡ ports.old.publisher }
+    ensures publisher { ports.new.publisher ≡ ports.old.publisher }
+    ensures server { ports.new.server ≡ ports.old.server }
+    ensures requests { ports.new.requests ≡ ports.old.requests }
+    ensures heard { D.tells ≡ true → OnOk result
+        (line_state (D.port ports.new.publisher) (D.port ports.new.a) (D.port ports.new.b) listener.new.arbiter
+        listener.new.report.outgoing
+        ≡ heard_on routes (line_state (D.port ports.old.publisher) (D.port ports.old.a) (D.port ports.old.b)
+        listener.old.arbiter listener.old.report.outgoing)) }
 {
     let Listener { arbiter, report } = listener;
     if routes.a {
@@ -105,8 +118,15 @@ fn pass<D: Datagrams + Drop>(
     listener: &mut Listener,
 ) -> Result<(), AllocError>
     requires { length place.old ≡ 65507 }
-    ensures { D.tells ≡ true → Offers (letters routes peers.now.a peers.now.b datagram.now)
+    ensures offers { D.tells ≡ true → Offers (letters routes peers.now.a peers.now.b datagram.now)
         (D.port ports.old.publisher) (D.port ports.new.publisher) }
+    ensures passed { D.tells ≡ true → HasPassed peers.now.a peers.now.b ((routes, datagram.now) ∷ []) result
+        (line_state (D.port ports.old.publisher) (D.port ports.old.a) (D.port ports.old.b) listener.old.arbiter
+        listener.old.report.outgoing)
+        (line_state (D.port ports.new.publisher) (D.port ports.new.a) (D.port ports.new.b) listener.new.arbiter
+        listener.new.report.outgoing) }
+    ensures server { ports.new.server ≡ ports.old.server }
+    ensures requests { ports.new.requests ≡ ports.old.requests }
 {
     let port = &mut ports.publisher;
     let outgoing = &mut listener.report.outgoing;
@@ -131,6 +151,14 @@ fn pass_next<D: Datagrams + Drop>(
         (spelled_some (next_datagram publisher.old))) (D.port ports.old.publisher) (D.port ports.new.publisher) }
     ensures counted { number.new ≡ number.old + length (spelled_some (next_datagram publisher.old)) }
     ensures sent { publisher.new ≡ after_datagram publisher.old }
+    ensures passed { D.tells ≡ true → HasPassed peers.now.a peers.now.b
+        (routed drops (number.old + 1) (spelled_some (next_datagram publisher.old))) result
+        (line_state (D.port ports.old.publisher) (D.port ports.old.a) (D.port ports.old.b) listener.old.arbiter
+        listener.old.report.outgoing)
+        (line_state (D.port ports.new.publisher) (D.port ports.new.a) (D.port ports.new.b) listener.new.arbiter
+        listener.new.report.outgoing) }
+    ensures server { ports.new.server ≡ ports.old.server }
+    ensures requests { ports.new.requests ≡ ports.old.requests }
 {
     publisher_holds(publisher);
     let Some(datagram) = publisher.datagram() else {
@@ -158,6 +186,15 @@ pub(crate) fn pass_lines<D: Datagrams + Drop, S: Source, K: Sink>(
     requires place { length place.old ≡ 65507 }
     ensures passes { D.tells ≡ true → PassesLines drops peers.now.a peers.now.b publisher.old publisher.new
         (S.left source.old) result (D.port ports.old.publisher) (D.port ports.new.publisher) }
+    ensures heard { D.tells ≡ true → HearsLines drops peers.now.a peers.now.b publisher.old publisher.new
+        (S.left source.old) result
+        (line_state (D.port ports.old.publisher) (D.port ports.old.a) (D.port ports.old.b) listener.old.arbiter
+        listener.old.report.outgoing)
+        (line_state (D.port ports.new.publisher) (D.port ports.new.a) (D.port ports.new.b) listener.new.arbiter
+        listener.new.report.outgoing)
+        (K.held sink.old) (K.held sink.new) }
+    ensures server { ports.new.server ≡ ports.old.server }
+    ensures requests { ports.new.requests ≡ ports.old.requests }
     ensures all { IfOk result (λ refused. refused ≡ None →
         publisher.new.sent ≡ length publisher.new.journal.messages) }
     ensures limit { OnOk result (publisher.new.limit ≡ publisher.old.limit) }
@@ -203,6 +240,15 @@ pub(crate) fn pass_end<D: Datagrams + Drop>(
     ensures offers { D.tells ≡ true → Offers (end_letters peers.now.a peers.now.b publisher.old.journal None)
         (D.port ports.old.publisher) (D.port ports.new.publisher) }
     ensures limit { publisher.new.limit ≡ publisher.old.limit }
+    ensures closed { publisher.new ≡ closed publisher.old }
+    ensures passed { D.tells ≡ true →
+        HasPassed peers.now.a peers.now.b (routed_end publisher.old.journal None) result
+        (line_state (D.port ports.old.publisher) (D.port ports.old.a) (D.port ports.old.b) listener.old.arbiter
+        listener.old.report.outgoing)
+        (line_state (D.port ports.new.publisher) (D.port ports.new.a) (D.port ports.new.b) listener.new.arbiter
+        listener.new.report.outgoing) }
+    ensures server { ports.new.server ≡ ports.old.server }
+    ensures requests { ports.new.requests ≡ ports.old.requests }
 {
     let _ = publisher.close();
     match publisher.end() {

@@ -61,6 +61,8 @@ fn repair<D: Datagrams + Drop>(
         listener.old.report.outgoing)) }
     ensures server { server.new ≡ record server.old { answered = server.new.answered } }
     ensures publisher { ports.new.publisher ≡ ports.old.publisher }
+    ensures a { ports.new.a ≡ ports.old.a }
+    ensures b { ports.new.b ≡ ports.old.b }
 {
     let mut tally = Tally::new(alloc);
     take_turn(&mut ports.server, server, journal, place, &mut tally)?;
@@ -92,6 +94,8 @@ fn round<D: Datagrams + Drop>(
         listener.old.report.outgoing)) }
     ensures server { server.new ≡ record server.old { answered = server.new.answered } }
     ensures publisher { ports.new.publisher ≡ ports.old.publisher }
+    ensures a { ports.new.a ≡ ports.old.a }
+    ensures b { ports.new.b ≡ ports.old.b }
 {
     if ports.requests.send(to, &request.encode()).is_err() {
         listener.report.outgoing.count_failure();
@@ -123,6 +127,8 @@ pub(crate) fn repair_all<D: Datagrams + Drop, K: Sink>(
         listener.new.report.outgoing) }
     ensures server { server.new ≡ record server.old { answered = server.new.answered } }
     ensures publisher { ports.new.publisher ≡ ports.old.publisher }
+    ensures a { ports.new.a ≡ ports.old.a }
+    ensures b { ports.new.b ≡ ports.old.b }
     ensures sink { CountsSink (K.failed sink.old) (K.failed sink.new) result }
 {
     for _turn in 0..turns {

@@ -15,6 +15,8 @@ loop-turn-init g c = record {
       (g.K.Sink.held c.args.sink.now);
   server = refl;
   publisher = refl;
+  a = refl;
+  b = refl;
   sink = refl;
 }
 
@@ -52,6 +54,8 @@ loop-turn-preserved g c = record {
       c.round.ensures.server
       ∙ ap (λ (s : ServerState). record s { answered = c.round.new.server.answered }) c.loop-turn.invariant.server;
   publisher = c.round.ensures.publisher ∙ c.loop-turn.invariant.publisher;
+  a = c.round.ensures.a ∙ c.loop-turn.invariant.a;
+  b = c.round.ensures.b ∙ c.loop-turn.invariant.b;
   sink = c.in_ok-send_large.ensures.sink ∙ c.loop-turn.invariant.sink;
 }
 

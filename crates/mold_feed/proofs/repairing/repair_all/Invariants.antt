@@ -4,7 +4,7 @@ use Rattle.mold_feed.specs.Serving.{service_of}
 use Rattle.mold_feed.proofs.RunLemmas.{Going}
 use Rattle.mold_feed.proofs.repairing.repair_all.Given as goal
 
--- so many rounds were made, and the run goes on from here; the publisher's port is as it was, and the sink didn't fail
+-- so many rounds were made, and the run goes on from here; the other ports are as they were, and the sink didn't fail
 abbrev pub invariant-loop-turn : goal.invariant-loop-turn
 invariant-loop-turn g l =
     let known = g.D.Datagrams.port in
@@ -20,5 +20,7 @@ invariant-loop-turn g l =
           (repair_state (known l.ports.server) (known l.ports.requests) l.server l.listener.arbiter l.listener.report.outgoing);
       server : l.server ≡ record l.fn.server { answered = l.server.answered };
       publisher : l.ports.publisher ≡ l.fn.ports.publisher;
+      a : l.ports.a ≡ l.fn.ports.a;
+      b : l.ports.b ≡ l.fn.ports.b;
       sink : g.K.Sink.failed l.sink ≡ g.K.Sink.failed l.fn.sink;
     }
