@@ -129,15 +129,15 @@ pub loop_stopped : {P E F : Type 0} (drops : Drops) (a b to : P) (turns : ℕ) (
     LoopAgrees lines_left here rounds_left (with_heard here.hearing rounds) →
     IfSome known (λ input. LoopRun drops a b to turns start.limit start.sent
     (lines_published start.journal (lines_of input)) server lines rounds result old new lines_left rounds_left)
-loop_stopped {P} drops a b to turns start now server lines rounds known why number result old mid new here lines_left rounds_left hears numbered cut done agrees =
+loop_stopped {P} drops a b to turns start now server lines rounds known why number result old mid new here left asked hears numbered cut done agrees =
     let published : PublishedLines = record { journal = now.journal; refused = Some why } in
     let text : List ℕ = here.hearing.outgoing.text in
     let choice : Bool × List Bool = (false, []) in
     run_from drops a b to turns start server lines rounds known now.journal (Some why) hears.front result old new
-    lines_left rounds_left hears.all
+    left asked hears.all
     (λ whole.
-    run_end drops a b to turns start.limit start.sent published server lines rounds result here lines_left
-    (with_heard here.hearing rounds) rounds_left old mid mid new (replicate turns choice) []
+    run_end drops a b to turns start.limit start.sent published server lines rounds result here left
+    (with_heard here.hearing rounds) asked old mid mid new (replicate turns choice) []
     (subst (λ (l : List (Routes × List ℕ)). Heard a b l lines here old mid)
     (ap (λ (ds : List (List ℕ)). routed drops 1 ds) (sym whole) ∙ sym (append-nil _))
     (heard_of drops a b start now known (Some why) lines here old mid hears))
@@ -164,12 +164,12 @@ pub loop_unended : {P T E F G : Type 0} (drops : Drops) (a b to : P) (turns : �
     rounds_left.requests ≡ rounds.requests →
     IfSome known (λ input. LoopRun drops a b to turns start.limit start.sent
     (lines_published start.journal (lines_of input)) server lines rounds result old new lines_left rounds_left)
-loop_unended {P} drops a b to turns start now server lines rounds known ended result old new here lines_left rounds_left hears has failed same =
+loop_unended {P} drops a b to turns start now server lines rounds known ended result old new here left asked hears has failed same =
     let published : PublishedLines = record { journal = now.journal; refused = None } in
     run_from drops a b to turns start server lines rounds known now.journal None hears.front result old new
-    lines_left rounds_left hears.all
+    left asked hears.all
     (λ whole.
-    run_cut drops a b to turns start.limit start.sent published server lines rounds result lines_left rounds_left old new
+    run_cut drops a b to turns start.limit start.sent published server lines rounds result left asked old new
     (heard_failed a b ended (heard_of drops a b start now known None lines here old new hears) has)
     (subst (λ (l : List (Routes × List ℕ)). Begins l (all_routed drops start.limit start.sent published))
     (all_are drops start now.journal hears.front whole)
@@ -221,12 +221,12 @@ pub loop_unrepaired : {P T U E F G H : Type 0} (drops : Drops) (a b to : P) (tur
     IsErr result → lines_left.publisher ≡ there.publisher →
     IfSome known (λ input. LoopRun drops a b to turns start.limit start.sent
     (lines_published start.journal (lines_of input)) server lines rounds result old new lines_left rounds_left)
-loop_unrepaired drops a b to turns start now server lines rounds known value asked result old mid new here there lines_left rounds_left hears has rests failed same =
+loop_unrepaired drops a b to turns start now server lines rounds known value asked result old mid new here there left made hears has rests failed same =
     run_from drops a b to turns start server lines rounds known now.journal None hears.front result old new
-    lines_left rounds_left hears.all
+    left made hears.all
     (λ whole.
-    run_unrepaired drops a b to turns start.limit start.sent now.journal server lines rounds asked result there lines_left
-    rounds_left old mid new
+    run_unrepaired drops a b to turns start.limit start.sent now.journal server lines rounds asked result there left
+    made old mid new
     (heard_all drops a b start now known lines here there old mid value hears has whole) rests failed same)
 
 -- the last line was printed, or a beginning of what was left to print
@@ -244,11 +244,11 @@ pub loop_done : {P T U E F G H : Type 0} (drops : Drops) (a b to : P) (turns : �
     LoopAgrees lines_left there rounds_left behind →
     IfSome known (λ input. LoopRun drops a b to turns start.limit start.sent
     (lines_published start.journal (lines_of input)) server lines rounds result old new lines_left rounds_left)
-loop_done drops a b to turns start now server lines rounds known value done result old mid second new here there lines_left behind rounds_left hears has rests cut printed agrees =
+loop_done drops a b to turns start now server lines rounds known v done result old mid next new here there left made rest hears has rests cut printed agrees =
     run_from drops a b to turns start server lines rounds known now.journal None hears.front result old new
-    lines_left rounds_left hears.all
+    left rest hears.all
     (λ whole.
     run_end drops a b to turns start.limit start.sent (record { journal = now.journal; refused = None }) server lines
-    rounds result there lines_left behind rounds_left old mid second new rests.choices rests.written
-    (heard_all drops a b start now known lines here there old mid value hears has whole) rests.counted rests.appended
+    rounds result there left made rest old mid next new rests.choices rests.written
+    (heard_all drops a b start now known lines here there old mid v hears has whole) rests.counted rests.appended
     rests.whole cut printed agrees)

@@ -1,3 +1,4 @@
 pub mod Ending
 pub mod File
+pub mod LoopOver
 pub mod Wiring

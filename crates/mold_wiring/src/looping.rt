@@ -6,6 +6,7 @@ ghost use Rattle.mold_devices.specs.Lines.{lines_of};
 ghost use Rattle.mold_feed.specs.Outgoing.{nothing_out};
 ghost use Rattle.mold_feed.specs.Passing.{LoopSends};
 ghost use Rattle.mold_publish.specs.Publishing.{lines_published};
+ghost use Rattle.mold_wiring.specs.LoopOver.{LoopsOver, five_ports};
 ghost use Rattle.mold_wiring.specs.Wiring.{drops_of, loop_arbiter_of, loop_publisher_of, loop_server_of};
 
 use crate::limits::longest_message;
@@ -83,6 +84,12 @@ fn run_made<D: Datagrams + Drop, S: Source, K: Sink>(
         LoopSends (drops_of order.now) peers.now.a peers.now.b order.now.limits.limit 0
         (lines_published (loop_publisher_of order.now).journal (lines_of input)) result
         (D.port ports.old.publisher) (D.port ports.new.publisher)) }
+    ensures run { D.tells ≡ true → LoopsOver order.now peers.now.a peers.now.b peers.now.server (S.left source.old)
+        result (K.held sink.old) (K.held sink.new)
+        (five_ports (D.port ports.old.publisher) (D.port ports.old.server) (D.port ports.old.a) (D.port ports.old.b)
+        (D.port ports.old.requests))
+        (five_ports (D.port ports.new.publisher) (D.port ports.new.server) (D.port ports.new.a) (D.port ports.new.b)
+        (D.port ports.new.requests)) }
     ensures failures { CountsCommand (S.failed source.old) (S.failed source.new) (K.failed sink.old) (K.failed sink.new)
         result }
 {
@@ -116,6 +123,12 @@ pub fn loop_over<D: Datagrams + Drop, S: Source, K: Sink>(
         LoopSends (drops_of order.now) peers.now.a peers.now.b order.now.limits.limit 0
         (lines_published (loop_publisher_of order.now).journal (lines_of input)) result
         (D.port ports.old.publisher) (D.port ports.new.publisher)) }
+    ensures run { D.tells ≡ true → LoopsOver order.now peers.now.a peers.now.b peers.now.server (S.left source.old)
+        result (K.held sink.old) (K.held sink.new)
+        (five_ports (D.port ports.old.publisher) (D.port ports.old.server) (D.port ports.old.a) (D.port ports.old.b)
+        (D.port ports.old.requests))
+        (five_ports (D.port ports.new.publisher) (D.port ports.new.server) (D.port ports.new.a) (D.port ports.new.b)
+        (D.port ports.new.requests)) }
     ensures failures { CountsCommand (S.failed source.old) (S.failed source.new) (K.failed sink.old) (K.failed sink.new)
         result }
 {

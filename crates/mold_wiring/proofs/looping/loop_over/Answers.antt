@@ -1,4 +1,4 @@
-use Rattle.mold_wiring.proofs.LoopLemmas.{nothing_sent}
+use Rattle.mold_wiring.proofs.LoopLemmas.{nothing_done, nothing_sent}
 use Rattle.mold_wiring.specs.Wiring.{drops_of, loop_publisher_of}
 use Rattle.mold_wiring.proofs.looping.loop_over.Goals as goal
 
@@ -11,3 +11,13 @@ pub returns-in_err-server-clause-sends : goal.returns-in_err-server-clause-sends
 returns-in_err-server-clause-sends g c tells =
     nothing_sent (drops_of c.args.order.now) c.args.peers.now.a c.args.peers.now.b (loop_publisher_of c.args.order.now) _
     c.from_residual-in_err-server.result _ c.from_residual-in_err-server.ensures.0
+
+pub returns-in_err-publisher-clause-run : goal.returns-in_err-publisher-clause-run
+returns-in_err-publisher-clause-run g c tells =
+    nothing_done c.args.order.now c.args.peers.now.a c.args.peers.now.b c.args.peers.now.server _ c.from_residual.result _ _
+    c.from_residual.ensures.0
+
+pub returns-in_err-server-clause-run : goal.returns-in_err-server-clause-run
+returns-in_err-server-clause-run g c tells =
+    nothing_done c.args.order.now c.args.peers.now.a c.args.peers.now.b c.args.peers.now.server _ c.from_residual-in_err-server.result _ _
+    c.from_residual-in_err-server.ensures.0
