@@ -13,7 +13,8 @@ use Rattle.mold_receiver.specs.declared.line.Line.{Line}
 use Rattle.mold_receiver.specs.declared.line.Line.TheVariants.{A, B}
 use Rattle.mold_session.specs.Publisher.{Lends}
 use Rattle.mold_wire.specs.declared.packet.Packet.{Packet}
-use Rattle.mold_feed.proofs.SendingLemmas.{lent_none, ok_so}
+use Rattle.mold_feed.proofs.RunLemmas.{on_ok}
+use Rattle.mold_feed.proofs.SendingLemmas.{lent_none}
 use Rattle.mold_feed.proofs.RunLemmas.{IsLoop, begins_behind, begins_more, begins_trans, begins_whole, grows_in}
 use Rattle.mold_feed.proofs.TurnLemmas.{hear_before, hear_prints, hearing_before}
 use Rattle.mold_feed.specs.Outgoing.{OutgoingState}
@@ -70,7 +71,7 @@ has_passed {P} a b routes sent datagram result before after port report comes sa
 
 pub passed_none : {P T E : Type 0} (a b : P) (result : Result T E) (s : LineState P) → HasPassed a b [] result s s
 unfolding run
-passed_none a b result s = record { passes = []; are = refl; whole = ok_so result refl; offered = refl }
+passed_none a b result s = record { passes = []; are = refl; whole = on_ok result refl; offered = refl }
 
 -- the publisher has no next one
 pub passed_not : {P T E : Type 0} (drops : Drops) (number : ℕ) (a b : P) (packet : Option Packet)

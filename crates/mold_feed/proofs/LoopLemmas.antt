@@ -12,6 +12,7 @@ use Rattle.mold_publish.specs.Publishing.{PublishedLines}
 use Rattle.mold_publish.specs.declared.line_refusal.LineRefusal.{LineRefusal}
 use Rattle.mold_session.specs.Journal.{JournalState}
 use Rattle.mold_session.specs.Server.{ServerState}
+use Rattle.mold_feed.proofs.RunLemmas.{on_ok}
 use Rattle.mold_feed.proofs.HeardLemmas.{Heard, HeardFront, lines_grow, passes_are, run_behind}
 use Rattle.mold_feed.proofs.RepairLemmas.{rounds_are}
 use Rattle.mold_feed.proofs.RunLemmas.{begins_behind, begins_more, begins_trans, begins_whole, grows_in, none_answered, none_ok}
@@ -119,10 +120,6 @@ behind_ok (Ok answer) old mid new front text whole status other first same is do
 )
 behind_ok (Err _) old mid new front text whole status other first same is done = tt
 
-ok_always : {T E : Type 0} (result : Result T E) {Q : Type 0} → Q → OnOk result Q
-ok_always (Ok _) q = q
-ok_always (Err _) q = tt
-
 module _ {P : Type 0} (drops : Drops) (a b to : P) (turns limit sent : ℕ) (published : PublishedLines)
     (server : ServerState) (lines : LineState P) (rounds : RepairState P) where
   -- a fault while the data or the end were passed
@@ -198,7 +195,7 @@ module _ {P : Type 0} (drops : Drops) (a b to : P) (turns limit sent : ℕ) (pub
             (loop_status published.refused now.hearing) (loop_status published.refused end.hearing) start text status
             done;
         left =
-            ok_always result
+            on_ok result
             (record {
               publisher_left = agrees.publisher_left ∙ ap (λ (s : LineState P). s.publisher) (sym heard.whole);
               a_left = agrees.a_left ∙ ap (λ (s : LineState P). s.a) (sym heard.whole);

@@ -5,7 +5,7 @@ use Rattle.mold_devices.specs.Lines.{lines_of}
 use Rattle.mold_ports.specs.Ports.{Port}
 use Rattle.mold_receiver.specs.Arbiter.{Arbitration}
 use Rattle.mold_session.specs.Server.{ServerState}
-use Rattle.mold_feed.specs.Listening.{Hearing, ReportState, hearing}
+use Rattle.mold_feed.specs.Listening.{Hearing, OutgoingState, hearing}
 use Rattle.mold_feed.specs.Looping.{LoopRun}
 use Rattle.mold_words.specs.declared.loop_order.LoopOrder.{LoopOrder}
 use Rattle.mold_wiring.specs.LoopOver.{FivePorts, LoopsOver, lines_at, rounds_at}
@@ -43,7 +43,7 @@ nothing_done order a b to (Some input) result held ports failed =
 -- the loop was run with what the order makes
 pub order_ran : {P E : Type 0} (order : LoopOrder) (a b to : P) (known : Option (List ℕ)) (result : Result ℕ E)
     (held_old held_new : Option (List ℕ)) (old new : FivePorts P) (publisher : PublisherState) (server : ServerState)
-    (drops : Drops) (arbitration : Arbitration) (report : ReportState) (heard : Hearing) (answered : ℕ) →
+    (drops : Drops) (arbitration : Arbitration) (report : OutgoingState) (heard : Hearing) (answered : ℕ) →
     publisher ≡ loop_publisher_of order → server ≡ loop_server_of order → drops ≡ drops_of order →
     arbitration ≡ loop_arbiter_of order → report ≡ record { text = []; failures = 0 } →
     IfSome known (λ input. LoopRun drops a b to order.turns publisher.limit publisher.sent
@@ -63,7 +63,7 @@ order_ran order a b to (Some input) result from till old new publisher server dr
           (lines_published (loop_publisher_of order).journal (lines_of input)) (loop_server_of order) (lines_at old e)
           (rounds_at old 0 e) result from till (lines_at new heard) (rounds_at new answered heard))
           (ap (λ (x : Arbitration). hearing x report) same_a
-          ∙ ap (λ (r : ReportState). hearing (loop_arbiter_of order) r) same_r)
+          ∙ ap (λ (r : OutgoingState). hearing (loop_arbiter_of order) r) same_r)
           (subst
           (λ (d : Drops). LoopRun d a b to order.turns order.limits.limit 0
           (lines_published (loop_publisher_of order).journal (lines_of input)) (loop_server_of order)
