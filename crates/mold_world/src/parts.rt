@@ -1,6 +1,7 @@
 //! What a world is made of.
 
-ghost use Rattle.std.specs.Prelude.{◌≡◌, ◌≤◌, ◌+◌, None, Some, Ok, length, IfOk, IfErr, IfSome, IsOk, IsSome, OnOk, OnErr};
+ghost use Rattle.std.specs.Prelude.{◌≡◌, ◌≤◌, ◌+◌, None, Some, Ok, length};
+ghost use Rattle.std.specs.Prelude.{IfOk, IfErr, IfSome, IsOk, IsSome, OnOk, OnErr};
 ghost use Rattle.std.specs.Option.{option_copied};
 ghost use Rattle.mold_messages.specs.Listed.{HasRoom};
 ghost use Rattle.mold_session.specs.Answer.{planned};
