@@ -5,7 +5,8 @@ use Rattle.mold_devices.specs.Lines.{lines_of}
 use Rattle.mold_ports.specs.Ports.{Port}
 use Rattle.mold_receiver.specs.Arbiter.{Arbitration}
 use Rattle.mold_session.specs.Server.{ServerState}
-use Rattle.mold_feed.specs.Listening.{Hearing, OutgoingState, hearing}
+use Rattle.mold_feed.specs.Listening.{Hearing, hearing}
+use Rattle.mold_feed.specs.Outgoing.{OutgoingState, nothing_out}
 use Rattle.mold_feed.specs.Looping.{LoopRun}
 use Rattle.mold_words.specs.declared.loop_order.LoopOrder.{LoopOrder}
 use Rattle.mold_wiring.specs.LoopOver.{FivePorts, LoopsOver, lines_at, rounds_at}
@@ -45,7 +46,7 @@ pub order_ran : {P E : Type 0} (order : LoopOrder) (a b to : P) (known : Option 
     (held_old held_new : Option (List ℕ)) (old new : FivePorts P) (publisher : PublisherState) (server : ServerState)
     (drops : Drops) (arbitration : Arbitration) (report : OutgoingState) (heard : Hearing) (answered : ℕ) →
     publisher ≡ loop_publisher_of order → server ≡ loop_server_of order → drops ≡ drops_of order →
-    arbitration ≡ loop_arbiter_of order → report ≡ record { text = []; failures = 0 } →
+    arbitration ≡ loop_arbiter_of order → report ≡ nothing_out →
     IfSome known (λ input. LoopRun drops a b to order.turns publisher.limit publisher.sent
     (lines_published publisher.journal (lines_of input)) server (lines_at old (hearing arbitration report))
     (rounds_at old server.answered (hearing arbitration report)) result held_old held_new (lines_at new heard)

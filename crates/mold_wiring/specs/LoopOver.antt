@@ -3,6 +3,7 @@ use Rattle.std.specs.Prelude.{◌≡◌, ◌⊎◌, ℕ, List, [], Option, Resul
 use Rattle.mold_devices.specs.Lines.{lines_of}
 use Rattle.mold_feed.specs.Listening.{Hearing}
 use Rattle.mold_feed.specs.Looping.{LineState, LoopRun}
+use Rattle.mold_feed.specs.Outgoing.{nothing_out}
 use Rattle.mold_feed.specs.Repairing.{RepairState}
 use Rattle.mold_ports.specs.Ports.{Port}
 use Rattle.mold_publish.specs.Publishing.{lines_published}
@@ -31,7 +32,7 @@ rounds_at ports answered heard =
 
 -- nothing was heard yet of an order's session
 abbrev pub unheard : LoopOrder → Hearing
-unheard order = record { arbitration = loop_arbiter_of order; report = record { text = []; failures = 0 } }
+unheard order = record { arbitration = loop_arbiter_of order; outgoing = nothing_out }
 
 -- the loop with what an order makes, over the lines of an input. Its server and what listens are let go behind it: how
 -- they stand then is not told.

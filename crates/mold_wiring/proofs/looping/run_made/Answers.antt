@@ -24,7 +24,7 @@ returns-clause-run g c tells =
     (five_ports (port c.session_loop.new.ports.publisher) (port c.session_loop.new.ports.server)
     (port c.session_loop.new.ports.a) (port c.session_loop.new.ports.b) (port c.session_loop.new.ports.requests))
     c.args.publisher.now c.args.server.now c.make_drops.result c.in_ok-listener.listener.arbiter
-    c.in_ok-listener.listener.report
-    (hearing c.session_loop.new.listener.arbiter c.session_loop.new.listener.report)
+    c.in_ok-listener.listener.report.outgoing
+    (hearing c.session_loop.new.listener.arbiter c.session_loop.new.listener.report.outgoing)
     c.session_loop.new.server.answered c.requires.publisher c.requires.server c.make_drops.ensures
     c.in_ok-listener.ensures.arbiter c.in_ok-listener.ensures.report (c.session_loop.ensures.run tells)
