@@ -5,19 +5,25 @@ ghost use Rattle.mold_words.specs.declared.fault.UsageFault.TheVariants.{Memory}
 
 use clap::error::ErrorKind;
 use std::alloc::{AllocError, Global};
+use thiserror::Error;
 
 /// Why the words give no order.
-#[derive(Debug, Drop)]
+#[derive(Debug, Drop, Error)]
 pub enum UsageFault {
     /// Help was asked for. The text is for standard output, with status 0.
+    #[error("{text}")]
     Help { text: String },
     /// The version was asked for. The text, a line, is for standard output, with status 0.
+    #[error("{text}")]
     Version { text: String },
     /// The words are no command of the program. The text says why, in whole lines.
+    #[error("{text}")]
     Usage { text: String },
     /// An option's text is no address. The text says which, in whole lines.
+    #[error("{text}")]
     Address { text: String },
     /// Memory was refused.
+    #[error("out of memory")]
     Memory,
 }
 
