@@ -123,6 +123,7 @@ fn parts_lie_in_copied_bytes(rt: HostRuntime) -> Result<(), Fail> {
     expect_part(&rt, &list, 1, b"C");
     expect_part(&rt, &list, 2, b"");
     same_message(&rt, 3, list.get(3), None);
+    expect_parts(&rt, &list);
     expect_cut(&rt, &mut list);
     Ok(())
 }
@@ -135,6 +136,16 @@ fn parts(rt: &(impl Abort + AllocGlobal)) -> Result<PartList, Fail> {
     list.mark(6, 7)?;
     list.push(b"")?;
     Ok(list)
+}
+
+/// The three parts come one after the other.
+fn expect_parts(rt: &impl Abort, list: &PartList) {
+    let mut i = 0usize;
+    for message in list {
+        same_message(rt, i, list.get(i), Some(message));
+        i = i.saturating_add(1);
+    }
+    same_size(rt, i, 3);
 }
 
 fn expect_cut(rt: &impl Abort, list: &mut PartList) {

@@ -3,7 +3,7 @@
 
 use crate::comparisons::{same_bytes, same_message, same_number};
 use mold_devices::{FromRead, IntoWrite, MemorySink, MemorySource, Sink, Source};
-use mold_session::{FileError, Journal, Upgraded, upgrade};
+use mold_session::{FileError, Journal};
 use mold_wire::Session;
 use std::alloc::Global;
 use std::io;
@@ -17,7 +17,7 @@ const SESSION: Session = Session(*b"SESSION001");
 const OPEN: [u8; 33] = *b"MOLDJNL2SESSION001\x00\x00\x00\x00\x00\x00\x00\x00\x02\x00\x02AB\x00\x00";
 
 /// The same, closed.
-const CLOSED: [u8; 33] =
+pub const CLOSED: [u8; 33] =
     *b"MOLDJNL2SESSION001\x01\x00\x00\x00\x00\x00\x00\x00\x02\x00\x02AB\x00\x00";
 
 /// The same, with two bytes behind it.
@@ -29,7 +29,7 @@ const BAD_FLAG: [u8; 33] =
     *b"MOLDJNL2SESSION001\x02\x00\x00\x00\x00\x00\x00\x00\x02\x00\x02AB\x00\x00";
 
 /// The file of version 1 of `AB` and an empty message.
-const FIRST: [u8; 24] = *b"MOLDJNL1SESSION001\x00\x02AB\x00\x00";
+pub const FIRST: [u8; 24] = *b"MOLDJNL1SESSION001\x00\x02AB\x00\x00";
 
 fn same_saved(rt: &impl Abort, found: Result<(), FileError>, wanted: Result<(), FileError>) {
     assert_eq!(rt; found, wanted);
@@ -244,7 +244,7 @@ fn a_failed_read_is_told(rt: HostRuntime) {
     }
 }
 
-fn same_refusal(rt: &impl Abort, found: FileError, wanted: FileError) {
+pub fn same_refusal(rt: &impl Abort, found: FileError, wanted: FileError) {
     assert_eq!(rt; found, wanted);
 }
 
@@ -342,78 +342,5 @@ fn a_file_is_read_in_pieces(rt: HostRuntime) -> Result<(), Fail> {
     let journal = long_messages(rt.alloc())?;
     let sink = saved(&rt, rt.alloc(), &journal);
     expect_small_reads(&rt, rt.alloc(), sink.bytes());
-    Ok(())
-}
-
-/// The file is upgraded, or refused, and these bytes are written.
-fn expect_upgrade(
-    rt: &impl Abort,
-    alloc: Global,
-    file: &[u8],
-    close: bool,
-    wanted: Result<Upgraded, FileError>,
-    written: &[u8],
-) {
-    let mut source = MemorySource::new(file);
-    let mut sink = MemorySink::new(alloc);
-    assert_eq!(rt; upgrade(alloc, &mut source, &mut sink, close), wanted);
-    same_bytes(rt, sink.bytes(), written);
-}
-
-/// `journal-cuts`: the file of version 1, upgraded.
-#[test]
-fn a_file_of_version_1_is_upgraded(rt: HostRuntime) {
-    let upgraded = Upgraded {
-        messages: 2,
-        closed: true,
-        from: 1,
-    };
-    expect_upgrade(&rt, rt.alloc(), &FIRST, true, Ok(upgraded), &CLOSED);
-}
-
-/// A closed file stays closed.
-#[test]
-fn a_closed_file_is_upgraded(rt: HostRuntime) {
-    let upgraded = Upgraded {
-        messages: 2,
-        closed: true,
-        from: 2,
-    };
-    expect_upgrade(&rt, rt.alloc(), &CLOSED, false, Ok(upgraded), &CLOSED);
-}
-
-/// Nothing is written where the file is refused.
-#[test]
-fn a_refused_file_is_not_upgraded(rt: HostRuntime) {
-    let refused = Err(FileError::CountDiffers { count: 2, found: 1 });
-    expect_upgrade(&rt, rt.alloc(), &CLOSED[..31], true, refused, b"");
-}
-
-/// Upgrades the file of version 1 into the sink, closed.
-fn upgrade_first(alloc: Global, sink: &mut MemorySink) -> Result<Upgraded, FileError> {
-    upgrade(alloc, &mut MemorySource::new(&FIRST), sink, true)
-}
-
-/// Nothing is written where the file finds no memory, and a beginning where the sink finds none.
-fn expect_beginning(rt: &impl Abort, sink: &MemorySink, error: FileError) {
-    if sink.failures() > 0 {
-        same_refusal(rt, error, FileError::Write);
-        assert!(rt; CLOSED.starts_with(sink.bytes()));
-    } else {
-        same_refusal(rt, error, FileError::Memory);
-        same_bytes(rt, sink.bytes(), b"");
-    }
-}
-
-/// Upgrades a file, and once more into a new sink where memory was refused.
-#[test]
-fn a_refused_growth_upgrades_nothing(rt: HostRuntime) -> Result<(), Fail> {
-    let mut sink = MemorySink::new(rt.alloc());
-    if let Err(error) = upgrade_first(rt.alloc(), &mut sink) {
-        expect_beginning(&rt, &sink, error);
-        sink = MemorySink::new(rt.alloc());
-        upgrade_first(rt.alloc(), &mut sink)?;
-    }
-    same_bytes(&rt, sink.bytes(), &CLOSED);
     Ok(())
 }

@@ -2,6 +2,8 @@
 #![tactic(auto)]
 
 #[cfg(test)]
+mod arbiter;
+#[cfg(test)]
 mod capture;
 #[cfg(test)]
 mod comparisons;
@@ -10,6 +12,8 @@ mod journal_file;
 #[cfg(test)]
 mod receiver;
 #[cfg(test)]
+mod reception;
+#[cfg(test)]
 mod refusals;
 #[cfg(test)]
 mod rounds;
@@ -17,3 +21,5 @@ mod rounds;
 mod server;
 #[cfg(test)]
 mod session;
+#[cfg(test)]
+mod upgrading;

@@ -1,34 +1,13 @@
-//! The worked examples by their names, each public call on its happy path, and what is left after a growth
+//! The receiver's examples by their names, each public call on its happy path, and what is left after a growth
 //! was refused. `tests/growths` refuses each growth of the tests that are made for it.
 
 use crate::comparisons::{same_message, same_number, same_truth};
-use mold_receiver::{Arbiter, Batch, Line, LineReport, Receiver, ReceiverError, Refused, Taken};
-use mold_wire::{DecodeError, Packer, Session};
+use crate::reception::{DATA_1, DATA_2, DATA_3, DATA_1_2, DATA_2_3, DATA_1_3, END_3, END_4, SESSION, Reception, expect_each, same_maybe};
+use mold_receiver::{Batch, Receiver, ReceiverError, Refused};
+use mold_wire::{DecodeError, Packer};
 use std::alloc::Global;
 use std::process::Abort;
 use std::test::Fail;
-
-const SESSION: Session = Session(*b"SESSION001");
-
-/// Packets of messages by their numbers: message 1 is `A`, 2 is `B` and so on.
-const DATA_1: &[u8] = b"SESSION001\0\0\0\0\0\0\0\x01\0\x01\0\x01A";
-
-const DATA_2: &[u8] = b"SESSION001\0\0\0\0\0\0\0\x02\0\x01\0\x01B";
-
-const DATA_3: &[u8] = b"SESSION001\0\0\0\0\0\0\0\x03\0\x01\0\x01C";
-
-const DATA_1_2: &[u8] = b"SESSION001\0\0\0\0\0\0\0\x01\0\x02\0\x01A\0\x01B";
-
-const DATA_2_3: &[u8] = b"SESSION001\0\0\0\0\0\0\0\x02\0\x02\0\x01B\0\x01C";
-
-const DATA_3_4: &[u8] = b"SESSION001\0\0\0\0\0\0\0\x03\0\x02\0\x01C\0\x01D";
-
-const DATA_1_3: &[u8] = b"SESSION001\0\0\0\0\0\0\0\x01\0\x03\0\x01A\0\x01B\0\x01C";
-
-/// Ends after 2 and 3 messages.
-const END_3: &[u8] = b"SESSION001\0\0\0\0\0\0\0\x03\xff\xff";
-
-const END_4: &[u8] = b"SESSION001\0\0\0\0\0\0\0\x04\xff\xff";
 
 /// Packets that a receiver refuses which handed on messages 1 to 3 and has stored 5.
 const REFUSED: [(&[u8], Refused); 6] = [
@@ -46,144 +25,8 @@ const REFUSED: [(&[u8], Refused); 6] = [
     ),
 ];
 
-fn same_maybe(rt: &impl Abort, found: Option<u64>, wanted: Option<u64>) {
-    assert_eq!(rt; found, wanted);
-}
-
-fn same_outcome(rt: &impl Abort, found: Result<Taken, Refused>, wanted: Result<Taken, Refused>) {
-    assert_eq!(rt; found, wanted);
-}
-
 fn same_error(rt: &impl Abort, found: ReceiverError, wanted: ReceiverError) {
     assert_eq!(rt; found, wanted);
-}
-
-fn same_report(rt: &impl Abort, found: LineReport, wanted: LineReport) {
-    assert_eq!(rt; found, wanted);
-}
-
-fn handed_kept_beyond(counts: (u32, u32, u32)) -> Result<Taken, Refused> {
-    let (handed, kept, beyond) = counts;
-    Ok(Taken {
-        handed,
-        kept,
-        beyond,
-    })
-}
-
-fn expect_batch<'w, 'm>(rt: &impl Abort, batch: &Batch, first: u64, messages: &'w [&'m [u8]]) {
-    same_number(rt, batch.len() as u64, messages.len() as u64);
-    same_maybe(rt, batch.first(), Some(first));
-    same_maybe(rt, batch.after(), first.checked_add(messages.len() as u64));
-    let mut i = 0usize;
-    for message in messages {
-        same_message(rt, batch.get(i), Some(*message));
-        i = i.saturating_add(1);
-    }
-    same_message(rt, batch.get(i), None);
-}
-
-/// A receiver of the session, and the batch that it hands on to.
-#[derive(Drop)]
-struct Reception {
-    receiver: Receiver,
-    batch: Batch,
-}
-
-/// What a refusal leaves: `next`, `known`, how many are stored, the batch's length and first number.
-type State = (u64, u64, u32, usize, Option<u64>);
-
-impl Reception {
-    fn new(alloc: Global, next: u64, window: u32) -> Result<Reception, Fail> {
-        let receiver = Receiver::new(alloc, SESSION, next, window)?;
-        Ok(Reception::of(alloc, receiver))
-    }
-
-    fn of(alloc: Global, receiver: Receiver) -> Reception {
-        Reception {
-            receiver,
-            batch: Batch::new(alloc),
-        }
-    }
-
-    fn state(&self) -> State {
-        (
-            self.receiver.next(),
-            self.receiver.known(),
-            self.receiver.stored(),
-            self.batch.len(),
-            self.batch.first(),
-        )
-    }
-
-    fn expect_state(&self, rt: &impl Abort, wanted: State) {
-        assert_eq!(rt; self.state(), wanted);
-    }
-
-    fn take(&mut self, rt: &impl Abort, packet: &[u8]) -> Result<Taken, Refused> {
-        assert!(rt; self.batch.follows(self.receiver.next()));
-        self.receiver.take(packet, &mut self.batch)
-    }
-
-    fn expect_taken(&mut self, rt: &impl Abort, packet: &[u8], counts: (u32, u32, u32)) {
-        same_outcome(rt, self.take(rt, packet), handed_kept_beyond(counts));
-    }
-
-    fn expect_refused(&mut self, rt: &impl Abort, packet: &[u8], refused: Refused) {
-        let (before, ended) = (self.state(), self.receiver.ended());
-        same_outcome(rt, self.take(rt, packet), Err(refused));
-        self.expect_state(rt, before);
-        same_maybe(rt, self.receiver.ended(), ended);
-    }
-
-    /// Takes a packet, once more where memory was refused: receiver and batch were then in this state.
-    fn take_again(
-        &mut self,
-        rt: &impl Abort,
-        packet: &[u8],
-        counts: (u32, u32, u32),
-        state: State,
-    ) -> Result<(), Fail> {
-        let found = self.take(rt, packet);
-        if found != Err(Refused::Memory) {
-            same_outcome(rt, found, handed_kept_beyond(counts));
-            return Ok(());
-        }
-        self.expect_state(rt, state);
-        let again = self.take(rt, packet)?;
-        same_outcome(rt, Ok(again), handed_kept_beyond(counts));
-        Ok(())
-    }
-
-    fn expect_next(&self, rt: &impl Abort, wanted: u64) {
-        same_number(rt, self.receiver.next(), wanted);
-    }
-
-    fn expect_known(&self, rt: &impl Abort, wanted: u64) {
-        same_number(rt, self.receiver.known(), wanted);
-    }
-
-    fn expect_stored(&self, rt: &impl Abort, wanted: u32) {
-        same_number(rt, u64::from(self.receiver.stored()), u64::from(wanted));
-    }
-
-    fn expect_numbers(&self, rt: &impl Abort, next: u64, known: u64, stored: u32) {
-        self.expect_next(rt, next);
-        self.expect_known(rt, known);
-        self.expect_stored(rt, stored);
-    }
-
-    fn expect_wanted(&self, rt: &impl Abort, wanted: Option<(u64, u16)>) {
-        let request = self
-            .receiver
-            .wanted()
-            .map(|request| (request.sequence, request.count));
-        assert_eq!(rt; request, wanted);
-    }
-
-    fn expect_batch<'w, 'm>(&self, rt: &impl Abort, first: u64, messages: &'w [&'m [u8]]) {
-        expect_batch(rt, &self.batch, first, messages);
-    }
 }
 
 fn expect_session_and_window(rt: &impl Abort, receiver: &Receiver, window: u32) {
@@ -330,6 +173,7 @@ fn a_batch_begins_at_next_and_is_cut(rt: HostRuntime) -> Result<(), Fail> {
     expect_empty(&rt, &reception.batch);
     reception.expect_taken(&rt, DATA_1_3, (2, 0, 0));
     reception.expect_batch(&rt, 2, &[b"B", b"C"]);
+    expect_each(&rt, &reception.batch, &[b"B", b"C"]);
     same_truth(&rt, reception.batch.follows(4), true);
     same_truth(&rt, reception.batch.follows(2), false);
     reception.batch.truncate(1);
@@ -337,95 +181,6 @@ fn a_batch_begins_at_next_and_is_cut(rt: HostRuntime) -> Result<(), Fail> {
     reception.batch.clear();
     same_number(&rt, reception.batch.len() as u64, 0);
     same_truth(&rt, reception.batch.follows(7), true);
-    Ok(())
-}
-
-/// An arbiter at message 1 with a window of 4, and the batch that it hands on to.
-#[derive(Drop)]
-struct Arbitration {
-    arbiter: Arbiter,
-    batch: Batch,
-}
-
-impl Arbitration {
-    fn new(alloc: Global) -> Result<Arbitration, Fail> {
-        let receiver = Receiver::new(alloc, SESSION, 1, 4)?;
-        Ok(Arbitration {
-            arbiter: Arbiter::new(receiver),
-            batch: Batch::new(alloc),
-        })
-    }
-
-    /// Takes a packet of a line, or an answer, which is on none.
-    fn take(
-        &mut self,
-        rt: &impl Abort,
-        line: Option<Line>,
-        packet: &[u8],
-    ) -> Result<Taken, Refused> {
-        assert!(rt; self.batch.follows(self.arbiter.receiver().next()));
-        match line {
-            Some(line) => self.arbiter.take(line, packet, &mut self.batch),
-            None => self.arbiter.take_answer(packet, &mut self.batch),
-        }
-    }
-
-    fn expect_taken(
-        &mut self,
-        rt: &impl Abort,
-        line: Option<Line>,
-        packet: &[u8],
-        counts: (u32, u32, u32),
-    ) {
-        let found = self.take(rt, line, packet);
-        same_outcome(rt, found, handed_kept_beyond(counts));
-    }
-
-    fn expect_line(&self, rt: &impl Abort, line: Line, wanted: (u64, u64, u64)) {
-        let (datagrams, refused, front) = wanted;
-        let report = LineReport {
-            datagrams,
-            refused,
-            front,
-        };
-        same_report(rt, self.arbiter.report(line), report);
-    }
-
-    fn expect_lines(&self, rt: &impl Abort, a: (u64, u64, u64), b: (u64, u64, u64)) {
-        self.expect_line(rt, Line::A, a);
-        self.expect_line(rt, Line::B, b);
-    }
-
-    fn expect_lag(&self, rt: &impl Abort, line: Line, wanted: u64) {
-        same_number(rt, self.arbiter.lag(line), wanted);
-    }
-}
-
-#[test]
-fn two_lines(rt: HostRuntime) -> Result<(), Fail> {
-    let mut arbitration = Arbitration::new(rt.alloc())?;
-    arbitration.expect_taken(&rt, Some(Line::A), DATA_1_3, (3, 0, 0));
-    arbitration.expect_lines(&rt, (1, 0, 4), (0, 0, 1));
-    arbitration.expect_lag(&rt, Line::A, 0);
-    arbitration.expect_lag(&rt, Line::B, 3);
-    arbitration.expect_taken(&rt, Some(Line::B), DATA_1_3, (0, 0, 0));
-    arbitration.expect_lines(&rt, (1, 0, 4), (1, 0, 4));
-    arbitration.expect_lag(&rt, Line::B, 0);
-    expect_batch(&rt, &arbitration.batch, 1, &[b"A", b"B", b"C"]);
-    Ok(())
-}
-
-#[test]
-fn answers_are_on_no_line(rt: HostRuntime) -> Result<(), Fail> {
-    let mut arbitration = Arbitration::new(rt.alloc())?;
-    arbitration.expect_taken(&rt, None, DATA_1_3, (3, 0, 0));
-    arbitration.expect_lines(&rt, (0, 0, 1), (0, 0, 1));
-    arbitration.expect_lag(&rt, Line::A, 3);
-    arbitration.expect_lag(&rt, Line::B, 3);
-    let found = arbitration.take(&rt, Some(Line::A), b"\0");
-    let short = Refused::Malformed(DecodeError::Short { len: 1 });
-    same_outcome(&rt, found, Err(short));
-    arbitration.expect_lines(&rt, (0, 1, 1), (0, 0, 1));
     Ok(())
 }
 
@@ -500,19 +255,6 @@ fn a_refused_growth_takes_nothing(rt: HostRuntime) -> Result<(), Fail> {
     Ok(())
 }
 
-/// Want of memory is on no report of a line.
-#[test]
-fn a_refused_growth_is_not_reported(rt: HostRuntime) -> Result<(), Fail> {
-    let mut arbitration = Arbitration::new(rt.alloc())?;
-    if arbitration.take(&rt, Some(Line::A), DATA_1_3) == Err(Refused::Memory) {
-        arbitration.expect_lines(&rt, (0, 0, 1), (0, 0, 1));
-        arbitration.take(&rt, Some(Line::A), DATA_1_3)?;
-    }
-    arbitration.expect_lines(&rt, (1, 0, 4), (0, 0, 1));
-    expect_batch(&rt, &arbitration.batch, 1, &[b"A", b"B", b"C"]);
-    Ok(())
-}
-
 /// A receiver that handed on messages 1 to 3 and has stored 5.
 fn with_three_and_five(rt: &impl Abort, alloc: Global) -> Result<Reception, Fail> {
     let mut reception = Reception::new(alloc, 1, 4)?;
@@ -562,34 +304,5 @@ fn no_growth_of_what_is_refused(rt: HostRuntime) -> Result<(), Fail> {
     let past_end = b"SESSION001\0\0\0\0\0\0\0\x06\0\x01\0\x01F";
     reception.expect_refused(&rt, past_end, Refused::PastEnd { end: 6 });
     reception.expect_refused(&rt, END_4, Refused::EndConflict { end: 6 });
-    Ok(())
-}
-
-/// Nor by an answer that brings nothing.
-#[test]
-fn no_growth_of_an_answer_of_nothing_new(rt: HostRuntime) -> Result<(), Fail> {
-    let mut arbitration = Arbitration::new(rt.alloc())?;
-    arbitration.take(&rt, None, DATA_1_3)?;
-    arbitration.expect_taken(&rt, None, DATA_2_3, (0, 0, 0));
-    let heartbeat = b"SESSION001\0\0\0\0\0\0\0\x04\0\0";
-    arbitration.expect_taken(&rt, None, heartbeat, (0, 0, 0));
-    arbitration.expect_taken(&rt, None, END_4, (0, 0, 0));
-    arbitration.expect_lines(&rt, (0, 0, 1), (0, 0, 1));
-    Ok(())
-}
-
-/// Nor by datagrams of lines that bring nothing, or are refused.
-#[test]
-fn no_growth_of_lines_of_nothing_new(rt: HostRuntime) -> Result<(), Fail> {
-    let mut arbitration = Arbitration::new(rt.alloc())?;
-    arbitration.take(&rt, None, DATA_1_3)?;
-    let heartbeat = b"SESSION001\0\0\0\0\0\0\0\x04\0\0";
-    for (line, packet) in [(Line::A, DATA_2_3), (Line::B, heartbeat), (Line::A, END_4)] {
-        arbitration.expect_taken(&rt, Some(line), packet, (0, 0, 0));
-    }
-    let short = Refused::Malformed(DecodeError::Short { len: 0 });
-    same_outcome(&rt, arbitration.take(&rt, Some(Line::B), b""), Err(short));
-    arbitration.expect_lines(&rt, (2, 0, 4), (1, 1, 4));
-    arbitration.expect_lag(&rt, Line::B, 0);
     Ok(())
 }

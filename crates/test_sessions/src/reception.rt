@@ -1,0 +1,170 @@
+//! Packets of one session, and a receiver beside its batch: what tests of receivers and arbiters share.
+
+use crate::comparisons::{same_message, same_number};
+use mold_receiver::{Batch, Receiver, Refused, Taken};
+use mold_wire::Session;
+use std::alloc::Global;
+use std::process::Abort;
+use std::test::Fail;
+
+pub const SESSION: Session = Session(*b"SESSION001");
+
+/// Packets of messages by their numbers: message 1 is `A`, 2 is `B` and so on.
+pub const DATA_1: &[u8] = b"SESSION001\0\0\0\0\0\0\0\x01\0\x01\0\x01A";
+
+pub const DATA_2: &[u8] = b"SESSION001\0\0\0\0\0\0\0\x02\0\x01\0\x01B";
+
+pub const DATA_3: &[u8] = b"SESSION001\0\0\0\0\0\0\0\x03\0\x01\0\x01C";
+
+pub const DATA_1_2: &[u8] = b"SESSION001\0\0\0\0\0\0\0\x01\0\x02\0\x01A\0\x01B";
+
+pub const DATA_2_3: &[u8] = b"SESSION001\0\0\0\0\0\0\0\x02\0\x02\0\x01B\0\x01C";
+
+pub const DATA_1_3: &[u8] = b"SESSION001\0\0\0\0\0\0\0\x01\0\x03\0\x01A\0\x01B\0\x01C";
+
+/// Ends after 2 and 3 messages.
+pub const END_3: &[u8] = b"SESSION001\0\0\0\0\0\0\0\x03\xff\xff";
+
+pub const END_4: &[u8] = b"SESSION001\0\0\0\0\0\0\0\x04\xff\xff";
+
+pub fn same_maybe(rt: &impl Abort, found: Option<u64>, wanted: Option<u64>) {
+    assert_eq!(rt; found, wanted);
+}
+
+pub fn same_outcome(rt: &impl Abort, found: Result<Taken, Refused>, wanted: Result<Taken, Refused>) {
+    assert_eq!(rt; found, wanted);
+}
+
+pub fn handed_kept_beyond(counts: (u32, u32, u32)) -> Result<Taken, Refused> {
+    let (handed, kept, beyond) = counts;
+    Ok(Taken {
+        handed,
+        kept,
+        beyond,
+    })
+}
+
+pub fn expect_batch<'w, 'm>(rt: &impl Abort, batch: &Batch, first: u64, messages: &'w [&'m [u8]]) {
+    same_number(rt, batch.len() as u64, messages.len() as u64);
+    same_maybe(rt, batch.first(), Some(first));
+    same_maybe(rt, batch.after(), first.checked_add(messages.len() as u64));
+    let mut i = 0usize;
+    for message in messages {
+        same_message(rt, batch.get(i), Some(*message));
+        i = i.saturating_add(1);
+    }
+    same_message(rt, batch.get(i), None);
+}
+
+/// The batch has these messages, one after the other.
+pub fn expect_each<'w, 'm>(rt: &impl Abort, batch: &Batch, messages: &'w [&'m [u8]]) {
+    let mut i = 0usize;
+    for message in batch {
+        same_message(rt, Some(message), messages.get(i).copied());
+        i = i.saturating_add(1);
+    }
+    same_number(rt, i as u64, messages.len() as u64);
+}
+
+/// A receiver of the session, and the batch that it hands on to.
+#[derive(Drop)]
+pub struct Reception {
+    pub receiver: Receiver,
+    pub batch: Batch,
+}
+
+/// What a refusal leaves: `next`, `known`, how many are stored, the batch's length and first number.
+pub type State = (u64, u64, u32, usize, Option<u64>);
+
+impl Reception {
+    pub fn new(alloc: Global, next: u64, window: u32) -> Result<Reception, Fail> {
+        let receiver = Receiver::new(alloc, SESSION, next, window)?;
+        Ok(Reception::of(alloc, receiver))
+    }
+
+    pub fn of(alloc: Global, receiver: Receiver) -> Reception {
+        Reception {
+            receiver,
+            batch: Batch::new(alloc),
+        }
+    }
+
+    pub fn state(&self) -> State {
+        (
+            self.receiver.next(),
+            self.receiver.known(),
+            self.receiver.stored(),
+            self.batch.len(),
+            self.batch.first(),
+        )
+    }
+
+    pub fn expect_state(&self, rt: &impl Abort, wanted: State) {
+        assert_eq!(rt; self.state(), wanted);
+    }
+
+    pub fn take(&mut self, rt: &impl Abort, packet: &[u8]) -> Result<Taken, Refused> {
+        assert!(rt; self.batch.follows(self.receiver.next()));
+        self.receiver.take(packet, &mut self.batch)
+    }
+
+    pub fn expect_taken(&mut self, rt: &impl Abort, packet: &[u8], counts: (u32, u32, u32)) {
+        same_outcome(rt, self.take(rt, packet), handed_kept_beyond(counts));
+    }
+
+    pub fn expect_refused(&mut self, rt: &impl Abort, packet: &[u8], refused: Refused) {
+        let (before, ended) = (self.state(), self.receiver.ended());
+        same_outcome(rt, self.take(rt, packet), Err(refused));
+        self.expect_state(rt, before);
+        same_maybe(rt, self.receiver.ended(), ended);
+    }
+
+    /// Takes a packet, once more where memory was refused: receiver and batch were then in this state.
+    pub fn take_again(
+        &mut self,
+        rt: &impl Abort,
+        packet: &[u8],
+        counts: (u32, u32, u32),
+        state: State,
+    ) -> Result<(), Fail> {
+        let found = self.take(rt, packet);
+        if found != Err(Refused::Memory) {
+            same_outcome(rt, found, handed_kept_beyond(counts));
+            return Ok(());
+        }
+        self.expect_state(rt, state);
+        let again = self.take(rt, packet)?;
+        same_outcome(rt, Ok(again), handed_kept_beyond(counts));
+        Ok(())
+    }
+
+    pub fn expect_next(&self, rt: &impl Abort, wanted: u64) {
+        same_number(rt, self.receiver.next(), wanted);
+    }
+
+    pub fn expect_known(&self, rt: &impl Abort, wanted: u64) {
+        same_number(rt, self.receiver.known(), wanted);
+    }
+
+    pub fn expect_stored(&self, rt: &impl Abort, wanted: u32) {
+        same_number(rt, u64::from(self.receiver.stored()), u64::from(wanted));
+    }
+
+    pub fn expect_numbers(&self, rt: &impl Abort, next: u64, known: u64, stored: u32) {
+        self.expect_next(rt, next);
+        self.expect_known(rt, known);
+        self.expect_stored(rt, stored);
+    }
+
+    pub fn expect_wanted(&self, rt: &impl Abort, wanted: Option<(u64, u16)>) {
+        let request = self
+            .receiver
+            .wanted()
+            .map(|request| (request.sequence, request.count));
+        assert_eq!(rt; request, wanted);
+    }
+
+    pub fn expect_batch<'w, 'm>(&self, rt: &impl Abort, first: u64, messages: &'w [&'m [u8]]) {
+        expect_batch(rt, &self.batch, first, messages);
+    }
+}
