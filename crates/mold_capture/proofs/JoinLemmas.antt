@@ -5,7 +5,7 @@ use Rattle.std.specs.Prelude.{Option, Some, slice_get, unwrap_or}
 use Rattle.std.specs.FinMap as finite
 use Rattle.std.proofs.lemmas.Option.{none-some, same_Some}
 use Rattle.mold_wire.specs.Packet.{IsBody, messages_of, top_of}
-use Rattle.mold_wire.specs.Truth.{message_at, published_at, Carries, IsTrueBody, IsTrue}
+use Rattle.mold_wire.specs.Truth.{message_at, published_at, Carries, IsTrueBody, IsTruePacket}
 use Rattle.mold_wire.specs.declared.packet.Packet.{Packet}
 use Rattle.mold_wire.specs.declared.packet.Body.{Body}
 use Rattle.mold_wire.specs.declared.packet.Body.TheVariants.{Data, Heartbeat, End}
@@ -63,7 +63,7 @@ end_is End n number is = (refl, same_Some n number is)
 
 -- a packet that is true of a session which allows what was said may join it
 pub may_join : (seen : Seen) (packet : Packet) (session : List ℕ) (P : List (List ℕ)) → Allows seen session P →
-    packet.session.0 ≡ session → IsBody packet.body → IsTrue packet P true → MayJoin seen packet
+    packet.session.0 ≡ session → IsBody packet.body → IsTruePacket packet P true → MayJoin seen packet
 may_join seen packet session P allows named is_body truth =
     let n = packet.sequence in
     let top = true_top packet.body n P is_body truth.said in
@@ -82,7 +82,7 @@ may_join seen packet session P allows named is_body truth =
     }
 
 pub still_allowed : (seen : Seen) (packet : Packet) (session : List ℕ) (P : List (List ℕ)) → Allows seen session P →
-    packet.session.0 ≡ session → IsBody packet.body → IsTrue packet P true → Allows (joined seen packet) session P
+    packet.session.0 ≡ session → IsBody packet.body → IsTruePacket packet P true → Allows (joined seen packet) session P
 still_allowed seen packet session P allows named is_body truth =
     let n = packet.sequence in
     record {
@@ -162,7 +162,7 @@ was_said seen s n End session P may allows = (
 
 -- a session that allows what was said with the packet has said the packet
 pub was_true : (seen : Seen) (packet : Packet) (session : List ℕ) (P : List (List ℕ)) → MayJoin seen packet →
-    Allows (joined seen packet) session P → IsTrue packet P true
+    Allows (joined seen packet) session P → IsTruePacket packet P true
 was_true seen packet session P may allows =
     record {
       few = allows.few;

@@ -2,7 +2,7 @@
 use Rattle.std.specs.Prelude.{◌≡◌, ℕ, ◌<◌, ◌≤◌, List, length, true}
 use Rattle.std.specs.List.{All, Contains}
 use Rattle.mold_wire.specs.Packet.{Spells}
-use Rattle.mold_wire.specs.Truth.{Carries, IsTrue}
+use Rattle.mold_wire.specs.Truth.{Carries, IsTruePacket}
 use Rattle.mold_wire.specs.declared.packet.Packet.{Packet}
 use Rattle.mold_wire.specs.declared.packet.Body.TheVariants.{End}
 
@@ -12,7 +12,7 @@ pub record IsSaidBy (session : List ℕ) (messages : List (List ℕ)) (bytes : L
   pub packet : Packet
   pub spelled : Spells packet bytes
   pub named : packet.session.0 ≡ session
-  pub is_true : IsTrue packet messages true
+  pub is_true : IsTruePacket packet messages true
 
 -- the session with this name and these messages explains each datagram
 pub record Explains (session : List ℕ) (messages list : List (List ℕ)) : Type 0 where

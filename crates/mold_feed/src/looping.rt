@@ -48,7 +48,8 @@ fn print_last<K: Sink>(listener: &mut Listener, sink: &mut K) -> Result<u8, Comm
         (listener.old.report.outgoing.text ++ hearing_line (hearing listener.old.arbiter listener.old.report.outgoing))
         × (status ≡ hearing_status (hearing listener.old.arbiter listener.old.report.outgoing))) }
     ensures front { AppendsFront (K.held sink.old) (K.held sink.new)
-        (listener.old.report.outgoing.text ++ hearing_line (hearing listener.old.arbiter listener.old.report.outgoing)) }
+        (listener.old.report.outgoing.text
+        ++ hearing_line (hearing listener.old.arbiter listener.old.report.outgoing)) }
     ensures arbiter { listener.new.arbiter ≡ listener.old.arbiter }
     ensures sink { CountsSink (K.failed sink.old) (K.failed sink.new) result }
 {

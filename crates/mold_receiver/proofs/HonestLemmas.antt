@@ -7,7 +7,7 @@ use Rattle.std.proofs.lemmas.Bool.{true≢false, cases_lt, cond-true, cond-false
 use Rattle.std.proofs.lemmas.Option.{slice_get_within}
 use Rattle.mold_wire.specs.Packet.{messages_of, top_of}
 use Rattle.mold_wire.specs.Reading.{reading}
-use Rattle.mold_wire.specs.Truth.{Carries, IsTrue, IsTrueBody, message_at, published_at}
+use Rattle.mold_wire.specs.Truth.{Carries, IsTruePacket, IsTrueBody, message_at, published_at}
 use Rattle.mold_wire.specs.declared.packet.Packet.{Packet}
 use Rattle.mold_wire.specs.declared.packet.Body.{Body}
 use Rattle.mold_wire.specs.declared.packet.Body.TheVariants.{Data, Heartbeat, End}
@@ -56,7 +56,7 @@ true_ends End sequence published closed ended said ends end is = (said.0, sym (s
 
 -- a view that is honest meets no refusal of what is true
 pub refuses_nothing : Admits → (v : View) (p : Packet) (published : List Message) (closed : Bool) →
-    IsHonest v published closed → IsTold p published → p.session ≡ v.session → IsTrue p published closed
+    IsHonest v published closed → IsTold p published → p.session ≡ v.session → IsTruePacket p published closed
     → refusal v p ≡ None
 refuses_nothing admits v p published closed honest told same is_true =
     let top = told.top in
@@ -82,7 +82,7 @@ refuses_nothing admits v p published closed honest told same is_true =
 
 -- and is honest when it has taken it
 pub stays_honest : (v : View) (p : Packet) (published : List Message) (closed : Bool) →
-    IsHonest v published closed → IsTold p published → IsTrue p published closed
+    IsHonest v published closed → IsTold p published → IsTruePacket p published closed
     → refusal v p ≡ None → IsHonest (view_after v p) published closed
 stays_honest v p published closed honest told is_true none = record {
   well_formed = takes_well v p honest.well_formed none;
@@ -97,7 +97,7 @@ stays_honest v p published closed honest told is_true none = record {
 
 pub takes_honestly : Admits → (v : View) (p : Packet) (bytes : List ℕ) (published : List Message) (closed : Bool) →
     reading bytes ≡ Ok p → IsHonest v published closed → IsTold p published → p.session ≡ v.session →
-    IsTrue p published closed
+    IsTruePacket p published closed
     → IsTakenHonestly v bytes published closed
 takes_honestly admits v p bytes published closed read honest told same is_true =
     let none = refuses_nothing admits v p published closed honest told same is_true in

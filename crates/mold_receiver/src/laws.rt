@@ -11,7 +11,7 @@ ghost use Rattle.mold_wire.specs.declared.request.Request.{Request};
 ghost use Rattle.mold_wire.specs.declared.session.Session.{Session};
 ghost use Rattle.mold_rule.specs.declared.refusal.Refusal.TheVariants.{Memory};
 ghost use Rattle.mold_receiver.specs.Batch.{Handed, Follows, followed_by};
-ghost use Rattle.mold_wire.specs.Truth.{Carries, IsTrue};
+ghost use Rattle.mold_wire.specs.Truth.{Carries, IsTruePacket};
 ghost use Rattle.mold_receiver.specs.Honest.{IsHonest, IsTakenHonestly};
 ghost use Rattle.mold_receiver.specs.Receive.{IsTakenPacket, Reception, data_packet, handed_on, receive, view_after};
 ghost use Rattle.mold_receiver.specs.Store.{Message, available};
@@ -57,7 +57,7 @@ pub fn well_formed_law()
 pub fn honest_take_law()
     ensures { (v : View) (packet : Packet) (bytes : List ℕ) (published : List Message) (closed : Bool) →
         IsHonest v published closed → Spells packet bytes → packet.session ≡ v.session →
-        IsTrue packet published closed → IsTakenHonestly v bytes published closed }
+        IsTruePacket packet published closed → IsTakenHonestly v bytes published closed }
 {
     reading_law();
     true_packet_law();

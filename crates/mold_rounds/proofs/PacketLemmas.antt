@@ -20,7 +20,7 @@ use Rattle.mold_session.specs.Answer.{PlanState, IsSpent, SendsNext, moved, next
 use Rattle.mold_session.specs.Journal.{JournalState}
 use Rattle.mold_session.specs.Truthful.{TellsTruth}
 use Rattle.mold_wire.specs.Packet.{Spells}
-use Rattle.mold_wire.specs.Truth.{Carries, IsTrue, published_at}
+use Rattle.mold_wire.specs.Truth.{Carries, IsTruePacket, published_at}
 use Rattle.mold_wire.specs.declared.packet.Packet.{Packet}
 
 -- a plan that isn't spent has messages left
@@ -49,7 +49,7 @@ OnePacket = (one other : Packet) (bytes : List ℕ) → Spells one bytes → Spe
 
 abbrev pub CarriesPublished : Type 0
 CarriesPublished = (packet : Packet) (published : List Message) (closed : Bool) (number : ℕ) (message : Message) →
-    IsTrue packet published closed → Carries packet number message → published_at published number ≡ Some message
+    IsTruePacket packet published closed → Carries packet number message → published_at published number ≡ Some message
 
 pub comes : TakesInGap → OnePacket → CarriesPublished → (v : View) (journal : JournalState) (limit : ℕ)
     (plan : PlanState) (bytes : List ℕ) → Awaits v journal plan → (IsSpent plan → ⊥) →
@@ -62,8 +62,8 @@ comes takes one carries v journal limit plan bytes awaits more sends spelled tru
     λ i. data_packet (awaits.session i) (sym at.0 i) part
     in
     let here : Spells (data_packet v.session v.next part) bytes = subst (λ (p : Packet). Spells p bytes) same spelled in
-    let said : IsTrue (data_packet v.session v.next part) journal.messages journal.closed =
-    subst (λ (p : Packet). IsTrue p journal.messages journal.closed)
+    let said : IsTruePacket (data_packet v.session v.next part) journal.messages journal.closed =
+    subst (λ (p : Packet). IsTruePacket p journal.messages journal.closed)
     (one truth.packet (data_packet v.session v.next part) bytes truth.spelled here) truth.so
     in
     record {

@@ -6,7 +6,7 @@ use Rattle.std.proofs.lemmas.List.{take-append-drop}
 use Rattle.mold_wire.specs.declared.packet.Packet.{Packet}
 use Rattle.mold_wire.specs.declared.packet.Body.TheVariants.{Data, Heartbeat, End}
 use Rattle.mold_wire.specs.Packet.{Spells, messages_of}
-use Rattle.mold_wire.specs.Truth.{IsTrue}
+use Rattle.mold_wire.specs.Truth.{IsTruePacket}
 use Rattle.mold_session.proofs.AnswerLemmas.{is_part}
 use Rattle.mold_session.proofs.FrontLemmas.{FrontIs}
 use Rattle.mold_session.specs.Answer.{between, PlanState, IsPlan, next_part, next_packet}
@@ -20,7 +20,7 @@ abbrev pub Piece : Type 0
 Piece =
     (packet : Packet) (published behind : List (List ℕ)) (closed : Bool) →
     length published < 18446744073709551615 → 1 ≤ packet.sequence → packet.body ≡ Data (messages_of packet.body) →
-    drop (packet.sequence - 1) published ≡ messages_of packet.body ++ behind → IsTrue packet published closed
+    drop (packet.sequence - 1) published ≡ messages_of packet.body ++ behind → IsTruePacket packet published closed
 
 -- the datagram of a publisher's unsent messages
 pub datagram_true :

@@ -2,7 +2,7 @@
 use Rattle.std.specs.Prelude.{◌≡◌, ℕ, ◌+◌, ◌≤◌, List, length}
 use Rattle.mold_wire.specs.declared.packet.Packet.{Packet}
 use Rattle.mold_wire.specs.Packet.{Spells}
-use Rattle.mold_wire.specs.Truth.{IsTrue}
+use Rattle.mold_wire.specs.Truth.{IsTruePacket}
 use Rattle.mold_wire.specs.Packer.{IsLimit}
 use Rattle.mold_session.specs.Journal.{IsJournal, JournalState}
 
@@ -11,7 +11,7 @@ pub record TellsTruth (journal : JournalState) (bytes : List ℕ) : Type 0 where
   pub packet : Packet
   pub spelled : Spells packet bytes
   pub session : packet.session ≡ journal.session
-  pub so : IsTrue packet journal.messages journal.closed
+  pub so : IsTruePacket packet journal.messages journal.closed
 
 -- a journal that is answered from, and the limit
 pub record MayAnswer (journal : JournalState) (limit : ℕ) : Type 0 where

@@ -6,7 +6,7 @@ use Rattle.std.proofs.lemmas.Bool.{cond_both, cond-true, cond-false, cases_lt, l
 use Rattle.std.proofs.lemmas.Option.{none-some, slice_get_past, slice_get-get_or, slice_get_within, get_or_from_slice_get}
 use Rattle.std.proofs.lemmas.List.{same_lists, get_or_default, length-drop, get_or-drop, get_or-take, length-take-le}
 use Rattle.mold_wire.specs.Packet.{IsPacket, IsBody, messages_of, top_of}
-use Rattle.mold_wire.specs.Truth.{message_at, Carries, published_at, IsTrueBody, IsTrue}
+use Rattle.mold_wire.specs.Truth.{message_at, Carries, published_at, IsTrueBody, IsTruePacket}
 use Rattle.mold_wire.specs.declared.packet.Packet.{Packet}
 use Rattle.mold_wire.specs.declared.packet.Body.{Body}
 use Rattle.mold_wire.specs.declared.packet.Body.TheVariants.{Data, Heartbeat, End}
@@ -52,7 +52,7 @@ true_longer End sequence published message is = absurd (false≢true is.0)
 
 pub true_grows :
     (packet : Packet) (published : List (List ℕ)) (message : List ℕ) → length published < 18446744073709551614 →
-    IsTrue packet published false → IsTrue packet (published ++ message ∷ []) false
+    IsTruePacket packet published false → IsTruePacket packet (published ++ message ∷ []) false
 true_grows packet published message few is = record {
   few = omega (arith, few, length-append published (message ∷ []));
   said = true_longer packet.body packet.sequence published message is.said;
@@ -67,7 +67,7 @@ true_of_closed End sequence published is = absurd (false≢true is.0)
 
 -- what is true of an open session is true when it is closed
 pub true_closes :
-    (packet : Packet) (published : List (List ℕ)) → IsTrue packet published false → IsTrue packet published true
+    (packet : Packet) (published : List (List ℕ)) → IsTruePacket packet published false → IsTruePacket packet published true
 true_closes packet published is = record {
   few = is.few;
   said = true_of_closed packet.body packet.sequence published is.said;
@@ -107,7 +107,7 @@ top_within End sequence published closed is said = omega (arith, said.1)
 
 pub true_top :
     (packet : Packet) (published : List (List ℕ)) (closed : Bool) → IsPacket packet →
-    IsTrue packet published closed → top_of packet ≤ length published + 1
+    IsTruePacket packet published closed → top_of packet ≤ length published + 1
 true_top packet published closed is told =
     top_within packet.body packet.sequence published closed is.body told.said
 
@@ -133,7 +133,7 @@ piece_of End sequence published closed said within = refl
 -- so a true packet's messages are a piece of what was published
 pub true_messages :
     (packet : Packet) (published : List (List ℕ)) (closed : Bool) → IsPacket packet →
-    IsTrue packet published closed →
+    IsTruePacket packet published closed →
     messages_of packet.body ≡ take (length (messages_of packet.body)) (drop (packet.sequence - 1) published)
 true_messages packet published closed is told =
     piece_of packet.body packet.sequence published closed told.said (true_top packet published closed is told)
@@ -152,7 +152,7 @@ pub piece_is_true :
     (packet : Packet) (published behind : List (List ℕ)) (closed : Bool) →
     length published < 18446744073709551615 → 1 ≤ packet.sequence →
     packet.body ≡ Data (messages_of packet.body) →
-    drop (packet.sequence - 1) published ≡ messages_of packet.body ++ behind → IsTrue packet published closed
+    drop (packet.sequence - 1) published ≡ messages_of packet.body ++ behind → IsTruePacket packet published closed
 piece_is_true packet published behind closed few first carries parts = record {
   few = few;
   said = subst (λ (t : Body). IsTrueBody t packet.sequence published closed) (sym carries) (
@@ -192,6 +192,6 @@ carried_body End sequence published closed number message said at =
 
 pub true_carries :
     (packet : Packet) (published : List (List ℕ)) (closed : Bool) (number : ℕ) (message : List ℕ) →
-    IsTrue packet published closed → Carries packet number message → published_at published number ≡ Some message
+    IsTruePacket packet published closed → Carries packet number message → published_at published number ≡ Some message
 true_carries packet published closed number message told at =
     carried_body packet.body packet.sequence published closed number message told.said at

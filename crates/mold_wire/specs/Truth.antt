@@ -31,6 +31,6 @@ IsTrueBody Heartbeat sequence published closed = (1 ≤ sequence) × (sequence �
 IsTrueBody End sequence published closed = (closed ≡ true) × (sequence ≡ length published + 1)
 
 -- the packet is true of a session that has published these messages and is closed or not
-pub record IsTrue (packet : Packet) (published : List (List ℕ)) (closed : Bool) : Type 0 where
+pub record IsTruePacket (packet : Packet) (published : List (List ℕ)) (closed : Bool) : Type 0 where
   pub few : length published < 18446744073709551615
   pub said : IsTrueBody packet.body packet.sequence published closed

@@ -10,7 +10,7 @@ ghost use Rattle.mold_wire.specs.Packer.{HasRoom, Open};
 ghost use Rattle.mold_wire.specs.Packing.{packet_length, Fits, IsFront, front};
 ghost use Rattle.mold_wire.specs.Reading.{reading};
 ghost use Rattle.mold_wire.specs.Request.{IsRequest, SpellsRequest, RequestFaultAt, request_reading, request_spelling};
-ghost use Rattle.mold_wire.specs.Truth.{Carries, IsTrue, published_at};
+ghost use Rattle.mold_wire.specs.Truth.{Carries, IsTruePacket, published_at};
 ghost use Rattle.mold_wire.specs.declared.error.DecodeError.{DecodeError};
 ghost use Rattle.mold_wire.specs.declared.error.RequestError.{RequestError};
 ghost use Rattle.mold_wire.specs.declared.packet.Body.TheVariants.{Data};
@@ -121,10 +121,10 @@ pub fn front_law()
 /// behind it.
 pub fn true_stays_law()
     ensures published { (packet : Packet) (published : List (List ℕ)) (message : List ℕ) →
-        length published < 18446744073709551614 → IsTrue packet published false →
-        IsTrue packet (published ++ message ∷ []) false }
+        length published < 18446744073709551614 → IsTruePacket packet published false →
+        IsTruePacket packet (published ++ message ∷ []) false }
     ensures closed { (packet : Packet) (published : List (List ℕ)) →
-        IsTrue packet published false → IsTrue packet published true }
+        IsTruePacket packet published false → IsTruePacket packet published true }
     ensures message { (published behind : List (List ℕ)) (number : ℕ) (message : List ℕ) →
         published_at published number ≡ Some message →
         published_at (published ++ behind) number ≡ Some message }
@@ -135,16 +135,16 @@ pub fn true_stays_law()
 /// there is true.
 pub fn true_packet_law()
     ensures top { (packet : Packet) (published : List (List ℕ)) (closed : Bool) →
-        IsPacket packet → IsTrue packet published closed → top_of packet ≤ length published + 1 }
+        IsPacket packet → IsTruePacket packet published closed → top_of packet ≤ length published + 1 }
     ensures messages { (packet : Packet) (published : List (List ℕ)) (closed : Bool) →
-        IsPacket packet → IsTrue packet published closed → messages_of packet.body
+        IsPacket packet → IsTruePacket packet published closed → messages_of packet.body
         ≡ take (length (messages_of packet.body)) (drop (packet.sequence - 1) published) }
     ensures carried { (packet : Packet) (published : List (List ℕ)) (closed : Bool)
-        (number : ℕ) (message : List ℕ) → IsTrue packet published closed →
+        (number : ℕ) (message : List ℕ) → IsTruePacket packet published closed →
         Carries packet number message → published_at published number ≡ Some message }
     ensures piece { (packet : Packet) (published behind : List (List ℕ)) (closed : Bool) →
         length published < 18446744073709551615 → 1 ≤ packet.sequence →
         packet.body ≡ Data (messages_of packet.body) →
         drop (packet.sequence - 1) published ≡ messages_of packet.body ++ behind →
-        IsTrue packet published closed }
+        IsTruePacket packet published closed }
 {}

@@ -8,7 +8,7 @@ use Rattle.std.proofs.lemmas.Option.{none-some, same_Some}
 use Rattle.std.proofs.lemmas.List.{take-append-drop, take_all}
 use Rattle.mold_wire.specs.Packet.{messages_of, spelling_of, top_of}
 use Rattle.mold_wire.specs.Reading.{reading}
-use Rattle.mold_wire.specs.Truth.{IsTrue}
+use Rattle.mold_wire.specs.Truth.{IsTruePacket}
 use Rattle.mold_wire.specs.declared.error.DecodeError.{DecodeError}
 use Rattle.mold_wire.specs.declared.packet.Packet.{Packet}
 use Rattle.mold_wire.specs.declared.request.Request.{Request as Asked}
@@ -69,17 +69,17 @@ pub record SendingLaws : Type 0 where
       length publisher.journal.session.0 ≡ 10 → next_end publisher ≡ Some packet →
       TellsTruth publisher.journal (spelling_of packet)
   pub grows : (packet : Packet) (published : List (List ℕ)) (message : List ℕ) →
-      length published < 18446744073709551614 → IsTrue packet published false →
-      IsTrue packet (published ++ message ∷ []) false
-  pub closes : (packet : Packet) (published : List (List ℕ)) → IsTrue packet published false → IsTrue packet published true
+      length published < 18446744073709551614 → IsTruePacket packet published false →
+      IsTruePacket packet (published ++ message ∷ []) false
+  pub closes : (packet : Packet) (published : List (List ℕ)) → IsTruePacket packet published false → IsTruePacket packet published true
 
 -- a publisher with another journal of the same session, with messages that are as long: what was sent is true of
 -- it too, and receivers were told nothing else
 world_with_publisher :
     (w : WorldState) (new : PublisherState) → IsWorld w → IsPublisher new →
     new.journal.session ≡ w.publisher.journal.session → new.journal.max_message ≡ w.publisher.journal.max_message →
-    ((packet : Packet) → IsTrue packet w.publisher.journal.messages w.publisher.journal.closed →
-    IsTrue packet new.journal.messages new.journal.closed) →
+    ((packet : Packet) → IsTruePacket packet w.publisher.journal.messages w.publisher.journal.closed →
+    IsTruePacket packet new.journal.messages new.journal.closed) →
     ((place : PlaceState) → IsPlaceKept w.publisher.journal w.sent place → IsPlaceKept new.journal w.sent place) →
     IsWorld (record w { publisher = new })
 world_with_publisher w new is publisher named longest still kept = record {
@@ -110,14 +110,14 @@ world_published laws receivers w message is may =
     world_with_publisher w (published w.publisher message) is (laws.published w.publisher message is.publisher may)
     refl refl
     (λ packet so.
-    subst (λ (t : Bool). IsTrue packet (w.publisher.journal.messages ++ message ∷ []) t) (sym may.unclosed)
+    subst (λ (t : Bool). IsTruePacket packet (w.publisher.journal.messages ++ message ∷ []) t) (sym may.unclosed)
     (laws.grows packet w.publisher.journal.messages message (omega (arith, few, may.number))
-    (subst (λ (t : Bool). IsTrue packet w.publisher.journal.messages t) may.unclosed so)))
+    (subst (λ (t : Bool). IsTruePacket packet w.publisher.journal.messages t) may.unclosed so)))
     (λ place kept. place_published receivers w.publisher.journal w.sent message place may.unclosed kept)
 
 true_once_closed :
-    (laws : SendingLaws) (packet : Packet) (messages : List (List ℕ)) (closed : Bool) → IsTrue packet messages closed →
-    IsTrue packet messages true
+    (laws : SendingLaws) (packet : Packet) (messages : List (List ℕ)) (closed : Bool) → IsTruePacket packet messages closed →
+    IsTruePacket packet messages true
 true_once_closed laws packet messages true is = is
 true_once_closed laws packet messages false is = laws.closes packet messages is
 

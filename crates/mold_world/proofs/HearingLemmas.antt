@@ -7,7 +7,7 @@ use Rattle.std.proofs.lemmas.Slice.Eq.{bytes_eq-Decides}
 use Rattle.mold_wire.specs.Block.{IsBytes}
 use Rattle.mold_wire.specs.Packet.{Spells}
 use Rattle.mold_wire.specs.Reading.{reading}
-use Rattle.mold_wire.specs.Truth.{IsTrue}
+use Rattle.mold_wire.specs.Truth.{IsTruePacket}
 use Rattle.mold_wire.specs.declared.error.DecodeError.{DecodeError}
 use Rattle.mold_wire.specs.declared.packet.Packet.{Packet}
 use Rattle.mold_wire.specs.declared.session.Session.{Session}
@@ -36,7 +36,7 @@ use Rattle.mold_world.proofs.SettingLemmas.{map_set}
 abbrev pub TakesTruth : Type 0
 TakesTruth = (v : View) (packet : Packet) (bytes : List ℕ) (published : List (List ℕ)) (closed : Bool) →
     IsHonest v published closed → Spells packet bytes → packet.session ≡ v.session →
-    IsTrue packet published closed → IsTakenHonestly v bytes published closed
+    IsTruePacket packet published closed → IsTakenHonestly v bytes published closed
 
 -- a receiver of the world takes what was sent
 pub sent_taken :

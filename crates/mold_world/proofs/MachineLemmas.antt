@@ -6,7 +6,7 @@ use Rattle.std.proofs.lemmas.Bool.{cond_both, cond-true, le-leb, false≢true}
 use Rattle.std.proofs.lemmas.Option.{none-some, same_Some}
 use Rattle.std.proofs.lemmas.List.{append-nil, nil_from_length, take-append-drop}
 use Rattle.mold_wire.specs.Packet.{Spells}
-use Rattle.mold_wire.specs.Truth.{Carries, IsTrue, published_at}
+use Rattle.mold_wire.specs.Truth.{Carries, IsTruePacket, published_at}
 use Rattle.mold_wire.specs.declared.packet.Packet.{Packet}
 use Rattle.mold_wire.specs.declared.session.Session.{Session}
 use Rattle.mold_world.specs.Headline.{ArePublished, HandOn, HasAll, IsPrefix, all_handed, handed_from, handed_in}
@@ -18,11 +18,11 @@ use Rattle.mold_world.specs.Machine.Step.{Publish, Close, Send, Deliver, Restart
 pub record Laws : Type 0 where
   pub one_packet : (one other : Packet) (bytes : List ℕ) → Spells one bytes → Spells other bytes → one ≡ other
   pub grows : (packet : Packet) (published : List (List ℕ)) (message : List ℕ) →
-      length published < 18446744073709551614 → IsTrue packet published false →
-      IsTrue packet (published ++ message ∷ []) false
-  pub closes : (packet : Packet) (published : List (List ℕ)) → IsTrue packet published false → IsTrue packet published true
+      length published < 18446744073709551614 → IsTruePacket packet published false →
+      IsTruePacket packet (published ++ message ∷ []) false
+  pub closes : (packet : Packet) (published : List (List ℕ)) → IsTruePacket packet published false → IsTruePacket packet published true
   pub carried : (packet : Packet) (published : List (List ℕ)) (closed : Bool) (number : ℕ) (message : List ℕ) →
-      IsTrue packet published closed → Carries packet number message → published_at published number ≡ Some message
+      IsTruePacket packet published closed → Carries packet number message → published_at published number ≡ Some message
   pub keeps : (published behind : List (List ℕ)) (number : ℕ) (message : List ℕ) →
       published_at published number ≡ Some message → published_at (published ++ behind) number ≡ Some message
 
@@ -86,12 +86,12 @@ kept_published :
 kept_published laws machine message kept allowed = record {
   said = λ place bytes found.
       let said = kept.said place bytes found in
-      let open_now = subst (λ (t : Bool). IsTrue said.packet machine.published t) allowed.0 said.is_true in
+      let open_now = subst (λ (t : Bool). IsTruePacket said.packet machine.published t) allowed.0 said.is_true in
       record {
         packet = said.packet;
         spelled = said.spelled;
         named = said.named;
-        is_true = subst (λ (t : Bool). IsTrue said.packet (machine.published ++ message ∷ []) t) (sym allowed.0)
+        is_true = subst (λ (t : Bool). IsTruePacket said.packet (machine.published ++ message ∷ []) t) (sym allowed.0)
             (laws.grows said.packet machine.published message allowed.1 open_now);
       };
   books = λ receiver number other is.
@@ -100,8 +100,8 @@ kept_published laws machine message kept allowed = record {
 }
 
 true_once_closed :
-    (laws : Laws) (packet : Packet) (published : List (List ℕ)) (closed : Bool) → IsTrue packet published closed →
-    IsTrue packet published true
+    (laws : Laws) (packet : Packet) (published : List (List ℕ)) (closed : Bool) → IsTruePacket packet published closed →
+    IsTruePacket packet published true
 true_once_closed laws packet published true is = is
 true_once_closed laws packet published false is = laws.closes packet published is
 
@@ -157,7 +157,7 @@ end_is_true :
 end_is_true laws machine number kept sent =
     let said = kept.said sent.place sent.bytes sent.found in
     let same = laws.one_packet said.packet (end_packet machine.session number) sent.bytes said.spelled sent.spelled in
-    let told = subst (λ (t : Packet). IsTrue t machine.published machine.closed) same said.is_true in
+    let told = subst (λ (t : Packet). IsTruePacket t machine.published machine.closed) same said.is_true in
     told.said
 
 -- messages that are handed on

@@ -10,7 +10,7 @@ use Rattle.std.proofs.lemmas.Option.{none-some, same_Some, slice_get_past}
 use Rattle.std.proofs.lemmas.List.{append-nil, length-take, take_at, take-append-le}
 use Rattle.mold_wire.specs.Packet.{Spells}
 use Rattle.mold_wire.specs.Reading.{reading}
-use Rattle.mold_wire.specs.Truth.{Carries, IsTrue, published_at}
+use Rattle.mold_wire.specs.Truth.{Carries, IsTruePacket, published_at}
 use Rattle.mold_wire.specs.declared.packet.Packet.{Packet}
 use Rattle.mold_wire.specs.declared.packet.Body.{Body}
 use Rattle.mold_wire.specs.declared.packet.Body.TheVariants.{Data, Heartbeat, End}
@@ -36,7 +36,7 @@ use Rattle.mold_world.specs.declared.way.Way.TheVariants.{Answer, Line}
 pub record ReceiverLaws : Type 0 where
   pub take : (v : View) (packet : Packet) (bytes : List ℕ) (published : List (List ℕ)) (closed : Bool) →
       IsHonest v published closed → Spells packet bytes → packet.session ≡ v.session →
-      IsTrue packet published closed → IsTakenHonestly v bytes published closed
+      IsTruePacket packet published closed → IsTakenHonestly v bytes published closed
   pub taken : (v : View) (bytes : List ℕ) (r : Reception) → receive v bytes ≡ Ok r → IsTakenPacket v bytes r
   pub stored : (v : View) (p : Packet) (number : ℕ) (m : List ℕ) →
       finite.get (view_after v p).store number ≡ Some m → (finite.get v.store number ≡ Some m) ⊎ Carries p number m

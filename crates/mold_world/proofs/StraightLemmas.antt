@@ -8,7 +8,7 @@ use Rattle.std.proofs.lemmas.Bool.{cases_eq, eq-eqb, ne_eqb}
 use Rattle.std.proofs.lemmas.Option.{none-some, same_Some}
 use Rattle.mold_wire.specs.Packet.{Spells, spelling_of, top_of}
 use Rattle.mold_wire.specs.Reading.{reading}
-use Rattle.mold_wire.specs.Truth.{IsTrue}
+use Rattle.mold_wire.specs.Truth.{IsTruePacket}
 use Rattle.mold_wire.specs.declared.packet.Body.TheVariants.{Data}
 use Rattle.mold_wire.specs.declared.packet.Packet.{Packet}
 use Rattle.mold_receiver.specs.Honest.{IsHonest, IsTakenHonestly}
@@ -43,7 +43,7 @@ pub record StraightLaws : Type 0 where
       TellsTruth publisher.journal (spelling_of packet)
   pub take : (v : View) (packet : Packet) (bytes : List ℕ) (published : List (List ℕ)) (closed : Bool) →
       IsHonest v published closed → Spells packet bytes → packet.session ≡ v.session →
-      IsTrue packet published closed → IsTakenHonestly v bytes published closed
+      IsTruePacket packet published closed → IsTakenHonestly v bytes published closed
   pub taken : TakenLaw
   pub through : (v : View) (p : Packet) → IsWellFormed v → p.sequence ≤ v.next → top_of p ≤ (view_after v p).next
   pub read : (packet : Packet) (bytes : List ℕ) → Spells packet bytes → reading bytes ≡ Ok packet

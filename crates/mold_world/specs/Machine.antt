@@ -4,7 +4,7 @@
 use Rattle.std.specs.Prelude.{◌≡◌, ℕ, ◌+◌, ◌-◌, ◌<◌, ◌≤◌, List, [], ◌∷◌, ◌++◌, length, take, Some, Bool, true, false}
 use Rattle.std.specs.Prelude.{◌==◌, if◌then◌else◌, slice_get}
 use Rattle.mold_wire.specs.Packet.{Spells}
-use Rattle.mold_wire.specs.Truth.{Carries, IsTrue}
+use Rattle.mold_wire.specs.Truth.{Carries, IsTruePacket}
 use Rattle.mold_wire.specs.declared.packet.Packet.{Packet}
 use Rattle.mold_wire.specs.declared.packet.Body.TheVariants.{End}
 use Rattle.mold_wire.specs.declared.session.Session.{Session}
@@ -64,7 +64,7 @@ pub record IsSaid (machine : Machine) (bytes : List ℕ) : Type 0 where
   pub packet : Packet
   pub spelled : Spells packet bytes
   pub named : packet.session ≡ machine.session
-  pub is_true : IsTrue packet machine.published machine.closed
+  pub is_true : IsTruePacket packet machine.published machine.closed
 
 -- which steps may be made. A message is published while the session is open and has a number left;
 -- datagrams are sent by publisher and server alone, and say what is true; each message that is handed on

@@ -5,7 +5,7 @@ ghost use Rattle.mold_receiver.specs.Honest.{IsHonest, IsTakenHonestly};
 ghost use Rattle.mold_receiver.specs.View.{View};
 ghost use Rattle.mold_wire.specs.Block.{IsBytes};
 ghost use Rattle.mold_wire.specs.Packet.{Spells};
-ghost use Rattle.mold_wire.specs.Truth.{IsTrue};
+ghost use Rattle.mold_wire.specs.Truth.{IsTruePacket};
 ghost use Rattle.mold_wire.specs.declared.packet.Packet.{Packet};
 ghost use Rattle.mold_wire.specs.declared.session.Session.{Session};
 ghost use Rattle.mold_world.specs.Event.{Happening};
@@ -47,7 +47,7 @@ pub fn safety_law()
         HasAll (run (start session) steps) receiver }
     ensures honest { (view : View) (packet : Packet) (bytes : List ℕ) (published : List (List ℕ)) (closed : Bool) →
         IsHonest view published closed → Spells packet bytes → packet.session ≡ view.session →
-        IsTrue packet published closed → IsTakenHonestly view bytes published closed }
+        IsTruePacket packet published closed → IsTakenHonestly view bytes published closed }
 {
     honest_take_law();
     one_spelling_law();

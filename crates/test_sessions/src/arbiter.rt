@@ -1,7 +1,9 @@
 //! The arbiter's examples by their names, and what is left after a growth was refused.
 
 use crate::comparisons::same_number;
-use crate::reception::{DATA_1_3, DATA_2_3, END_4, SESSION, expect_batch, handed_kept_beyond, same_outcome};
+use crate::reception::{
+    DATA_1_3, DATA_2_3, END_4, SESSION, expect_batch, handed_kept_beyond, same_outcome,
+};
 use mold_receiver::{Arbiter, Batch, Line, LineReport, Receiver, Refused, Taken};
 use mold_wire::DecodeError;
 use std::alloc::Global;

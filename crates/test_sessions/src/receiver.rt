@@ -2,7 +2,10 @@
 //! was refused. `tests/growths` refuses each growth of the tests that are made for it.
 
 use crate::comparisons::{same_message, same_number, same_truth};
-use crate::reception::{DATA_1, DATA_2, DATA_3, DATA_1_2, DATA_2_3, DATA_1_3, END_3, END_4, SESSION, Reception, expect_each, same_maybe};
+use crate::reception::{
+    DATA_1, DATA_1_2, DATA_1_3, DATA_2, DATA_2_3, DATA_3, END_3, END_4, Reception, SESSION,
+    expect_each, same_maybe,
+};
 use mold_receiver::{Batch, Receiver, ReceiverError, Refused};
 use mold_wire::{DecodeError, Packer};
 use std::alloc::Global;

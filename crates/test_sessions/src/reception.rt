@@ -31,7 +31,11 @@ pub fn same_maybe(rt: &impl Abort, found: Option<u64>, wanted: Option<u64>) {
     assert_eq!(rt; found, wanted);
 }
 
-pub fn same_outcome(rt: &impl Abort, found: Result<Taken, Refused>, wanted: Result<Taken, Refused>) {
+pub fn same_outcome(
+    rt: &impl Abort,
+    found: Result<Taken, Refused>,
+    wanted: Result<Taken, Refused>,
+) {
     assert_eq!(rt; found, wanted);
 }
 

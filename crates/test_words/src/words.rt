@@ -174,8 +174,8 @@ fn listen_of(alloc: Global, line: &str) -> Result<ListenOrder, Fail> {
 
 #[test]
 fn words_of_listen(rt: HostRuntime) -> Result<(), Fail> {
-    let line =
-        "listen --session MKT --next 9223372036854775807 --window 4 --a 127.0.0.1:1 --b 127.0.0.1:2 --server 127.0.0.1:3 --burst 2 --turns 5";
+    let line = "listen --session MKT --next 9223372036854775807 --window 4 --a 127.0.0.1:1 \
+        --b 127.0.0.1:2 --server 127.0.0.1:3 --burst 2 --turns 5";
     let order = listen_of(rt.alloc(), line)?;
     let found = [
         order.next,
