@@ -5,7 +5,7 @@ ghost use Rattle.mold_commands.specs.Command.{IsStreamed};
 
 use crate::comparisons::{begins_with, same_bytes, same_number, same_outcome};
 use mold_commands::run_command;
-use mold_devices::{CommandFault, MemorySink, MemorySource};
+use mold_devices::{CommandFault, MemorySink, MemorySource, Sink, Source};
 use mold_words::Order;
 use std::process::Abort;
 use std::test::Fail;
