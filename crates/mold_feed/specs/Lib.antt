@@ -1,4 +1,5 @@
 pub mod Answering
+pub mod Heard
 pub mod Listening
 pub mod Looping
 pub mod Outgoing
@@ -6,6 +7,7 @@ pub mod Passing
 pub mod PublishLoop
 pub mod Repairing
 pub mod Runs
+pub mod Sent
 pub mod Serving
 pub mod Tally
 pub mod Text

@@ -5,6 +5,7 @@
 mod answering;
 mod handed;
 mod hearing;
+pub mod laws;
 mod listening;
 mod loop_parts;
 mod looping;

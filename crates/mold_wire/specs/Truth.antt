@@ -2,8 +2,9 @@
 use Rattle.std.specs.Prelude.{◌≡◌, ℕ, ◌+◌, ◌-◌, ◌<◌, ◌≤◌, List, length, Option, Some, None, Bool, true, nat_le}
 use Rattle.std.specs.Prelude.{if◌then◌else◌}
 use Rattle.std.specs.List.{slice_get}
-use Rattle.mold_wire.specs.Packet.{messages_of}
+use Rattle.mold_wire.specs.Packet.{Spells, messages_of}
 use Rattle.mold_wire.specs.declared.packet.Packet.{Packet}
+use Rattle.mold_wire.specs.declared.session.Session.{Session}
 use Rattle.mold_wire.specs.declared.packet.Body.{Body}
 use Rattle.mold_wire.specs.declared.packet.Body.TheVariants.{Data, Heartbeat, End}
 
@@ -34,3 +35,7 @@ IsTrueBody End sequence published closed = (closed ≡ true) × (sequence ≡ le
 pub record IsTruePacket (packet : Packet) (published : List (List ℕ)) (closed : Bool) : Type 0 where
   pub few : length published < 18446744073709551615
   pub said : IsTrueBody packet.body packet.sequence published closed
+
+-- the bytes spell no packet of the session
+abbrev pub AreStrange : Session → List ℕ → Type 0
+AreStrange session bytes = (packet : Packet) → Spells packet bytes → packet.session ≡ session → ⊥

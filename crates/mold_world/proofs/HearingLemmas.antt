@@ -23,7 +23,8 @@ use Rattle.mold_world.specs.Effect.{book_after, delivered, effect, given, is_own
 use Rattle.mold_world.specs.declared.event.EventOf.TheVariants.{Publish, Datagram, Heartbeat, Close, End}
 use Rattle.mold_world.specs.declared.event.EventOf.TheVariants.{Request, Ask, Deliver, Noise, Restart}
 use Rattle.mold_world.specs.HandOns.{handed_at, handed_by, handed_of, handed_of_noise}
-use Rattle.mold_world.specs.Hearing.{AreStrange, Hears, IsUnmoved, KeepsBooks, TellsRefused, TellsTaken}
+use Rattle.mold_wire.specs.Truth.{AreStrange}
+use Rattle.mold_world.specs.Hearing.{Hears, IsUnmoved, KeepsBooks, TellsRefused, TellsTaken}
 use Rattle.mold_world.specs.Kept.{IsWorld}
 use Rattle.mold_world.specs.World.{PlaceState, WorldState}
 use Rattle.mold_world.specs.declared.report.Report.{Report}

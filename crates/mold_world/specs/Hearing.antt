@@ -1,8 +1,5 @@
 -- What the receivers of a world do with what comes to them.
 use Rattle.std.specs.Prelude.{◌≡◌, ℕ, List, map, Err}
-use Rattle.mold_wire.specs.Packet.{Spells}
-use Rattle.mold_wire.specs.declared.packet.Packet.{Packet}
-use Rattle.mold_wire.specs.declared.session.Session.{Session}
 use Rattle.mold_receiver.specs.Receive.{receive}
 use Rattle.mold_rule.specs.declared.refusal.Refusal.{Refusal as Refused}
 use Rattle.mold_receiver.specs.declared.taken.Taken.{Taken}
@@ -14,10 +11,6 @@ use Rattle.mold_world.specs.World.{PlaceState, WorldState}
 use Rattle.mold_world.specs.declared.report.Report.{Report}
 use Rattle.mold_world.specs.declared.report.Report.TheVariants.{Delivered, NoiseRefused}
 use Rattle.mold_world.specs.declared.way.Way.{Way}
-
--- the bytes spell no packet of the session
-abbrev pub AreStrange : Session → List ℕ → Type 0
-AreStrange session bytes = (packet : Packet) → Spells packet bytes → packet.session ≡ session → ⊥
 
 -- a receiver refuses bytes that come on a line or as an answer, and its view and its book stay
 pub record IsUnmoved (place : PlaceState) (way : Way) (bytes : List ℕ) : Type 0 where

@@ -1,0 +1,152 @@
+-- From datagrams to lines: what a listener may be given, and what it prints of it.
+use Rattle.std.specs.Prelude.{◌≡◌, ◌⊎◌, ⊤, ℕ, zero, suc, ◌+◌, ◌≤◌, true, nat_le, ◌&&◌, if◌then◌else◌, List, [], ◌∷◌, ◌++◌}
+use Rattle.std.specs.Prelude.{codes, decimal, length, map, take, Option, Result, IfOk}
+use Rattle.std.specs.Io.KnownBytes.{Appends}
+use Rattle.std.specs.List.{AllByRecursion, flat_map}
+use Rattle.mold_devices.specs.Devices.{AppendsFront}
+use Rattle.mold_ports.specs.Ports.{Port, Receipt, Datagram, Quiet, Failure}
+use Rattle.mold_receiver.specs.Honest.{IsHonest}
+use Rattle.mold_receiver.specs.Store.{Message, numbered}
+use Rattle.mold_rule.specs.declared.refusal.Refusal.{Refusal as Refused}
+use Rattle.mold_session.specs.Answer.{between}
+use Rattle.mold_session.specs.Journal.{JournalState}
+use Rattle.mold_session.specs.Truthful.{TellsTruth}
+use Rattle.mold_text.specs.Line.{line_of}
+use Rattle.mold_text.specs.Text.{refusal_words, refused_line}
+use Rattle.mold_wire.specs.Block.{IsBytes}
+use Rattle.mold_wire.specs.Truth.{AreStrange}
+use Rattle.mold_wire.specs.declared.session.Session.{Session}
+use Rattle.mold_feed.specs.Listening.{Hearing, ListenerState, longest}
+use Rattle.mold_feed.specs.Sent.{IsSent}
+use Rattle.mold_feed.specs.Text.{finished_line, handed_line, open_line}
+
+-- bytes that spell no packet of the session
+abbrev pub IsStrange : Session → List ℕ → Type 0
+IsStrange session bytes = IsBytes bytes × AreStrange session bytes
+
+-- a datagram that is true of the session, or bytes that spell no packet of it
+abbrev pub IsHarmless : JournalState → List ℕ → Type 0
+IsHarmless journal bytes = TellsTruth journal bytes ⊎ IsStrange journal.session bytes
+
+-- what a listener of the session of these lines may be given: what the session's publisher and servers sent, and bytes
+-- that spell no packet of it
+abbrev pub IsFed : (P : Type 0) → JournalState → ℕ → List (List ℕ) → List ℕ → Type 0
+IsFed P journal limit lines bytes = IsSent P journal limit lines bytes ⊎ IsStrange journal.session bytes
+
+-- what a receive gives is such, as far as it is looked at
+abbrev pub Gives : {P : Type 0} → (List ℕ → Type 0) → Receipt P → Type 0
+Gives Good (Datagram from bytes) = Good (take longest bytes)
+Gives Good Quiet = ⊤
+Gives Good Failure = ⊤
+
+-- all that a port's receives give
+abbrev pub GivesOnly : {P : Type 0} → (List ℕ → Type 0) → Port P → Type 0
+GivesOnly Good port = AllByRecursion (Gives Good) port.comes
+
+-- all that a listener's three ports give
+pub record HearsOnly {P : Type 0} (Good : List ℕ → Type 0) (s : ListenerState P) : Type 0 where
+  pub a : GivesOnly Good s.a
+  pub b : GivesOnly Good s.b
+  pub requests : GivesOnly Good s.requests
+
+-- what a listener prints: a message that is handed on, with its number, or why it refuses some bytes
+pub data Saying : Type 0 where
+  Handed : ℕ → Message → Saying
+  Refuses : List ℕ → Refused → Saying
+
+abbrev pub saying_line : Saying → List ℕ
+saying_line (Handed number message) = handed_line number message
+saying_line (Refuses bytes why) = refused_line (refusal_words why)
+
+abbrev pub sayings_text : List Saying → List ℕ
+sayings_text sayings = flat_map saying_line sayings
+
+-- the messages that were handed on, with their numbers
+abbrev pub handed_of : List Saying → List (ℕ × Message)
+handed_of [] = []
+handed_of (Handed number message ∷ sayings) = (number, message) ∷ handed_of sayings
+handed_of (Refuses bytes why ∷ sayings) = handed_of sayings
+
+-- what is refused is none of the session's packets
+abbrev pub RefusesStrange : Session → Saying → Type 0
+RefusesStrange session (Handed number message) = ⊤
+RefusesStrange session (Refuses bytes why) = IsStrange session bytes
+
+-- What an honest listener of a session has come to, which began at the message `first`. Behind a text it printed lines
+-- of messages and lines of refusals; the messages have the numbers from `first` to below the next one, and are the
+-- published ones; only what is no packet of the session was refused; and it is honest.
+pub record HasListened (journal : JournalState) (first : ℕ) (before : List ℕ) (e : Hearing) : Type 0 where
+  pub sayings : List Saying
+  pub text : e.outgoing.text ≡ before ++ sayings_text sayings
+  pub refused : AllByRecursion (RefusesStrange journal.session) sayings
+  pub from : first ≤ e.arbitration.view.next
+  pub to : e.arbitration.view.next ≤ length journal.messages + 1
+  pub handed : handed_of sayings ≡ numbered first (between journal.messages first e.arbitration.view.next)
+  pub honest : IsHonest e.arbitration.view journal.messages journal.closed
+  pub session : e.arbitration.view.session ≡ journal.session
+
+-- the session's end is known and all before it was handed on: the session is closed, and it was all of it
+pub record HasFinished (journal : JournalState) (e : Hearing) : Type 0 where
+  pub closed : journal.closed ≡ true
+  pub all : e.arbitration.view.next ≡ length journal.messages + 1
+
+-- a hexadecimal digit as it is printed, in lower case
+abbrev pub lower_digit : ℕ → ℕ
+lower_digit digit = if nat_le 65 digit && nat_le digit 70 then digit + 32 else digit
+
+-- the digits of a published line as they are printed, `-` for none
+abbrev pub shown : List ℕ → List ℕ
+shown [] = codes "-"
+shown (digit ∷ digits) = map lower_digit (digit ∷ digits)
+
+-- published lines behind their numbers
+unfoldable pub lines_text : ℕ → List (List ℕ) → List ℕ
+lines_text number [] = []
+lines_text number (line ∷ lines) =
+    line_of (decimal number ∷ shown line ∷ []) ++ lines_text (number + 1) lines
+
+-- the last line that a listener prints with a status
+abbrev pub listened_line : ℕ → ℕ → ℕ → ℕ → List ℕ
+listened_line zero next known failures = finished_line next failures
+listened_line (suc status) next known failures = open_line next known failures
+
+-- What a listener printed that began at the line `first`: the published lines behind their numbers, from that one to
+-- below some line, and then its last line; with status 0 they are all from the first one on. After a fault a beginning
+-- of such a text is written.
+pub record PrintsLines {E : Type 0} (lines : List (List ℕ)) (first : ℕ) (result : Result ℕ E)
+    (old new : Option (List ℕ)) : Type 0 where
+  pub next : ℕ
+  pub status : ℕ
+  pub known : ℕ
+  pub failures : ℕ
+  pub from : first ≤ next
+  pub to : next ≤ length lines + 1
+  pub all : status ≡ 0 → next ≡ length lines + 1
+  pub text : IfOk result (λ answer. (answer ≡ status) × Appends old new
+      (lines_text first (between lines first next) ++ listened_line status next known failures))
+  pub front : AppendsFront old new
+      (lines_text first (between lines first next) ++ listened_line status next known failures)
+
+-- the lines of messages alone
+abbrev pub messages_text : List Saying → List ℕ
+messages_text [] = []
+messages_text (Handed number message ∷ sayings) = handed_line number message ++ messages_text sayings
+messages_text (Refuses bytes why ∷ sayings) = messages_text sayings
+
+-- the same where also bytes came that are none of the session's packets: what is printed between the lines of messages
+-- are refusals of these
+pub record PrintsAmong {E : Type 0} (session : Session) (lines : List (List ℕ)) (first : ℕ) (result : Result ℕ E)
+    (old new : Option (List ℕ)) : Type 0 where
+  pub next : ℕ
+  pub status : ℕ
+  pub known : ℕ
+  pub failures : ℕ
+  pub sayings : List Saying
+  pub refused : AllByRecursion (RefusesStrange session) sayings
+  pub messages : messages_text sayings ≡ lines_text first (between lines first next)
+  pub from : first ≤ next
+  pub to : next ≤ length lines + 1
+  pub all : status ≡ 0 → next ≡ length lines + 1
+  pub text : IfOk result (λ answer. (answer ≡ status) × Appends old new
+      (sayings_text sayings ++ listened_line status next known failures))
+  pub front : AppendsFront old new (sayings_text sayings ++ listened_line status next known failures)

@@ -1,0 +1,105 @@
+//! From the lines that are published to the lines that are heard: what holds of the definitions that the loops'
+//! contracts name. Each law is a function that does nothing: its contract is the law.
+
+ghost use Rattle.std.specs.Prelude.{◌≡◌, ◌+◌, ◌++◌, ◌≤◌, Bool, List, None, Option, Result, length, true, ℕ};
+ghost use Rattle.mold_devices.specs.declared.fault.CommandFault.{CommandFault};
+ghost use Rattle.mold_feed.specs.Heard.{HasFinished, HasListened, HearsOnly, IsFed, IsHarmless, PrintsAmong};
+ghost use Rattle.mold_feed.specs.Heard.{PrintsLines};
+ghost use Rattle.mold_feed.specs.Listening.{Agrees, ListenerState, beginning, is_finished, last_line, listening};
+ghost use Rattle.mold_feed.specs.Listening.{status};
+ghost use Rattle.mold_feed.specs.PublishLoop.{PublishRun, left_journal};
+ghost use Rattle.mold_feed.specs.Runs.{Ran, run};
+ghost use Rattle.mold_feed.specs.Sent.{AllSent, HasLines, IsOpening, IsSent};
+ghost use Rattle.mold_feed.specs.Serving.{ResponderState, Service, serving};
+ghost use Rattle.mold_feed.specs.Text.{handed_text};
+ghost use Rattle.mold_ports.specs.Ports.{Port};
+ghost use Rattle.mold_publish.specs.Publishing.{lines_published};
+ghost use Rattle.mold_receiver.specs.Arbiter.{Arbitration};
+ghost use Rattle.mold_receiver.specs.Honest.{IsHonest};
+ghost use Rattle.mold_receiver.specs.View.{fresh};
+ghost use Rattle.mold_session.specs.Answer.{between};
+ghost use Rattle.mold_session.specs.Journal.{JournalState};
+ghost use Rattle.mold_session.specs.Truthful.{MayAnswer, TellsTruth};
+
+use mold_ports::Datagrams;
+
+/// What publishing lines sends is true of the journal that is left, also where a line is refused and where the
+/// loop ended in a fault; so is all that a port has sent that sent nothing else. Where no line is refused, that
+/// journal is closed and has the messages of the lines; a server may answer from it.
+pub fn published_law<D: Datagrams>()
+    ensures sent { (a b : D.Peer) (beats ends limit : ℕ) (journal : JournalState) (lines : List (List ℕ))
+        (result : Result ℕ CommandFault) (before after : Port D.Peer)
+        (text_old text_new file_old file_new : Option (List ℕ)) → IsOpening journal limit →
+        PublishRun a b beats ends limit (lines_published journal lines) result before after
+        text_old text_new file_old file_new →
+        AllSent (TellsTruth (left_journal (lines_published journal lines))) before.sent →
+        AllSent (TellsTruth (left_journal (lines_published journal lines))) after.sent }
+    ensures lines { (limit : ℕ) (journal : JournalState) (lines : List (List ℕ)) → IsOpening journal limit →
+        (lines_published journal lines).refused ≡ None → HasLines lines (left_journal (lines_published journal lines)) }
+    ensures answers { (limit other : ℕ) (journal : JournalState) (lines : List (List ℕ)) → IsOpening journal limit →
+        limit ≤ other → other ≤ 65507 → MayAnswer (left_journal (lines_published journal lines)) other }
+{}
+
+/// What serving sends is true of the journal that is answered from, whatever is asked and whichever sends fail, and so
+/// is a beginning of it; so is all that a port has sent that sent nothing else.
+pub fn served_law<D: Datagrams>()
+    ensures { (service : Service) (choices : List (List Bool)) (start : ResponderState D.Peer) →
+        MayAnswer service.journal service.limit → AllSent (TellsTruth service.journal) start.port.sent →
+        AllSent (TellsTruth service.journal) (run (serving service) choices start).port.sent }
+{}
+
+/// A listener that is honest, and whose ports give only what is true of the session and what is no packet of it, stays
+/// so, for any burst, any number of turns and whichever sends fail. The messages that it prints have consecutive
+/// numbers from its next one on and are the published ones, and nothing that was true is refused; where all that came
+/// was true, it prints nothing else. Finished means that all to the session's end was printed.
+pub fn listened_law<D: Datagrams>()
+    ensures heard { (journal : JournalState) (server : D.Peer) (burst : ℕ) (choices : List Bool)
+        (start : ListenerState D.Peer) → IsHonest start.hearing.arbitration.view journal.messages journal.closed →
+        start.hearing.arbitration.view.session ≡ journal.session → HearsOnly (IsHarmless journal) start →
+        HasListened journal start.hearing.arbitration.view.next start.hearing.outgoing.text
+        (run (listening server burst) choices start).hearing }
+    ensures plain { (journal : JournalState) (server : D.Peer) (burst : ℕ) (choices : List Bool)
+        (start : ListenerState D.Peer) → IsHonest start.hearing.arbitration.view journal.messages journal.closed →
+        start.hearing.arbitration.view.session ≡ journal.session → HearsOnly (TellsTruth journal) start →
+        (run (listening server burst) choices start).hearing.outgoing.text
+        ≡ start.hearing.outgoing.text ++ handed_text start.hearing.arbitration.view.next
+        (between journal.messages start.hearing.arbitration.view.next
+        (run (listening server burst) choices start).hearing.arbitration.view.next) }
+    ensures finished { (journal : JournalState) (server : D.Peer) (burst : ℕ) (choices : List Bool)
+        (start : ListenerState D.Peer) → IsHonest start.hearing.arbitration.view journal.messages journal.closed →
+        start.hearing.arbitration.view.session ≡ journal.session → HearsOnly (IsHarmless journal) start →
+        is_finished (run (listening server burst) choices start).hearing ≡ true →
+        HasFinished journal (run (listening server burst) choices start).hearing }
+{}
+
+/// From the lines that are published to the lines that are heard. Lines are published into a session that begins, none
+/// of them refused; any number of servers answer from copies of the journal that is left; a listener begins at a
+/// message that was published or is next, and its ports give nothing else of the session than what these sent: each
+/// datagram any number of times, in any order, or never. Then it prints the published lines behind their numbers, from
+/// that one on, and with status 0 they are all of them. The same holds of the lines of messages that it prints where
+/// also bytes come that are no packets of the session.
+pub fn session_law<D: Datagrams>()
+    ensures printed { (limit first window turns burst : ℕ) (journal : JournalState) (lines : List (List ℕ))
+        (server : D.Peer) (a b requests : Port D.Peer) (arbitration : Arbitration)
+        (a_left b_left requests_left : Port D.Peer) (left : Arbitration) (result : Result ℕ CommandFault)
+        (old new : Option (List ℕ)) (sent : List (D.Peer × List ℕ)) → IsOpening journal limit →
+        (lines_published journal lines).refused ≡ None →
+        1 ≤ first → first ≤ length lines + 1 → arbitration.view ≡ fresh journal.session first window →
+        HearsOnly (IsSent D.Peer journal limit lines) (beginning a b requests arbitration) →
+        Ran (listening server burst) turns (beginning a b requests arbitration) last_line status
+        (Agrees a_left b_left requests_left left) result old new sent → PrintsLines lines first result old new }
+    ensures among { (limit first window turns burst : ℕ) (journal : JournalState) (lines : List (List ℕ))
+        (server : D.Peer) (a b requests : Port D.Peer) (arbitration : Arbitration)
+        (a_left b_left requests_left : Port D.Peer) (left : Arbitration) (result : Result ℕ CommandFault)
+        (old new : Option (List ℕ)) (sent : List (D.Peer × List ℕ)) → IsOpening journal limit →
+        (lines_published journal lines).refused ≡ None →
+        1 ≤ first → first ≤ length lines + 1 → arbitration.view ≡ fresh journal.session first window →
+        HearsOnly (IsFed D.Peer journal limit lines) (beginning a b requests arbitration) →
+        Ran (listening server burst) turns (beginning a b requests arbitration) last_line status
+        (Agrees a_left b_left requests_left left) result old new sent →
+        PrintsAmong journal.session lines first result old new }
+{
+    published_law::<D>();
+    served_law::<D>();
+    listened_law::<D>();
+}
