@@ -10,9 +10,11 @@ pub mod OutgoingLemmas
 pub mod PassingLemmas
 pub mod PrintingLemmas
 pub mod PublishLoopLemmas
+pub mod PublishedLemmas
 pub mod RepairLemmas
 pub mod RunLemmas
 pub mod SendingLemmas
+pub mod SentLemmas
 pub mod ServingLemmas
 pub mod TurnLemmas
 pub mod WritingLemmas

@@ -22,6 +22,7 @@ ghost use Rattle.mold_session.specs.Journal.{JournalState};
 ghost use Rattle.mold_session.specs.Truthful.{MayAnswer, TellsTruth};
 
 use mold_ports::Datagrams;
+use mold_session::laws::{publisher_law, sending_law};
 
 /// What publishing lines sends is true of the journal that is left, also where a line is refused and where the
 /// loop ended in a fault; so is all that a port has sent that sent nothing else. Where no line is refused, that
@@ -38,7 +39,10 @@ pub fn published_law<D: Datagrams>()
         (lines_published journal lines).refused ≡ None → HasLines lines (left_journal (lines_published journal lines)) }
     ensures answers { (limit other : ℕ) (journal : JournalState) (lines : List (List ℕ)) → IsOpening journal limit →
         limit ≤ other → other ≤ 65507 → MayAnswer (left_journal (lines_published journal lines)) other }
-{}
+{
+    publisher_law();
+    sending_law();
+}
 
 /// What serving sends is true of the journal that is answered from, whatever is asked and whichever sends fail, and so
 /// is a beginning of it; so is all that a port has sent that sent nothing else.

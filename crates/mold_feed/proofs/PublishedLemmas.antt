@@ -1,0 +1,286 @@
+-- What publishing lines sends is true of the journal that is left.
+use Rattle.std.proofs.Common.{◌≡◌, ℕ, zero, suc, ◌+◌, ◌-◌, ◌≤◌, true, List, [], ◌∷◌, ◌++◌, length, take, map, replicate}
+use Rattle.std.proofs.Common.{Option, None, Some, Result, Ok, Err, refl, sym, ap, subst, ◌∙◌, append_assoc, append-nil}
+use Rattle.std.proofs.Common.{arith}
+use Rattle.std.specs.Prelude.{slice_get}
+use Rattle.std.specs.List.{AllByRecursion}
+use Rattle.std.proofs.lemmas.List.{map-append, take_all}
+use Rattle.std.proofs.lemmas.Option.{none-some}
+use Rattle.hex.specs.Hex.{decode_of}
+use Rattle.hex.specs.declared.error.FromHexError.{FromHexError}
+use Rattle.mold_devices.specs.declared.fault.CommandFault.{CommandFault}
+use Rattle.mold_ports.specs.Ports.{Port}
+use Rattle.mold_wire.specs.Packet.{spelling_of}
+use Rattle.mold_wire.specs.declared.packet.Packet.{Packet}
+use Rattle.mold_wire.specs.declared.session.Session.{Session}
+use Rattle.mold_session.specs.Answer.{IsPlan, PlanState, planned}
+use Rattle.mold_session.specs.Datagrams.{packing}
+use Rattle.mold_session.specs.Journal.{IsWithin, JournalState, append_refusal, appended}
+use Rattle.mold_session.specs.Publisher.{IsPublisher, MayPublish, PublisherState, published}
+use Rattle.mold_session.specs.Truthful.{MayAnswer, TellsTruth}
+use Rattle.mold_session.specs.declared.error.AppendError.{AppendError}
+use Rattle.mold_publish.specs.Publishing.{PublishedLines, line_outcome, lines_published, published_from, unless_refused}
+use Rattle.mold_publish.specs.Sending.{all_but_last, end_packet, packets_behind}
+use Rattle.mold_publish.specs.declared.line_refusal.LineRefusal.{LineRefusal}
+use Rattle.mold_publish.specs.declared.line_refusal.LineRefusal.TheVariants.{NotHex, NotTaken}
+use Rattle.mold_publish.proofs.DatagramLemmas.{grown}
+use Rattle.mold_feed.specs.Outgoing.{nothing_out}
+use Rattle.mold_feed.specs.PublishLoop.{PublicationState, PublishRun, Sends, all_datagrams, beat_packet, both}
+use Rattle.mold_feed.specs.PublishLoop.{close_datagrams, closed_unless, left_journal, offer, publication_of}
+use Rattle.mold_feed.specs.Sent.{AllSent, HasLines, IsOpening}
+use Rattle.mold_feed.proofs.SentLemmas.{each_append, sent_front, sent_offered}
+
+-- what the session's laws say
+pub record PublishedLaws : Type 0 where
+  pub may : (publisher : PublisherState) (message : List ℕ) →
+      append_refusal publisher.journal message ≡ None → MayPublish publisher message
+  pub stays : (publisher : PublisherState) (message : List ℕ) → IsPublisher publisher →
+      MayPublish publisher message → IsPublisher (published publisher message)
+  pub told : (journal : JournalState) (limit : ℕ) (plan : PlanState) (place : ℕ) (packet : Packet) →
+      MayAnswer journal limit → IsPlan plan → plan.to ≤ length journal.messages + 1 →
+      plan.session ≡ journal.session → slice_get (planned journal.messages limit plan) place ≡ Some packet →
+      TellsTruth journal (spelling_of packet)
+
+-- ---- the lines
+
+-- a publisher of the journal, before its first datagram
+abbrev publisher_of : JournalState → ℕ → PublisherState
+publisher_of journal limit = record { journal = journal; limit = limit; sent = 0 }
+
+-- messages, as what lines of digits may spell
+abbrev as_spelled : List (List ℕ) → List (Result (List ℕ) FromHexError)
+as_spelled messages = map Ok messages
+
+-- lines were published: a publisher of the journal stays one, and where none is refused, their messages are behind
+-- those that it had
+record HasTaken (limit : ℕ) (journal : JournalState) (lines : List (List ℕ)) (after : PublishedLines) : Type 0 where
+  pub is : IsPublisher (publisher_of after.journal limit)
+  pub spelled : after.refused ≡ None →
+      as_spelled journal.messages ++ map decode_of lines ≡ as_spelled after.journal.messages
+
+module _ (laws : PublishedLaws) (limit : ℕ) where
+  -- a line more, whose message is taken or refused
+  message_taken : (journal : JournalState) (line : List ℕ) (lines : List (List ℕ)) (message : List ℕ)
+      (refusal : Option AppendError) (behind : JournalState → PublishedLines) → IsPublisher (publisher_of journal limit) →
+      decode_of line ≡ Ok message → append_refusal journal message ≡ refusal →
+      ((next : JournalState) → IsPublisher (publisher_of next limit) → HasTaken limit next lines (behind next)) →
+      HasTaken limit journal (line ∷ lines) (published_from journal (unless_refused message refusal) behind)
+  message_taken journal line lines message None behind is digits none each =
+      let publisher = publisher_of journal limit in
+      let rest = each (appended journal message) (laws.stays publisher message is (laws.may publisher message none)) in
+      record {
+        is = rest.is;
+        spelled = λ whole.
+            ap (λ (one : Result (List ℕ) FromHexError). as_spelled journal.messages ++ one ∷ map decode_of lines) digits
+            ∙ sym (append_assoc (as_spelled journal.messages) (Ok message ∷ []) (map decode_of lines))
+            ∙ ap (λ (front : List (Result (List ℕ) FromHexError)). front ++ map decode_of lines)
+            (sym (map-append Ok journal.messages (message ∷ [])))
+            ∙ rest.spelled whole;
+      }
+  message_taken journal line lines message (Some why) behind is digits refused each =
+      record { is = is; spelled = λ whole. absurd (none-some (NotTaken why) (sym whole)) }
+
+  -- a line more, whose digits spell a message or none
+  line_taken : (journal : JournalState) (line : List ℕ) (lines : List (List ℕ))
+      (digits : Result (List ℕ) FromHexError) (behind : JournalState → PublishedLines) →
+      IsPublisher (publisher_of journal limit) → decode_of line ≡ digits →
+      ((next : JournalState) → IsPublisher (publisher_of next limit) → HasTaken limit next lines (behind next)) →
+      HasTaken limit journal (line ∷ lines) (published_from journal (line_outcome journal digits) behind)
+  line_taken journal line lines (Ok message) behind is digits each =
+      message_taken journal line lines message (append_refusal journal message) behind is digits refl each
+  line_taken journal line lines (Err _) behind is digits each =
+      record { is = is; spelled = λ whole. absurd (none-some NotHex (sym whole)) }
+
+  -- all lines
+  lines_taken : (lines : List (List ℕ)) (journal : JournalState) → IsPublisher (publisher_of journal limit) →
+      HasTaken limit journal lines (lines_published journal lines)
+  unfolding lines_published
+  lines_taken [] journal is = record { is = is; spelled = λ whole. append-nil (as_spelled journal.messages) }
+  lines_taken (line ∷ lines) journal is =
+      line_taken journal line lines (decode_of line) (λ next. lines_published next lines) is refl (lines_taken lines)
+
+-- a session that begins has a publisher
+opening_is : (journal : JournalState) (limit : ℕ) → IsOpening journal limit → IsPublisher (publisher_of journal limit)
+opening_is journal limit is =
+    let none : length journal.messages ≡ 0 = ap (λ (messages : List (List ℕ)). length messages) is.empty in
+    record {
+      limited = is.limited;
+      longest = is.longest;
+      journaled = record {
+        few = omega (arith, none);
+        each = subst (λ (messages : List (List ℕ)). AllByRecursion (IsWithin journal.max_message) messages)
+            (sym is.empty) tt;
+      };
+      published = omega arith;
+      finished = λ closed. sym none;
+    }
+
+-- so the lines' messages are those of the journal that is left
+pub lines_spelled : (laws : PublishedLaws) (limit : ℕ) (journal : JournalState) (lines : List (List ℕ)) →
+    IsOpening journal limit → (lines_published journal lines).refused ≡ None →
+    HasLines lines (left_journal (lines_published journal lines))
+lines_spelled laws limit journal lines is whole =
+    let after = lines_published journal lines in
+    let taken = lines_taken laws limit lines journal (opening_is journal limit is) in
+    subst (λ (refused : Option LineRefusal). HasLines lines (closed_unless refused after.journal)) (sym whole)
+    (record {
+      closed = refl;
+      spelled =
+          ap (λ (messages : List (List ℕ)). as_spelled messages ++ map decode_of lines) (sym is.empty)
+          ∙ taken.spelled whole;
+    })
+
+-- ---- a server may answer from it
+
+-- closed or not, a journal may be answered from
+left_may : (refused : Option LineRefusal) (journal : JournalState) (limit : ℕ) → MayAnswer journal limit →
+    MayAnswer (closed_unless refused journal) limit
+left_may None journal limit may = record {
+  journaled = may.journaled;
+  named = may.named;
+  limited = may.limited;
+  room = may.room;
+}
+left_may (Some why) journal limit may = may
+
+taken_may : (laws : PublishedLaws) (limit other : ℕ) (journal : JournalState) (lines : List (List ℕ)) →
+    IsOpening journal limit → limit ≤ other → other ≤ 65507 → MayAnswer (lines_published journal lines).journal other
+taken_may laws limit other journal lines is least most =
+    let taken = lines_taken laws limit lines journal (opening_is journal limit is) in
+    record {
+      journaled = taken.is.journaled;
+      named = subst (λ (session : Session). length session.0 ≡ 10) (sym (grown lines journal).session) is.named;
+      limited = (omega (arith, is.limited.0, least), most);
+      room = omega (arith, taken.is.longest, least);
+    }
+
+pub published_may : (laws : PublishedLaws) (limit other : ℕ) (journal : JournalState) (lines : List (List ℕ)) →
+    IsOpening journal limit → limit ≤ other → other ≤ 65507 →
+    MayAnswer (left_journal (lines_published journal lines)) other
+published_may laws limit other journal lines is least most =
+    let after = lines_published journal lines in
+    left_may after.refused after.journal other (taken_may laws limit other journal lines is least most)
+
+-- ---- its datagrams are true
+
+-- what holds of the datagram of the packet in each place holds of all
+each_told : (Good : List ℕ → Type 0) (packets : List Packet) →
+    ((place : ℕ) (packet : Packet) → slice_get packets place ≡ Some packet → Good (spelling_of packet)) →
+    AllByRecursion Good (map spelling_of packets)
+each_told Good [] told = tt
+each_told Good (packet ∷ packets) told =
+    (told zero packet refl, each_told Good packets (λ place. told (suc place)))
+
+-- the data packets of all messages are what a plan sends of them
+whole_plan : ℕ → JournalState → PlanState
+whole_plan limit journal = record {
+  session = journal.session;
+  from = 1;
+  to = length journal.messages + 1;
+  left = length (packets_behind limit 0 journal);
+}
+
+all_planned : (limit : ℕ) (journal : JournalState) →
+    planned journal.messages limit (whole_plan limit journal) ≡ packets_behind limit 0 journal
+unfolding whole_plan
+all_planned limit journal =
+    let packets = packets_behind limit 0 journal in
+    ap (λ (messages : List (List ℕ)). take (length packets) (packing limit journal.session 1 messages))
+    (take_all (length journal.messages + 1 - 1) journal.messages (omega arith))
+    ∙ take_all (length packets) packets (omega arith)
+
+data_true : (laws : PublishedLaws) (limit : ℕ) (journal : JournalState) → MayAnswer journal limit →
+    AllByRecursion (TellsTruth journal) (map spelling_of (packets_behind limit 0 journal))
+unfolding whole_plan
+data_true laws limit journal may =
+    each_told (TellsTruth journal) (packets_behind limit 0 journal)
+    (λ place packet found.
+    laws.told journal limit (whole_plan limit journal) place packet may (omega arith, omega arith) (omega arith) refl
+    (ap (λ (packets : List Packet). slice_get packets place) (all_planned limit journal) ∙ found))
+
+-- and where the last one is left out
+without_last : (Good : List ℕ → Type 0) (packets : List Packet) → AllByRecursion Good (map spelling_of packets) →
+    AllByRecursion Good (map spelling_of (all_but_last packets))
+unfolding all_but_last
+without_last Good [] each = tt
+without_last Good (packet ∷ []) each = tt
+without_last Good (packet ∷ (next ∷ packets)) each = (each.0, without_last Good (next ∷ packets) each.1)
+
+each_replicated : {X : Type 0} (Good : X → Type 0) (count : ℕ) (x : X) → Good x →
+    AllByRecursion Good (replicate count x)
+each_replicated Good zero x one = tt
+each_replicated Good (suc count) x one = (one, each_replicated Good count x one)
+
+-- heartbeats and end packets
+beat_true : (limit : ℕ) (journal : JournalState) → MayAnswer journal limit →
+    TellsTruth journal (spelling_of (beat_packet journal))
+beat_true limit journal may = record {
+  packet = beat_packet journal;
+  spelled = record {
+    is_packet = record { session = may.named; sequence = omega (arith, may.journaled.few); body = tt };
+    spelled = refl;
+  };
+  session = refl;
+  so = record { few = may.journaled.few; said = (omega arith, omega arith) };
+}
+
+end_true : (limit : ℕ) (journal : JournalState) → MayAnswer journal limit → journal.closed ≡ true →
+    TellsTruth journal (spelling_of (end_packet journal))
+end_true limit journal may closed = record {
+  packet = end_packet journal;
+  spelled = record {
+    is_packet = record { session = may.named; sequence = omega (arith, may.journaled.few); body = tt };
+    spelled = refl;
+  };
+  session = refl;
+  so = record { few = may.journaled.few; said = (closed, refl) };
+}
+
+-- all datagrams, as a line is refused or none is
+all_true : (laws : PublishedLaws) (limit beats ends : ℕ) (refused : Option LineRefusal) (journal : JournalState) →
+    MayAnswer journal limit → AllByRecursion (TellsTruth (closed_unless refused journal))
+    (all_datagrams limit beats ends (record { journal = journal; refused = refused }))
+all_true laws limit beats ends None journal may =
+    let left : JournalState = record journal { closed = true } in
+    let shut : MayAnswer left limit = left_may None journal limit may in
+    each_append (TellsTruth left) (map spelling_of (packets_behind limit 0 left)) (close_datagrams beats ends left)
+    (data_true laws limit left shut)
+    (each_append (TellsTruth left) (replicate beats (spelling_of (beat_packet left)))
+    (replicate ends (spelling_of (end_packet left)))
+    (each_replicated (TellsTruth left) beats (spelling_of (beat_packet left)) (beat_true limit left shut))
+    (each_replicated (TellsTruth left) ends (spelling_of (end_packet left)) (end_true limit left shut refl)))
+all_true laws limit beats ends (Some why) journal may =
+    each_append (TellsTruth journal) (map spelling_of (all_but_last (packets_behind limit 0 journal))) []
+    (without_last (TellsTruth journal) (packets_behind limit 0 journal) (data_true laws limit journal may)) tt
+
+-- ---- what was sent of them
+
+each_both : {P : Type 0} (Good : List ℕ → Type 0) (a b : P) (datagrams : List (List ℕ)) →
+    AllByRecursion Good datagrams → AllSent Good (both a b datagrams)
+each_both Good a b [] each = tt
+each_both Good a b (datagram ∷ datagrams) each = (each.0, (each.0, each_both Good a b datagrams each.1))
+
+-- all that are offered were sent or failed
+sends_true : {P : Type 0} (Good : List ℕ → Type 0) (letters : List (P × List ℕ)) (old new : PublicationState P) →
+    Sends letters old new → AllSent Good old.port.sent → AllSent Good letters → AllSent Good new.port.sent
+sends_true {P} Good [] old new same had each =
+    subst (λ (publication : PublicationState P). AllSent Good publication.port.sent) (sym same) had
+sends_true Good (letter ∷ letters) old new sends had each =
+    sends_true Good letters (offer sends.0 letter.0 letter.1 old) new sends.1
+    (sent_offered Good sends.0 letter.0 letter.1 old.port had each.0) each.1
+
+pub published_true : {P : Type 0} (laws : PublishedLaws) (a b : P) (beats ends limit : ℕ) (journal : JournalState)
+    (lines : List (List ℕ)) (result : Result ℕ CommandFault) (before after : Port P)
+    (text_old text_new file_old file_new : Option (List ℕ)) → IsOpening journal limit →
+    PublishRun a b beats ends limit (lines_published journal lines) result before after text_old text_new file_old
+    file_new →
+    AllSent (TellsTruth (left_journal (lines_published journal lines))) before.sent →
+    AllSent (TellsTruth (left_journal (lines_published journal lines))) after.sent
+published_true laws a b beats ends limit journal lines result before after text_old text_new file_old file_new is run had =
+    let published = lines_published journal lines in
+    let Good : List ℕ → Type 0 = TellsTruth (left_journal published) in
+    let datagrams = all_datagrams limit beats ends published in
+    let may = taken_may laws limit limit journal lines is (omega arith) is.limited.1 in
+    sent_front Good after.sent run.end.port.sent run.sent_front
+    (sends_true Good (both a b datagrams) (publication_of before nothing_out) run.end run.sends had
+    (each_both Good a b datagrams (all_true laws limit beats ends published.refused published.journal may)))

@@ -1,0 +1,18 @@
+use Rattle.mold_feed.proofs.PublishedLemmas.{PublishedLaws, lines_spelled, published_may, published_true}
+use Rattle.mold_feed.proofs.laws.published_law.Given.{Over}
+use Rattle.mold_feed.proofs.laws.published_law.Goals.{After-sending_law}
+use Rattle.mold_feed.proofs.laws.published_law.Goals as goal
+
+laws : (g : Over) → After-sending_law g → PublishedLaws
+laws g c = record {
+  may = c.publisher_law.ensures.may;
+  stays = c.publisher_law.ensures.published;
+  told = c.sending_law.ensures.planned;
+}
+
+pub returns : goal.returns
+returns g c = record {
+  sent = published_true (laws g c);
+  lines = lines_spelled (laws g c);
+  answers = published_may (laws g c);
+}
