@@ -13,6 +13,7 @@ pub mod PublishLoopLemmas
 pub mod RepairLemmas
 pub mod RunLemmas
 pub mod SendingLemmas
+pub mod ServedLemmas
 pub mod ServingLemmas
 pub mod TurnLemmas
 pub mod WritingLemmas
