@@ -3,6 +3,8 @@ pub mod FaultLemmas
 pub mod HandedLemmas
 pub mod HeardLemmas
 pub mod HearsLemmas
+pub mod LinesPrintedLemmas
+pub mod LinesTextLemmas
 pub mod ListenLemmas
 pub mod LoopEndLemmas
 pub mod LoopLemmas
