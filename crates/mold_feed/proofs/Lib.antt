@@ -3,6 +3,8 @@ pub mod FaultLemmas
 pub mod HandedLemmas
 pub mod HeardLemmas
 pub mod HearsLemmas
+pub mod LinesPrintedLemmas
+pub mod LinesTextLemmas
 pub mod ListenLemmas
 pub mod LoopEndLemmas
 pub mod LoopLemmas
@@ -15,6 +17,7 @@ pub mod RepairLemmas
 pub mod RunLemmas
 pub mod SendingLemmas
 pub mod SentLemmas
+pub mod ServedLemmas
 pub mod ServingLemmas
 pub mod TurnLemmas
 pub mod WritingLemmas

@@ -22,7 +22,7 @@ ghost use Rattle.mold_session.specs.Journal.{JournalState};
 ghost use Rattle.mold_session.specs.Truthful.{MayAnswer, TellsTruth};
 
 use mold_ports::Datagrams;
-use mold_session::laws::{publisher_law, sending_law};
+use mold_session::laws::{answered_law, publisher_law, sending_law};
 
 /// What publishing lines sends is true of the journal that is left, also where a line is refused and where the
 /// loop ended in a fault; so is all that a port has sent that sent nothing else. Where no line is refused, that
@@ -50,7 +50,10 @@ pub fn served_law<D: Datagrams>()
     ensures { (service : Service) (choices : List (List Bool)) (start : ResponderState D.Peer) →
         MayAnswer service.journal service.limit → AllSent (TellsTruth service.journal) start.port.sent →
         AllSent (TellsTruth service.journal) (run (serving service) choices start).port.sent }
-{}
+{
+    answered_law();
+    sending_law();
+}
 
 /// A listener that is honest, and whose ports give only what is true of the session and what is no packet of it, stays
 /// so, for any burst, any number of turns and whichever sends fail. The messages that it prints have consecutive

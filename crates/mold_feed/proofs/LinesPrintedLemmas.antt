@@ -1,0 +1,129 @@
+-- What a listener has printed at its end: the published lines, and its last line by its status.
+use Rattle.std.proofs.Common.{◌≡◌, ℕ, ◌+◌, ◌≤◌, Bool, true, false, List, [], ◌++◌, length, Option, Result, refl, ap, subst}
+use Rattle.std.proofs.Common.{◌∙◌, arith}
+use Rattle.std.specs.Prelude.{IfOk, if◌then◌else◌}
+use Rattle.std.specs.Io.KnownBytes.{Appends}
+use Rattle.std.specs.List.{AllByRecursion}
+use Rattle.std.proofs.lemmas.Result.{IfOk-weaker}
+use Rattle.mold_devices.specs.Devices.{AppendsFront}
+use Rattle.mold_feed.specs.Heard.{HasFinished, HasListened, PrintsAmong, PrintsLines, RefusesStrange, Saying, lines_text}
+use Rattle.mold_feed.specs.Heard.{listened_line, messages_text, sayings_text}
+use Rattle.mold_feed.specs.Listening.{Hearing, ListenerState, hearing_line, hearing_status, is_finished, last_line, status}
+use Rattle.mold_feed.specs.Text.{finished_line, open_line}
+use Rattle.mold_feed.proofs.LinesTextLemmas.{AreSpelled, lines_said, spelled_length}
+use Rattle.mold_session.specs.Answer.{between}
+use Rattle.mold_session.specs.Journal.{JournalState}
+use Rattle.mold_wire.specs.declared.session.Session.{Session}
+
+-- the status, which is 0 where the listening is finished
+abbrev status_by : Bool → ℕ
+status_by finished = if finished then 0 else 1
+
+zero_finished : (finished : Bool) → status_by finished ≡ 0 → finished ≡ true
+zero_finished true zero = refl
+zero_finished false zero = absurd (omega (arith, zero))
+
+-- the last line by the status
+line_by : (finished : Bool) (next known failures : ℕ) →
+    (if finished then finished_line next failures else open_line next known failures)
+    ≡ listened_line (status_by finished) next known failures
+line_by true next known failures = refl
+line_by false next known failures = refl
+
+-- the last line that is printed at the end
+abbrev end_line : Hearing → List ℕ
+end_line e = listened_line (hearing_status e) e.arbitration.view.next e.arbitration.view.known e.outgoing.failures
+
+end_line_is : (e : Hearing) → hearing_line e ≡ end_line e
+end_line_is e = line_by (is_finished e) e.arbitration.view.next e.arbitration.view.known e.outgoing.failures
+
+-- a listener that began at the line `first` has come to its end: its text and its last line are written
+pub record HasCome {P E : Type 0} (lines : List (List ℕ)) (first : ℕ) (end : ListenerState P) (result : Result ℕ E)
+    (old new : Option (List ℕ)) : Type 0 where
+  pub whole : IfOk result (λ answer.
+      Appends old new (end.hearing.outgoing.text ++ last_line end) × (answer ≡ status end))
+  pub front : AppendsFront old new (end.hearing.outgoing.text ++ last_line end)
+  pub from : first ≤ end.hearing.arbitration.view.next
+  pub to : end.hearing.arbitration.view.next ≤ length lines + 1
+  pub all : is_finished end.hearing ≡ true → end.hearing.arbitration.view.next ≡ length lines + 1
+
+-- so it has where the messages of the session are those of the lines
+pub has_come : {P E : Type 0} {lines : List (List ℕ)} {first : ℕ} {end : ListenerState P} {result : Result ℕ E}
+    {old new : Option (List ℕ)} (journal : JournalState) → AreSpelled lines journal.messages →
+    HasListened journal first [] end.hearing → (is_finished end.hearing ≡ true → HasFinished journal end.hearing) →
+    IfOk result (λ answer.
+    Appends old new (end.hearing.outgoing.text ++ last_line end) × (answer ≡ status end)) →
+    AppendsFront old new (end.hearing.outgoing.text ++ last_line end) → HasCome lines first end result old new
+has_come {P} {E} {lines} {first} {end} {result} {old} {new} journal spelled listened finished whole front =
+    let many : length lines ≡ length journal.messages = spelled_length lines journal.messages spelled in
+    record {
+      whole = whole;
+      front = front;
+      from = listened.from;
+      to = omega (arith, many, listened.to);
+      all = λ over. let is = (finished over).all in omega (arith, many, is);
+    }
+
+-- the lines that were printed
+abbrev printed : {P : Type 0} → List (List ℕ) → ℕ → ListenerState P → List ℕ
+printed lines first end = lines_text first (between lines first end.hearing.arbitration.view.next)
+
+-- the text and the last line
+text_is : {P : Type 0} (end : ListenerState P) (text : List ℕ) → end.hearing.outgoing.text ≡ text →
+    end.hearing.outgoing.text ++ last_line end ≡ text ++ end_line end.hearing
+text_is end text is =
+    ap (λ (t : List ℕ). t ++ last_line end) is ∙ ap (λ (t : List ℕ). text ++ t) (end_line_is end.hearing)
+
+-- with the lines as its text, it printed the lines
+pub prints_lines : {P E : Type 0} {lines : List (List ℕ)} {first : ℕ} {end : ListenerState P} {result : Result ℕ E}
+    {old new : Option (List ℕ)} → HasCome lines first end result old new →
+    end.hearing.outgoing.text ≡ printed lines first end → PrintsLines lines first result old new
+prints_lines {P} {E} {lines} {first} {end} {result} {old} {new} come is =
+    let same = text_is end (printed lines first end) is in
+    record {
+      next = end.hearing.arbitration.view.next;
+      status = hearing_status end.hearing;
+      known = end.hearing.arbitration.view.known;
+      failures = end.hearing.outgoing.failures;
+      from = come.from;
+      to = come.to;
+      all = λ zero. come.all (zero_finished (is_finished end.hearing) zero);
+      text =
+          IfOk-weaker result _ _
+          (λ answer written. (written.1, subst (λ (t : List ℕ). Appends old new t) same written.0)) come.whole;
+      front = subst (λ (t : List ℕ). AppendsFront old new t) same come.front;
+    }
+
+-- with sayings as its text whose messages are the lines, it printed the lines among refusals
+pub prints_among : {P E : Type 0} {lines : List (List ℕ)} {first : ℕ} {end : ListenerState P} {result : Result ℕ E}
+    {old new : Option (List ℕ)} (session : Session) (sayings : List Saying) → HasCome lines first end result old new →
+    AllByRecursion (RefusesStrange session) sayings → messages_text sayings ≡ printed lines first end →
+    end.hearing.outgoing.text ≡ sayings_text sayings → PrintsAmong session lines first result old new
+prints_among {P} {E} {lines} {first} {end} {result} {old} {new} session sayings come refused messages is =
+    let same = text_is end (sayings_text sayings) is in
+    record {
+      next = end.hearing.arbitration.view.next;
+      status = hearing_status end.hearing;
+      known = end.hearing.arbitration.view.known;
+      failures = end.hearing.outgoing.failures;
+      sayings = sayings;
+      refused = refused;
+      messages = messages;
+      from = come.from;
+      to = come.to;
+      all = λ zero. come.all (zero_finished (is_finished end.hearing) zero);
+      text =
+          IfOk-weaker result _ _
+          (λ answer written. (written.1, subst (λ (t : List ℕ). Appends old new t) same written.0)) come.whole;
+      front = subst (λ (t : List ℕ). AppendsFront old new t) same come.front;
+    }
+
+-- what a listener heard of the session, as lines among refusals
+pub listened_among : {P E : Type 0} {lines : List (List ℕ)} {first : ℕ} {end : ListenerState P} {result : Result ℕ E}
+    {old new : Option (List ℕ)} (journal : JournalState) → AreSpelled lines journal.messages →
+    HasListened journal first [] end.hearing → HasCome lines first end result old new →
+    PrintsAmong journal.session lines first result old new
+listened_among {P} {E} {lines} {first} {end} journal spelled listened come =
+    prints_among journal.session listened.sayings come listened.refused
+    (lines_said lines journal.messages listened.sayings first end.hearing.arbitration.view.next spelled listened.handed)
+    listened.text

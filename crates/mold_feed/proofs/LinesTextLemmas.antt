@@ -1,0 +1,191 @@
+-- What is printed of a message is the line that spells it, with its digits in lower case.
+use Rattle.std.proofs.Common.{◌≡◌, ℕ, suc, ◌+◌, ◌-◌, ◌*◌, ◌/◌, ◌%◌, ◌<◌, nat_eq, Bool, true, List, [], ◌∷◌, ◌++◌, length, map}
+use Rattle.std.proofs.Common.{take, drop, slice_index, decimal, Option, None, Some, Result, Ok, Err, refl, sym, ap, ◌∙◌, arith}
+use Rattle.std.specs.List.{AllByRecursion}
+use Rattle.std.specs.Result.{result_unwrap_or}
+use Rattle.std.proofs.lemmas.Bool.{agree_below_at, eqb-true}
+use Rattle.std.proofs.lemmas.List.{drop-map, length-map, take-map}
+use Rattle.std.proofs.lemmas.Option.{none-some, same_Some}
+use Rattle.hex.proofs.HexLemmas.{decode_of-even, decode_of-ok}
+use Rattle.hex.specs.Hex.{decode_of, decode_pairs, digit_or_error, encode_lower, encode_with, hex_digit_value, lower_digits}
+use Rattle.hex.specs.Hex.{pair_value, value_at, ◌>>=◌}
+use Rattle.hex.specs.declared.error.FromHexError.{FromHexError}
+use Rattle.mold_feed.specs.Heard.{Saying, Handed, Refuses, handed_of, lines_text, lower_digit, messages_text, sayings_text, shown}
+use Rattle.mold_feed.specs.Text.{handed_line, handed_text}
+use Rattle.mold_receiver.specs.Store.{Message, numbered}
+use Rattle.mold_rule.specs.declared.refusal.Refusal.{Refusal as Refused}
+use Rattle.mold_session.specs.Answer.{between}
+use Rattle.mold_text.specs.Line.{line_of, message_digits}
+
+-- ---- a digit
+
+-- whether the digit of a value is the digit in lower case that was read as it
+abbrev agrees : ℕ → Option ℕ → Bool
+agrees digit None = true
+agrees digit (Some value) = nat_eq (slice_index lower_digits value) (lower_digit digit)
+
+-- all digits stand below 103, and it is so at each place there
+digit_below : (digit value : ℕ) → hex_digit_value digit ≡ Some value → digit < 103
+digit_below digit value reads = grind (arith)
+
+value_below : (digit value : ℕ) → hex_digit_value digit ≡ Some value → value < 16
+value_below digit value reads = grind (arith)
+
+digit_agrees : (digit : ℕ) → digit < 103 → agrees digit (hex_digit_value digit) ≡ true
+digit_agrees digit below =
+    agree_below_at (λ (d : ℕ). agrees d (hex_digit_value d)) (λ (d : ℕ). true) 103 digit refl below
+
+agrees_at : (digit value : ℕ) (read : Option ℕ) → agrees digit read ≡ true → read ≡ Some value →
+    slice_index lower_digits value ≡ lower_digit digit
+agrees_at digit value None agree reads = absurd (none-some value reads)
+agrees_at digit value (Some found) agree reads =
+    ap (λ (v : ℕ). slice_index lower_digits v) (sym (same_Some found value reads))
+    ∙ eqb-true (slice_index lower_digits found) (lower_digit digit) agree
+
+-- a digit that was read
+record IsRead (digit value : ℕ) : Type 0 where
+  below : value < 16
+  shows : slice_index lower_digits value ≡ lower_digit digit
+
+digit_read : (digit index value : ℕ) (read : Option ℕ) → digit_or_error digit index read ≡ Ok value → read ≡ Some value
+digit_read digit index value (Some found) is = ap Some (ap (λ (r : Result ℕ FromHexError). result_unwrap_or r 0) is)
+digit_read digit index value None is = cc is
+
+is_read : (digit index value : ℕ) → value_at digit index ≡ Ok value → IsRead digit value
+is_read digit index value is =
+    let reads : hex_digit_value digit ≡ Some value = digit_read digit index value (hex_digit_value digit) is in
+    record {
+      below = value_below digit value reads;
+      shows = agrees_at digit value (hex_digit_value digit) (digit_agrees digit (digit_below digit value reads)) reads;
+    }
+
+-- ---- a line
+
+-- what an `Ok` behind `>>=` shows
+bound_ok : {A B : Type 0} (result : Result A FromHexError) (f : A → Result B FromHexError) (value : B) →
+    (result >>= f) ≡ Ok value → (x : A) × (result ≡ Ok x) × (f x ≡ Ok value)
+bound_ok (Ok x) f value is = (x, refl, is)
+bound_ok (Err error) f value is = cc is
+
+two_more : {a b c d : ℕ} {xs ys : List ℕ} → a ≡ b → c ≡ d → xs ≡ ys → a ∷ c ∷ xs ≡ b ∷ d ∷ ys
+two_more first second behind = rw (first, second, behind) refl
+
+-- the digits of the bytes that digits spell are these in lower case
+pairs_shown : (index : ℕ) (digits bytes : List ℕ) → decode_pairs index digits ≡ Ok bytes →
+    encode_lower bytes ≡ map lower_digit digits
+unfolding decode_pairs encode_with
+pairs_shown index [] bytes is =
+    let none : [] ≡ bytes = ap (λ (r : Result (List ℕ) FromHexError). result_unwrap_or r []) is in
+    ap encode_lower (sym none)
+pairs_shown index (digit ∷ []) bytes is = cc is
+pairs_shown index (high ∷ low ∷ digits) bytes is =
+    let pair = bound_ok (pair_value high low index) _ bytes is in
+    let first = bound_ok (value_at high index) _ pair.0 pair.1 in
+    let second = bound_ok (value_at low (index + 1)) _ pair.0 first.2 in
+    let behind = bound_ok (decode_pairs (index + 2) digits) _ bytes pair.2 in
+    let whole : pair.0 ∷ behind.0 ≡ bytes = ap (λ (r : Result (List ℕ) FromHexError). result_unwrap_or r []) behind.2 in
+    let byte : first.0 * 16 + second.0 ≡ pair.0 = ap (λ (r : Result ℕ FromHexError). result_unwrap_or r 0) second.2 in
+    let one = is_read high index first.0 first.1 in
+    let other = is_read low (index + 1) second.0 second.1 in
+    let upper : pair.0 / 16 ≡ first.0 = omega (arith, byte, one.below, other.below) in
+    let lower : pair.0 % 16 ≡ second.0 = omega (arith, byte, one.below, other.below) in
+    ap encode_lower (sym whole)
+    ∙ two_more
+    (ap (λ (v : ℕ). slice_index lower_digits v) upper ∙ one.shows)
+    (ap (λ (v : ℕ). slice_index lower_digits v) lower ∙ other.shows)
+    (pairs_shown (index + 2) digits behind.0 behind.1)
+
+-- the digits of the message that a line spells, as they are printed
+pub digits_shown : (line message : List ℕ) → decode_of line ≡ Ok message → message_digits message ≡ shown line
+digits_shown [] [] is = refl
+digits_shown [] (byte ∷ message) is = let long = (decode_of-ok [] (byte ∷ message) is).2 in absurd (omega (arith, long))
+digits_shown (digit ∷ line) [] is = let long = (decode_of-ok (digit ∷ line) [] is).2 in absurd (omega (arith, long))
+digits_shown (digit ∷ line) (byte ∷ message) is =
+    let even = (decode_of-ok (digit ∷ line) (byte ∷ message) is).0 in
+    pairs_shown 0 (digit ∷ line) (byte ∷ message) (sym (decode_of-even (digit ∷ line) even) ∙ is)
+
+-- ---- lines
+
+abbrev pub AreSpelled : List (List ℕ) → List Message → Type 0
+AreSpelled lines messages = map decode_of lines ≡ map Ok messages
+
+-- as many messages as lines
+pub spelled_length : (lines : List (List ℕ)) (messages : List Message) → AreSpelled lines messages →
+    length lines ≡ length messages
+spelled_length lines messages spelled =
+    sym (length-map lines decode_of)
+    ∙ ap (λ (rs : List (Result (List ℕ) FromHexError)). length rs) spelled
+    ∙ length-map messages Ok
+
+-- the text of messages is that of the lines that spell them
+pub spelled_text : (number : ℕ) (lines : List (List ℕ)) (messages : List Message) → AreSpelled lines messages →
+    handed_text number messages ≡ lines_text number lines
+unfolding handed_text lines_text
+spelled_text number [] [] spelled = refl
+spelled_text number [] (message ∷ messages) spelled = let no : ⊥ = cc in absurd no
+spelled_text number (line ∷ lines) [] spelled = let no : ⊥ = cc in absurd no
+spelled_text number (line ∷ lines) (message ∷ messages) spelled =
+    let first : decode_of line ≡ Ok message = cc in
+    let behind : AreSpelled lines messages = cc in
+    ap (λ (digits : List ℕ). line_of (decimal number ∷ digits ∷ []) ++ handed_text (number + 1) messages)
+    (digits_shown line message first)
+    ∙ ap (λ (text : List ℕ). line_of (decimal number ∷ shown line ∷ []) ++ text)
+    (spelled_text (number + 1) lines messages behind)
+
+-- a piece of the lines spells that piece of the messages
+piece_map : {X Y : Type 0} (f : X → Y) (count place : ℕ) (xs : List X) →
+    map f (take count (drop place xs)) ≡ take count (drop place (map f xs))
+piece_map f count place xs = sym (take-map f count (drop place xs)) ∙ ap (take count) (sym (drop-map f place xs))
+
+pub spelled_between : (lines : List (List ℕ)) (messages : List Message) (first next : ℕ) → AreSpelled lines messages →
+    AreSpelled (between lines first next) (between messages first next)
+spelled_between lines messages first next spelled =
+    piece_map decode_of (next - first) (first - 1) lines
+    ∙ ap (λ (rs : List (Result (List ℕ) FromHexError)). take (next - first) (drop (first - 1) rs)) spelled
+    ∙ sym (piece_map Ok (next - first) (first - 1) messages)
+
+-- the text of the messages from a number to below another is that of the lines there
+pub text_between : (lines : List (List ℕ)) (messages : List Message) (first next : ℕ) → AreSpelled lines messages →
+    handed_text first (between messages first next) ≡ lines_text first (between lines first next)
+text_between lines messages first next spelled =
+    spelled_text first (between lines first next) (between messages first next)
+    (spelled_between lines messages first next spelled)
+
+-- ---- sayings
+
+same_parts : {X : Type 0} (x y : X) (xs ys : List X) → x ∷ xs ≡ y ∷ ys → (x ≡ y) × (xs ≡ ys)
+same_parts x y xs ys same = (cc, cc)
+
+-- the messages among some sayings are printed one behind the other
+pub messages_said : (sayings : List Saying) (number : ℕ) (messages : List Message) →
+    handed_of sayings ≡ numbered number messages → messages_text sayings ≡ handed_text number messages
+unfolding handed_text
+messages_said [] number [] handed = refl
+messages_said [] number (message ∷ messages) handed = let no : ⊥ = cc in absurd no
+messages_said (Handed place said ∷ sayings) number [] handed = let no : ⊥ = cc in absurd no
+messages_said (Handed place said ∷ sayings) number (message ∷ messages) handed =
+    let parts = same_parts (place, said) (number, message) (handed_of sayings) (numbered (suc number) messages) handed in
+    let at : place ≡ number = ap (λ (pair : ℕ × Message). pair.0) parts.0 in
+    let same : said ≡ message = ap (λ (pair : ℕ × Message). pair.1) parts.0 in
+    let after : suc number ≡ number + 1 = omega arith in
+    ap (λ (n : ℕ). handed_line n said ++ messages_text sayings) at
+    ∙ ap (λ (m : Message). handed_line number m ++ messages_text sayings) same
+    ∙ ap (λ (text : List ℕ). handed_line number message ++ text)
+    (messages_said sayings (suc number) messages parts.1 ∙ ap (λ (n : ℕ). handed_text n messages) after)
+messages_said (Refuses bytes why ∷ sayings) number messages handed = messages_said sayings number messages handed
+
+-- sayings none of which is a refusal are messages alone
+pub all_messages : (Q : Saying → Type 0) → ((bytes : List ℕ) (why : Refused) → Q (Refuses bytes why) → ⊥) →
+    (sayings : List Saying) → AllByRecursion Q sayings → sayings_text sayings ≡ messages_text sayings
+all_messages Q none [] each = refl
+all_messages Q none (Handed number message ∷ sayings) each =
+    ap (λ (text : List ℕ). handed_line number message ++ text) (all_messages Q none sayings each.1)
+all_messages Q none (Refuses bytes why ∷ sayings) each = absurd (none bytes why each.0)
+
+-- the messages among the sayings of a listener are the lines
+pub lines_said : (lines : List (List ℕ)) (messages : List Message) (sayings : List Saying) (first next : ℕ) →
+    AreSpelled lines messages → handed_of sayings ≡ numbered first (between messages first next) →
+    messages_text sayings ≡ lines_text first (between lines first next)
+lines_said lines messages sayings first next spelled handed =
+    messages_said sayings first (between messages first next) handed
+    ∙ text_between lines messages first next spelled
