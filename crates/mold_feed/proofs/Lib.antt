@@ -15,6 +15,7 @@ pub mod PublishLoopLemmas
 pub mod RepairLemmas
 pub mod RunLemmas
 pub mod SendingLemmas
+pub mod SessionLawLemmas
 pub mod ServedLemmas
 pub mod ServingLemmas
 pub mod TurnLemmas
