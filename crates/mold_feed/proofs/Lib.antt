@@ -19,5 +19,6 @@ pub mod SendingLemmas
 pub mod SentLemmas
 pub mod ServedLemmas
 pub mod ServingLemmas
+pub mod SessionLawLemmas
 pub mod TurnLemmas
 pub mod WritingLemmas

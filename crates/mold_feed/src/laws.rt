@@ -22,6 +22,7 @@ ghost use Rattle.mold_session.specs.Journal.{JournalState};
 ghost use Rattle.mold_session.specs.Truthful.{MayAnswer, TellsTruth};
 
 use mold_ports::Datagrams;
+use mold_receiver::laws::honest_stays_law;
 use mold_session::laws::{answered_law, publisher_law, sending_law};
 
 /// What publishing lines sends is true of the journal that is left, also where a line is refused and where the
@@ -109,4 +110,5 @@ pub fn session_law<D: Datagrams>()
     published_law::<D>();
     served_law::<D>();
     listened_law::<D>();
+    honest_stays_law();
 }

@@ -1,0 +1,223 @@
+-- From the lines that are published to the lines that are heard, by what the laws of publishing, of serving and of
+-- listening say.
+use Rattle.std.proofs.Common.{◌≡◌, ℕ, ◌+◌, ◌<◌, ◌≤◌, Bool, true, List, [], ◌∷◌, ◌++◌, length, Option, None, Some, Result}
+use Rattle.std.proofs.Common.{inl, inr, refl, sym, ap, subst, ◌∙◌, arith}
+use Rattle.std.specs.List.{AllByRecursion, Contains}
+use Rattle.std.proofs.lemmas.List.Elements.{All-contains, All-from_recursion}
+use Rattle.mold_devices.specs.declared.fault.CommandFault.{CommandFault}
+use Rattle.mold_feed.specs.Heard.{Gives, GivesOnly, HasFinished, HasListened, HearsOnly, IsFed, IsHarmless, IsStrange, PrintsAmong}
+use Rattle.mold_feed.specs.Heard.{PrintsLines}
+use Rattle.mold_feed.specs.Listening.{ListenerState, beginning, is_finished, last_line, listening, status}
+use Rattle.mold_feed.specs.PublishLoop.{PublishRun, closed_unless, left_journal}
+use Rattle.mold_feed.specs.Runs.{Ran, run}
+use Rattle.mold_feed.specs.Sent.{AllSent, HasLines, IsCopy, IsOpening, IsPublished, IsSent, IsServed}
+use Rattle.mold_feed.specs.Serving.{ResponderState, Service, serving}
+use Rattle.mold_feed.specs.Text.{handed_text}
+use Rattle.mold_feed.proofs.LinesPrintedLemmas.{HasCome, has_come, listened_among, prints_lines}
+use Rattle.mold_feed.proofs.LinesTextLemmas.{spelled_length, text_between}
+use Rattle.mold_ports.specs.Ports.{Port, Receipt, Datagram, Quiet, Failure}
+use Rattle.mold_publish.proofs.DatagramLemmas.{grown}
+use Rattle.mold_publish.specs.Publishing.{lines_published}
+use Rattle.mold_publish.specs.declared.line_refusal.LineRefusal.{LineRefusal}
+use Rattle.mold_receiver.specs.Arbiter.{Arbitration}
+use Rattle.mold_receiver.specs.Honest.{IsHonest}
+use Rattle.mold_receiver.specs.Store.{Message}
+use Rattle.mold_receiver.specs.View.{View, fresh}
+use Rattle.mold_session.specs.Answer.{between}
+use Rattle.mold_session.specs.Journal.{JournalState}
+use Rattle.mold_session.specs.Truthful.{MayAnswer, TellsTruth}
+use Rattle.mold_wire.specs.Truth.{IsTruePacket}
+use Rattle.mold_wire.specs.declared.session.Session.{Session}
+
+-- the journal that publishing the lines leaves
+abbrev left_by : JournalState → List (List ℕ) → JournalState
+left_by journal lines = left_journal (lines_published journal lines)
+
+-- what the laws say that the session's law stands on
+pub record FeedLaws (P : Type 0) : Type 0 where
+  pub published : (a b : P) (beats ends limit : ℕ) (journal : JournalState) (lines : List (List ℕ))
+      (result : Result ℕ CommandFault) (before after : Port P)
+      (text_old text_new file_old file_new : Option (List ℕ)) → IsOpening journal limit →
+      PublishRun a b beats ends limit (lines_published journal lines) result before after text_old text_new file_old
+      file_new → AllSent (TellsTruth (left_by journal lines)) before.sent →
+      AllSent (TellsTruth (left_by journal lines)) after.sent
+  pub lines : (limit : ℕ) (journal : JournalState) (lines : List (List ℕ)) → IsOpening journal limit →
+      (lines_published journal lines).refused ≡ None → HasLines lines (left_by journal lines)
+  pub answers : (limit other : ℕ) (journal : JournalState) (lines : List (List ℕ)) → IsOpening journal limit →
+      limit ≤ other → other ≤ 65507 → MayAnswer (left_by journal lines) other
+  pub served : (service : Service) (choices : List (List Bool)) (start : ResponderState P) →
+      MayAnswer service.journal service.limit → AllSent (TellsTruth service.journal) start.port.sent →
+      AllSent (TellsTruth service.journal) (run (serving service) choices start).port.sent
+  pub heard : (journal : JournalState) (server : P) (burst : ℕ) (choices : List Bool) (start : ListenerState P) →
+      IsHonest start.hearing.arbitration.view journal.messages journal.closed →
+      start.hearing.arbitration.view.session ≡ journal.session → HearsOnly (IsHarmless journal) start →
+      HasListened journal start.hearing.arbitration.view.next start.hearing.outgoing.text
+      (run (listening server burst) choices start).hearing
+  pub plain : (journal : JournalState) (server : P) (burst : ℕ) (choices : List Bool) (start : ListenerState P) →
+      IsHonest start.hearing.arbitration.view journal.messages journal.closed →
+      start.hearing.arbitration.view.session ≡ journal.session → HearsOnly (TellsTruth journal) start →
+      (run (listening server burst) choices start).hearing.outgoing.text
+      ≡ start.hearing.outgoing.text ++ handed_text start.hearing.arbitration.view.next
+      (between journal.messages start.hearing.arbitration.view.next
+      (run (listening server burst) choices start).hearing.arbitration.view.next)
+  pub finished : (journal : JournalState) (server : P) (burst : ℕ) (choices : List Bool) (start : ListenerState P) →
+      IsHonest start.hearing.arbitration.view journal.messages journal.closed →
+      start.hearing.arbitration.view.session ≡ journal.session → HearsOnly (IsHarmless journal) start →
+      is_finished (run (listening server burst) choices start).hearing ≡ true →
+      HasFinished journal (run (listening server burst) choices start).hearing
+  pub begins : (session : Session) (next window : ℕ) (published : List Message) (closed : Bool) → 1 ≤ next →
+      next ≤ length published + 1 → length published < 18446744073709551615 →
+      IsHonest (fresh session next window) published closed
+
+-- ---- what was sent is true
+
+-- what holds of all that was sent holds of each datagram among it
+one_sent : {P : Type 0} (Good : List ℕ → Type 0) (sent : List (P × List ℕ)) (to : P) (bytes : List ℕ) → AllSent Good sent →
+    Contains sent (to, bytes) → Good bytes
+one_sent {P} Good sent to bytes all among =
+    All-contains (λ (letter : P × List ℕ). Good letter.1) sent (to, bytes)
+    (All-from_recursion (λ (letter : P × List ℕ). Good letter.1) sent all) among
+
+none_sent : {P : Type 0} (Good : List ℕ → Type 0) (sent : List (P × List ℕ)) → sent ≡ [] → AllSent Good sent
+none_sent {P} Good sent none = subst (λ (s : List (P × List ℕ)). AllSent Good s) (sym none) tt
+
+-- what is true of a copy is true of the journal
+copy_tells : (journal copy : JournalState) (bytes : List ℕ) → IsCopy journal copy → TellsTruth copy bytes →
+    TellsTruth journal bytes
+copy_tells journal copy bytes is tells = record {
+  packet = tells.packet;
+  spelled = tells.spelled;
+  session = tells.session ∙ is.session;
+  so =
+      subst (λ (ms : List (List ℕ)). IsTruePacket tells.packet ms journal.closed) is.messages
+      (subst (λ (c : Bool). IsTruePacket tells.packet copy.messages c) is.closed tells.so);
+}
+
+-- the journal that is left is of the same session
+unless_session : (refused : Option LineRefusal) (journal : JournalState) →
+    (closed_unless refused journal).session ≡ journal.session
+unless_session None journal = refl
+unless_session (Some why) journal = refl
+
+left_session : (journal : JournalState) (lines : List (List ℕ)) → (left_by journal lines).session ≡ journal.session
+left_session journal lines =
+    unless_session (lines_published journal lines).refused (lines_published journal lines).journal
+    ∙ (grown lines journal).session
+
+-- ---- what comes
+
+each_weaker : {X : Type 0} (Q R : X → Type 0) → ((x : X) → Q x → R x) → (xs : List X) → AllByRecursion Q xs →
+    AllByRecursion R xs
+each_weaker Q R weaker [] each = tt
+each_weaker Q R weaker (x ∷ xs) each = (weaker x each.0, each_weaker Q R weaker xs each.1)
+
+gives_weaker : {P : Type 0} (Good Other : List ℕ → Type 0) → ((bytes : List ℕ) → Good bytes → Other bytes) →
+    (receipt : Receipt P) → Gives Good receipt → Gives Other receipt
+gives_weaker Good Other weaker (Datagram from bytes) gives = weaker _ gives
+gives_weaker Good Other weaker Quiet gives = tt
+gives_weaker Good Other weaker Failure gives = tt
+
+port_weaker : {P : Type 0} (Good Other : List ℕ → Type 0) → ((bytes : List ℕ) → Good bytes → Other bytes) →
+    (port : Port P) → GivesOnly Good port → GivesOnly Other port
+port_weaker Good Other weaker port gives = each_weaker (Gives Good) (Gives Other) (gives_weaker Good Other weaker) port.comes gives
+
+hears_weaker : {P : Type 0} (Good Other : List ℕ → Type 0) → ((bytes : List ℕ) → Good bytes → Other bytes) →
+    (s : ListenerState P) → HearsOnly Good s → HearsOnly Other s
+hears_weaker Good Other weaker s hears = record {
+  a = port_weaker Good Other weaker s.a hears.a;
+  b = port_weaker Good Other weaker s.b hears.b;
+  requests = port_weaker Good Other weaker s.requests hears.requests;
+}
+
+module _ {P : Type 0} (laws : FeedLaws P) (limit : ℕ) (journal : JournalState) (lines : List (List ℕ))
+    (opening : IsOpening journal limit) where
+  published_tells : (bytes : List ℕ) → IsPublished P journal limit lines bytes → TellsTruth (left_by journal lines) bytes
+  published_tells bytes is =
+      let Good = TellsTruth (left_by journal lines) in
+      one_sent Good is.after.sent is.to bytes
+      (laws.published is.a is.b is.beats is.ends limit journal lines is.result is.before is.after is.text_old is.text_new
+      is.file_old is.file_new opening is.publishing (none_sent Good is.before.sent is.nothing))
+      is.sent
+
+  served_tells : (bytes : List ℕ) → IsServed P (left_by journal lines) bytes → TellsTruth (left_by journal lines) bytes
+  served_tells bytes is =
+      let Good = TellsTruth is.service.journal in
+      copy_tells (left_by journal lines) is.service.journal bytes is.copy
+      (one_sent Good (run (serving is.service) is.choices is.start).port.sent is.to bytes
+      (laws.served is.service is.choices is.start is.answers (none_sent Good is.start.port.sent is.nothing))
+      is.sent)
+
+  sent_tells : (bytes : List ℕ) → IsSent P journal limit lines bytes → TellsTruth (left_by journal lines) bytes
+  sent_tells bytes (inl is) = published_tells bytes is
+  sent_tells bytes (inr is) = served_tells bytes is
+
+  fed_harmless : (bytes : List ℕ) → IsFed P journal limit lines bytes → IsHarmless (left_by journal lines) bytes
+  fed_harmless bytes (inl is) = inl (sent_tells bytes is)
+  fed_harmless bytes (inr strange) =
+      inr (subst (λ (s : Session). IsStrange s bytes) (sym (left_session journal lines)) strange)
+
+  -- ---- a listener of the session
+
+  module _ (unrefused : (lines_published journal lines).refused ≡ None) (first window burst turns : ℕ)
+      (least : 1 ≤ first) (most : first ≤ length lines + 1) (server : P) (a b requests : Port P)
+      (arbitration : Arbitration) (anew : arbitration.view ≡ fresh journal.session first window) where
+    has_lines : HasLines lines (left_by journal lines)
+    has_lines = laws.lines limit journal lines opening unrefused
+
+    begins_honest : IsHonest arbitration.view (left_by journal lines).messages (left_by journal lines).closed
+    begins_honest =
+        let may = laws.answers limit limit journal lines opening (omega arith) opening.limited.1 in
+        let many = spelled_length lines (left_by journal lines).messages has_lines.spelled in
+        subst (λ (v : View). IsHonest v (left_by journal lines).messages (left_by journal lines).closed) (sym anew)
+        (laws.begins journal.session first window (left_by journal lines).messages (left_by journal lines).closed least
+        (omega (arith, many, most)) may.journaled.few)
+
+    begins_in : arbitration.view.session ≡ (left_by journal lines).session
+    begins_in = ap (λ (v : View). v.session) anew ∙ sym (left_session journal lines)
+
+    begins_at : arbitration.view.next ≡ first
+    begins_at = ap (λ (v : View). v.next) anew
+
+    module _ {E : Type 0} (agrees : ListenerState P → Type 0) (result : Result ℕ E) (old new : Option (List ℕ))
+        (sent : List (P × List ℕ))
+        (ran : Ran (listening server burst) turns (beginning a b requests arbitration) last_line status agrees result old
+        new sent) where
+      abbrev ending : ListenerState P
+      ending = run (listening server burst) ran.choices (beginning a b requests arbitration)
+
+      has_heard : HearsOnly (IsHarmless (left_by journal lines)) (beginning a b requests arbitration) →
+          HasListened (left_by journal lines) first [] ending.hearing
+      has_heard hears =
+          subst (λ (n : ℕ). HasListened (left_by journal lines) n [] ending.hearing) begins_at
+          (laws.heard (left_by journal lines) server burst ran.choices (beginning a b requests arbitration) begins_honest
+          begins_in hears)
+
+      comes_to : HearsOnly (IsHarmless (left_by journal lines)) (beginning a b requests arbitration) →
+          HasCome lines first ending result old new
+      comes_to hears =
+          has_come (left_by journal lines) has_lines.spelled (has_heard hears)
+          (laws.finished (left_by journal lines) server burst ran.choices (beginning a b requests arbitration)
+          begins_honest begins_in hears)
+          ran.whole ran.front
+
+      pub session_prints_among : HearsOnly (IsFed P journal limit lines) (beginning a b requests arbitration) →
+          PrintsAmong journal.session lines first result old new
+      session_prints_among fed =
+          let hears = hears_weaker (IsFed P journal limit lines) (IsHarmless (left_by journal lines)) fed_harmless
+          (beginning a b requests arbitration) fed in
+          subst (λ (s : Session). PrintsAmong s lines first result old new) (left_session journal lines)
+          (listened_among (left_by journal lines) has_lines.spelled (has_heard hears) (comes_to hears))
+
+      pub session_prints_lines : HearsOnly (IsSent P journal limit lines) (beginning a b requests arbitration) →
+          PrintsLines lines first result old new
+      session_prints_lines fed =
+          let hears = hears_weaker (IsSent P journal limit lines) (TellsTruth (left_by journal lines)) sent_tells
+          (beginning a b requests arbitration) fed in
+          let harmless = hears_weaker (TellsTruth (left_by journal lines)) (IsHarmless (left_by journal lines))
+          (λ bytes tells. inl tells) (beginning a b requests arbitration) hears in
+          let next = ending.hearing.arbitration.view.next in
+          prints_lines (comes_to harmless)
+          (laws.plain (left_by journal lines) server burst ran.choices (beginning a b requests arbitration) begins_honest
+          begins_in hears
+          ∙ ap (λ (n : ℕ). handed_text n (between (left_by journal lines).messages n next)) begins_at
+          ∙ text_between lines (left_by journal lines).messages first next has_lines.spelled)
