@@ -22,6 +22,8 @@ ghost use Rattle.mold_session.specs.Journal.{JournalState};
 ghost use Rattle.mold_session.specs.Truthful.{MayAnswer, TellsTruth};
 
 use mold_ports::Datagrams;
+use mold_receiver::laws::{honest_take_law, taken_law};
+use mold_wire::laws::reading_law;
 
 /// What publishing lines sends is true of the journal that is left, also where a line is refused and where the
 /// loop ended in a fault; so is all that a port has sent that sent nothing else. Where no line is refused, that
@@ -70,7 +72,11 @@ pub fn listened_law<D: Datagrams>()
         start.hearing.arbitration.view.session ≡ journal.session → HearsOnly (IsHarmless journal) start →
         is_finished (run (listening server burst) choices start).hearing ≡ true →
         HasFinished journal (run (listening server burst) choices start).hearing }
-{}
+{
+    honest_take_law();
+    taken_law();
+    reading_law();
+}
 
 /// From the lines that are published to the lines that are heard. Lines are published into a session that begins, none
 /// of them refused; any number of servers answer from copies of the journal that is left; a listener begins at a
