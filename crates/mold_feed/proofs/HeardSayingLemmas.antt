@@ -132,11 +132,11 @@ text-handing number (message ∷ messages) =
     (text-handing (suc number) messages
     ∙ ap (λ (n : ℕ). handed_text n messages) (let e : suc number ≡ number + 1 = omega arith in e))
 
-pub refused-handing : (session : Session) (number : ℕ) (messages : List Message) →
-    AllByRecursion (RefusesStrange session) (handing number messages)
+pub refused-handing : (Good : List ℕ → Type 0) (session : Session) (number : ℕ) (messages : List Message) →
+    AllByRecursion (RefusesStrange Good session) (handing number messages)
 unfolding handing
-refused-handing session number [] = tt
-refused-handing session number (message ∷ messages) = (tt, refused-handing session (suc number) messages)
+refused-handing Good session number [] = tt
+refused-handing Good session number (message ∷ messages) = (tt, refused-handing Good session (suc number) messages)
 
 -- sayings behind sayings
 pub handed_of-append : (xs ys : List Saying) → handed_of (xs ++ ys) ≡ handed_of xs ++ handed_of ys
@@ -148,7 +148,17 @@ handed_of-append (Refuses bytes why ∷ xs) ys = handed_of-append xs ys
 pub text-append : (xs ys : List Saying) → sayings_text (xs ++ ys) ≡ sayings_text xs ++ sayings_text ys
 text-append xs ys = flat_map-append saying_line xs ys
 
-pub refused-append : (session : Session) (xs ys : List Saying) → AllByRecursion (RefusesStrange session) xs →
-    AllByRecursion (RefusesStrange session) ys → AllByRecursion (RefusesStrange session) (xs ++ ys)
-refused-append session [] ys one other = other
-refused-append session (x ∷ xs) ys one other = (one.0, refused-append session xs ys one.1 other)
+pub refused-append : (Good : List ℕ → Type 0) (session : Session) (xs ys : List Saying) →
+    AllByRecursion (RefusesStrange Good session) xs → AllByRecursion (RefusesStrange Good session) ys →
+    AllByRecursion (RefusesStrange Good session) (xs ++ ys)
+refused-append Good session [] ys one other = other
+refused-append Good session (x ∷ xs) ys one other = (one.0, refused-append Good session xs ys one.1 other)
+
+pub refused-weaker : (Good Came : List ℕ → Type 0) (session : Session) → ((bytes : List ℕ) → Good bytes → Came bytes) →
+    (sayings : List Saying) → AllByRecursion (RefusesStrange Good session) sayings →
+    AllByRecursion (RefusesStrange Came session) sayings
+refused-weaker Good Came session weaker [] all = tt
+refused-weaker Good Came session weaker (Handed number message ∷ sayings) all =
+    (tt, refused-weaker Good Came session weaker sayings all.1)
+refused-weaker Good Came session weaker (Refuses bytes why ∷ sayings) all =
+    ((weaker bytes all.0.0, all.0.1, all.0.2), refused-weaker Good Came session weaker sayings all.1)

@@ -1,9 +1,10 @@
 -- What an honest listener comes to by one receive, by the answers to a request, by a turn, and by a run of turns.
 use Rattle.std.proofs.Common.{◌≡◌, ℕ, zero, suc, ◌+◌, Bool, true, false, List, [], ◌∷◌, ◌++◌, length, drop, take, refl, ap}
-use Rattle.std.proofs.Common.{◌∙◌, eqb-true, inl}
+use Rattle.std.proofs.Common.{◌∙◌, arith, eqb-true, inl, inr}
 use Rattle.std.specs.Prelude.{Option, None, Some, if◌then◌else◌}
-use Rattle.std.specs.List.{AllByRecursion}
+use Rattle.std.specs.List.{AllByRecursion, Contains}
 use Rattle.std.proofs.lemmas.Bool.{false≢true}
+use Rattle.std.proofs.lemmas.List.Elements.{Contains-append_right}
 use Rattle.mold_ports.specs.Ports.{Port, Receipt, Datagram, Quiet, Failure, cut, first, next_of, offered}
 use Rattle.mold_receiver.specs.Honest.{IsHonest}
 use Rattle.mold_receiver.specs.Wanted.{wanted}
@@ -14,18 +15,18 @@ use Rattle.mold_session.specs.Journal.{JournalState}
 use Rattle.mold_session.specs.Truthful.{TellsTruth}
 use Rattle.mold_wire.specs.Request.{request_spelling}
 use Rattle.mold_wire.specs.declared.request.Request.{Request}
-use Rattle.mold_feed.specs.Heard.{GivesOnly, Gives, HasFinished, HasListened, HearsOnly, IsHarmless}
+use Rattle.mold_feed.specs.Heard.{GivesOnly, Gives, HasFinished, HasListened, Hears, HearsOnly, IsGiven, IsHarmless}
 use Rattle.mold_feed.specs.Heard.{Saying, sayings_text}
 use Rattle.mold_feed.specs.Listening.{Asking, Hearing, ListenerState, asked, ends_at, hear, hear_answers, heard, is_finished}
 use Rattle.mold_feed.specs.Listening.{lines_heard, listening, longest, missed, receives, turn, turn_asked}
 use Rattle.mold_feed.specs.Runs.{run}
 use Rattle.mold_feed.specs.Text.{handed_text}
-use Rattle.mold_feed.proofs.HeardSayingLemmas.{text-handing}
+use Rattle.mold_feed.proofs.HeardSayingLemmas.{refused-weaker, text-handing}
 use Rattle.mold_feed.proofs.HeardTakingLemmas.{HasHeard, HearingLaws, IsSound, MayCome, last_number, nothing_heard}
 use Rattle.mold_feed.proofs.HeardTakingLemmas.{taken_heard, then_heard}
 use Rattle.mold_feed.proofs.ListenLemmas.{stepped}
 
--- ---- one receive
+-- ---- what ports give
 
 next_gives : {P : Type 0} (Good : List ℕ → Type 0) (comes : List (Receipt P)) → AllByRecursion (Gives Good) comes →
     Gives Good (first comes)
@@ -37,93 +38,17 @@ rest_gives : {P : Type 0} (Good : List ℕ → Type 0) (comes : List (Receipt P)
 rest_gives Good [] gives = tt
 rest_gives Good (receipt ∷ more) gives = gives.1
 
-receipt_heard : {P : Type 0} → HearingLaws → (journal : JournalState) (Plain : Type 0) (Good : List ℕ → Type 0) →
-    MayCome journal Plain Good → (line : Option Line) (receipt : Receipt P) (e : Hearing) → IsSound journal e →
-    Gives Good receipt → HasHeard journal Plain e (heard line (cut longest receipt) e)
-receipt_heard laws journal Plain Good may line (Datagram from bytes) e sound gives =
-    taken_heard laws journal Plain Good may line (take longest bytes) e sound gives
-receipt_heard laws journal Plain Good may line Quiet e sound gives = nothing_heard journal Plain e e sound refl refl
-receipt_heard laws journal Plain Good may line Failure e sound gives =
-    nothing_heard journal Plain e (missed e) sound refl refl
-
-port_heard : {P : Type 0} → HearingLaws → (journal : JournalState) (Plain : Type 0) (Good : List ℕ → Type 0) →
-    MayCome journal Plain Good → (line : Option Line) (port : Port P) (e : Hearing) → IsSound journal e →
-    GivesOnly Good port → HasHeard journal Plain e (hear line port e)
-unfolding hear
-port_heard laws journal Plain Good may line port e sound gives =
-    receipt_heard laws journal Plain Good may line (next_of port) e sound (next_gives Good port.comes gives)
-
--- ---- the answers to a request
-
--- what was heard, and what the port still gives
-pub record HeardAnswers {P : Type 0} (journal : JournalState) (Plain : Type 0) (Good : List ℕ → Type 0) (old : Hearing)
+-- what was heard, and what the port of requests still gives
+record HeardAnswers {P : Type 0} (journal : JournalState) (Plain : Type 0) (Good : List ℕ → Type 0) (old : Hearing)
     (new : Asking P) : Type 0 where
-  pub heard : HasHeard journal Plain old new.hearing
-  pub gives : GivesOnly Good new.port
+  heard : HasHeard journal Plain Good old new.hearing
+  gives : GivesOnly Good new.port
 
-answers_heard : {P : Type 0} → HearingLaws → (journal : JournalState) (Plain : Type 0) (Good : List ℕ → Type 0) →
-    MayCome journal Plain Good → (count : ℕ) (s : Asking P) → IsSound journal s.hearing → GivesOnly Good s.port →
-    HeardAnswers journal Plain Good s.hearing (hear_answers count s)
-unfolding hear_answers
-answers_heard laws journal Plain Good may zero s sound gives = record {
-  heard = nothing_heard journal Plain s.hearing s.hearing sound refl refl;
-  gives = gives;
-}
-answers_heard laws journal Plain Good may (suc count) s sound gives =
-    let one = port_heard laws journal Plain Good may None s.port s.hearing sound gives in
-    let more =
-    answers_heard laws journal Plain Good may count (stepped s) one.sound (rest_gives Good s.port.comes gives) in
-    record {
-      heard = then_heard journal Plain s.hearing (stepped s).hearing (hear_answers count (stepped s)).hearing sound one more.heard;
-      gives = more.gives;
-    }
-
-asked_heard : {P : Type 0} → HearingLaws → (journal : JournalState) (Plain : Type 0) (Good : List ℕ → Type 0) →
-    MayCome journal Plain Good → (wish : Option Request) (server : P) (burst : ℕ) (fails : Bool) (s : Asking P) →
-    IsSound journal s.hearing → GivesOnly Good s.port →
-    HeardAnswers journal Plain Good s.hearing (asked wish server burst fails s)
-asked_heard laws journal Plain Good may None server burst fails s sound gives = record {
-  heard = nothing_heard journal Plain s.hearing s.hearing sound refl refl;
-  gives = gives;
-}
-asked_heard laws journal Plain Good may (Some request) server burst true s sound gives = record {
-  heard = nothing_heard journal Plain s.hearing (missed s.hearing) sound refl refl;
-  gives = gives;
-}
-asked_heard laws journal Plain Good may (Some request) server burst false s sound gives =
-    answers_heard laws journal Plain Good may (receives burst s.port.comes)
-    (record { port = offered false server (request_spelling request) s.port; hearing = s.hearing }) sound gives
-
--- ---- turns
-
--- what was heard, and what the ports still give
-pub record HeardTurns {P : Type 0} (journal : JournalState) (Plain : Type 0) (Good : List ℕ → Type 0) (old : Hearing)
+-- what was heard, and what the three ports still give
+record HeardTurns {P : Type 0} (journal : JournalState) (Plain : Type 0) (Good : List ℕ → Type 0) (old : Hearing)
     (new : ListenerState P) : Type 0 where
-  pub heard : HasHeard journal Plain old new.hearing
-  pub gives : HearsOnly Good new
-
-turn_heard : {P : Type 0} → HearingLaws → (journal : JournalState) (Plain : Type 0) (Good : List ℕ → Type 0) →
-    MayCome journal Plain Good → (server : P) (burst : ℕ) (fails : Bool) (s : ListenerState P) →
-    IsSound journal s.hearing → HearsOnly Good s →
-    HeardTurns journal Plain Good s.hearing (turn server burst fails s)
-unfolding turn
-turn_heard {P} laws journal Plain Good may server burst fails s sound gives =
-    let mid : Hearing = hear (Some A) s.a s.hearing in
-    let a = port_heard laws journal Plain Good may (Some A) s.a s.hearing sound gives.a in
-    let b = port_heard laws journal Plain Good may (Some B) s.b mid a.sound gives.b in
-    let lines = then_heard journal Plain s.hearing mid (lines_heard s) sound a b in
-    let asking : Asking P = record { port = s.requests; hearing = lines_heard s } in
-    let answers : HeardAnswers journal Plain Good (lines_heard s) (turn_asked server burst fails s) =
-    asked_heard laws journal Plain Good may (wanted (lines_heard s).arbitration.view) server burst fails asking
-    lines.sound gives.requests in
-    record {
-      heard = then_heard journal Plain s.hearing (lines_heard s) (turn_asked server burst fails s).hearing sound lines answers.heard;
-      gives = record {
-        a = rest_gives Good s.a.comes gives.a;
-        b = rest_gives Good s.b.comes gives.b;
-        requests = answers.gives;
-      };
-    }
+  heard : HasHeard journal Plain Good old new.hearing
+  gives : HearsOnly Good new
 
 -- the run is over behind a turn, or goes on
 either_heard : {P : Type 0} (journal : JournalState) (Plain : Type 0) (Good : List ℕ → Type 0) (old : Hearing)
@@ -132,43 +57,151 @@ either_heard : {P : Type 0} (journal : JournalState) (Plain : Type 0) (Good : Li
 either_heard journal Plain Good old true one all first whole = first
 either_heard journal Plain Good old false one all first whole = whole
 
-run_heard : {P : Type 0} → HearingLaws → (journal : JournalState) (Plain : Type 0) (Good : List ℕ → Type 0) →
-    MayCome journal Plain Good → (server : P) (burst : ℕ) (choices : List Bool) (s : ListenerState P) →
-    IsSound journal s.hearing → HearsOnly Good s →
-    HeardTurns journal Plain Good s.hearing (run (listening server burst) choices s)
-unfolding run
-run_heard laws journal Plain Good may server burst [] s sound gives = record {
-  heard = nothing_heard journal Plain s.hearing s.hearing sound refl refl;
-  gives = gives;
-}
-run_heard {P} laws journal Plain Good may server burst (fails ∷ more) s sound gives =
-    let after : ListenerState P = turn server burst fails s in
-    let one = turn_heard laws journal Plain Good may server burst fails s sound gives in
-    let rest = run_heard laws journal Plain Good may server burst more after one.heard.sound one.gives in
-    either_heard journal Plain Good s.hearing (is_finished after.hearing) after (run (listening server burst) more after) one
-    (record {
-      heard = then_heard journal Plain s.hearing after.hearing (run (listening server burst) more after).hearing sound one.heard
-          rest.heard;
-      gives = rest.gives;
-    })
+module _ (journal : JournalState) (Plain : Type 0) (Good : List ℕ → Type 0) (laws : HearingLaws)
+    (may : MayCome journal Plain Good) where
+  -- ---- one receive
+
+  receipt_heard : {P : Type 0} (line : Option Line) (receipt : Receipt P) (e : Hearing) → IsSound journal e →
+      Gives Good receipt → HasHeard journal Plain Good e (heard line (cut longest receipt) e)
+  receipt_heard line (Datagram from bytes) e sound gives =
+      taken_heard journal Plain Good laws may line (take longest bytes) e sound gives
+  receipt_heard line Quiet e sound gives = nothing_heard journal Plain Good e e sound refl refl
+  receipt_heard line Failure e sound gives = nothing_heard journal Plain Good e (missed e) sound refl refl
+
+  port_heard : {P : Type 0} (line : Option Line) (port : Port P) (e : Hearing) → IsSound journal e →
+      GivesOnly Good port → HasHeard journal Plain Good e (hear line port e)
+  unfolding hear
+  port_heard line port e sound gives = receipt_heard line (next_of port) e sound (next_gives Good port.comes gives)
+
+  -- ---- the answers to a request
+
+  answers_heard : {P : Type 0} (count : ℕ) (s : Asking P) → IsSound journal s.hearing → GivesOnly Good s.port →
+      HeardAnswers journal Plain Good s.hearing (hear_answers count s)
+  unfolding hear_answers
+  answers_heard zero s sound gives = record {
+    heard = nothing_heard journal Plain Good s.hearing s.hearing sound refl refl;
+    gives = gives;
+  }
+  answers_heard (suc count) s sound gives =
+      let one = port_heard None s.port s.hearing sound gives in
+      let more = answers_heard count (stepped s) one.sound (rest_gives Good s.port.comes gives) in
+      record {
+        heard = then_heard journal Plain Good s.hearing (stepped s).hearing (hear_answers count (stepped s)).hearing sound one more.heard;
+        gives = more.gives;
+      }
+
+  asked_heard : {P : Type 0} (wish : Option Request) (server : P) (burst : ℕ) (fails : Bool) (s : Asking P) →
+      IsSound journal s.hearing → GivesOnly Good s.port →
+      HeardAnswers journal Plain Good s.hearing (asked wish server burst fails s)
+  asked_heard None server burst fails s sound gives = record {
+    heard = nothing_heard journal Plain Good s.hearing s.hearing sound refl refl;
+    gives = gives;
+  }
+  asked_heard (Some request) server burst true s sound gives = record {
+    heard = nothing_heard journal Plain Good s.hearing (missed s.hearing) sound refl refl;
+    gives = gives;
+  }
+  asked_heard (Some request) server burst false s sound gives =
+      answers_heard (receives burst s.port.comes)
+      (record { port = offered false server (request_spelling request) s.port; hearing = s.hearing }) sound gives
+
+  -- ---- turns
+
+  turn_heard : {P : Type 0} (server : P) (burst : ℕ) (fails : Bool) (s : ListenerState P) →
+      IsSound journal s.hearing → HearsOnly Good s →
+      HeardTurns journal Plain Good s.hearing (turn server burst fails s)
+  unfolding turn
+  turn_heard {P} server burst fails s sound gives =
+      let mid : Hearing = hear (Some A) s.a s.hearing in
+      let a = port_heard (Some A) s.a s.hearing sound gives.a in
+      let b = port_heard (Some B) s.b mid a.sound gives.b in
+      let lines = then_heard journal Plain Good s.hearing mid (lines_heard s) sound a b in
+      let before : Asking P = record { port = s.requests; hearing = lines_heard s } in
+      let answers : HeardAnswers journal Plain Good (lines_heard s) (turn_asked server burst fails s) =
+      asked_heard (wanted (lines_heard s).arbitration.view) server burst fails before lines.sound gives.requests in
+      record {
+        heard =
+            then_heard journal Plain Good s.hearing (lines_heard s) (turn_asked server burst fails s).hearing sound lines answers.heard;
+        gives = record {
+          a = rest_gives Good s.a.comes gives.a;
+          b = rest_gives Good s.b.comes gives.b;
+          requests = answers.gives;
+        };
+      }
+
+  run_heard : {P : Type 0} (server : P) (burst : ℕ) (choices : List Bool) (s : ListenerState P) →
+      IsSound journal s.hearing → HearsOnly Good s →
+      HeardTurns journal Plain Good s.hearing (run (listening server burst) choices s)
+  unfolding run
+  run_heard server burst [] s sound gives = record {
+    heard = nothing_heard journal Plain Good s.hearing s.hearing sound refl refl;
+    gives = gives;
+  }
+  run_heard {P} server burst (fails ∷ more) s sound gives =
+      let after : ListenerState P = turn server burst fails s in
+      let end : ListenerState P = run (listening server burst) more after in
+      let one = turn_heard server burst fails s sound gives in
+      let rest = run_heard server burst more after one.heard.sound one.gives in
+      either_heard journal Plain Good s.hearing (is_finished after.hearing) after end one
+      (record {
+        heard = then_heard journal Plain Good s.hearing after.hearing end.hearing sound one.heard rest.heard;
+        gives = rest.gives;
+      })
 
 -- ---- a whole run
+
+-- both of two properties
+abbrev Both : (List ℕ → Type 0) → (List ℕ → Type 0) → List ℕ → Type 0
+Both Good Came bytes = Good bytes × Came bytes
+
+given_first : {P : Type 0} (Good Came : List ℕ → Type 0) (receipt : Receipt P) (comes : List (Receipt P)) →
+    ((from : P) (whole : List ℕ) → Contains (receipt ∷ comes) (Datagram from whole) → Came (take longest whole)) →
+    Gives Good receipt → Gives (Both Good Came) receipt
+given_first Good Came (Datagram from bytes) comes came gives = (gives, came from bytes (0, omega arith, refl))
+given_first Good Came Quiet comes came gives = tt
+given_first Good Came Failure comes came gives = tt
+
+given_all : {P : Type 0} (Good Came : List ℕ → Type 0) (comes : List (Receipt P)) →
+    ((from : P) (whole : List ℕ) → Contains comes (Datagram from whole) → Came (take longest whole)) →
+    AllByRecursion (Gives Good) comes → AllByRecursion (Gives (Both Good Came)) comes
+given_all Good Came [] came gives = tt
+given_all Good Came (receipt ∷ comes) came gives = (
+  given_first Good Came receipt comes came gives.0,
+  given_all Good Came comes (λ from whole is.
+      came from whole (Contains-append_right (receipt ∷ []) comes (Datagram from whole) is)) gives.1,
+)
+
+-- what a port gives, it gives
+port_gives : {P : Type 0} (Good Came : List ℕ → Type 0) (port : Port P) →
+    ((bytes : List ℕ) → IsGiven port bytes → Came bytes) → GivesOnly Good port → GivesOnly (Both Good Came) port
+port_gives Good Came port came gives =
+    given_all Good Came port.comes (λ from whole is.
+    came (take longest whole) (record { from = from; whole = whole; comes = is; seen = refl })) gives
+
+ports_give : {P : Type 0} (Good : List ℕ → Type 0) (s : ListenerState P) → HearsOnly Good s →
+    HearsOnly (Both Good (Hears s)) s
+ports_give Good s hears = record {
+  a = port_gives Good (Hears s) s.a (λ bytes is. inl is) hears.a;
+  b = port_gives Good (Hears s) s.b (λ bytes is. inr (inl is)) hears.b;
+  requests = port_gives Good (Hears s) s.requests (λ bytes is. inr (inr is)) hears.requests;
+}
 
 -- where strange bytes may come
 pub run_listened : {P : Type 0} → HearingLaws → (journal : JournalState) (server : P) (burst : ℕ) (choices : List Bool)
     (start : ListenerState P) → IsHonest start.hearing.arbitration.view journal.messages journal.closed →
     start.hearing.arbitration.view.session ≡ journal.session → HearsOnly (IsHarmless journal) start →
-    HasListened journal start.hearing.arbitration.view.next start.hearing.outgoing.text
+    HasListened journal (Hears start) start.hearing.arbitration.view.next start.hearing.outgoing.text
     (run (listening server burst) choices start).hearing
 run_listened {P} laws journal server burst choices start honest session hears =
-    let done : HasHeard journal ⊥ start.hearing (run (listening server burst) choices start).hearing =
-    (run_heard laws journal ⊥ (IsHarmless journal)
-    (record { harmless = λ bytes good. good; told = λ never bytes good. absurd never }) server burst choices start
-    (record { honest = honest; session = session }) hears).heard in
+    let Good : List ℕ → Type 0 = Both (IsHarmless journal) (Hears start) in
+    let done : HasHeard journal ⊥ Good start.hearing (run (listening server burst) choices start).hearing =
+    (run_heard journal ⊥ Good laws
+    (record { harmless = λ bytes good. good.0; told = λ never bytes good. absurd never }) server burst choices start
+    (record { honest = honest; session = session }) (ports_give (IsHarmless journal) start hears)).heard in
     record {
       sayings = done.sayings;
       text = done.text;
-      refused = done.refused;
+      refused = refused-weaker Good (Hears start) journal.session (λ bytes good. good.1) done.sayings done.refused;
       from = done.from;
       to = last_number journal (run (listening server burst) choices start).hearing done.sound;
       handed = done.handed;
@@ -187,8 +220,8 @@ pub run_plain : {P : Type 0} → HearingLaws → (journal : JournalState) (serve
 run_plain {P} laws journal server burst choices start honest session hears =
     let front : List ℕ = start.hearing.outgoing.text in
     let from : ℕ = start.hearing.arbitration.view.next in
-    let done : HasHeard journal (Unit {0}) start.hearing (run (listening server burst) choices start).hearing =
-    (run_heard laws journal (Unit {0}) (TellsTruth journal)
+    let done : HasHeard journal (Unit {0}) (TellsTruth journal) start.hearing (run (listening server burst) choices start).hearing =
+    (run_heard journal (Unit {0}) (TellsTruth journal) laws
     (record { harmless = λ bytes told. inl told; told = λ is_plain bytes told. told }) server burst choices start
     (record { honest = honest; session = session }) hears).heard in
     done.text

@@ -3,7 +3,7 @@
 
 ghost use Rattle.std.specs.Prelude.{◌≡◌, ◌+◌, ◌++◌, ◌≤◌, Bool, List, None, Option, Result, length, true, ℕ};
 ghost use Rattle.mold_devices.specs.declared.fault.CommandFault.{CommandFault};
-ghost use Rattle.mold_feed.specs.Heard.{HasFinished, HasListened, HearsOnly, IsFed, IsHarmless, PrintsAmong};
+ghost use Rattle.mold_feed.specs.Heard.{HasFinished, HasListened, Hears, HearsOnly, IsFed, IsHarmless, PrintsAmong};
 ghost use Rattle.mold_feed.specs.Heard.{PrintsLines};
 ghost use Rattle.mold_feed.specs.Listening.{Agrees, ListenerState, beginning, is_finished, last_line, listening};
 ghost use Rattle.mold_feed.specs.Listening.{status};
@@ -52,13 +52,14 @@ pub fn served_law<D: Datagrams>()
 
 /// A listener that is honest, and whose ports give only what is true of the session and what is no packet of it, stays
 /// so, for any burst, any number of turns and whichever sends fail. The messages that it prints have consecutive
-/// numbers from its next one on and are the published ones, and nothing that was true is refused; where all that came
-/// was true, it prints nothing else. Finished means that all to the session's end was printed.
+/// numbers from its next one on and are the published ones, and whatever it refuses came and is no packet of the
+/// session; where all that came was true, it prints nothing else. Finished means that all to the session's end was
+/// printed.
 pub fn listened_law<D: Datagrams>()
     ensures heard { (journal : JournalState) (server : D.Peer) (burst : ℕ) (choices : List Bool)
         (start : ListenerState D.Peer) → IsHonest start.hearing.arbitration.view journal.messages journal.closed →
         start.hearing.arbitration.view.session ≡ journal.session → HearsOnly (IsHarmless journal) start →
-        HasListened journal start.hearing.arbitration.view.next start.hearing.outgoing.text
+        HasListened journal (Hears start) start.hearing.arbitration.view.next start.hearing.outgoing.text
         (run (listening server burst) choices start).hearing }
     ensures plain { (journal : JournalState) (server : D.Peer) (burst : ℕ) (choices : List Bool)
         (start : ListenerState D.Peer) → IsHonest start.hearing.arbitration.view journal.messages journal.closed →
@@ -103,7 +104,7 @@ pub fn session_law<D: Datagrams>()
         HearsOnly (IsFed D.Peer journal limit lines) (beginning a b requests arbitration) →
         Ran (listening server burst) turns (beginning a b requests arbitration) last_line status
         (Agrees a_left b_left requests_left left) result old new sent →
-        PrintsAmong journal.session lines first result old new }
+        PrintsAmong journal.session (Hears (beginning a b requests arbitration)) lines first result old new }
 {
     published_law::<D>();
     served_law::<D>();

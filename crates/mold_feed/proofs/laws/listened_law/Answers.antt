@@ -9,6 +9,7 @@ laws g c = record {
   take = c.honest_take_law.ensures;
   taken = c.taken_law.ensures;
   spelled = c.reading_law.ensures.spelled;
+  fault = c.reading_law.ensures.fault;
 }
 
 pub returns-clause-heard : goal.returns-clause-heard
