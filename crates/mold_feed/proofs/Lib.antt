@@ -2,6 +2,9 @@ pub mod AnsweringLemmas
 pub mod FaultLemmas
 pub mod HandedLemmas
 pub mod HeardLemmas
+pub mod HeardSayingLemmas
+pub mod HeardTakingLemmas
+pub mod HeardTurnLemmas
 pub mod HearsLemmas
 pub mod LinesPrintedLemmas
 pub mod LinesTextLemmas

@@ -2,19 +2,24 @@
 use Rattle.std.specs.Prelude.{◌≡◌, ◌⊎◌, ⊤, ℕ, zero, suc, ◌+◌, ◌≤◌, true, nat_le, ◌&&◌, if◌then◌else◌, List, [], ◌∷◌, ◌++◌}
 use Rattle.std.specs.Prelude.{codes, decimal, length, map, take, Option, Result, IfOk}
 use Rattle.std.specs.Io.KnownBytes.{Appends}
-use Rattle.std.specs.List.{AllByRecursion, flat_map}
+use Rattle.std.specs.List.{AllByRecursion, Contains, flat_map}
 use Rattle.mold_devices.specs.Devices.{AppendsFront}
 use Rattle.mold_ports.specs.Ports.{Port, Receipt, Datagram, Quiet, Failure}
 use Rattle.mold_receiver.specs.Honest.{IsHonest}
 use Rattle.mold_receiver.specs.Store.{Message, numbered}
 use Rattle.mold_rule.specs.declared.refusal.Refusal.{Refusal as Refused}
+use Rattle.mold_rule.specs.declared.refusal.Refusal.TheVariants.{Malformed, WrongSession}
 use Rattle.mold_session.specs.Answer.{between}
 use Rattle.mold_session.specs.Journal.{JournalState}
 use Rattle.mold_session.specs.Truthful.{TellsTruth}
 use Rattle.mold_text.specs.Line.{line_of}
 use Rattle.mold_text.specs.Text.{refusal_words, refused_line}
 use Rattle.mold_wire.specs.Block.{IsBytes}
+use Rattle.mold_wire.specs.Fault.{FaultAt}
+use Rattle.mold_wire.specs.Packet.{Spells}
 use Rattle.mold_wire.specs.Truth.{AreStrange}
+use Rattle.mold_wire.specs.declared.error.DecodeError.{DecodeError}
+use Rattle.mold_wire.specs.declared.packet.Packet.{Packet}
 use Rattle.mold_wire.specs.declared.session.Session.{Session}
 use Rattle.mold_feed.specs.Listening.{Hearing, ListenerState, longest}
 use Rattle.mold_feed.specs.Sent.{IsSent}
@@ -49,6 +54,17 @@ pub record HearsOnly {P : Type 0} (Good : List ℕ → Type 0) (s : ListenerStat
   pub b : GivesOnly Good s.b
   pub requests : GivesOnly Good s.requests
 
+-- a port gives these bytes: they are what is looked at of a datagram that comes there
+pub record IsGiven {P : Type 0} (port : Port P) (bytes : List ℕ) : Type 0 where
+  pub from : P
+  pub whole : List ℕ
+  pub comes : Contains port.comes (Datagram from whole)
+  pub seen : bytes ≡ take longest whole
+
+-- one of a listener's three ports gives them
+abbrev pub Hears : {P : Type 0} → ListenerState P → List ℕ → Type 0
+Hears s bytes = IsGiven s.a bytes ⊎ IsGiven s.b bytes ⊎ IsGiven s.requests bytes
+
 -- what a listener prints: a message that is handed on, with its number, or why it refuses some bytes
 pub data Saying : Type 0 where
   Handed : ℕ → Message → Saying
@@ -67,18 +83,25 @@ handed_of [] = []
 handed_of (Handed number message ∷ sayings) = (number, message) ∷ handed_of sayings
 handed_of (Refuses bytes why ∷ sayings) = handed_of sayings
 
--- what is refused is none of the session's packets
-abbrev pub RefusesStrange : Session → Saying → Type 0
-RefusesStrange session (Handed number message) = ⊤
-RefusesStrange session (Refuses bytes why) = IsStrange session bytes
+-- why bytes are refused that are no packet of the session: for what is wrong with them, or as a packet of another one
+abbrev pub IsReason : Session → List ℕ → Refused → Type 0
+IsReason session bytes why =
+    ((error : DecodeError) × FaultAt error bytes × (why ≡ Malformed error))
+    ⊎ ((packet : Packet) × Spells packet bytes × (packet.session ≡ session → ⊥) × (why ≡ WrongSession))
+
+-- what is refused came, and is none of the session's packets, and that is why
+abbrev pub RefusesStrange : (List ℕ → Type 0) → Session → Saying → Type 0
+RefusesStrange Came session (Handed number message) = ⊤
+RefusesStrange Came session (Refuses bytes why) = Came bytes × IsStrange session bytes × IsReason session bytes why
 
 -- What an honest listener of a session has come to, which began at the message `first`. Behind a text it printed lines
 -- of messages and lines of refusals; the messages have the numbers from `first` to below the next one, and are the
--- published ones; only what is no packet of the session was refused; and it is honest.
-pub record HasListened (journal : JournalState) (first : ℕ) (before : List ℕ) (e : Hearing) : Type 0 where
+-- published ones; only what came and is no packet of the session was refused; and it is honest.
+pub record HasListened (journal : JournalState) (Came : List ℕ → Type 0) (first : ℕ) (before : List ℕ) (e : Hearing) :
+    Type 0 where
   pub sayings : List Saying
   pub text : e.outgoing.text ≡ before ++ sayings_text sayings
-  pub refused : AllByRecursion (RefusesStrange journal.session) sayings
+  pub refused : AllByRecursion (RefusesStrange Came journal.session) sayings
   pub from : first ≤ e.arbitration.view.next
   pub to : e.arbitration.view.next ≤ length journal.messages + 1
   pub handed : handed_of sayings ≡ numbered first (between journal.messages first e.arbitration.view.next)
@@ -135,14 +158,14 @@ messages_text (Refuses bytes why ∷ sayings) = messages_text sayings
 
 -- the same where also bytes came that are none of the session's packets: what is printed between the lines of messages
 -- are refusals of these
-pub record PrintsAmong {E : Type 0} (session : Session) (lines : List (List ℕ)) (first : ℕ) (result : Result ℕ E)
-    (old new : Option (List ℕ)) : Type 0 where
+pub record PrintsAmong {E : Type 0} (session : Session) (Came : List ℕ → Type 0) (lines : List (List ℕ)) (first : ℕ)
+    (result : Result ℕ E) (old new : Option (List ℕ)) : Type 0 where
   pub next : ℕ
   pub status : ℕ
   pub known : ℕ
   pub failures : ℕ
   pub sayings : List Saying
-  pub refused : AllByRecursion (RefusesStrange session) sayings
+  pub refused : AllByRecursion (RefusesStrange Came session) sayings
   pub messages : messages_text sayings ≡ lines_text first (between lines first next)
   pub from : first ≤ next
   pub to : next ≤ length lines + 1

@@ -3,7 +3,7 @@
 
 ghost use Rattle.std.specs.Prelude.{◌≡◌, ◌+◌, ◌++◌, ◌≤◌, Bool, List, None, Option, Result, length, true, ℕ};
 ghost use Rattle.mold_devices.specs.declared.fault.CommandFault.{CommandFault};
-ghost use Rattle.mold_feed.specs.Heard.{HasFinished, HasListened, HearsOnly, IsFed, IsHarmless, PrintsAmong};
+ghost use Rattle.mold_feed.specs.Heard.{HasFinished, HasListened, Hears, HearsOnly, IsFed, IsHarmless, PrintsAmong};
 ghost use Rattle.mold_feed.specs.Heard.{PrintsLines};
 ghost use Rattle.mold_feed.specs.Listening.{Agrees, ListenerState, beginning, is_finished, last_line, listening};
 ghost use Rattle.mold_feed.specs.Listening.{status};
@@ -22,8 +22,9 @@ ghost use Rattle.mold_session.specs.Journal.{JournalState};
 ghost use Rattle.mold_session.specs.Truthful.{MayAnswer, TellsTruth};
 
 use mold_ports::Datagrams;
-use mold_receiver::laws::honest_stays_law;
+use mold_receiver::laws::{honest_stays_law, honest_take_law, taken_law};
 use mold_session::laws::{answered_law, publisher_law, sending_law};
+use mold_wire::laws::reading_law;
 
 /// What publishing lines sends is true of the journal that is left, also where a line is refused and where the
 /// loop ended in a fault; so is all that a port has sent that sent nothing else. Where no line is refused, that
@@ -58,13 +59,14 @@ pub fn served_law<D: Datagrams>()
 
 /// A listener that is honest, and whose ports give only what is true of the session and what is no packet of it, stays
 /// so, for any burst, any number of turns and whichever sends fail. The messages that it prints have consecutive
-/// numbers from its next one on and are the published ones, and nothing that was true is refused; where all that came
-/// was true, it prints nothing else. Finished means that all to the session's end was printed.
+/// numbers from its next one on and are the published ones, and whatever it refuses came and is no packet of the
+/// session; where all that came was true, it prints nothing else. Finished means that all to the session's end was
+/// printed.
 pub fn listened_law<D: Datagrams>()
     ensures heard { (journal : JournalState) (server : D.Peer) (burst : ℕ) (choices : List Bool)
         (start : ListenerState D.Peer) → IsHonest start.hearing.arbitration.view journal.messages journal.closed →
         start.hearing.arbitration.view.session ≡ journal.session → HearsOnly (IsHarmless journal) start →
-        HasListened journal start.hearing.arbitration.view.next start.hearing.outgoing.text
+        HasListened journal (Hears start) start.hearing.arbitration.view.next start.hearing.outgoing.text
         (run (listening server burst) choices start).hearing }
     ensures plain { (journal : JournalState) (server : D.Peer) (burst : ℕ) (choices : List Bool)
         (start : ListenerState D.Peer) → IsHonest start.hearing.arbitration.view journal.messages journal.closed →
@@ -78,7 +80,11 @@ pub fn listened_law<D: Datagrams>()
         start.hearing.arbitration.view.session ≡ journal.session → HearsOnly (IsHarmless journal) start →
         is_finished (run (listening server burst) choices start).hearing ≡ true →
         HasFinished journal (run (listening server burst) choices start).hearing }
-{}
+{
+    honest_take_law();
+    taken_law();
+    reading_law();
+}
 
 /// From the lines that are published to the lines that are heard. Lines are published into a session that begins, none
 /// of them refused; any number of servers answer from copies of the journal that is left; a listener begins at a
@@ -105,7 +111,7 @@ pub fn session_law<D: Datagrams>()
         HearsOnly (IsFed D.Peer journal limit lines) (beginning a b requests arbitration) →
         Ran (listening server burst) turns (beginning a b requests arbitration) last_line status
         (Agrees a_left b_left requests_left left) result old new sent →
-        PrintsAmong journal.session lines first result old new }
+        PrintsAmong journal.session (Hears (beginning a b requests arbitration)) lines first result old new }
 {
     published_law::<D>();
     served_law::<D>();
