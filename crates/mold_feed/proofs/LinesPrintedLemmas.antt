@@ -15,27 +15,9 @@ use Rattle.mold_session.specs.Answer.{between}
 use Rattle.mold_session.specs.Journal.{JournalState}
 use Rattle.mold_wire.specs.declared.session.Session.{Session}
 
--- the status, which is 0 where the listening is finished
-abbrev status_by : Bool → ℕ
-status_by finished = if finished then 0 else 1
-
-zero_finished : (finished : Bool) → status_by finished ≡ 0 → finished ≡ true
-zero_finished true zero = refl
-zero_finished false zero = absurd (omega (arith, zero))
-
--- the last line by the status
-line_by : (finished : Bool) (next known failures : ℕ) →
-    (if finished then finished_line next failures else open_line next known failures)
-    ≡ listened_line (status_by finished) next known failures
-line_by true next known failures = refl
-line_by false next known failures = refl
-
 -- the last line that is printed at the end
 abbrev end_line : Hearing → List ℕ
-end_line e = listened_line (hearing_status e) e.arbitration.view.next e.arbitration.view.known e.outgoing.failures
-
-end_line_is : (e : Hearing) → hearing_line e ≡ end_line e
-end_line_is e = line_by (is_finished e) e.arbitration.view.next e.arbitration.view.known e.outgoing.failures
+end_line e = listened_line (is_finished e) e.arbitration.view.next e.arbitration.view.known e.outgoing.failures
 
 -- a listener that began at the line `first` has come to its end: its text and its last line are written
 pub record HasCome {P E : Type 0} (lines : List (List ℕ)) (first : ℕ) (end : ListenerState P) (result : Result ℕ E)
@@ -49,12 +31,12 @@ pub record HasCome {P E : Type 0} (lines : List (List ℕ)) (first : ℕ) (end :
 
 -- so it has where the messages of the session are those of the lines
 pub has_come : {P E : Type 0} {lines : List (List ℕ)} {first : ℕ} {end : ListenerState P} {result : Result ℕ E}
-    {old new : Option (List ℕ)} (journal : JournalState) → AreSpelled lines journal.messages →
-    HasListened journal first [] end.hearing → (is_finished end.hearing ≡ true → HasFinished journal end.hearing) →
+    {old new : Option (List ℕ)} (journal : JournalState) (Came : List ℕ → Type 0) → AreSpelled lines journal.messages →
+    HasListened journal Came first [] end.hearing → (is_finished end.hearing ≡ true → HasFinished journal end.hearing) →
     IfOk result (λ answer.
     Appends old new (end.hearing.outgoing.text ++ last_line end) × (answer ≡ status end)) →
     AppendsFront old new (end.hearing.outgoing.text ++ last_line end) → HasCome lines first end result old new
-has_come {P} {E} {lines} {first} {end} {result} {old} {new} journal spelled listened finished whole front =
+has_come {P} {E} {lines} {first} {end} {result} {old} {new} journal Came spelled listened finished whole front =
     let many : length lines ≡ length journal.messages = spelled_length lines journal.messages spelled in
     record {
       whole = whole;
@@ -71,8 +53,7 @@ printed lines first end = lines_text first (between lines first end.hearing.arbi
 -- the text and the last line
 text_is : {P : Type 0} (end : ListenerState P) (text : List ℕ) → end.hearing.outgoing.text ≡ text →
     end.hearing.outgoing.text ++ last_line end ≡ text ++ end_line end.hearing
-text_is end text is =
-    ap (λ (t : List ℕ). t ++ last_line end) is ∙ ap (λ (t : List ℕ). text ++ t) (end_line_is end.hearing)
+text_is end text is = ap (λ (t : List ℕ). t ++ last_line end) is
 
 -- with the lines as its text, it printed the lines
 pub prints_lines : {P E : Type 0} {lines : List (List ℕ)} {first : ℕ} {end : ListenerState P} {result : Result ℕ E}
@@ -82,12 +63,12 @@ prints_lines {P} {E} {lines} {first} {end} {result} {old} {new} come is =
     let same = text_is end (printed lines first end) is in
     record {
       next = end.hearing.arbitration.view.next;
-      status = hearing_status end.hearing;
+      finished = is_finished end.hearing;
       known = end.hearing.arbitration.view.known;
       failures = end.hearing.outgoing.failures;
       from = come.from;
       to = come.to;
-      all = λ zero. come.all (zero_finished (is_finished end.hearing) zero);
+      all = come.all;
       text =
           IfOk-weaker result _ _
           (λ answer written. (written.1, subst (λ (t : List ℕ). Appends old new t) same written.0)) come.whole;
@@ -96,14 +77,14 @@ prints_lines {P} {E} {lines} {first} {end} {result} {old} {new} come is =
 
 -- with sayings as its text whose messages are the lines, it printed the lines among refusals
 pub prints_among : {P E : Type 0} {lines : List (List ℕ)} {first : ℕ} {end : ListenerState P} {result : Result ℕ E}
-    {old new : Option (List ℕ)} (session : Session) (sayings : List Saying) → HasCome lines first end result old new →
-    AllByRecursion (RefusesStrange session) sayings → messages_text sayings ≡ printed lines first end →
-    end.hearing.outgoing.text ≡ sayings_text sayings → PrintsAmong session lines first result old new
-prints_among {P} {E} {lines} {first} {end} {result} {old} {new} session sayings come refused messages is =
+    {old new : Option (List ℕ)} (session : Session) (Came : List ℕ → Type 0) (sayings : List Saying) →
+    HasCome lines first end result old new → AllByRecursion (RefusesStrange Came session) sayings → messages_text sayings ≡ printed lines first end →
+    end.hearing.outgoing.text ≡ sayings_text sayings → PrintsAmong session Came lines first result old new
+prints_among {P} {E} {lines} {first} {end} {result} {old} {new} session Came sayings come refused messages is =
     let same = text_is end (sayings_text sayings) is in
     record {
       next = end.hearing.arbitration.view.next;
-      status = hearing_status end.hearing;
+      finished = is_finished end.hearing;
       known = end.hearing.arbitration.view.known;
       failures = end.hearing.outgoing.failures;
       sayings = sayings;
@@ -111,7 +92,7 @@ prints_among {P} {E} {lines} {first} {end} {result} {old} {new} session sayings 
       messages = messages;
       from = come.from;
       to = come.to;
-      all = λ zero. come.all (zero_finished (is_finished end.hearing) zero);
+      all = come.all;
       text =
           IfOk-weaker result _ _
           (λ answer written. (written.1, subst (λ (t : List ℕ). Appends old new t) same written.0)) come.whole;
@@ -120,10 +101,10 @@ prints_among {P} {E} {lines} {first} {end} {result} {old} {new} session sayings 
 
 -- what a listener heard of the session, as lines among refusals
 pub listened_among : {P E : Type 0} {lines : List (List ℕ)} {first : ℕ} {end : ListenerState P} {result : Result ℕ E}
-    {old new : Option (List ℕ)} (journal : JournalState) → AreSpelled lines journal.messages →
-    HasListened journal first [] end.hearing → HasCome lines first end result old new →
-    PrintsAmong journal.session lines first result old new
-listened_among {P} {E} {lines} {first} {end} journal spelled listened come =
-    prints_among journal.session listened.sayings come listened.refused
+    {old new : Option (List ℕ)} (journal : JournalState) (Came : List ℕ → Type 0) → AreSpelled lines journal.messages →
+    HasListened journal Came first [] end.hearing → HasCome lines first end result old new →
+    PrintsAmong journal.session Came lines first result old new
+listened_among {P} {E} {lines} {first} {end} journal Came spelled listened come =
+    prints_among journal.session Came listened.sayings come listened.refused
     (lines_said lines journal.messages listened.sayings first end.hearing.arbitration.view.next spelled listened.handed)
     listened.text

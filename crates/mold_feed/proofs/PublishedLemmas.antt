@@ -253,6 +253,15 @@ all_true laws limit beats ends (Some why) journal may =
     each_append (TellsTruth journal) (map spelling_of (all_but_last (packets_behind limit 0 journal))) []
     (without_last (TellsTruth journal) (packets_behind limit 0 journal) (data_true laws limit journal may)) tt
 
+-- all that are offered
+pub offered_true : (laws : PublishedLaws) (beats ends limit : ℕ) (journal : JournalState) (lines : List (List ℕ)) →
+    IsOpening journal limit → AllByRecursion (TellsTruth (left_journal (lines_published journal lines)))
+    (all_datagrams limit beats ends (lines_published journal lines))
+offered_true laws beats ends limit journal lines is =
+    let published = lines_published journal lines in
+    all_true laws limit beats ends published.refused published.journal
+    (taken_may laws limit limit journal lines is (omega arith) is.limited.1)
+
 -- ---- what was sent of them
 
 each_both : {P : Type 0} (Good : List ℕ → Type 0) (a b : P) (datagrams : List (List ℕ)) →
@@ -280,7 +289,6 @@ published_true laws a b beats ends limit journal lines result before after text_
     let published = lines_published journal lines in
     let Good : List ℕ → Type 0 = TellsTruth (left_journal published) in
     let datagrams = all_datagrams limit beats ends published in
-    let may = taken_may laws limit limit journal lines is (omega arith) is.limited.1 in
     sent_front Good after.sent run.end.port.sent run.sent_front
     (sends_true Good (both a b datagrams) (publication_of before nothing_out) run.end run.sends had
-    (each_both Good a b datagrams (all_true laws limit beats ends published.refused published.journal may)))
+    (each_both Good a b datagrams (offered_true laws beats ends limit journal lines is)))

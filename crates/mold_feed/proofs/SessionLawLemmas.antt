@@ -2,10 +2,9 @@
 -- listening say.
 use Rattle.std.proofs.Common.{◌≡◌, ℕ, ◌+◌, ◌<◌, ◌≤◌, Bool, true, List, [], ◌∷◌, ◌++◌, length, Option, None, Some, Result}
 use Rattle.std.proofs.Common.{inl, inr, refl, sym, ap, subst, ◌∙◌, arith}
-use Rattle.std.specs.List.{AllByRecursion, Contains}
-use Rattle.std.proofs.lemmas.List.Elements.{All-contains, All-from_recursion}
+use Rattle.std.specs.List.{AllByRecursion}
 use Rattle.mold_devices.specs.declared.fault.CommandFault.{CommandFault}
-use Rattle.mold_feed.specs.Heard.{Gives, GivesOnly, HasFinished, HasListened, HearsOnly, IsFed, IsHarmless, IsStrange, PrintsAmong}
+use Rattle.mold_feed.specs.Heard.{Gives, GivesOnly, HasFinished, HasListened, Hears, HearsOnly, IsFed, IsHarmless, IsStrange, PrintsAmong}
 use Rattle.mold_feed.specs.Heard.{PrintsLines}
 use Rattle.mold_feed.specs.Listening.{ListenerState, beginning, is_finished, last_line, listening, status}
 use Rattle.mold_feed.specs.PublishLoop.{PublishRun, closed_unless, left_journal}
@@ -15,6 +14,7 @@ use Rattle.mold_feed.specs.Serving.{ResponderState, Service, serving}
 use Rattle.mold_feed.specs.Text.{handed_text}
 use Rattle.mold_feed.proofs.LinesPrintedLemmas.{HasCome, has_come, listened_among, prints_lines}
 use Rattle.mold_feed.proofs.LinesTextLemmas.{spelled_length, text_between}
+use Rattle.mold_feed.proofs.SentLemmas.{sent_one}
 use Rattle.mold_ports.specs.Ports.{Port, Receipt, Datagram, Quiet, Failure}
 use Rattle.mold_publish.proofs.DatagramLemmas.{grown}
 use Rattle.mold_publish.specs.Publishing.{lines_published}
@@ -51,7 +51,7 @@ pub record FeedLaws (P : Type 0) : Type 0 where
   pub heard : (journal : JournalState) (server : P) (burst : ℕ) (choices : List Bool) (start : ListenerState P) →
       IsHonest start.hearing.arbitration.view journal.messages journal.closed →
       start.hearing.arbitration.view.session ≡ journal.session → HearsOnly (IsHarmless journal) start →
-      HasListened journal start.hearing.arbitration.view.next start.hearing.outgoing.text
+      HasListened journal (Hears start) start.hearing.arbitration.view.next start.hearing.outgoing.text
       (run (listening server burst) choices start).hearing
   pub plain : (journal : JournalState) (server : P) (burst : ℕ) (choices : List Bool) (start : ListenerState P) →
       IsHonest start.hearing.arbitration.view journal.messages journal.closed →
@@ -71,13 +71,7 @@ pub record FeedLaws (P : Type 0) : Type 0 where
 
 -- ---- what was sent is true
 
--- what holds of all that was sent holds of each datagram among it
-one_sent : {P : Type 0} (Good : List ℕ → Type 0) (sent : List (P × List ℕ)) (to : P) (bytes : List ℕ) → AllSent Good sent →
-    Contains sent (to, bytes) → Good bytes
-one_sent {P} Good sent to bytes all among =
-    All-contains (λ (letter : P × List ℕ). Good letter.1) sent (to, bytes)
-    (All-from_recursion (λ (letter : P × List ℕ). Good letter.1) sent all) among
-
+-- a port that had sent nothing
 none_sent : {P : Type 0} (Good : List ℕ → Type 0) (sent : List (P × List ℕ)) → sent ≡ [] → AllSent Good sent
 none_sent {P} Good sent none = subst (λ (s : List (P × List ℕ)). AllSent Good s) (sym none) tt
 
@@ -134,7 +128,7 @@ module _ {P : Type 0} (laws : FeedLaws P) (limit : ℕ) (journal : JournalState)
   published_tells : (bytes : List ℕ) → IsPublished P journal limit lines bytes → TellsTruth (left_by journal lines) bytes
   published_tells bytes is =
       let Good = TellsTruth (left_by journal lines) in
-      one_sent Good is.after.sent is.to bytes
+      sent_one Good is.after.sent is.to bytes
       (laws.published is.a is.b is.beats is.ends limit journal lines is.result is.before is.after is.text_old is.text_new
       is.file_old is.file_new opening is.publishing (none_sent Good is.before.sent is.nothing))
       is.sent
@@ -143,7 +137,7 @@ module _ {P : Type 0} (laws : FeedLaws P) (limit : ℕ) (journal : JournalState)
   served_tells bytes is =
       let Good = TellsTruth is.service.journal in
       copy_tells (left_by journal lines) is.service.journal bytes is.copy
-      (one_sent Good (run (serving is.service) is.choices is.start).port.sent is.to bytes
+      (sent_one Good (run (serving is.service) is.choices is.start).port.sent is.to bytes
       (laws.served is.service is.choices is.start is.answers (none_sent Good is.start.port.sent is.nothing))
       is.sent)
 
@@ -186,27 +180,32 @@ module _ {P : Type 0} (laws : FeedLaws P) (limit : ℕ) (journal : JournalState)
       ending = run (listening server burst) ran.choices (beginning a b requests arbitration)
 
       has_heard : HearsOnly (IsHarmless (left_by journal lines)) (beginning a b requests arbitration) →
-          HasListened (left_by journal lines) first [] ending.hearing
+          HasListened (left_by journal lines) (Hears (beginning a b requests arbitration)) first [] ending.hearing
       has_heard hears =
-          subst (λ (n : ℕ). HasListened (left_by journal lines) n [] ending.hearing) begins_at
+          subst
+          (λ (n : ℕ).
+          HasListened (left_by journal lines) (Hears (beginning a b requests arbitration)) n [] ending.hearing)
+          begins_at
           (laws.heard (left_by journal lines) server burst ran.choices (beginning a b requests arbitration) begins_honest
           begins_in hears)
 
       comes_to : HearsOnly (IsHarmless (left_by journal lines)) (beginning a b requests arbitration) →
           HasCome lines first ending result old new
       comes_to hears =
-          has_come (left_by journal lines) has_lines.spelled (has_heard hears)
+          has_come (left_by journal lines) (Hears (beginning a b requests arbitration)) has_lines.spelled (has_heard hears)
           (laws.finished (left_by journal lines) server burst ran.choices (beginning a b requests arbitration)
           begins_honest begins_in hears)
           ran.whole ran.front
 
       pub session_prints_among : HearsOnly (IsFed P journal limit lines) (beginning a b requests arbitration) →
-          PrintsAmong journal.session lines first result old new
+          PrintsAmong journal.session (Hears (beginning a b requests arbitration)) lines first result old new
       session_prints_among fed =
           let hears = hears_weaker (IsFed P journal limit lines) (IsHarmless (left_by journal lines)) fed_harmless
           (beginning a b requests arbitration) fed in
-          subst (λ (s : Session). PrintsAmong s lines first result old new) (left_session journal lines)
-          (listened_among (left_by journal lines) has_lines.spelled (has_heard hears) (comes_to hears))
+          subst
+          (λ (s : Session). PrintsAmong s (Hears (beginning a b requests arbitration)) lines first result old new)
+          (left_session journal lines)
+          (listened_among (left_by journal lines) (Hears (beginning a b requests arbitration)) has_lines.spelled (has_heard hears) (comes_to hears))
 
       pub session_prints_lines : HearsOnly (IsSent P journal limit lines) (beginning a b requests arbitration) →
           PrintsLines lines first result old new

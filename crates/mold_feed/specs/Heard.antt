@@ -1,5 +1,5 @@
 -- From datagrams to lines: what a listener may be given, and what it prints of it.
-use Rattle.std.specs.Prelude.{◌≡◌, ◌⊎◌, ⊤, ℕ, zero, suc, ◌+◌, ◌≤◌, true, nat_le, ◌&&◌, if◌then◌else◌, List, [], ◌∷◌, ◌++◌}
+use Rattle.std.specs.Prelude.{◌≡◌, ◌⊎◌, ⊤, ℕ, ◌+◌, ◌≤◌, Bool, true, nat_le, ◌&&◌, if◌then◌else◌, List, [], ◌∷◌, ◌++◌}
 use Rattle.std.specs.Prelude.{codes, decimal, length, map, take, Option, Result, IfOk}
 use Rattle.std.specs.Io.KnownBytes.{Appends}
 use Rattle.std.specs.List.{AllByRecursion, Contains, flat_map}
@@ -128,27 +128,30 @@ lines_text number [] = []
 lines_text number (line ∷ lines) =
     line_of (decimal number ∷ shown line ∷ []) ++ lines_text (number + 1) lines
 
--- the last line that a listener prints with a status
-abbrev pub listened_line : ℕ → ℕ → ℕ → ℕ → List ℕ
-listened_line zero next known failures = finished_line next failures
-listened_line (suc status) next known failures = open_line next known failures
+-- the last line of a listener that is finished or not, and its status
+abbrev pub listened_line : Bool → ℕ → ℕ → ℕ → List ℕ
+listened_line finished next known failures =
+    if finished then finished_line next failures else open_line next known failures
+
+abbrev pub listened_status : Bool → ℕ
+listened_status finished = if finished then 0 else 1
 
 -- What a listener printed that began at the line `first`: the published lines behind their numbers, from that one to
--- below some line, and then its last line; with status 0 they are all from the first one on. After a fault a beginning
--- of such a text is written.
+-- below some line, and then its last line. Where it is finished, which status 0 says, they are all from the first one
+-- on. After a fault a beginning of such a text is written.
 pub record PrintsLines {E : Type 0} (lines : List (List ℕ)) (first : ℕ) (result : Result ℕ E)
     (old new : Option (List ℕ)) : Type 0 where
   pub next : ℕ
-  pub status : ℕ
+  pub finished : Bool
   pub known : ℕ
   pub failures : ℕ
   pub from : first ≤ next
   pub to : next ≤ length lines + 1
-  pub all : status ≡ 0 → next ≡ length lines + 1
-  pub text : IfOk result (λ answer. (answer ≡ status) × Appends old new
-      (lines_text first (between lines first next) ++ listened_line status next known failures))
+  pub all : finished ≡ true → next ≡ length lines + 1
+  pub text : IfOk result (λ status. (status ≡ listened_status finished) × Appends old new
+      (lines_text first (between lines first next) ++ listened_line finished next known failures))
   pub front : AppendsFront old new
-      (lines_text first (between lines first next) ++ listened_line status next known failures)
+      (lines_text first (between lines first next) ++ listened_line finished next known failures)
 
 -- the lines of messages alone
 abbrev pub messages_text : List Saying → List ℕ
@@ -156,12 +159,12 @@ messages_text [] = []
 messages_text (Handed number message ∷ sayings) = handed_line number message ++ messages_text sayings
 messages_text (Refuses bytes why ∷ sayings) = messages_text sayings
 
--- the same where also bytes came that are none of the session's packets: what is printed between the lines of messages
--- are refusals of these
+-- The same where also bytes came that are none of the session's packets: what is printed between the lines of messages
+-- are refusals of these.
 pub record PrintsAmong {E : Type 0} (session : Session) (Came : List ℕ → Type 0) (lines : List (List ℕ)) (first : ℕ)
     (result : Result ℕ E) (old new : Option (List ℕ)) : Type 0 where
   pub next : ℕ
-  pub status : ℕ
+  pub finished : Bool
   pub known : ℕ
   pub failures : ℕ
   pub sayings : List Saying
@@ -169,7 +172,7 @@ pub record PrintsAmong {E : Type 0} (session : Session) (Came : List ℕ → Typ
   pub messages : messages_text sayings ≡ lines_text first (between lines first next)
   pub from : first ≤ next
   pub to : next ≤ length lines + 1
-  pub all : status ≡ 0 → next ≡ length lines + 1
-  pub text : IfOk result (λ answer. (answer ≡ status) × Appends old new
-      (sayings_text sayings ++ listened_line status next known failures))
-  pub front : AppendsFront old new (sayings_text sayings ++ listened_line status next known failures)
+  pub all : finished ≡ true → next ≡ length lines + 1
+  pub text : IfOk result (λ status. (status ≡ listened_status finished) × Appends old new
+      (sayings_text sayings ++ listened_line finished next known failures))
+  pub front : AppendsFront old new (sayings_text sayings ++ listened_line finished next known failures)

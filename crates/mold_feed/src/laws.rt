@@ -2,12 +2,13 @@
 //! contracts name. Each law is a function that does nothing: its contract is the law.
 
 ghost use Rattle.std.specs.Prelude.{◌≡◌, ◌+◌, ◌++◌, ◌≤◌, Bool, List, None, Option, Result, length, true, ℕ};
+ghost use Rattle.std.specs.List.{AllByRecursion};
 ghost use Rattle.mold_devices.specs.declared.fault.CommandFault.{CommandFault};
 ghost use Rattle.mold_feed.specs.Heard.{HasFinished, HasListened, Hears, HearsOnly, IsFed, IsHarmless, PrintsAmong};
 ghost use Rattle.mold_feed.specs.Heard.{PrintsLines};
 ghost use Rattle.mold_feed.specs.Listening.{Agrees, ListenerState, beginning, is_finished, last_line, listening};
 ghost use Rattle.mold_feed.specs.Listening.{status};
-ghost use Rattle.mold_feed.specs.PublishLoop.{PublishRun, left_journal};
+ghost use Rattle.mold_feed.specs.PublishLoop.{PublishRun, all_datagrams, left_journal};
 ghost use Rattle.mold_feed.specs.Runs.{Ran, run};
 ghost use Rattle.mold_feed.specs.Sent.{AllSent, HasLines, IsOpening, IsSent};
 ghost use Rattle.mold_feed.specs.Serving.{ResponderState, Service, serving};
@@ -26,10 +27,13 @@ use mold_receiver::laws::{honest_stays_law, honest_take_law, taken_law};
 use mold_session::laws::{answered_law, publisher_law, sending_law};
 use mold_wire::laws::reading_law;
 
-/// What publishing lines sends is true of the journal that is left, also where a line is refused and where the
-/// loop ended in a fault; so is all that a port has sent that sent nothing else. Where no line is refused, that
+/// What publishing lines offers is true of the journal that is left, also where a line is refused and where the
+/// loop ended in a fault; so is what was sent of it, and all that a port has sent that sent nothing else. Where no line is refused, that
 /// journal is closed and has the messages of the lines; a server may answer from it.
 pub fn published_law<D: Datagrams>()
+    ensures offered { (beats ends limit : ℕ) (journal : JournalState) (lines : List (List ℕ)) →
+        IsOpening journal limit → AllByRecursion (TellsTruth (left_journal (lines_published journal lines)))
+        (all_datagrams limit beats ends (lines_published journal lines)) }
     ensures sent { (a b : D.Peer) (beats ends limit : ℕ) (journal : JournalState) (lines : List (List ℕ))
         (result : Result ℕ CommandFault) (before after : Port D.Peer)
         (text_old text_new file_old file_new : Option (List ℕ)) → IsOpening journal limit →

@@ -1,4 +1,4 @@
-use Rattle.mold_feed.proofs.PublishedLemmas.{PublishedLaws, lines_spelled, published_may, published_true}
+use Rattle.mold_feed.proofs.PublishedLemmas.{PublishedLaws, lines_spelled, offered_true, published_may, published_true}
 use Rattle.mold_feed.proofs.laws.published_law.Given.{Over}
 use Rattle.mold_feed.proofs.laws.published_law.Goals.{After-sending_law}
 use Rattle.mold_feed.proofs.laws.published_law.Goals as goal
@@ -12,6 +12,7 @@ laws g c = record {
 
 pub returns : goal.returns
 returns g c = record {
+  offered = offered_true (laws g c);
   sent = published_true (laws g c);
   lines = lines_spelled (laws g c);
   answers = published_may (laws g c);
