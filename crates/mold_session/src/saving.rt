@@ -12,7 +12,7 @@ use crate::outlet::Outlet;
 use byteorder::{BigEndian, ByteOrder};
 use mold_devices::{DeviceFault, Sink};
 use mold_messages::MessageList;
-use mold_wire::Session;
+use mold_wire::{LENGTH_BYTES, Session};
 
 // Keeps what stands before the blocks.
 fn keep_head(outlet: &mut Outlet, session: Session, closed: bool, count: u64)
@@ -35,7 +35,7 @@ fn put_block<K: Sink>(outlet: &mut Outlet, sink: &mut K, message: &[u8]) -> Resu
     ensures front { OnErr result (AppendsFront (K.held sink.old) (K.held sink.new) (outlet.old ++ block message.now)) }
     ensures failures { Counts (K.failed sink.old) (K.failed sink.new) result }
 {
-    let mut len = [0; 2];
+    let mut len = [0; LENGTH_BYTES];
     BigEndian::write_u16(&mut len, message.len() as u16);
     outlet.put(sink, &len)?;
     outlet.put(sink, message)
