@@ -11,7 +11,7 @@ use std::io::Read;
 use std::marker::Model;
 
 /// A reader as a source. Every error of the reader is a failure, also an interrupted call, and so
-/// is each call behind the first `u64::MAX`.
+/// is each call after the first `u64::MAX`.
 #[derive(Drop)]
 pub struct FromRead<R> {
     reader: R,

@@ -11,7 +11,7 @@ use mold_devices::DeviceFault;
 use std::alloc::{AllocError, Global};
 use std::marker::Model;
 
-/// A script as a port: each receive takes its next step, and nothing comes behind the last. It keeps what is
+/// A script as a port: each receive takes its next step, and nothing comes after the last. It keeps what is
 /// sent. A send fails only where `fail_send` says, or where memory is refused for what is kept.
 #[derive(Drop)]
 pub struct MemoryPort {

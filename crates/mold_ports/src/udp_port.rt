@@ -17,7 +17,7 @@ use std::time::Duration;
 /// How many milliseconds a receive or a send waits at most.
 const WAIT: u16 = 100;
 
-/// How many of them a receive behind a send waits for the answer alone: it is mostly here by then, and to ask
+/// How many of them a receive after a send waits for the answer alone: it is mostly here by then, and to ask
 /// anew before it is lets answers pile up.
 const ANSWER_WAIT: u16 = 2;
 
@@ -36,14 +36,14 @@ enum Outlook {
     Quiet,
     // Something was sent: it waits for the answer.
     Asking,
-    // The last wait for an answer was in vain: it waits as where none was here, also behind a send, until a
+    // The last wait for an answer was in vain: it waits as where none was here, also after a send, until a
     // datagram comes.
     Unanswered,
 }
 
 /// A UDP socket over IPv4 as a port. A receive gives none only where the system said that nothing is here, and
 /// waits at most 100 milliseconds for something. The wait of a port that stands beside others ends early where one
-/// of them has a datagram; behind a send it is for the answer alone in its first two milliseconds, unless the last
+/// of them has a datagram; after a send it is for the answer alone in its first two milliseconds, unless the last
 /// answer did not come in them. Such a port looks before it waits where its last receive gave a datagram, and else
 /// waits first. A wait that the system refuses or interrupts is a failure, and so is a datagram that was here and
 /// can't be taken, as by a wrong checksum. It takes no memory. The socket is closed where the port is dropped.
@@ -152,7 +152,7 @@ impl UdpPort {
     }
 
     // Waits, and takes the datagram that is here then; none where none is.
-    fn take_behind_wait(
+    fn take_after_wait(
         &mut self,
         place: &mut [u8],
     ) -> Result<Option<(usize, SocketAddr)>, DeviceFault>
@@ -182,7 +182,7 @@ impl UdpPort {
                 return Ok(Some(found));
             }
         }
-        self.take_behind_wait(place)
+        self.take_after_wait(place)
     }
 
     // From now on an answer is waited for, unless the last wait for one was in vain.

@@ -211,7 +211,7 @@ fn expect_wait_ended(
     Ok(())
 }
 
-// A wait that another port ended spares the next one nothing: where nothing is left it lasts its time, behind a
+// A wait that another port ended spares the next one nothing: where nothing is left it lasts its time, after a
 // send too.
 #[test]
 fn a_receive_of_nothing_waits(rt: HostRuntime) -> Result<(), Fail> {
@@ -239,7 +239,7 @@ fn expect_waits(
     Ok(())
 }
 
-// Each receive gives what is here, whatever a wait beside it said, behind one that gave a datagram and behind one
+// Each receive gives what is here, whatever a wait beside it said, after one that gave a datagram and after one
 // that gave none.
 #[test]
 fn each_receive_looks(rt: HostRuntime) -> Result<(), Fail> {
