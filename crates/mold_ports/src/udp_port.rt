@@ -22,10 +22,10 @@ const WAIT: u16 = 100;
 const ANSWER_WAIT: u16 = 2;
 
 /// How many bytes the system is asked to keep of what was not received yet. It may keep fewer.
-const KEPT: i32 = 1 << 22;
+const RECEIVE_BUFFER: i32 = 1 << 22;
 
-/// In the place of a descriptor: none.
-const NONE: RawFd = -1;
+/// No descriptor, as `poll` takes it.
+const NO_DESCRIPTOR: RawFd = -1;
 
 // What a receive beside other ports does first, by what the last look told.
 #[derive(Clone, Copy, PartialEq, Eq)]
@@ -75,7 +75,7 @@ impl UdpPort {
             Ok((socket, address)) => Ok(UdpPort {
                 socket,
                 address,
-                beside: [NONE, NONE],
+                beside: [NO_DESCRIPTOR, NO_DESCRIPTOR],
                 outlook: Outlook::Quiet,
                 failures: 0,
             }),
@@ -102,7 +102,7 @@ impl UdpPort {
 
     // Whether no other port ends its waits: then each call waits by itself.
     fn is_alone(&self) -> bool {
-        self.beside[0] == NONE
+        self.beside[0] == NO_DESCRIPTOR
     }
 
     // Takes a datagram: one that is here or, alone, comes in its time; none where none does.
@@ -248,7 +248,7 @@ fn open<R: Net>(rt: &R, address: SocketAddrV4) -> io::Result<(UdpSocket, SocketA
     socket.set_read_timeout(Some(time))?;
     socket.set_write_timeout(Some(time))?;
     let mut size = [0u8; 16];
-    size[..4].copy_from_slice(&KEPT.to_ne_bytes());
+    size[..4].copy_from_slice(&RECEIVE_BUFFER.to_ne_bytes());
     // Where the system refuses it, fewer datagrams wait and more are lost, as may happen anyway.
     let _ = unsafe { setsockopt(socket.as_raw_fd(), SOL_SOCKET, SO_RCVBUF, &size, 4) };
     let address = socket.local_addr()?;

@@ -13,7 +13,7 @@ use mold_wire::{MAX_LIMIT, MIN_LIMIT, Session};
 use std::alloc::{AllocError, Global};
 
 // Whether a receiver may have this window.
-fn is_wide(window: u32) -> bool
+fn is_window(window: u32) -> bool
     ensures { result ≡ is_window window }
 {
     1 <= window && window <= MAX_WINDOW
@@ -23,7 +23,7 @@ fn is_wide(window: u32) -> bool
 fn first_bad(windows: &[u32]) -> Option<usize>
     ensures { result ≡ position (λ window. not (is_window window)) windows.now }
 {
-    windows.iter().position(|window| !is_wide(*window))
+    windows.iter().position(|window| !is_window(*window))
 }
 
 /// The first reason not to make a world, if there is one.

@@ -78,18 +78,18 @@ fn expect_sent_kept(rt: &impl Abort, port: &mut MemoryPort) {
     same_number(rt, port.failures(), 1);
     let sent = port.sent();
     same_size(rt, sent.len(), 2);
-    expect_letter(rt, sent, 0, 1, b"ab");
-    expect_letter(rt, sent, 1, 2, b"");
+    expect_sent(rt, sent, 0, 1, b"ab");
+    expect_sent(rt, sent, 1, 2, b"");
 }
 
 // The datagram at this place is these bytes to this peer.
-fn expect_letter(rt: &impl Abort, sent: &[(u32, Vec<u8>)], place: usize, to: u32, bytes: &[u8]) {
+fn expect_sent(rt: &impl Abort, sent: &[(u32, Vec<u8>)], place: usize, to: u32, bytes: &[u8]) {
     match sent.get(place) {
-        Some(letter) => {
-            assert!(rt; letter.0 == to, "letter {place}");
-            same_bytes(rt, letter.1.as_slice(), bytes);
+        Some(found) => {
+            assert!(rt; found.0 == to, "datagram {place}");
+            same_bytes(rt, found.1.as_slice(), bytes);
         }
-        None => assert!(rt; false, "no letter {place}"),
+        None => assert!(rt; false, "no datagram {place}"),
     }
 }
 
@@ -116,8 +116,8 @@ fn a_refused_growth_is_a_failed_send(rt: HostRuntime) -> Result<(), Fail> {
     send_again(&rt, &mut port, b"")?;
     send_again(&rt, &mut port, b"cd")?;
     same_size(&rt, port.sent().len(), 3);
-    expect_letter(&rt, port.sent(), 0, 1, b"ab");
-    expect_letter(&rt, port.sent(), 2, 1, b"cd");
+    expect_sent(&rt, port.sent(), 0, 1, b"ab");
+    expect_sent(&rt, port.sent(), 2, 1, b"cd");
     Ok(())
 }
 
