@@ -12,7 +12,7 @@ use std::marker::Model;
 
 /// A reader as a source. Every error of the reader is a failure, also an interrupted call, and so
 /// is each call after the first `u64::MAX`.
-#[derive(Drop)]
+#[derive(Debug, Drop)]
 pub struct FromRead<R> {
     reader: R,
     calls_left: u64,

@@ -13,7 +13,7 @@ use std::marker::Model;
 
 /// A script as a port: each receive takes its next step, and nothing comes after the last. It keeps what is
 /// sent. A send fails only where `fail_send` says, or where memory is refused for what is kept.
-#[derive(Drop)]
+#[derive(Debug, Drop)]
 pub struct MemoryPort {
     alloc: Global,
     script: Vec<Step>,

@@ -28,7 +28,7 @@ const RECEIVE_BUFFER: i32 = 1 << 22;
 const NO_DESCRIPTOR: RawFd = -1;
 
 // What a receive beside other ports does first, by what the last look told.
-#[derive(Clone, Copy, PartialEq, Eq)]
+#[derive(Clone, Copy, Debug, PartialEq, Eq)]
 enum Outlook {
     // A datagram was here: it looks for the next one.
     Busy,
@@ -47,7 +47,7 @@ enum Outlook {
 /// answer did not come in them. Such a port looks before it waits where its last receive gave a datagram, and else
 /// waits first. A wait that the system refuses or interrupts is a failure, and so is a datagram that was here and
 /// can't be taken, as by a wrong checksum. It takes no memory. The socket is closed where the port is dropped.
-#[derive(Drop)]
+#[derive(Debug, Drop)]
 pub struct UdpPort {
     socket: UdpSocket,
     address: SocketAddr,
