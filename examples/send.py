@@ -4,7 +4,7 @@ as `mold pack` prints them.
 
     python3 examples/send.py [--pause SECONDS] [--interface ADDRESS] ADDRESS
 
-It waits so many seconds behind each, a thousandth where it is told no number. A group's datagrams leave by the network
+It waits so many seconds after each, a thousandth where it is told no number. A group's datagrams leave by the network
 interface of the address that is given.
 """
 import argparse

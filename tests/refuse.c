@@ -1,5 +1,5 @@
 /* Put before the C library by LD_PRELOAD: it counts the calls of one kind that a program makes, and refuses the one
- * whose number REFUSE_AT says, counted from 1, and with REFUSE_ALL all behind it too. REFUSE names the kind: growth of
+ * whose number REFUSE_AT says, counted from 1, and with REFUSE_ALL all after it too. REFUSE names the kind: growth of
  * memory, read, write, receive, send or wait. With REFUSE_BYTES a read or write moves one byte. The file
  * REFUSE_COUNTS, of sizeof(struct counts) bytes, gets the counts, however the program ends. tests/growths and
  * tests/failures call it. */

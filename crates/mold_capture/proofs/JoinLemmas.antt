@@ -1,4 +1,4 @@
--- Which sessions may have said what was said, and what a packet behind it changes.
+-- Which sessions may have said what was said, and what a packet after it changes.
 use Rattle.std.proofs.Common.{◌≡◌, ℕ, zero, suc, ◌+◌, ◌-◌, ◌<◌, ◌≤◌, true, List, [], ◌∷◌, length, refl, sym, ap, subst}
 use Rattle.std.proofs.Common.{◌∙◌, inl, inr, get_or, arith}
 use Rattle.std.specs.Prelude.{Option, Some, slice_get, unwrap_or}

@@ -1,4 +1,4 @@
--- Why a datagram may not stand behind others.
+-- Why a datagram may not come after others.
 use Rattle.std.specs.Prelude.{ℕ, List, Option, None, Some, Result, Ok, Err}
 use Rattle.mold_wire.specs.Packet.{messages_of}
 use Rattle.mold_wire.specs.Reading.{reading}
@@ -28,7 +28,7 @@ refusal_read seen (Err error) = Some (Malformed error)
 abbrev pub refusal : Seen → List ℕ → Option Reason
 refusal seen bytes = refusal_read seen (reading bytes)
 
--- why a datagram may not stand behind others, if it may not
+-- why a datagram may not come after others, if it may not
 abbrev pub reason : List (List ℕ) → List ℕ → Option Reason
 reason list bytes = refusal (seen_of list) bytes
 

@@ -84,7 +84,7 @@ seen_of list = seen_in (packets_of list)
 abbrev pub pairs_with : Pairs → ℕ → List (List ℕ) → Pairs
 pairs_with pairs first messages = finite.from_entries (finite.entries pairs ++ numbered first messages)
 
--- what was said, and a packet behind it
+-- what was said, and a packet after it
 abbrev pub joined : Seen → Packet → Seen
 joined seen packet = record {
   session = option_or seen.session (Some packet.session.0);

@@ -85,7 +85,7 @@ impl Checker {
         }
     }
 
-    /// Accepts a datagram, or refuses it with the first reason why it may not stand behind those that were
+    /// Accepts a datagram, or refuses it with the first reason why it may not come after those that were
     /// accepted; after an error the checker is as before. The session is that of the first datagram accepted,
     /// and `known` is the greatest top accepted, at least 1. A message is compared with any message accepted
     /// before at the same number. Memory is refused only where no other reason applies and a message is new.

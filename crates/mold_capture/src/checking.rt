@@ -13,7 +13,7 @@ use mold_wire::laws::reading_law;
 use std::alloc::Global;
 
 /// Checks datagrams: whether they come from one whole session, and what is missing where they don't. Where
-/// one may not stand behind those before it, the answer is its index, counted from 0, and the first reason;
+/// one may not come after those before it, the answer is its index, counted from 0, and the first reason;
 /// the list's length and `Memory` where memory for the verdict is refused.
 pub fn check(alloc: Global, list: &[&[u8]]) -> Result<Verdict, (usize, Reason)>
     ensures verdict { IfOk result (λ verdict. IsVerdictOn verdict (map (λ bytes. bytes.now) list.now)) }

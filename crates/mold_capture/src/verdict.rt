@@ -1,7 +1,7 @@
 //! What a checker answers.
 
 /// Numbers from the first to the last, both among them.
-#[derive(Clone, Copy, Debug, PartialEq, Eq)]
+#[derive(Clone, Copy, Debug, PartialEq, Eq, Hash)]
 pub struct Range {
     pub first: u64,
     pub last: u64,

@@ -39,29 +39,29 @@ pub record Told (start now : Moment) : Type 0 where
 abbrev pub ended : ℕ → Printing
 ended status = record { text = λ input. []; status = λ input. status }
 
--- what is printed behind a turn
-abbrev pub behind : Printing → Turn → Printing
-behind after More = after
-behind after (Done status) = ended status
+-- what is printed after a turn
+abbrev pub printed_after : Printing → Turn → Printing
+printed_after next More = next
+printed_after next (Done status) = ended status
 
 -- what a turn adds is the text of the input that it takes
 turn_goes : (before after : Printing) (input left added : List ℕ) (turn : Turn) →
     Goes before after input left added turn →
-    (before.text input ≡ added ++ (behind after turn).text left)
-    × (before.status input ≡ (behind after turn).status left)
+    (before.text input ≡ added ++ (printed_after after turn).text left)
+    × (before.status input ≡ (printed_after after turn).status left)
 turn_goes before after input left added More goes = goes
 turn_goes before after input left added (Done status) goes = (goes.0 ∙ sym (append-nil added), goes.1)
 
 turn_tells : (start now : Moment) (after : Printing) (known left rest : Option (List ℕ)) (next added : List ℕ)
     (turn : Turn) → Tells start now known left → next ≡ now.text ++ added →
     GoesOver now.prints after left rest added turn →
-    Tells start (record { prints = behind after turn; left = rest; held = now.held; text = next }) known rest
+    Tells start (record { prints = printed_after after turn; left = rest; held = now.held; text = next }) known rest
 turn_tells start now after None left rest next added turn told written goes = tt
 turn_tells start now after (Some input) None rest next added turn told written goes = absurd told
 turn_tells start now after (Some input) (Some xs) None next added turn told written goes = absurd goes
 turn_tells start now after (Some input) (Some xs) (Some ys) next added turn told written goes =
     let whole = turn_goes now.prints after xs ys added turn goes in
-    let last = (behind after turn).text ys in
+    let last = (printed_after after turn).text ys in
     record {
       written = told.written;
       sent = told.sent;
@@ -76,7 +76,7 @@ turn_tells start now after (Some input) (Some xs) (Some ys) next added turn told
 -- one turn more
 pub told_turn : {start now : Moment} {after : Printing} {left : Option (List ℕ)} {text : List ℕ} {turn : Turn} →
     Told start now → IsTurn now.prints after now.left left now.text text turn →
-    Told start (record { prints = behind after turn; left = left; held = now.held; text = text })
+    Told start (record { prints = printed_after after turn; left = left; held = now.held; text = text })
 told_turn {start} {now} {after} {left} {text} {turn} told is = record {
   tells = turn_tells start now after start.left now.left left text is.added turn told.tells is.written is.goes;
 }

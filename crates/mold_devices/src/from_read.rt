@@ -11,8 +11,8 @@ use std::io::Read;
 use std::marker::Model;
 
 /// A reader as a source. Every error of the reader is a failure, also an interrupted call, and so
-/// is each call behind the first `u64::MAX`.
-#[derive(Drop)]
+/// is each call after the first `u64::MAX`.
+#[derive(Debug, Drop)]
 pub struct FromRead<R> {
     reader: R,
     calls_left: u64,

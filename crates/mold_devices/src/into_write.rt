@@ -9,7 +9,7 @@ use std::marker::Model;
 
 /// A writer as a sink. Every error of the writer is a failure, also an interrupted call, and so is
 /// a write of one byte or more that takes none. Nothing is flushed here.
-#[derive(Drop)]
+#[derive(Debug, Drop)]
 pub struct IntoWrite<W> {
     writer: W,
     failures: u64,

@@ -3,8 +3,7 @@
 ghost use Rattle.std.specs.Prelude.{◌≡◌};
 ghost use Rattle.mold_digits.specs.Numbers.{decimal_of, is_sized};
 
-/// The most digits that a number is given in.
-const MOST_DIGITS: usize = 20;
+use crate::writing::MOST_DIGITS;
 
 fn is_sized(word: &[u8]) -> bool
     ensures { result ≡ is_sized word.now }

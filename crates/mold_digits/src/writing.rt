@@ -8,7 +8,7 @@ ghost use Rattle.mold_digits.specs.Writing.{IsWritten};
 use crate::encoding::encode_into;
 use itoa::Buffer;
 
-/// The most digits of a number of 64 bits.
+/// The most decimal digits of a number of 64 bits, and of a number that is read.
 pub const MOST_DIGITS: usize = 20;
 
 fn digit(value: u64) -> u8

@@ -9,7 +9,7 @@ pub data Receipt (P : Type 0) : Type 0 where
   Quiet : Receipt P
   Failure : Receipt P
 
--- a port: what its receives will give, behind which is nothing more; to whom which datagrams were sent; its failures
+-- a port: what its receives will give, after which nothing more comes; to whom which datagrams were sent; its failures
 pub record Port (P : Type 0) : Type 0 where
   pub comes : List (Receipt P)
   pub sent : List (P × List ℕ)
@@ -29,13 +29,13 @@ first (receipt ∷ more) = receipt
 abbrev pub next_of : {P : Type 0} → Port P → Receipt P
 next_of port = first port.comes
 
--- the failures behind a receipt
+-- the failures after a receipt
 abbrev pub failures_after : {P : Type 0} → ℕ → Receipt P → ℕ
 failures_after failures (Datagram from bytes) = failures
 failures_after failures Quiet = failures
 failures_after failures Failure = one_more failures
 
--- the port behind a receive
+-- the port after a receive
 abbrev pub received : {P : Type 0} → Port P → Port P
 received port = record {
   comes = drop 1 port.comes;
@@ -43,7 +43,7 @@ received port = record {
   failures = failures_after port.failures (first port.comes);
 }
 
--- the port behind a send that failed, and behind one that didn't
+-- the port after a send that failed, and after one that didn't
 abbrev pub offered : {P : Type 0} → Bool → P → List ℕ → Port P → Port P
 offered true to bytes port = record {
   comes = port.comes;

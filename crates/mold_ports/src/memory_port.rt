@@ -2,7 +2,7 @@
 
 ghost use Rattle.std.specs.Prelude.{◌≡◌, ◌-◌, ◌≤◌, ◌⊎◌, ℕ, Bool, true, [], length, map, is_err, IfOk, IfSome, IsErr};
 ghost use Rattle.mold_devices.specs.Devices.{Counts};
-ghost use Rattle.mold_ports.specs.Memory.{AsksMemory, kept_letter, letter_of, receipt_at};
+ghost use Rattle.mold_ports.specs.Memory.{AsksMemory, kept_datagram, datagram_of, receipt_at};
 ghost use Rattle.mold_ports.specs.Ports.{Port, cut, next_of, offered, receipt_of, received};
 
 use crate::datagrams::Datagrams;
@@ -11,15 +11,15 @@ use mold_devices::DeviceFault;
 use std::alloc::{AllocError, Global};
 use std::marker::Model;
 
-/// A script as a port: each receive takes its next step, and nothing comes behind the last. It keeps what is
+/// A script as a port: each receive takes its next step, and nothing comes after the last. It keeps what is
 /// sent. A send fails only where `fail_send` says, or where memory is refused for what is kept.
-#[derive(Drop)]
+#[derive(Debug, Drop)]
 pub struct MemoryPort {
     alloc: Global,
     script: Vec<Step>,
     // How many steps were taken.
     used: usize,
-    letters: Vec<(u32, Vec<u8>)>,
+    sent: Vec<(u32, Vec<u8>)>,
     // The send that fails, counted from 1 for the next one. 0 is none.
     fails_at: u64,
     failures: u64,
@@ -27,17 +27,17 @@ pub struct MemoryPort {
 
 impl Model for MemoryPort {
     ghost use Rattle.std.specs.Prelude.{drop, map, vec_capacity};
-    ghost use Rattle.mold_ports.specs.Memory.{MemoryState, letter_of, receipt_at};
+    ghost use Rattle.mold_ports.specs.Memory.{MemoryState, datagram_of, receipt_at};
 
     ghost Value = { MemoryState };
 
     ghost view = { λ s. record {
       port = record {
         comes = map receipt_at (drop s.used s.script.items);
-        sent = map letter_of s.letters.items;
+        sent = map datagram_of s.sent.items;
         failures = s.failures;
       };
-      room = vec_capacity s.letters;
+      room = vec_capacity s.sent;
       fails_at = s.fails_at;
     } };
 }
@@ -55,7 +55,7 @@ impl MemoryPort {
             alloc,
             script,
             used: 0,
-            letters: Vec::new(alloc),
+            sent: Vec::new(alloc),
             fails_at: 0,
             failures: 0,
         }
@@ -70,9 +70,9 @@ impl MemoryPort {
 
     /// What was sent, in order: to whom, and the bytes. What failed is not in it.
     pub fn sent(&self) -> &[(u32, Vec<u8>)]
-        ensures { map letter_of result.now ≡ self.now.port.sent }
+        ensures { map datagram_of result.now ≡ self.now.port.sent }
     {
-        self.letters.as_slice()
+        self.sent.as_slice()
     }
 
     /// How many steps were not taken yet.
@@ -82,16 +82,16 @@ impl MemoryPort {
         self.script.len().saturating_sub(self.used)
     }
 
-    // Keeps a letter.
+    // Keeps a datagram.
     fn keep(&mut self, to: u32, bytes: &[u8]) -> Result<(), AllocError>
-        ensures kept { self.new.port ≡ kept_letter (is_err result) to bytes.now self.old.port }
+        ensures kept { self.new.port ≡ kept_datagram (is_err result) to bytes.now self.old.port }
         ensures refused { IsErr result → AsksMemory self.old bytes.now }
         ensures room { self.old.room ≤ self.new.room }
         ensures fails_at { self.new.fails_at ≡ self.old.fails_at }
     {
         let mut copy = Vec::new(self.alloc);
         copy.extend_from_slice(bytes)?;
-        self.letters.push((to, copy))?;
+        self.sent.push((to, copy))?;
         Ok(())
     }
 }

@@ -17,18 +17,18 @@ use std::time::Duration;
 /// How many milliseconds a receive or a send waits at most.
 const WAIT: u16 = 100;
 
-/// How many of them a receive behind a send waits for the answer alone: it is mostly here by then, and to ask
+/// How many of them a receive after a send waits for the answer alone: it is mostly here by then, and to ask
 /// anew before it is lets answers pile up.
 const ANSWER_WAIT: u16 = 2;
 
 /// How many bytes the system is asked to keep of what was not received yet. It may keep fewer.
-const KEPT: i32 = 1 << 22;
+const RECEIVE_BUFFER: i32 = 1 << 22;
 
-/// In the place of a descriptor: none.
-const NONE: RawFd = -1;
+/// No descriptor, as `poll` takes it.
+const NO_DESCRIPTOR: RawFd = -1;
 
 // What a receive beside other ports does first, by what the last look told.
-#[derive(Clone, Copy, PartialEq, Eq)]
+#[derive(Clone, Copy, Debug, PartialEq, Eq)]
 enum Outlook {
     // A datagram was here: it looks for the next one.
     Busy,
@@ -36,18 +36,18 @@ enum Outlook {
     Quiet,
     // Something was sent: it waits for the answer.
     Asking,
-    // The last wait for an answer was in vain: it waits as where none was here, also behind a send, until a
+    // The last wait for an answer was in vain: it waits as where none was here, also after a send, until a
     // datagram comes.
     Unanswered,
 }
 
 /// A UDP socket over IPv4 as a port. A receive gives none only where the system said that nothing is here, and
 /// waits at most 100 milliseconds for something. The wait of a port that stands beside others ends early where one
-/// of them has a datagram; behind a send it is for the answer alone in its first two milliseconds, unless the last
+/// of them has a datagram; after a send it is for the answer alone in its first two milliseconds, unless the last
 /// answer did not come in them. Such a port looks before it waits where its last receive gave a datagram, and else
 /// waits first. A wait that the system refuses or interrupts is a failure, and so is a datagram that was here and
 /// can't be taken, as by a wrong checksum. It takes no memory. The socket is closed where the port is dropped.
-#[derive(Drop)]
+#[derive(Debug, Drop)]
 pub struct UdpPort {
     socket: UdpSocket,
     address: SocketAddr,
@@ -75,7 +75,7 @@ impl UdpPort {
             Ok((socket, address)) => Ok(UdpPort {
                 socket,
                 address,
-                beside: [NONE, NONE],
+                beside: [NO_DESCRIPTOR, NO_DESCRIPTOR],
                 outlook: Outlook::Quiet,
                 failures: 0,
             }),
@@ -102,7 +102,7 @@ impl UdpPort {
 
     // Whether no other port ends its waits: then each call waits by itself.
     fn is_alone(&self) -> bool {
-        self.beside[0] == NONE
+        self.beside[0] == NO_DESCRIPTOR
     }
 
     // Takes a datagram: one that is here or, alone, comes in its time; none where none does.
@@ -152,7 +152,7 @@ impl UdpPort {
     }
 
     // Waits, and takes the datagram that is here then; none where none is.
-    fn take_behind_wait(
+    fn take_after_wait(
         &mut self,
         place: &mut [u8],
     ) -> Result<Option<(usize, SocketAddr)>, DeviceFault>
@@ -182,7 +182,7 @@ impl UdpPort {
                 return Ok(Some(found));
             }
         }
-        self.take_behind_wait(place)
+        self.take_after_wait(place)
     }
 
     // From now on an answer is waited for, unless the last wait for one was in vain.
@@ -248,7 +248,7 @@ fn open<R: Net>(rt: &R, address: SocketAddrV4) -> io::Result<(UdpSocket, SocketA
     socket.set_read_timeout(Some(time))?;
     socket.set_write_timeout(Some(time))?;
     let mut size = [0u8; 16];
-    size[..4].copy_from_slice(&KEPT.to_ne_bytes());
+    size[..4].copy_from_slice(&RECEIVE_BUFFER.to_ne_bytes());
     // Where the system refuses it, fewer datagrams wait and more are lost, as may happen anyway.
     let _ = unsafe { setsockopt(socket.as_raw_fd(), SOL_SOCKET, SO_RCVBUF, &size, 4) };
     let address = socket.local_addr()?;

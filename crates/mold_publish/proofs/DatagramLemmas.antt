@@ -144,7 +144,7 @@ module _ (laws : PackingLaws) (publisher : PublisherState) (full : IsJustFull pu
         fits = subst (λ (ms : List (List ℕ)). Fits publisher.limit ms) (sym full_left) full.alone;
       })
 
-  -- with whatever comes behind, it is the first datagram, and another one follows
+  -- with whatever comes after, it is the first datagram, and another one follows
   module _ (journal : JournalState) (more : Grown publisher.journal journal) where
     all_behind : drop publisher.sent journal.messages ≡ full.found ++ full.last ∷ more.more
     all_behind =

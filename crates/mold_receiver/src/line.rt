@@ -7,14 +7,14 @@ ghost use Rattle.mold_rule.specs.declared.refusal.Refusal.TheVariants.{Memory};
 use mold_rule::Refusal as Refused;
 
 /// A line. Both carry the same packets, so that one stands in for what the other lost.
-#[derive(Clone, Copy, Debug, PartialEq, Eq)]
+#[derive(Clone, Copy, Debug, PartialEq, Eq, Hash)]
 pub enum Line {
     A,
     B,
 }
 
 /// What came on a line. Both counts stay at 18446744073709551615.
-#[derive(Clone, Copy, Debug, PartialEq, Eq)]
+#[derive(Clone, Copy, Debug, PartialEq, Eq, Hash)]
 pub struct LineReport {
     /// How many datagrams were taken.
     pub datagrams: u64,

@@ -1,7 +1,7 @@
 //! What a receiver did with a datagram.
 
 /// What a receiver did with a datagram that it took.
-#[derive(Clone, Copy, Debug, PartialEq, Eq)]
+#[derive(Clone, Copy, Debug, PartialEq, Eq, Hash)]
 pub struct Taken {
     /// How many messages were handed on; they stand at the end of the batch.
     pub handed: u32,

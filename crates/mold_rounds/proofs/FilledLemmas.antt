@@ -124,7 +124,7 @@ ahead_of v count w took = record {
   same = took.same;
 }
 
--- messages that come one part behind the other came as one
+-- messages that come one part after the other came as one
 pub took_twice : (v : View) (one : ℕ) (w : View) (other : ℕ) (x : View) → Took v one w → Took w other x →
     w.next ≡ v.next + one → Took v (one + other) x
 took_twice v one w other x first second at = record {

@@ -24,7 +24,7 @@ nameless = record { 0 = [] }
 abbrev pub brought : ℕ → ℕ → List Message → ℕ
 brought limit burst messages = carried (take burst (packing limit nameless 1 (take 65534 messages)))
 
--- how many requests bring messages that are lacking one behind the other, at most so many: one, and those for
+-- how many requests bring messages that are lacking one after the other, at most so many: one, and those for
 -- what its answer leaves; none where no message comes
 unfoldable pub asks_within : ℕ → ℕ → ℕ → List Message → ℕ
 asks_within limit burst zero messages = 0
@@ -33,7 +33,7 @@ asks_within limit burst (suc most) messages =
     then 0
     else suc (asks_within limit burst most (drop (brought limit burst messages) messages))
 
--- how many requests bring messages that are lacking one behind the other
+-- how many requests bring messages that are lacking one after the other
 unfoldable pub asks : ℕ → ℕ → List Message → ℕ
 asks limit burst messages = asks_within limit burst (length messages) messages
 

@@ -4,7 +4,7 @@ use mold_wire::DecodeError;
 use thiserror::Error;
 
 /// Why a datagram is refused. Where several refusals apply, the first in this order is answered.
-#[derive(Clone, Copy, Debug, PartialEq, Eq, Error)]
+#[derive(Clone, Copy, Debug, PartialEq, Eq, Hash, Error)]
 pub enum Refusal {
     /// The bytes spell no packet.
     #[error("{0}")]

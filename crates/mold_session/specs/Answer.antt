@@ -51,7 +51,7 @@ next_part published limit plan = first_part limit (between published plan.from p
 abbrev pub next_packet : List (List ℕ) → ℕ → PlanState → Packet
 next_packet published limit plan = data_packet plan.session plan.from (next_part published limit plan)
 
--- the plan behind a packet of so many messages
+-- the plan after a packet of so many messages
 abbrev pub moved : PlanState → ℕ → PlanState
 moved plan count = record plan { from = plan.from + count; left = plan.left - 1 }
 
@@ -71,7 +71,7 @@ pub record HasFirst (session : Session) (number : ℕ) (packets : List Packet) :
   pub sent : packets ≡ data_packet session number part ∷ rest
   pub some : 0 < length part
 
--- the next packet, which has some message, is the first of those that are left, and behind it are those of the plan
+-- the next packet, which has some message, is the first of those that are left, and after it come those of the plan
 -- that was moved
 pub record SendsNext (published : List (List ℕ)) (limit : ℕ) (plan : PlanState) : Type 0 where
   pub sent : planned published limit plan

@@ -56,7 +56,7 @@ next_end publisher =
     })
     else None
 
--- the publisher behind a datagram: its messages count as put in one
+-- the publisher after a datagram: its messages count as put in one
 abbrev pub after_datagram : PublisherState → PublisherState
 after_datagram publisher = record publisher { sent = publisher.sent + length (next_front publisher) }
 

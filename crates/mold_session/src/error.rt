@@ -4,7 +4,7 @@ use mold_devices::ReadFault;
 use thiserror::Error;
 
 /// Why a message is not appended or published. Where several apply, the first of them is answered.
-#[derive(Clone, Copy, Debug, PartialEq, Eq, Error)]
+#[derive(Clone, Copy, Debug, PartialEq, Eq, Hash, Error)]
 pub enum AppendError {
     /// The session is closed.
     #[error("the session is closed")]
@@ -32,7 +32,7 @@ pub enum PublisherError {
 }
 
 /// Why a publisher is not closed: so many messages were not yet put in a datagram.
-#[derive(Clone, Copy, Debug, PartialEq, Eq, Error)]
+#[derive(Clone, Copy, Debug, PartialEq, Eq, Hash, Error)]
 #[error("{count} messages were not yet put in a datagram")]
 pub struct Unsent {
     /// How many messages, at least 1.
@@ -55,7 +55,7 @@ pub enum ServerError {
 }
 
 /// Why a request is not answered. Where several apply, the first of them is answered.
-#[derive(Clone, Copy, Debug, PartialEq, Eq, Error)]
+#[derive(Clone, Copy, Debug, PartialEq, Eq, Hash, Error)]
 pub enum AnswerError {
     /// Not the 20 bytes of a request packet; how many there are.
     #[error("a request of {len} bytes, not of 20")]
@@ -75,7 +75,7 @@ pub enum AnswerError {
 }
 
 /// Why a publisher or a re-request server refused.
-#[derive(Clone, Copy, Debug, PartialEq, Eq, Error)]
+#[derive(Clone, Copy, Debug, PartialEq, Eq, Hash, Error)]
 pub enum SessionError {
     /// The message is not published.
     #[error("{0}")]
@@ -90,7 +90,7 @@ pub enum SessionError {
 
 /// Why a journal's file is not loaded, saved or upgraded. A file has one fault at most: what is wrong first, in the
 /// order of its bytes.
-#[derive(Clone, Copy, Debug, PartialEq, Eq, Error)]
+#[derive(Clone, Copy, Debug, PartialEq, Eq, Hash, Error)]
 pub enum FileError {
     /// Fewer bytes than stand before the blocks: 18 in version 1, 27 in version 2; how many there are.
     #[error("{len} bytes are too short for a journal")]

@@ -2,20 +2,20 @@
 //! answers requests from it.
 #![tactic(auto)]
 
+mod asking;
 mod error;
 mod journal;
 pub mod laws;
 mod loading;
 mod magic;
-mod outlet;
 mod packing;
 mod piece;
 mod plan;
 mod publisher;
 mod saving;
 mod server;
-mod serving;
 mod upgrading;
+mod write_buffer;
 
 pub use error::{
     AnswerError, AppendError, FileError, PublisherError, ServerError, SessionError, Unsent,

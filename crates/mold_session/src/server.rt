@@ -10,10 +10,10 @@ ghost use Rattle.mold_session.specs.Server.{IsServer, server_refusal, asking, pl
 ghost use Rattle.mold_session.specs.Truthful.{TellsTruth};
 ghost use Rattle.mold_session.specs.declared.error.ServerError.{ServerError};
 
+use crate::asking::{asked, pack_next};
 use crate::error::{AnswerError, ServerError};
 use crate::journal::Journal;
 use crate::plan::Plan;
-use crate::serving::{asked, pack_next};
 use mold_wire::laws::{front_law, packet_length_law, true_packet_law};
 use mold_wire::{MAX_LIMIT, MESSAGE_OVERHEAD, MIN_LIMIT, Packer};
 use std::alloc::Global;

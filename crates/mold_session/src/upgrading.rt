@@ -12,7 +12,7 @@ use mold_devices::{Sink, Source};
 use std::alloc::Global;
 
 /// What was upgraded.
-#[derive(Clone, Copy, Debug, PartialEq, Eq)]
+#[derive(Clone, Copy, Debug, PartialEq, Eq, Hash)]
 pub struct Upgraded {
     /// How many messages the journal has.
     pub messages: u64,

@@ -128,7 +128,7 @@ end_goes laws start now after (Some xs) (Some ys) filled =
       ap (λ (p : PublishedLines). packed_status p.refused) filled.lines,
     )
 
--- the turn behind the last line
+-- the turn after the last line
 pub turn_end : PackingLaws → (start now after : PublisherState) (known left : Option (List ℕ)) (old mid new : List ℕ) →
     Fills start now known left End → mid ≡ old ++ line_of_some (next_datagram now) →
     new ≡ mid ++ packet_line (end_packet now.journal) →

@@ -45,7 +45,7 @@ fn push_end(out: &mut Vec<u8>, publisher: &mut Publisher) -> Result<(), AllocErr
 }
 
 /// The command `pack`: it prints the packets of a session whose messages the lines of its input spell.
-#[derive(Drop)]
+#[derive(Debug, Drop)]
 pub struct Pack {
     publisher: Publisher,
     message: Vec<u8>,

@@ -79,7 +79,7 @@ fn show_line(
 }
 
 /// The command `show`: it prints the packets, or else the requests, that the lines of its input spell.
-#[derive(Drop)]
+#[derive(Debug, Drop)]
 pub struct Show {
     requests: bool,
     refused: bool,

@@ -51,7 +51,7 @@ fn tell_line(
 
 /// The command `sim`: it applies the events that the lines of its input say to a world, and prints what
 /// comes of each, and how the receivers stand at the end.
-#[derive(Drop)]
+#[derive(Debug, Drop)]
 pub struct Sim {
     world: World,
     refused: bool,

@@ -7,7 +7,7 @@ use mold_digits::{push_bytes, push_long_number, push_number};
 use std::alloc::AllocError;
 
 /// A word of a line, by how it is printed.
-#[derive(Drop)]
+#[derive(Debug, Drop)]
 pub enum Word<'a> {
     /// These bytes as they are.
     Text(&'a [u8]),

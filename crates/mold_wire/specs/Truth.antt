@@ -22,7 +22,7 @@ abbrev pub published_at : List (List ℕ) → ℕ → Option (List ℕ)
 published_at published number = message_at 1 published number
 
 -- what a body with this sequence number says is so: each message is the one published with its number; a
--- heartbeat expects a number that was published or the next one; at an end of session nothing comes behind
+-- heartbeat expects a number that was published or the next one; at an end of session nothing comes after
 -- (that the end has the number behind the last message is our choice)
 abbrev pub IsTrueBody : Body → ℕ → List (List ℕ) → Bool → Type 0
 IsTrueBody (Data messages) sequence published closed =

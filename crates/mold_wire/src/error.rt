@@ -3,7 +3,7 @@
 use thiserror::Error;
 
 /// Why a datagram spells no downstream packet. At most one of these applies to any bytes.
-#[derive(Clone, Copy, Debug, PartialEq, Eq, Error)]
+#[derive(Clone, Copy, Debug, PartialEq, Eq, Hash, Error)]
 pub enum DecodeError {
     /// Fewer than the 20 bytes of a header; the length in bytes.
     #[error("a packet has at least 20 bytes, and this one has {len}")]
@@ -18,7 +18,7 @@ pub enum DecodeError {
 }
 
 /// Why bytes spell no request packet.
-#[derive(Clone, Copy, Debug, PartialEq, Eq, Error)]
+#[derive(Clone, Copy, Debug, PartialEq, Eq, Hash, Error)]
 pub enum RequestError {
     /// Another length than the 20 bytes of a request; the length in bytes.
     #[error("a request has 20 bytes, and this one has {len}")]

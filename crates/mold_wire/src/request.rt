@@ -10,7 +10,7 @@ use crate::header::{HEADER_LENGTH, Header};
 use crate::session::Session;
 
 /// A request for messages of a session, as it goes to a re-request server.
-#[derive(Clone, Copy, Debug, PartialEq, Eq)]
+#[derive(Clone, Copy, Debug, PartialEq, Eq, Hash)]
 pub struct Request {
     /// The session that the messages belong to.
     pub session: Session,

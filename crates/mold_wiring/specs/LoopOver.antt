@@ -34,7 +34,7 @@ rounds_at ports answered heard =
 abbrev pub unheard : LoopOrder → Hearing
 unheard order = record { arbitration = loop_arbiter_of order; outgoing = nothing_out }
 
--- the loop with what an order makes, over the lines of an input. Its server and what listens are let go behind it: how
+-- the loop with what an order makes, over the lines of an input. Its server and what listens are let go after it: how
 -- they stand then is not told.
 pub record OrderRun {P E : Type 0} (order : LoopOrder) (a b to : P) (result : Result ℕ E)
     (held_old held_new : Option (List ℕ)) (old new : FivePorts P) (input : List ℕ) : Type 0 where

@@ -31,7 +31,7 @@ abbrev pub address_view : Address → Place
 address_view address = (address.host, address.port)
 
 -- a session that is sent on two lines: the limit of its packets, the lines, the journal's file, and how many
--- heartbeats and end packets are sent behind it
+-- heartbeats and end packets are sent after it
 pub record PublishWanted : Type 0 where
   pub session : List ℕ
   pub limit : ℕ

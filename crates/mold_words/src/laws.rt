@@ -63,7 +63,7 @@ pub fn check_taken_law()
 {}
 
 /// The words `publish --session MKT --a .. --b .. --journal J` are taken, and say to send the session `MKT` to
-/// these addresses in packets of up to 1,400 bytes, with a heartbeat and an end packet behind it, and to save
+/// these addresses in packets of up to 1,400 bytes, with a heartbeat and an end packet after it, and to save
 /// its journal in `J`. An address is four numbers of a byte with points between them, a colon, and a port's
 /// number; a text that is none says nothing, and is refused, and so is a number with a zero before it.
 pub fn publish_taken_law()

@@ -21,7 +21,7 @@ pub struct LoopOrder {
     pub drop_a: u32,
     /// Each so many-th data packet is not sent on line B, up to 1,000; 0 leaves none out.
     pub drop_b: u32,
-    /// The most rounds of requests that are made behind the messages, 1 to 1,000,000.
+    /// The most rounds of requests that are made after the messages, 1 to 1,000,000.
     pub turns: u32,
     ghost named: { list_all is_character session ≡ true },
     ghost windowed: { (1 ≤ window) × (window ≤ 65536) },

@@ -19,7 +19,7 @@ pub struct PublishOrder {
     pub b: Address,
     /// The name of the file that the journal is saved in.
     pub journal: String,
-    /// How many heartbeats are sent behind the messages, up to 1,000.
+    /// How many heartbeats are sent after the messages, up to 1,000.
     pub beats: u32,
     /// How many end packets are sent, up to 1,000.
     pub ends: u32,

@@ -160,6 +160,25 @@ end_is_true laws machine number kept sent =
     let told = subst (λ (t : Packet). IsTruePacket t machine.published machine.closed) same said.is_true in
     told.said
 
+-- a receiver stands otherwise, as what is kept allows, and the others as before
+kept_standing :
+    (machine : Machine) (receiver : ℕ) (standing : Standing) → IsKept machine →
+    Within standing.book machine.published →
+    (standing.ended ≡ true → (machine.closed ≡ true) × (length standing.book ≡ length machine.published)) →
+    IsKept (record machine { standings = standing_at machine.standings receiver standing })
+kept_standing machine receiver standing kept within whole = record {
+  said = λ place bytes found.
+      let said = kept.said place bytes found in
+      record { packet = said.packet; spelled = said.spelled; named = said.named; is_true = said.is_true };
+  books = λ other.
+      at_standing (λ (s : Standing). Within s.book machine.published) machine.standings receiver standing other
+      within (kept.books other);
+  whole = λ other.
+      at_standing (λ (s : Standing). s.ended ≡ true →
+      (machine.closed ≡ true) × (length s.book ≡ length machine.published)) machine.standings receiver standing
+      other whole (kept.whole other);
+}
+
 -- messages that are handed on
 kept_delivered :
     (laws : Laws) (machine : Machine) (receiver : ℕ) (messages : List (List ℕ)) (ended : Bool) → IsKept machine →
@@ -179,18 +198,7 @@ kept_delivered laws machine receiver messages ended kept allowed =
     let told = end_is_true laws machine (length (book ++ messages) + 1) kept (allowed.1 is) in
     (told.0, omega (arith, told.1))
     in
-    record {
-      said = λ place bytes found.
-          let said = kept.said place bytes found in
-          record { packet = said.packet; spelled = said.spelled; named = said.named; is_true = said.is_true };
-      books = λ other.
-          at_standing (λ (s : Standing). Within s.book machine.published) machine.standings receiver standing other
-          longer (kept.books other);
-      whole = λ other.
-          at_standing (λ (s : Standing). s.ended ≡ true →
-          (machine.closed ≡ true) × (length s.book ≡ length machine.published)) machine.standings receiver standing
-          other whole (kept.whole other);
-    }
+    kept_standing machine receiver standing kept longer whole
 
 -- a receiver that begins anew
 kept_restarted :
@@ -205,18 +213,7 @@ kept_restarted laws machine receiver next kept =
     (subst (λ (t : List (List ℕ)). published_at t number ≡ Some message) (take-append-drop (next - 1) book)
     (laws.keeps front (drop (next - 1) book) number message is))
     in
-    record {
-      said = λ place bytes found.
-          let said = kept.said place bytes found in
-          record { packet = said.packet; spelled = said.spelled; named = said.named; is_true = said.is_true };
-      books = λ other.
-          at_standing (λ (s : Standing). Within s.book machine.published) machine.standings receiver standing other
-          shorter (kept.books other);
-      whole = λ other.
-          at_standing (λ (s : Standing). s.ended ≡ true →
-          (machine.closed ≡ true) × (length s.book ≡ length machine.published)) machine.standings receiver standing
-          other (λ is. absurd (false≢true is)) (kept.whole other);
-    }
+    kept_standing machine receiver standing kept shorter (λ is. absurd (false≢true is))
 
 kept_after :
     (laws : Laws) (machine : Machine) (step : Step) → IsKept machine → IsAllowed machine step →

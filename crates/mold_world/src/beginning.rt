@@ -7,32 +7,23 @@ ghost use Rattle.mold_world.specs.World.{place_at};
 
 use crate::place::Place;
 use crate::report::WorldError;
-use mold_wire::Session;
+use mold_receiver::MAX_WINDOW;
+use mold_session::MAX_BURST;
+use mold_wire::{MAX_LIMIT, MIN_LIMIT, Session};
 use std::alloc::{AllocError, Global};
 
-/// The least and the greatest limit of a datagram; the latter is the greatest payload of UDP over IPv4.
-const LEAST: usize = 64;
-
-const GREATEST: usize = 65507;
-
-/// The most datagrams that answer a request.
-const MOST: u16 = 64;
-
-/// The greatest window.
-const WIDEST: u32 = 65536;
-
 // Whether a receiver may have this window.
-fn is_wide(window: u32) -> bool
+fn is_window(window: u32) -> bool
     ensures { result ≡ is_window window }
 {
-    1 <= window && window <= WIDEST
+    1 <= window && window <= MAX_WINDOW
 }
 
 // The place of the first window that no receiver may have.
 fn first_bad(windows: &[u32]) -> Option<usize>
     ensures { result ≡ position (λ window. not (is_window window)) windows.now }
 {
-    windows.iter().position(|window| !is_wide(*window))
+    windows.iter().position(|window| !is_window(*window))
 }
 
 /// The first reason not to make a world, if there is one.
@@ -46,10 +37,10 @@ pub(crate) fn check_world(
     ensures refused { IfErr result (λ error. world_refusal limit server_limit burst windows.now ≡ Some error) }
     ensures limits { OnOk result (IsLimit limit × IsLimit server_limit × (limit ≤ server_limit)) }
 {
-    if limit < LEAST || server_limit > GREATEST || server_limit < limit {
+    if limit < MIN_LIMIT || server_limit > MAX_LIMIT || server_limit < limit {
         return Err(WorldError::BadLimit);
     }
-    if burst == 0 || MOST < burst {
+    if burst == 0 || MAX_BURST < burst {
         return Err(WorldError::BadBurst);
     }
     match first_bad(windows) {

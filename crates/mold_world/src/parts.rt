@@ -25,11 +25,8 @@ use mold_receiver::laws::wanted_law;
 use mold_session::laws::{answered_law, sending_law};
 use mold_session::{Plan, Publisher, Server, SessionError};
 use mold_wire::laws::{front_law, spelling_length_law};
-use mold_wire::{Session, decode};
+use mold_wire::{MESSAGE_OVERHEAD, Session, decode};
 use std::alloc::Global;
-
-/// The bytes of a datagram beside a message that stands alone in it: a header and the message's length.
-const BESIDE: usize = 22;
 
 /// A publisher, a re-request server, all that they ever sent, and receivers.
 #[derive(Debug, Drop)]
@@ -86,7 +83,7 @@ impl Parts {
     {
         front_law();
         spelling_length_law();
-        let limit = usize::from(self.publisher.journal().max_message()) + BESIDE;
+        let limit = usize::from(self.publisher.journal().max_message()) + MESSAGE_OVERHEAD;
         self.sent.reserve(1, limit)?;
         let stored = store(&mut self.sent, self.publisher.datagram());
         Ok(stored.unwrap())

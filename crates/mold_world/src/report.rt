@@ -5,7 +5,7 @@ use mold_session::SessionError;
 use thiserror::Error;
 
 /// What an event did to the world.
-#[derive(Clone, Copy, Debug, PartialEq, Eq)]
+#[derive(Clone, Copy, Debug, PartialEq, Eq, Hash)]
 pub enum Report {
     /// A message was published, with this number.
     Published { number: u64 },

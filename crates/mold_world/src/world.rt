@@ -114,7 +114,7 @@ impl World {
     }
 
     // Lets an event happen, and stops only where memory is refused.
-    fn pass(&mut self, event: &Event<'_>) -> Result<(), AllocError>
+    fn apply_or_skip(&mut self, event: &Event<'_>) -> Result<(), AllocError>
         ensures passed { OnOk result (self.new ≡ after_event self.old (seen event.now)) }
         ensures same { OnErr result (self.new ≡ self.old) }
         ensures wanting { OnErr result (MayWant self.old (seen event.now)) }
@@ -151,7 +151,7 @@ impl World {
         straight_law();
         self.keep();
         for (at, event) in events.iter().enumerate() {
-            if self.pass(event).is_err() {
+            if self.apply_or_skip(event).is_err() {
                 return Err(Stopped { at });
             }
         }

@@ -107,7 +107,7 @@ fn each_packet_is_the_longest_front(rt: HostRuntime) {
 
 #[test]
 fn a_packet_is_printed_once_the_publisher_is_full(rt: HostRuntime) {
-    // The read that fails is behind the third line.
+    // The read that fails comes after the third line.
     expect_second_read_fails(&rt, &pack_64(), THREE_AND_EMPTY, 125, FIRST_OF_FOUR);
 }
 

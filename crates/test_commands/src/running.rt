@@ -65,7 +65,7 @@ pub fn expect_failed_read(
     same_number(rt, source.failures(), 1, call);
 }
 
-/// The second read fails, behind so many bytes, and this was written.
+/// The second read fails, after so many bytes, and this was written.
 pub fn expect_second_read_fails(
     rt: &(impl Abort + AllocGlobal),
     order: &Order,

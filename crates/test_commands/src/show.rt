@@ -135,7 +135,7 @@ fn a_failed_read_loses_no_line_before_it(rt: HostRuntime) {
 }
 
 #[test]
-fn a_write_that_fails_behind_a_failed_read_is_told(rt: HostRuntime) {
+fn a_write_that_fails_after_a_failed_read_is_told(rt: HostRuntime) {
     let mut source = MemorySource::new(TWO);
     source.at_most(TWO.len());
     source.fail_at(2);

@@ -78,18 +78,18 @@ fn expect_sent_kept(rt: &impl Abort, port: &mut MemoryPort) {
     same_number(rt, port.failures(), 1);
     let sent = port.sent();
     same_size(rt, sent.len(), 2);
-    expect_letter(rt, sent, 0, 1, b"ab");
-    expect_letter(rt, sent, 1, 2, b"");
+    expect_sent(rt, sent, 0, 1, b"ab");
+    expect_sent(rt, sent, 1, 2, b"");
 }
 
 // The datagram at this place is these bytes to this peer.
-fn expect_letter(rt: &impl Abort, sent: &[(u32, Vec<u8>)], place: usize, to: u32, bytes: &[u8]) {
+fn expect_sent(rt: &impl Abort, sent: &[(u32, Vec<u8>)], place: usize, to: u32, bytes: &[u8]) {
     match sent.get(place) {
-        Some(letter) => {
-            assert!(rt; letter.0 == to, "letter {place}");
-            same_bytes(rt, letter.1.as_slice(), bytes);
+        Some(found) => {
+            assert!(rt; found.0 == to, "datagram {place}");
+            same_bytes(rt, found.1.as_slice(), bytes);
         }
-        None => assert!(rt; false, "no letter {place}"),
+        None => assert!(rt; false, "no datagram {place}"),
     }
 }
 
@@ -116,8 +116,8 @@ fn a_refused_growth_is_a_failed_send(rt: HostRuntime) -> Result<(), Fail> {
     send_again(&rt, &mut port, b"")?;
     send_again(&rt, &mut port, b"cd")?;
     same_size(&rt, port.sent().len(), 3);
-    expect_letter(&rt, port.sent(), 0, 1, b"ab");
-    expect_letter(&rt, port.sent(), 2, 1, b"cd");
+    expect_sent(&rt, port.sent(), 0, 1, b"ab");
+    expect_sent(&rt, port.sent(), 2, 1, b"cd");
     Ok(())
 }
 
@@ -211,7 +211,7 @@ fn expect_wait_ended(
     Ok(())
 }
 
-// A wait that another port ended spares the next one nothing: where nothing is left it lasts its time, behind a
+// A wait that another port ended spares the next one nothing: where nothing is left it lasts its time, after a
 // send too.
 #[test]
 fn a_receive_of_nothing_waits(rt: HostRuntime) -> Result<(), Fail> {
@@ -239,7 +239,7 @@ fn expect_waits(
     Ok(())
 }
 
-// Each receive gives what is here, whatever a wait beside it said, behind one that gave a datagram and behind one
+// Each receive gives what is here, whatever a wait beside it said, after one that gave a datagram and after one
 // that gave none.
 #[test]
 fn each_receive_looks(rt: HostRuntime) -> Result<(), Fail> {

@@ -278,7 +278,7 @@ fn a_refused_growth_adds_nothing(rt: HostRuntime) -> Result<(), Fail> {
     expect_growth(&rt, &mut checker, &nothing, &hole)
 }
 
-/// Want of memory is told at the datagram that brings something new, or behind the last one.
+/// Want of memory is told at the datagram that brings something new, or after the last one.
 #[test]
 fn a_refused_growth_is_told_by_a_check(rt: HostRuntime) -> Result<(), Fail> {
     let list = [BEAT_5, DATA_2, DATA_2];

@@ -9,6 +9,8 @@ use Rattle.mold_check.proofs.OrderLemmas.{lent, order_few}
 use Rattle.mold_check.proofs.CheckedLemmas.{verdict_outcome, verdict_text, refused_outcome, checked_of, bytes_lent}
 use Rattle.mold_check.proofs.CheckedLemmas.{length-lent, name_at, within_order, report_text, told_whole, told_front}
 use Rattle.mold_check.proofs.ReportLemmas.{front_none}
+use Rattle.mold_check.proofs.report.check_entries.Given.{Over}
+use Rattle.mold_check.proofs.report.check_entries.Goals.{After-check}
 use Rattle.mold_check.proofs.report.check_entries.Goals as goal
 
 pub returns-in_err-order-clause-front : goal.returns-in_err-order-clause-front
@@ -30,15 +32,20 @@ overflow_sub-entries g c =
       c.in_ok-order.order.ok,
     )
 
+-- the bytes that are checked are those of the entries in their order
+bytes_checked : (g : Over) (c : After-check g) →
+    map (λ b. b.now) c.as_slice-2.result.now ≡ map bytes_of (lent c.in_ok-order.order.items)
+bytes_checked g c =
+    ap (λ (l : List (Bor (List ℕ))). map (λ b. b.now) l) c.as_slice-2.ensures.value
+    ∙ c.in_ok-datagrams.ensures
+    ∙ ap (λ (l : List (Bor Entry)). map (λ e. bytes_of e.now) l) c.as_slice.ensures.value
+    ∙ bytes_lent c.in_ok-order.order.items
+
 pub returns-in-Ok-clause-whole : goal.returns-in-Ok-clause-whole
 returns-in-Ok-clause-whole g c =
     let order = c.in_ok-order.order.items in
     let v = c.in-Ok.verdict in
-    let list = ap (λ (l : List (Bor (List ℕ))). map (λ b. b.now) l) c.as_slice-2.ensures.value
-    ∙ c.in_ok-datagrams.ensures
-    ∙ ap (λ (l : List (Bor Entry)). map (λ e. bytes_of e.now) l) c.as_slice.ensures.value
-    ∙ bytes_lent order
-    in
+    let list = bytes_checked g (goal.at.returns-in-Ok-clause-whole g c).After-check in
     let checked = checked_of c.args.entries.now (lent order) _ (outcome_in v) c.in_ok-order.ensures list
     (verdict_outcome _ v c.in-Ok.ensures.verdict)
     in
@@ -52,11 +59,7 @@ pub returns-in-Ok-clause-front : goal.returns-in-Ok-clause-front
 returns-in-Ok-clause-front g c =
     let order = c.in_ok-order.order.items in
     let v = c.in-Ok.verdict in
-    let list = ap (λ (l : List (Bor (List ℕ))). map (λ b. b.now) l) c.as_slice-2.ensures.value
-    ∙ c.in_ok-datagrams.ensures
-    ∙ ap (λ (l : List (Bor Entry)). map (λ e. bytes_of e.now) l) c.as_slice.ensures.value
-    ∙ bytes_lent order
-    in
+    let list = bytes_checked g (goal.at.returns-in-Ok-clause-front g c).After-check in
     let checked = checked_of c.args.entries.now (lent order) _ (outcome_in v) c.in_ok-order.ensures list
     (verdict_outcome _ v c.in-Ok.ensures.verdict)
     in
@@ -70,11 +73,7 @@ pub returns : goal.returns
 returns g c =
     let order = c.in_ok-order.order.items in
     let why = c.in-Err.reason in
-    let list = ap (λ (l : List (Bor (List ℕ))). map (λ b. b.now) l) c.as_slice-2.ensures.value
-    ∙ c.in_ok-datagrams.ensures
-    ∙ ap (λ (l : List (Bor Entry)). map (λ e. bytes_of e.now) l) c.as_slice.ensures.value
-    ∙ bytes_lent order
-    in
+    let list = bytes_checked g (goal.at.returns g c).After-check in
     let other : why ≡ Memory → ⊥ = λ is. search rules in
     let told = refused_outcome _ c.in-Err.index why other c.in-Err.ensures.refused in
     let checked = checked_of c.args.entries.now (lent order) _ (refused c.in-Err.index why) c.in_ok-order.ensures list told in

@@ -1,49 +1,42 @@
 use Rattle.std.proofs.Common.{refl, sym, ap, subst, ◌∙◌, Ok}
 use Rattle.std.specs.Prelude.{Result, IsOk, is_ok, OnErr, Err}
 use Rattle.mold_rounds.proofs.FilledLemmas.{batch_follows}
-use Rattle.mold_rounds.proofs.StartLemmas.{AnswersRequests, begins, one_plan, plan_made, rounding_ahead, rounding_batch}
+use Rattle.mold_rounds.proofs.StartLemmas.{AnswersRequests, Wants, begins, one_plan, plan_made, rounding_ahead, rounding_batch}
 use Rattle.mold_rounds.proofs.StartLemmas.{rounding_done, rounding_more, rounding_shorter}
 use Rattle.mold_rounds.proofs.StartLemmas.{rounding_stopped, starts, wants}
-use Rattle.mold_rounds.proofs.rounding.take_round.Goals.{After-plan, After-unwrap-plan}
+use Rattle.mold_rounds.proofs.rounding.take_round.Goals.{After-plan}
 use Rattle.mold_rounds.proofs.rounding.take_round.Goals as goal
 use Rattle.mold_session.specs.Answer.{PlanState}
 use Rattle.mold_session.specs.Server.{counted_if}
 use Rattle.mold_session.specs.declared.error.AnswerError.{AnswerError}
 
-pub unwrap-plan-requires : goal.unwrap-plan-requires
-unwrap-plan-requires c =
-    let wants_it =
+-- the receiver wants something that the journal has
+wanting : (c : After-plan) → Wants c.args.receiver.now c.args.journal.now c.args.request.now
+wanting c =
     wants c.wanted_law.ensures.asks c.wanted_law.ensures.gap c.args.receiver.now c.args.journal.now c.args.request.now
     c.requires.wanted c.requires.well_formed c.requires.session c.requires.known
-    in
-    let laws : AnswersRequests =
-    record {
-      asked = c.answered_law.ensures.asked;
-      planned_so = c.answered_law.ensures.planned;
-      plan_is = c.answered_law.ensures.plan;
-      answers = c.answered_law.ensures.answer;
-      first = c.answer_not_empty_law.ensures.first;
-    }
-    in
+
+answering : After-plan → AnswersRequests
+answering c = record {
+  asked = c.answered_law.ensures.asked;
+  planned_so = c.answered_law.ensures.planned;
+  plan_is = c.answered_law.ensures.plan;
+  answers = c.answered_law.ensures.answer;
+  first = c.answer_not_empty_law.ensures.first;
+}
+
+pub unwrap-plan-requires : goal.unwrap-plan-requires
+unwrap-plan-requires c =
+    let wants_it = wanting (goal.at.unwrap-plan-requires c).After-plan in
+    let laws = answering (goal.at.unwrap-plan-requires c).After-plan in
     subst (λ (r : Result PlanState AnswerError). IsOk r)
     (sym (c.plan.ensures.planned ∙ plan_made laws c.args.receiver.now c.args.journal.now c.args.server.now.burst
     c.args.request.now c.encode.result wants_it c.encode.ensures)) refl
 
 pub loop-init : goal.loop-init
 loop-init c =
-    let wants_it =
-    wants c.wanted_law.ensures.asks c.wanted_law.ensures.gap c.args.receiver.now c.args.journal.now c.args.request.now
-    c.requires.wanted c.requires.well_formed c.requires.session c.requires.known
-    in
-    let laws : AnswersRequests =
-    record {
-      asked = c.answered_law.ensures.asked;
-      planned_so = c.answered_law.ensures.planned;
-      plan_is = c.answered_law.ensures.plan;
-      answers = c.answered_law.ensures.answer;
-      first = c.answer_not_empty_law.ensures.first;
-    }
-    in
+    let wants_it = wanting (goal.at.loop-init c).After-plan in
+    let laws = answering (goal.at.loop-init c).After-plan in
     let made =
     plan_made laws c.args.receiver.now c.args.journal.now c.args.server.now.burst c.args.request.now c.encode.result
     wants_it c.encode.ensures

@@ -10,7 +10,7 @@ loop-message-init g c =
     let messages = c.args.list.now.messages in
     record {
       saves = saves_none (g.K.Sink.held c.args.sink.now) (head_2 c.args.session.0 c.args.closed (length messages))
-          messages c.into_iter-message-iterator.result c.keep_head.new.outlet
+          messages c.into_iter-message-iterator.result c.keep_head.new.buffer
           (c.into_iter-message-iterator.ensures.into_iter_gives ∙ c.iter-message-items.ensures)
           (c.keep_head.ensures.head ∙ ap (head_2 c.args.session.0 c.args.closed) c.len.ensures);
       counted = refl;
@@ -21,7 +21,7 @@ put_block-requires g c =
     let messages = c.args.list.now.messages in
     next_fits (g.K.Sink.held c.args.sink.now) (g.K.Sink.held c.loop-message.sink)
     (head_2 c.args.session.0 c.args.closed (length messages)) messages c.loop-message.message-iterator
-    c.in-Some.message.now c.next.new.self c.loop-message.outlet c.requires c.in-Some.ensures.steps
+    c.in-Some.message.now c.next.new.self c.loop-message.buffer c.requires c.in-Some.ensures.steps
     c.loop-message.invariant.saves
 
 pub loop-message-preserved : goal.loop-message-preserved
@@ -30,8 +30,8 @@ loop-message-preserved g c =
     record {
       saves = saves_more (g.K.Sink.held c.args.sink.now) (g.K.Sink.held c.loop-message.sink)
           (g.K.Sink.held c.put_block.new.sink) (head_2 c.args.session.0 c.args.closed (length messages)) messages
-          c.loop-message.message-iterator c.in-Some.message.now c.next.new.self c.loop-message.outlet
-          c.put_block.new.outlet c.in-Some.ensures.steps c.loop-message.invariant.saves
+          c.loop-message.message-iterator c.in-Some.message.now c.next.new.self c.loop-message.buffer
+          c.put_block.new.buffer c.in-Some.ensures.steps c.loop-message.invariant.saves
           c.in_ok-put_block.ensures.moved;
       counted = c.in_ok-put_block.ensures.failures ∙ c.loop-message.invariant.counted;
     }
@@ -44,7 +44,7 @@ returns-in_err-put_block-clause-front g c =
     (length messages) messages c.keep_head.ensures.named c.requires refl
     (saves_front_in_block (g.K.Sink.held c.args.sink.now) (g.K.Sink.held c.loop-message.sink)
     (g.K.Sink.held c.put_block.new.sink) (head_2 c.args.session.0 c.args.closed (length messages)) messages
-    c.loop-message.message-iterator c.in-Some.message.now c.next.new.self c.loop-message.outlet
+    c.loop-message.message-iterator c.in-Some.message.now c.next.new.self c.loop-message.buffer
     c.in-Some.ensures.steps c.loop-message.invariant.saves c.in_err-put_block.ensures.front))
 
 pub returns-clause-whole : goal.returns-clause-whole
@@ -55,7 +55,7 @@ returns-clause-whole g c =
     (length messages) messages c.keep_head.ensures.named c.requires refl
     (saves_all (g.K.Sink.held c.args.sink.now) (g.K.Sink.held c.loop-message.sink) (g.K.Sink.held c.flush.new.sink)
     (head_2 c.args.session.0 c.args.closed (length messages)) messages c.loop-message.message-iterator
-    c.loop-message.outlet c.loop-message.invariant.saves c.in-None.ensures.steps.0 done))
+    c.loop-message.buffer c.loop-message.invariant.saves c.in-None.ensures.steps.0 done))
     c.flush.ensures.whole
 
 pub returns-clause-front : goal.returns-clause-front
@@ -66,5 +66,5 @@ returns-clause-front g c =
     (length messages) messages c.keep_head.ensures.named c.requires refl
     (saves_front (g.K.Sink.held c.args.sink.now) (g.K.Sink.held c.loop-message.sink) (g.K.Sink.held c.flush.new.sink)
     (head_2 c.args.session.0 c.args.closed (length messages)) messages c.loop-message.message-iterator
-    c.loop-message.outlet c.loop-message.invariant.saves begun))
+    c.loop-message.buffer c.loop-message.invariant.saves begun))
     c.flush.ensures.front

@@ -1,7 +1,8 @@
-use Rattle.std.proofs.Common.{◌≡◌, ℕ, List, [], ◌∷◌, length, sym, ap, ◌∙◌}
+use Rattle.std.proofs.Common.{◌≡◌, ◌≤◌, ℕ, List, [], ◌∷◌, length, sym, ap, ◌∙◌}
 use Rattle.std.proofs.Common.{rules}
-use Rattle.mold_messages.specs.Places.{pieces}
+use Rattle.mold_messages.specs.Places.{IsRising, pieces}
 use Rattle.mold_messages.proofs.PlaceLemmas.{pieces_none, rising_first, rising_within, pieces_first}
+use Rattle.mold_messages.proofs.iterator.MessageIteratorIterator.next.Goals.{In_ok-end}
 use Rattle.mold_messages.proofs.iterator.MessageIteratorIterator.next.Goals as goal
 
 pub returns-in_err-end-clause-steps : goal.returns-in_err-end-clause-steps
@@ -11,24 +12,24 @@ returns-in_err-end-clause-steps c =
     c.in_err-end.ensures.cases in
     rw c.from_residual.ensures (search (rules, none))
 
-pub part-message-requires-clause-ordered : goal.part-message-requires-clause-ordered
-part-message-requires-clause-ordered c =
+-- the first message ends at or behind its beginning, and the others rise from there
+first_end : (c : In_ok-end) → (c.self.inside.start ≤ c.in_ok-end.end.now)
+    × IsRising c.in_ok-end.end.now c.in_ok-end.ends.now (length c.self.inside.bytes.now)
+first_end c =
     let f = c.self.inside in
-    (rising_first f.start f.ends.now c.in_ok-end.end.now c.in_ok-end.ends.now (length f.bytes.now)
-    c.in_ok-end.ensures.cases.0 c.self.invariant).0
+    rising_first f.start f.ends.now c.in_ok-end.end.now c.in_ok-end.ends.now (length f.bytes.now)
+    c.in_ok-end.ensures.cases.0 c.self.invariant
+
+pub part-message-requires-clause-ordered : goal.part-message-requires-clause-ordered
+part-message-requires-clause-ordered c = (first_end (goal.at.part-message-requires-clause-ordered c).In_ok-end).0
 
 pub part-message-requires-clause-within : goal.part-message-requires-clause-within
 part-message-requires-clause-within c =
-    let f = c.self.inside in
-    rising_within c.in_ok-end.end.now c.in_ok-end.ends.now (length f.bytes.now)
-    (rising_first f.start f.ends.now c.in_ok-end.end.now c.in_ok-end.ends.now (length f.bytes.now)
-    c.in_ok-end.ensures.cases.0 c.self.invariant).1
+    rising_within c.in_ok-end.end.now c.in_ok-end.ends.now (length c.self.inside.bytes.now)
+    (first_end (goal.at.part-message-requires-clause-within c).In_ok-end).1
 
 pub invariant_of-self : goal.invariant_of-self
-invariant_of-self c =
-    let f = c.self.inside in
-    (rising_first f.start f.ends.now c.in_ok-end.end.now c.in_ok-end.ends.now (length f.bytes.now)
-    c.in_ok-end.ensures.cases.0 c.self.invariant).1
+invariant_of-self c = (first_end (goal.at.invariant_of-self c).In_ok-end).1
 
 pub returns-clause-steps : goal.returns-clause-steps
 returns-clause-steps c =

@@ -1,6 +1,7 @@
 use Rattle.std.proofs.Common.{◌≡◌, ◌<◌, ◌+◌, ◌-◌, List, ℕ, length, IsOk, refl, ap, subst, ◌∙◌, arith}
 use Rattle.mold_messages.specs.Listed.{Listed, HasRoom, extended}
 use Rattle.mold_messages.proofs.PlaceLemmas.{length-pieces, joined_all, extends}
+use Rattle.mold_messages.proofs.list.MessageList.extend_last.Goals.{After-len-last}
 use Rattle.mold_messages.proofs.list.MessageList.extend_last.Goals as goal
 
 -- as many places as messages
@@ -21,32 +22,25 @@ returns-in_err-extend_from_slice-clause-succeeds c =
       joined_all f.ends.items f.bytes.items c.self.invariant,
     )))
 
+-- there is a last place
+some_last : (c : After-len-last) → 0 < length c.self.inside.ends.items
+some_last c =
+    let f = c.self.inside in
+    some_places c.args.self.now f.ends.items f.bytes.items _ (ap (λ (l : Listed). l.messages) c.self.view_is)
+    c.requires (length-pieces 0 f.ends.items f.bytes.items)
+
 pub overflow_sub-last : goal.overflow_sub-last
 overflow_sub-last c =
-    let f = c.self.inside in
-    omega (
-      arith,
-      some_places c.args.self.now f.ends.items f.bytes.items _ (ap (λ (l : Listed). l.messages) c.self.view_is)
-          c.requires (length-pieces 0 f.ends.items f.bytes.items),
-      c.len-last.ensures,
-    )
+    omega (arith, some_last (goal.at.overflow_sub-last c).After-len-last, c.len-last.ensures)
 
 pub index_mut-requires : goal.index_mut-requires
 index_mut-requires c =
-    let f = c.self.inside in
-    omega (
-      arith,
-      some_places c.args.self.now f.ends.items f.bytes.items _ (ap (λ (l : Listed). l.messages) c.self.view_is)
-          c.requires (length-pieces 0 f.ends.items f.bytes.items),
-      c.len-last.ensures,
-    )
+    omega (arith, some_last (goal.at.index_mut-requires c).After-len-last, c.len-last.ensures)
 
 pub invariant_of-self-2 : goal.invariant_of-self-2
 invariant_of-self-2 c =
     let f = c.self.inside in
-    let some = some_places c.args.self.now f.ends.items f.bytes.items _
-    (ap (λ (l : Listed). l.messages) c.self.view_is) c.requires (length-pieces 0 f.ends.items f.bytes.items)
-    in
+    let some = some_last (goal.at.invariant_of-self-2 c).After-len-last in
     let last : length f.ends.items ≡ (c.len-last.result - 1) + 1 = omega (arith, some, c.len-last.ensures) in
     (extends f.ends.items f.bytes.items c.args.bytes.now _ c.extend_from_slice.new.self.items c.len.result
     (c.len-last.result - 1) c.self.invariant last refl c.in_ok-extend_from_slice.ensures.items
@@ -55,9 +49,7 @@ invariant_of-self-2 c =
 pub returns-clause-added : goal.returns-clause-added
 returns-clause-added c =
     let f = c.self.inside in
-    let some = some_places c.args.self.now f.ends.items f.bytes.items _
-    (ap (λ (l : Listed). l.messages) c.self.view_is) c.requires (length-pieces 0 f.ends.items f.bytes.items)
-    in
+    let some = some_last (goal.at.returns-clause-added c).After-len-last in
     let last : length f.ends.items ≡ (c.len-last.result - 1) + 1 = omega (arith, some, c.len-last.ensures) in
     (extends f.ends.items f.bytes.items c.args.bytes.now _ c.extend_from_slice.new.self.items c.len.result
     (c.len-last.result - 1) c.self.invariant last refl c.in_ok-extend_from_slice.ensures.items

@@ -1,7 +1,8 @@
 use Rattle.std.proofs.Common.{◌≡◌, ℕ, List, [], ◌∷◌, length, sym, ap, ◌∙◌}
 use Rattle.std.proofs.Common.{rules}
 use Rattle.mold_messages.specs.Parts.{parts}
-use Rattle.mold_messages.proofs.PartLemmas.{parts_none, parts_first, within_first}
+use Rattle.mold_messages.proofs.PartLemmas.{IsFirst, parts_none, parts_first, within_first}
+use Rattle.mold_messages.proofs.part_iterator.PartIteratorIterator.next.Goals.{In_ok-span}
 use Rattle.mold_messages.proofs.part_iterator.PartIteratorIterator.next.Goals as goal
 
 pub returns-in_err-span-clause-steps : goal.returns-in_err-span-clause-steps
@@ -11,23 +12,21 @@ returns-in_err-span-clause-steps c =
     c.in_err-span.ensures.cases in
     rw c.from_residual.ensures (search (rules, none))
 
-pub part-message-requires-clause-ordered : goal.part-message-requires-clause-ordered
-part-message-requires-clause-ordered c =
+-- the first span lies in the bytes, and the others behind it
+first_span : (c : In_ok-span) → IsFirst c.in_ok-span.span.now c.in_ok-span.spans.now (length c.self.inside.bytes.now)
+first_span c =
     let f = c.self.inside in
-    (within_first f.spans.now c.in_ok-span.span.now c.in_ok-span.spans.now (length f.bytes.now)
-    c.in_ok-span.ensures.cases.0 c.self.invariant).ordered
+    within_first f.spans.now c.in_ok-span.span.now c.in_ok-span.spans.now (length f.bytes.now)
+    c.in_ok-span.ensures.cases.0 c.self.invariant
+
+pub part-message-requires-clause-ordered : goal.part-message-requires-clause-ordered
+part-message-requires-clause-ordered c = (first_span (goal.at.part-message-requires-clause-ordered c).In_ok-span).ordered
 
 pub part-message-requires-clause-within : goal.part-message-requires-clause-within
-part-message-requires-clause-within c =
-    let f = c.self.inside in
-    (within_first f.spans.now c.in_ok-span.span.now c.in_ok-span.spans.now (length f.bytes.now)
-    c.in_ok-span.ensures.cases.0 c.self.invariant).stops
+part-message-requires-clause-within c = (first_span (goal.at.part-message-requires-clause-within c).In_ok-span).stops
 
 pub invariant_of-self : goal.invariant_of-self
-invariant_of-self c =
-    let f = c.self.inside in
-    (within_first f.spans.now c.in_ok-span.span.now c.in_ok-span.spans.now (length f.bytes.now)
-    c.in_ok-span.ensures.cases.0 c.self.invariant).rest
+invariant_of-self c = (first_span (goal.at.invariant_of-self c).In_ok-span).rest
 
 pub returns-clause-steps : goal.returns-clause-steps
 returns-clause-steps c =

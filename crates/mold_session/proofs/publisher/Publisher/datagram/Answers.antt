@@ -1,8 +1,9 @@
 use Rattle.std.proofs.Common.{◌≡◌, ℕ, ◌+◌, None, Some, refl, sym, ap, subst, ◌∙◌}
 use Rattle.mold_session.specs.Publisher.{PublisherState, Lends, next_datagram, after_datagram}
-use Rattle.mold_session.proofs.PublisherLemmas.{stays_idle, is_next, lends_next, still_publisher}
+use Rattle.mold_session.proofs.PublisherLemmas.{IsNext, stays_idle, is_next, lends_next, still_publisher}
 use Rattle.mold_session.specs.Truthful.{TellsTruth}
 use Rattle.mold_session.proofs.TruthLemmas.{datagram_true}
+use Rattle.mold_session.proofs.publisher.Publisher.datagram.Goals.{After-pack_front-count}
 use Rattle.mold_session.proofs.publisher.Publisher.datagram.Goals as goal
 
 pub returns-then-unsent-eq0 : goal.returns-then-unsent-eq0
@@ -18,18 +19,24 @@ returns-then-unsent-eq0 c =
     in
     ((refl, (λ _. tt), same), record { after = tt; lent = nothing; truth = tt })
 
-pub invariant_of-self-2 : goal.invariant_of-self-2
-invariant_of-self-2 c =
+-- what was packed is the next datagram
+packed_next : (c : After-pack_front-count) →
+    IsNext (record { journal = c.self.inside.journal; limit = c.self.inside.limit; sent = c.self.inside.sent })
+    c.self.inside.packer c.pack_front-count.new.packer c.pack_front-count.result
+packed_next c =
     let f = c.self.inside in
-    let before : PublisherState = record { journal = f.journal; limit = f.limit; sent = f.sent } in
-    let next =
-    is_next before f.packer c.pack_front-count.new.packer c.session-session.result c.iter_from-messages.result
-    c.len.result c.pack_front-count.result
+    is_next (record { journal = f.journal; limit = f.limit; sent = f.sent }) f.packer c.pack_front-count.new.packer
+    c.session-session.result c.iter_from-messages.result c.len.result c.pack_front-count.result
     c.front_law.ensures.only c.front_law.ensures.some
     (λ limit message. (c.packet_length_law.ensures.alone limit message).0)
     c.self.invariant.1 (λ none. c.if-unsent-eq0.false (c.unsent.ensures.value ∙ none)) c.self.invariant.0
     c.session-session.ensures c.iter_from-messages.ensures.from c.len.ensures.value c.pack_front-count.ensures
-    in (
+
+pub invariant_of-self-2 : goal.invariant_of-self-2
+invariant_of-self-2 c =
+    let f = c.self.inside in
+    let before : PublisherState = record { journal = f.journal; limit = f.limit; sent = f.sent } in
+    let next = packed_next (goal.at.invariant_of-self-2 c).After-pack_front-count in (
       next.limit ∙ c.self.invariant.0,
       still_publisher before f.packer c.pack_front-count.new.packer c.pack_front-count.result c.self.invariant.1
           (λ none. c.if-unsent-eq0.false (c.unsent.ensures.value ∙ none)) next,
@@ -39,14 +46,7 @@ pub returns : goal.returns
 returns c =
     let f = c.self.inside in
     let before : PublisherState = record { journal = f.journal; limit = f.limit; sent = f.sent } in
-    let next =
-    is_next before f.packer c.pack_front-count.new.packer c.session-session.result c.iter_from-messages.result
-    c.len.result c.pack_front-count.result
-    c.front_law.ensures.only c.front_law.ensures.some
-    (λ limit message. (c.packet_length_law.ensures.alone limit message).0)
-    c.self.invariant.1 (λ none. c.if-unsent-eq0.false (c.unsent.ensures.value ∙ none)) c.self.invariant.0
-    c.session-session.ensures c.iter_from-messages.ensures.from c.len.ensures.value c.pack_front-count.ensures
-    in
+    let next = packed_next (goal.at.returns c).After-pack_front-count in
     let same : record before { sent = f.sent + c.pack_front-count.result } ≡ after_datagram c.args.self.now =
     subst (λ (p : PublisherState). record before { sent = f.sent + c.pack_front-count.result } ≡ after_datagram p)
     c.self.view_is

@@ -1,4 +1,4 @@
-use Rattle.std.proofs.Common.{refl, arith}
+use Rattle.std.proofs.Common.{refl}
 use Rattle.std.proofs.lemmas.Option.{slice_get_read}
 use Rattle.mold_world.proofs.PlaceRowLemmas.{none_there, restart_applied, restart_nobody}
 use Rattle.mold_world.specs.Inside.{world_of}
@@ -6,9 +6,8 @@ use Rattle.mold_world.proofs.parts.Parts.restart.Goals as goal
 
 pub returns-in-Some-clause-applied : goal.returns-in-Some-clause-applied
 returns-in-Some-clause-applied c =
-    let here = slice_get_read c.args.self.now.places.items _ c.args.r c.in-Some.place.now refl
-    (let within = c.in-Some.ensures.variant.0 refl in omega (arith, within, c.args.self.now.places.ok.0))
-    c.in-Some.ensures.value
+    let here = slice_get_read c.args.self.now.places.items _ c.args.r c.in-Some.place.now c.args.self.now.places.ok.0
+    (c.in-Some.ensures.variant.0 refl) c.in-Some.ensures.value
     in
     restart_applied (world_of c.args.self.now) c.args.r c.args.next c.in-Some.place.now c.renew.new.self
     c.renew.result here c.renew.ensures

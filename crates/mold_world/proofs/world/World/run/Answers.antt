@@ -19,17 +19,17 @@ laws c = record {
 
 pub loop-at-preserved : goal.loop-at-preserved
 loop-at-preserved c =
-    passed_more c.args.self.now c.loop-at.self c.pass.new.self c.args.events.now c.loop-at.at _ c.loop-at-test.true
-    c.loop-at.invariant (on_ok c.pass.result c.if-is_err.ensures.value c.pass.ensures.passed)
+    passed_more c.args.self.now c.loop-at.self c.apply_or_skip.new.self c.args.events.now c.loop-at.at _ c.loop-at-test.true
+    c.loop-at.invariant (on_ok c.apply_or_skip.result c.if-is_err.ensures.value c.apply_or_skip.ensures.passed)
 
 pub returns-then-is_err-clause-left : goal.returns-then-is_err-clause-left
 returns-then-is_err-clause-left c =
-    on_err c.pass.result c.if-is_err.ensures.value c.pass.ensures.same ∙ c.loop-at.invariant
+    on_err c.apply_or_skip.result c.if-is_err.ensures.value c.apply_or_skip.ensures.same ∙ c.loop-at.invariant
 
 pub returns-then-is_err-clause-stopped : goal.returns-then-is_err-clause-stopped
 returns-then-is_err-clause-stopped c =
     stopped_at c.args.self.now c.loop-at.self c.args.events.now c.loop-at.at _ c.loop-at-test.true
-    c.loop-at.invariant (on_err c.pass.result c.if-is_err.ensures.value c.pass.ensures.wanting)
+    c.loop-at.invariant (on_err c.apply_or_skip.result c.if-is_err.ensures.value c.apply_or_skip.ensures.wanting)
 
 pub returns-then-is_err-clause-headline : goal.returns-then-is_err-clause-headline
 returns-then-is_err-clause-headline c =
@@ -38,14 +38,14 @@ returns-then-is_err-clause-headline c =
 
 pub returns-then-is_err-clause-handed : goal.returns-then-is_err-clause-handed
 returns-then-is_err-clause-handed c =
-    let left = on_err c.pass.result c.if-is_err.ensures.value c.pass.ensures.same ∙ c.loop-at.invariant in
+    let left = on_err c.apply_or_skip.result c.if-is_err.ensures.value c.apply_or_skip.ensures.same ∙ c.loop-at.invariant in
     let happened : List Happening = take c.loop-at.at (map seen c.args.events.now) in
     subst (λ (t : WorldState). ArePublished t.publisher.journal.messages (handed_by_all c.args.self.now happened))
     (sym left) (c.run_law.ensures.handed c.args.self.now happened c.keep.ensures)
 
 pub returns-then-is_err-clause-steps : goal.returns-then-is_err-clause-steps
 returns-then-is_err-clause-steps c =
-    let left = on_err c.pass.result c.if-is_err.ensures.value c.pass.ensures.same ∙ c.loop-at.invariant in
+    let left = on_err c.apply_or_skip.result c.if-is_err.ensures.value c.apply_or_skip.ensures.same ∙ c.loop-at.invariant in
     let happened : List Happening = take c.loop-at.at (map seen c.args.events.now) in
     subst (λ (t : WorldState). AreStepsOfAll c.args.self.now happened t) (sym left)
     (run_steps (laws (goal.at.returns-then-is_err-clause-steps c).After-keep) c.args.self.now happened c.keep.ensures)

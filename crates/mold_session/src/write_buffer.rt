@@ -13,19 +13,19 @@ const ROOM: usize = 4096;
 
 /// Gathers bytes, so that they go out in large writes. It takes no memory.
 #[derive(Drop)]
-pub struct Outlet {
+pub struct WriteBuffer {
     bytes: [u8; ROOM],
     used: usize,
 }
 
-impl Model for Outlet {
+impl Model for WriteBuffer {
     ghost use Rattle.std.specs.Prelude.{◌≡◌, ◌≤◌, ℕ, List, take, length};
 
     ghost Value = { List ℕ };
 
-    ghost view = { λ o. take o.used o.bytes };
+    ghost view = { λ b. take b.used b.bytes };
 
-    ghost invariant = { λ o. (o.used ≤ 4096) × (length o.bytes ≡ 4096) };
+    ghost invariant = { λ b. (b.used ≤ 4096) × (length b.bytes ≡ 4096) };
 }
 
 // Writes the text behind the bytes that are used, and leaves what is behind it.
@@ -38,11 +38,11 @@ fn put_behind(bytes: &mut [u8], used: usize, text: &[u8])
     place.copy_from_slice(text);
 }
 
-impl Outlet {
-    pub fn new() -> Outlet
+impl WriteBuffer {
+    pub fn new() -> WriteBuffer
         ensures { result ≡ [] }
     {
-        Outlet {
+        WriteBuffer {
             bytes: [0; ROOM],
             used: 0,
         }

@@ -1,6 +1,6 @@
 use Rattle.std.proofs.lemmas.Result.{on_ok_weaker}
 use Rattle.mold_session.proofs.MovingLemmas.{on_err, front_after, front_more, moves_kept, moves_written}
-use Rattle.mold_session.proofs.outlet.Outlet.put.Goals as goal
+use Rattle.mold_session.proofs.write_buffer.WriteBuffer.put.Goals as goal
 
 pub returns-then-text-gt-ROOM-clause-moved : goal.returns-then-text-gt-ROOM-clause-moved
 returns-then-text-gt-ROOM-clause-moved g c =

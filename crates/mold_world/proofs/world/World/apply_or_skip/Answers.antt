@@ -1,6 +1,6 @@
 use Rattle.mold_world.proofs.ApplyLemmas.{wanting_where_memory}
 use Rattle.mold_world.specs.Event.{seen}
-use Rattle.mold_world.proofs.world.World.pass.Goals as goal
+use Rattle.mold_world.proofs.world.World.apply_or_skip.Goals as goal
 
 pub returns-in-Err-Memory-clause-wanting : goal.returns-in-Err-Memory-clause-wanting
 returns-in-Err-Memory-clause-wanting c =
