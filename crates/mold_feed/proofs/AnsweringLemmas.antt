@@ -92,22 +92,14 @@ module _ {P T E : Type 0} (to : P) (result : Result T E) (service : Service) (pl
 
 -- ---- all packets
 
--- the server's limit stays while packets are offered
-pub offers_of : {P T E : Type 0} (to : P) (result : Result T E) (more is : Bool) (journal : JournalState)
-    (server first : ServerState) (plan behind : PlanState) (old new : ResponderState P) → server ≡ first → more ≡ is →
-    OffersNext to result more (left_of (service_of journal server) plan) (left_of (service_of journal server) behind)
-    old new →
-    OffersNext to result is (left_of (service_of journal first) plan) (left_of (service_of journal first) behind) old new
-offers_of to result more is journal server first plan behind old new same so offers =
-    subst
-    (λ (b : Bool). OffersNext to result b (left_of (service_of journal first) plan)
-    (left_of (service_of journal first) behind) old new)
-    so
-    (subst
-    (λ (s : ServerState). OffersNext to result more (left_of (service_of journal s) plan)
-    (left_of (service_of journal s) behind) old new)
-    same
-    offers)
+-- it is answered from the same while packets are offered
+pub offers_of : {P T E : Type 0} (to : P) (result : Result T E) (more is : Bool) (service first : Service)
+    (plan behind : PlanState) (old new : ResponderState P) → service ≡ first → more ≡ is →
+    OffersNext to result more (left_of service plan) (left_of service behind) old new →
+    OffersNext to result is (left_of first plan) (left_of first behind) old new
+offers_of to result more is service first plan behind old new same so offers =
+    subst (λ (b : Bool). OffersNext to result b (left_of first plan) (left_of first behind) old new) so
+    (subst (λ (s : Service). OffersNext to result more (left_of s plan) (left_of s behind) old new) same offers)
 
 -- Of these packets some were offered, and the others are left: whatever comes, the offering goes on from here.
 pub record Offering {P : Type 0} (to : P) (all left : List Packet) (start now : ResponderState P) : Type 0 where

@@ -295,3 +295,14 @@ text_moved {P} server requests answered arbitration old new front parts failures
 
 pub sent_alike : {A : Type 0} {xs ys : List A} → xs ≡ ys → Begins xs ys
 sent_alike {A} {xs} {ys} same = subst (λ (l : List A). Begins xs l) same (begins_whole xs)
+
+-- what was repaired, where the server ends as it was left
+pub repaired_so : {P T E : Type 0} (result : Result T E) (port requests : Port P) (answered last : ℕ) (e : Hearing)
+    (wanted : RepairState P) → last ≡ answered →
+    HasRepaired result (record { server = port; requests = requests; answered = answered; hearing = e }) wanted →
+    HasRepaired result (record { server = port; requests = requests; answered = last; hearing = e }) wanted
+repaired_so result port requests answered last e wanted same has =
+    subst
+    (λ (n : ℕ). HasRepaired result (record { server = port; requests = requests; answered = n; hearing = e }) wanted)
+    (sym same)
+    has

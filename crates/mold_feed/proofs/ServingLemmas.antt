@@ -1,18 +1,20 @@
 -- What turns of a serving do: a text in front of what was printed changes nothing else, and turns only print and send
 -- more.
-use Rattle.std.proofs.Common.{◌≡◌, ℕ, Bool, true, false, List, [], ◌∷◌, ◌++◌, drop, Option, Result, Ok, Err, refl, sym, ap, subst, ◌∙◌}
+use Rattle.std.proofs.Common.{◌≡◌, ◌≤◌, ℕ, Bool, true, false, List, [], ◌∷◌, ◌++◌, drop, Option, Result, Ok, Err, refl, sym, ap, subst, ◌∙◌}
 use Rattle.std.specs.Prelude.{IsErr}
 use Rattle.mold_ports.specs.Ports.{Port, Receipt, Datagram, Quiet, Failure, cut, next_of, received}
 use Rattle.mold_feed.specs.Answering.{Reaches}
-use Rattle.mold_feed.specs.Serving.{Service, ResponderState, behind, fails_first, met, offer, offer_all}
-use Rattle.mold_feed.specs.Serving.{replied, reply, serve_turn, service_of, serving}
+use Rattle.std.specs.Borrow.{Bor}
+use Rattle.mold_feed.specs.Serving.{IsSame, MayAnswer, Service, ResponderState, behind, fails_first, met, offer, offer_all}
+use Rattle.mold_feed.specs.Serving.{replied, reply, serve_turn, served_by, service, service_of, serving}
 use Rattle.mold_feed.specs.Outgoing.{OutgoingState}
-use Rattle.mold_feed.specs.Tally.{with_outgoing}
+use Rattle.mold_feed.specs.Tally.{last_line, with_outgoing}
+use Rattle.mold_feed.specs.declared.responder.Responder.{Responder}
 use Rattle.mold_feed.specs.declared.tally.Tally.{Tally}
 use Rattle.mold_session.specs.Journal.{JournalState}
 use Rattle.mold_session.specs.Server.{ServerState}
 use Rattle.mold_session.specs.declared.error.AnswerError.{AnswerError}
-use Rattle.mold_feed.specs.Runs.{Begins, Rests, run}
+use Rattle.mold_feed.specs.Runs.{Begins, Ran, Rests, run}
 use Rattle.mold_feed.proofs.OutgoingLemmas.{front_twice, more_after, written_front}
 use Rattle.mold_feed.proofs.RunLemmas.{IsLoop, begins_more, begins_trans, begins_whole, none_ok}
 use Rattle.mold_wire.specs.declared.packet.Packet.{Packet}
@@ -201,6 +203,33 @@ pub same_service : (journal : JournalState) (server first : ServerState) (answer
     server ≡ record first { answered = answered } → service_of journal server ≡ service_of journal first
 same_service journal server first answered same = ap (service_of journal) same
 
+-- ---- what a responder works on
+
+pub same_at_first : {D : Type 0} (responder : Responder D) → IsSame responder responder
+same_at_first responder = record { port = refl; server = refl; journal = refl; tally = refl; limits = refl }
+
+pub same_twice : {D : Type 0} {one two three : Responder D} → IsSame one two → IsSame two three → IsSame one three
+same_twice {D} {one} {two} {three} first second = record {
+  port = second.port ∙ first.port;
+  server = second.server ∙ first.server;
+  journal = second.journal ∙ first.journal;
+  tally = second.tally ∙ first.tally;
+  limits =
+      second.limits
+      ∙ ap (λ (s : ServerState). record s { answered = three.server.now.answered }) first.limits;
+}
+
+-- so it answers from the same journal, with the same limits
+pub service_is : {D : Type 0} {old new : Responder D} → IsSame old new → service new ≡ service old
+service_is {D} {old} {new} same =
+    ap (λ (j : Bor JournalState). service_of j.now new.server.now) same.journal
+    ∙ ap (service_of old.journal.now) same.limits
+
+pub may_answer : {D : Type 0} {old new : Responder D} → IsSame old new → MayAnswer old → MayAnswer new
+may_answer {D} {old} {new} same may =
+    subst (λ (j : Bor JournalState). j.now.max_message ≤ new.server.now.max_message) (sym same.journal)
+    (subst (λ (s : ServerState). old.journal.now.max_message ≤ s.max_message) (sym same.limits) may)
+
 -- after a fault only what was sent is known
 pub rests_as : {P T E : Type 0} (service : Service) (turns : ℕ) (start one other : ResponderState P) (result : Result T E)
     (old new : Option (List ℕ)) → one.port ≡ other.port → IsErr result →
@@ -219,3 +248,24 @@ rests_as {P} {T} {E} service turns start one other result old new same failed re
       same
       rests.sent;
 }
+
+-- what was served, where port and server end as they were left
+pub served_so : {D P E : Type 0} (known : D → Port P) (service : Service) (turns : ℕ) (start : ResponderState P)
+    (result : Result ℕ E) (old new : Option (List ℕ)) (first : ServerState) (port end : D) (server last : ServerState) →
+    end ≡ port → last ≡ server →
+    Ran (serving service) turns start (λ s. last_line s.tally) (λ s. 0)
+    (λ s. (known port ≡ s.port) × (server ≡ served_by first s)) result old new (known port).sent →
+    Ran (serving service) turns start (λ s. last_line s.tally) (λ s. 0)
+    (λ s. (known end ≡ s.port) × (last ≡ served_by first s)) result old new (known end).sent
+served_so {D} {P} {E} known service turns start result old new first port end server last is_port is_server ran =
+    subst
+    (λ (d : D).
+    Ran (serving service) turns start (λ s. last_line s.tally) (λ s. 0)
+    (λ s. (known d ≡ s.port) × (last ≡ served_by first s)) result old new (known d).sent)
+    (sym is_port)
+    (subst
+    (λ (n : ServerState).
+    Ran (serving service) turns start (λ s. last_line s.tally) (λ s. 0)
+    (λ s. (known port ≡ s.port) × (n ≡ served_by first s)) result old new (known port).sent)
+    (sym is_server)
+    ran)

@@ -1,8 +1,9 @@
 -- Serving, turn by turn: what is received, and how it is answered.
-use Rattle.std.specs.Prelude.{ℕ, ◌+◌, min, Bool, true, false, List, [], ◌∷◌, drop, Result, Ok, Err}
+use Rattle.std.specs.Prelude.{◌≡◌, ◌≤◌, ℕ, ◌+◌, min, Bool, true, false, List, [], ◌∷◌, drop, Result, Ok, Err}
 use Rattle.mold_ports.specs.Ports.{Port, Receipt, Datagram, Quiet, Failure, cut, next_of, offered, received}
 use Rattle.mold_feed.specs.Outgoing.{with_front}
 use Rattle.mold_feed.specs.Tally.{with_answered, with_failed, with_outgoing, with_quiet, with_refused}
+use Rattle.mold_feed.specs.declared.responder.Responder.{Responder}
 use Rattle.mold_feed.specs.declared.tally.Tally.{Tally}
 use Rattle.mold_session.specs.Answer.{answer}
 use Rattle.mold_session.specs.Journal.{JournalState}
@@ -49,6 +50,26 @@ responder_of port tally server = record {
   tally = tally;
   requests = server.answered;
 }
+
+-- what a responder answers from
+abbrev pub service : {D : Type 0} → Responder D → Service
+service responder = service_of responder.journal.now responder.server.now
+
+-- how far it is, as its port is known
+abbrev pub state : {D P : Type 0} → (D → Port P) → Responder D → ResponderState P
+state port responder = responder_of (port responder.port.now) responder.tally.now responder.server.now
+
+-- the journal's messages may have at most as many bytes as the server's
+abbrev pub MayAnswer : {D : Type 0} → Responder D → Type 0
+MayAnswer responder = responder.journal.now.max_message ≤ responder.server.now.max_message
+
+-- a responder still works on the same port, journal and tally, and on the same server but for what that has answered
+pub record IsSame {D : Type 0} (old new : Responder D) : Type 0 where
+  pub port : new.port.ghost_name ≡ old.port.ghost_name
+  pub server : new.server.ghost_name ≡ old.server.ghost_name
+  pub journal : new.journal ≡ old.journal
+  pub tally : new.tally.ghost_name ≡ old.tally.ghost_name
+  pub limits : new.server.now ≡ record old.server.now { answered = new.server.now.answered }
 
 -- the server at the end of a serving
 abbrev pub served_by : {P : Type 0} → ServerState → ResponderState P → ServerState

@@ -2,7 +2,6 @@
 //! in one process. A loop goes by turns over devices that may fail.
 #![tactic(auto)]
 
-mod answering;
 mod handed;
 mod hearing;
 pub mod laws;
@@ -14,11 +13,11 @@ mod passing;
 mod publishing;
 mod repairing;
 mod report;
+mod responder;
 mod sending;
 mod serving;
 mod tally;
 
-pub use answering::answer_request;
 pub use hearing::{LONGEST, hear_port};
 pub use listening::{listen_loop, push_last};
 pub use loop_parts::{Drops, Listener, LoopPeers, LoopPorts};
@@ -26,5 +25,5 @@ pub use looping::session_loop;
 pub use outgoing::Outgoing;
 pub use publishing::publish_loop;
 pub use report::Report;
-pub use serving::serve_loop;
+pub use serving::{answer_request, serve_loop};
 pub use tally::Tally;

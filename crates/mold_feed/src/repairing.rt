@@ -9,7 +9,7 @@ ghost use Rattle.mold_feed.specs.Serving.{service_of};
 
 use crate::hearing::hear_port;
 use crate::loop_parts::{Listener, LoopPorts};
-use crate::serving::take_turn;
+use crate::responder::Responder;
 use crate::tally::Tally;
 use mold_devices::{CommandFault, Sink};
 use mold_ports::Datagrams;
@@ -65,12 +65,21 @@ fn repair<D: Datagrams + Drop>(
     ensures b { ports.new.b ≡ ports.old.b }
 {
     let mut tally = Tally::new(alloc);
-    take_turn(&mut ports.server, server, journal, place, &mut tally)?;
-    listener
-        .report
-        .outgoing
-        .count_failures(tally.outgoing.failures());
-    take_answers(&mut ports.requests, tally.answered, place, listener)
+    let mut responder = Responder {
+        port: &mut ports.server,
+        server,
+        journal,
+        tally: &mut tally,
+    };
+    responder.take_turn(place)?;
+    let outgoing = &mut listener.report.outgoing;
+    outgoing.count_failures(responder.tally.outgoing.failures());
+    take_answers(
+        &mut ports.requests,
+        responder.tally.answered,
+        place,
+        listener,
+    )
 }
 
 // One round: a request goes to the server, and its answers are taken. A request that can't be sent is counted.

@@ -1,73 +1,45 @@
-//! The loop over turns.
+//! Serving requests for the messages of a journal.
 
-ghost use Rattle.std.specs.Prelude.{◌≡◌, ◌≤◌, true, List, Bool, length};
-ghost use Rattle.mold_feed.specs.Answering.{Reaches};
-ghost use Rattle.mold_feed.specs.Serving.{behind, serve_turn, served_by, service_of, serving, responder_of};
-ghost use Rattle.mold_feed.specs.Tally.{last_line, no_tally};
+ghost use Rattle.std.specs.Prelude.{◌≡◌, ◌≤◌, true, List, Bool};
 ghost use Rattle.mold_devices.specs.Faults.{CountsSink};
-ghost use Rattle.mold_feed.specs.Runs.{Ran, Rests};
+ghost use Rattle.mold_feed.specs.Answering.{Reaches};
+ghost use Rattle.mold_feed.specs.Runs.{Ran};
+ghost use Rattle.mold_feed.specs.Serving.{replied, reply, responder_of, served_by, service_of, serving};
+ghost use Rattle.mold_feed.specs.Tally.{last_line, no_tally};
 
-use crate::answering::answer_request;
 use crate::hearing::LONGEST;
+use crate::responder::Responder;
 use crate::tally::Tally;
 use mold_devices::{CommandFault, Sink};
 use mold_ports::Datagrams;
 use mold_session::{Journal, Server};
 use std::alloc::{AllocError, Global};
 
-/// Makes a turn: one receive, and what it gave is met. `place` has `LONGEST` bytes.
-pub(crate) fn take_turn<D: Datagrams>(
+/// Answers a request by datagrams to who asked, or refuses it, and prints and counts what became of it. Each
+/// datagram is offered once; a send that fails is counted. The journal's messages may have at most as many bytes as
+/// the server's. After an error, which is want of memory, a part of it was done.
+pub fn answer_request<D: Datagrams>(
     port: &mut D,
     server: &mut Server,
     journal: &Journal,
-    place: &mut [u8],
+    from: D::Peer,
+    request: &[u8],
     tally: &mut Tally,
 ) -> Result<(), AllocError>
-    requires longest { journal.now.max_message ≤ server.old.max_message }
-    requires place { length place.old ≡ 65507 }
-    ensures turn { D.tells ≡ true → (fails : List Bool) × Reaches result
+    requires { journal.now.max_message ≤ server.old.max_message }
+    ensures replied { D.tells ≡ true → (fails : List Bool) × Reaches result
         (responder_of (D.port port.new) tally.new server.new)
-        (serve_turn (service_of journal.now server.old) fails (responder_of (D.port port.old) tally.old server.old)) }
+        (replied from fails (reply (service_of journal.now server.old) request.now)
+        (responder_of (D.port port.old) tally.old server.old)) }
     ensures server { server.new ≡ record server.old { answered = server.new.answered } }
 {
-    match port.receive(place) {
-        Ok(Some((len, from))) => {
-            answer_request(port, server, journal, from, &place[..len], tally)
-        }
-        Ok(None) => {
-            tally.add_quiet();
-            Ok(())
-        }
-        Err(_) => {
-            tally.add_failed();
-            Ok(())
-        }
-    }
-}
-
-// Makes the turns, and writes the text where much of it came together.
-fn take_turns<D: Datagrams, K: Sink>(
-    port: &mut D,
-    server: &mut Server,
-    journal: &Journal,
-    turns: u64,
-    place: &mut [u8],
-    tally: &mut Tally,
-    sink: &mut K,
-) -> Result<(), CommandFault>
-    requires longest { journal.now.max_message ≤ server.old.max_message }
-    requires place { length place.old ≡ 65507 }
-    ensures rests { D.tells ≡ true → Rests (serving (service_of journal.now server.old)) behind turns
-        (responder_of (D.port port.old) tally.old server.old) result (K.held sink.old) (K.held sink.new)
-        (responder_of (D.port port.new) tally.new server.new) }
-    ensures server { server.new ≡ record server.old { answered = server.new.answered } }
-    ensures sink { CountsSink (K.failed sink.old) (K.failed sink.new) result }
-{
-    for _turn in 0..turns {
-        take_turn(port, server, journal, place, tally)?;
-        tally.outgoing.send_large(sink)?;
-    }
-    Ok(())
+    let mut responder = Responder {
+        port,
+        server,
+        journal,
+        tally,
+    };
+    responder.answer(from, request)
 }
 
 /// Serves requests that come by a port from a journal: so many turns, each of them one receive. What comes is
@@ -92,16 +64,11 @@ pub fn serve_loop<D: Datagrams, K: Sink>(
 {
     let mut tally = Tally::new(alloc);
     let mut place = vec![in alloc; 0; LONGEST]?;
-    take_turns(
+    let mut responder = Responder {
         port,
         server,
         journal,
-        turns,
-        place.as_mut_slice(),
-        &mut tally,
-        sink,
-    )?;
-    tally.push_last()?;
-    tally.outgoing.send(sink)?;
-    Ok(0)
+        tally: &mut tally,
+    };
+    responder.serve(turns, place.as_mut_slice(), sink)
 }

@@ -1,9 +1,9 @@
-use Rattle.std.proofs.Common.{◌∙◌, ℕ, ap, refl}
+use Rattle.std.proofs.Common.{◌∙◌, ℕ, ap, refl, rules, sym}
 use Rattle.mold_feed.specs.Listening.{hearing}
 use Rattle.mold_feed.specs.Outgoing.{failed_often}
 use Rattle.mold_feed.specs.Repairing.{repair_state}
-use Rattle.mold_feed.specs.Serving.{responder_of, service_of}
-use Rattle.mold_feed.proofs.RepairLemmas.{has_repaired, repair_cut, turn_from}
+use Rattle.mold_feed.specs.Serving.{service_of, state}
+use Rattle.mold_feed.proofs.RepairLemmas.{has_repaired, repair_cut, repaired_so, turn_from}
 use Rattle.mold_feed.proofs.repairing.repair.Goals as goal
 
 pub returns-in_err-take_turn-clause-repaired : goal.returns-in_err-take_turn-clause-repaired
@@ -23,16 +23,18 @@ returns-clause-repaired g c = λ t.
     let known = g.D.Datagrams.port in
     let reached = turn_from _ service turned.0 (known c.args.ports.now.server) c.args.server.now _
     c.new-tally.ensures turned.1 in
-    let responder = responder_of (known c.take_turn.new.port) c.take_turn.new.tally c.take_turn.new.server in
+    let responder = state known c.take_turn.new.self in
     let mid = hearing c.args.listener.now.arbiter c.count_failures.new.self in (
       turned.0,
-      has_repaired c.take_answers.result service turned.0
+      repaired_so c.take_answers.result _ _ c.take_turn.new.self.server.now.answered _ _ _
+          (let same = sym c.in_ok-take_turn.ensures.same.server in search rules)
+          (has_repaired c.take_answers.result service turned.0
           (repair_state (known c.args.ports.now.server) (known c.args.ports.now.requests) c.args.server.now
           c.args.listener.now.arbiter c.args.listener.now.report.outgoing)
-          (repair_state (known c.take_turn.new.port) (known c.take_answers.new.requests) c.take_turn.new.server
-          c.take_answers.new.listener.arbiter c.take_answers.new.listener.report.outgoing)
-          responder mid c.take_turn.new.tally.answered reached.whole
+          (repair_state (known c.take_turn.new.self.port.now) (known c.take_answers.new.requests)
+          c.take_turn.new.self.server.now c.take_answers.new.listener.arbiter c.take_answers.new.listener.report.outgoing)
+          responder mid c.take_turn.new.self.tally.now.answered reached.whole
           (ap (hearing c.args.listener.now.arbiter)
           (c.count_failures.ensures ∙ ap (λ (n : ℕ). failed_often n c.args.listener.now.report.outgoing) c.failures.ensures))
-          refl refl refl (c.take_answers.ensures.sent t) (c.take_answers.ensures.heard t),
+          refl refl refl (c.take_answers.ensures.sent t) (c.take_answers.ensures.heard t)),
     )

@@ -1,17 +1,17 @@
 use Rattle.std.proofs.lemmas.Result.{MatchResult-from_err}
-use Rattle.mold_feed.specs.Serving.{service_of}
+use Rattle.mold_feed.specs.Serving.{service}
 use Rattle.mold_session.specs.Answer.{SendsNext}
 use Rattle.mold_feed.proofs.AnsweringLemmas.{offered_in_vain, offered_unprinted, offered_well}
-use Rattle.mold_feed.proofs.answering.offer_next.Goals as goal
-use Rattle.mold_feed.proofs.answering.offer_next.Given.{Over}
-use Rattle.mold_feed.proofs.answering.offer_next.Goals.{In-Some}
+use Rattle.mold_feed.proofs.responder.Responder.offer_next.Goals as goal
+use Rattle.mold_feed.proofs.responder.Responder.offer_next.Given.{Over}
+use Rattle.mold_feed.proofs.responder.Responder.offer_next.Goals.{In-Some}
 
 -- the plan has a next packet
 next : (g : Over) (c : In-Some g) →
-    SendsNext c.args.journal.now.messages c.args.server.now.limit c.args.plan.now
+    SendsNext c.args.self.now.journal.now.messages c.args.self.now.server.now.limit c.args.plan.now
 next g c =
-    c.planned_law.ensures.next c.args.journal.now.messages c.args.server.now.limit c.args.plan.now
-    (c.answer_not_empty_law.ensures.fit c.args.journal.now c.args.server.now c.in-Some.ensures.journal
+    c.planned_law.ensures.next c.args.self.now.journal.now.messages c.args.self.now.server.now.limit c.args.plan.now
+    (c.answer_not_empty_law.ensures.fit c.args.self.now.journal.now c.args.self.now.server.now c.in-Some.ensures.journal
     c.in-Some.ensures.server c.requires.longest)
     c.in-Some.ensures.plan
     c.requires.to
@@ -20,8 +20,8 @@ next g c =
 pub returns-in_err-add_answered-in-Ok-clause-offered : goal.returns-in_err-add_answered-in-Ok-clause-offered
 returns-in_err-add_answered-in-Ok-clause-offered g c tells =
     MatchResult-from_err c.from_residual.result _ _ c.from_residual.ensures.0
-    (λ refused. offered_unprinted c.args.to c.from_residual.result (service_of c.args.journal.now c.args.server.now)
-    c.args.plan.now c.datagram.new.plan c.in-Some.datagram.now _ _ c.args.tally.now _ c.args.server.now _
+    (λ refused. offered_unprinted c.args.to c.from_residual.result (service c.args.self.now)
+    c.args.plan.now c.datagram.new.plan c.in-Some.datagram.now _ _ c.args.self.now.tally.now _ c.args.self.now.server.now _
     (next g (goal.at.returns-in_err-add_answered-in-Ok-clause-offered g c).In-Some)
     c.in-Some.ensures.moved
     c.in-Some.ensures.spelled
@@ -31,8 +31,8 @@ returns-in_err-add_answered-in-Ok-clause-offered g c tells =
 
 pub returns-in_ok-add_answered-in-Ok-clause-offered : goal.returns-in_ok-add_answered-in-Ok-clause-offered
 returns-in_ok-add_answered-in-Ok-clause-offered g c tells =
-    offered_well c.args.to _ (service_of c.args.journal.now c.args.server.now) c.args.plan.now c.datagram.new.plan c.in-Some.datagram.now _ _ c.args.tally.now _
-    c.args.server.now _
+    offered_well c.args.to _ (service c.args.self.now) c.args.plan.now c.datagram.new.plan c.in-Some.datagram.now _ _ c.args.self.now.tally.now _
+    c.args.self.now.server.now _
     (next g (goal.at.returns-in_ok-add_answered-in-Ok-clause-offered g c).In-Some)
     c.in-Some.ensures.moved
     c.in-Some.ensures.spelled
@@ -46,9 +46,9 @@ returns-in_ok-add_answered-in-Ok-clause-offered g c tells =
 
 pub returns-in-Err-clause-offered : goal.returns-in-Err-clause-offered
 returns-in-Err-clause-offered g c tells =
-    offered_in_vain c.args.to _ (service_of c.args.journal.now c.args.server.now) c.args.plan.now
-    c.datagram.new.plan c.in-Some.datagram.now _ _ c.args.tally.now _
-    c.args.server.now _
+    offered_in_vain c.args.to _ (service c.args.self.now) c.args.plan.now
+    c.datagram.new.plan c.in-Some.datagram.now _ _ c.args.self.now.tally.now _
+    c.args.self.now.server.now _
     (next g (goal.at.returns-in-Err-clause-offered g c).In-Some)
     c.in-Some.ensures.moved
     c.in-Some.ensures.spelled
