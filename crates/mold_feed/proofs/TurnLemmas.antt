@@ -10,15 +10,16 @@ use Rattle.mold_receiver.specs.View.{View}
 use Rattle.mold_receiver.specs.Wanted.{wanted}
 use Rattle.mold_receiver.specs.declared.line.Line.{Line}
 use Rattle.mold_receiver.specs.declared.line.Line.TheVariants.{A, B}
-use Rattle.mold_feed.specs.Runs.{Begins}
+use Rattle.mold_feed.specs.Runs.{Begins, Ran}
+use Rattle.mold_feed.specs.declared.feed_listener.FeedListener.{FeedListener}
 use Rattle.mold_feed.proofs.RunLemmas.{IsLoop, begins_more, begins_trans, begins_whole, none_ok}
 use Rattle.mold_wire.specs.Request.{request_spelling}
 use Rattle.mold_wire.specs.declared.request.Request.{Request}
 use Rattle.mold_feed.specs.Text.{finished_line, open_line, taking_text}
 use Rattle.mold_feed.specs.Listening.{Asking, Hearing, HasAsked, HasTurned, ListenerState, asked, hearing, hearing_line, hearing_status}
 use Rattle.mold_feed.specs.Outgoing.{OutgoingState, with_front, with_more}
-use Rattle.mold_feed.specs.Listening.{ends_at, hear, hear_answers, heard, is_finished}
-use Rattle.mold_feed.specs.Listening.{lines_heard, listening, longest, listener, put_before, receives, turn, turn_asked}
+use Rattle.mold_feed.specs.Listening.{Agrees, IsSame, ends_at, hear, hear_answers, heard, is_finished, last_line}
+use Rattle.mold_feed.specs.Listening.{lines_heard, listening, longest, listener, put_before, receives, status, turn, turn_asked}
 use Rattle.mold_feed.proofs.ListenLemmas.{hearing_sends, stepped}
 use Rattle.mold_feed.proofs.OutgoingLemmas.{front_twice, more_after, written_front}
 
@@ -190,6 +191,19 @@ has_turned {P} server burst result before after mid is_mid is_a is_b has =
 
 -- ---- between the turns
 
+-- it works on the same
+pub same_at_first : {D : Type 0} (feed : FeedListener D) → IsSame feed feed
+same_at_first feed = record { a = refl; b = refl; requests = refl; arbiter = refl; report = refl }
+
+pub same_twice : {D : Type 0} {one two three : FeedListener D} → IsSame one two → IsSame two three → IsSame one three
+same_twice first second = record {
+  a = second.a ∙ first.a;
+  b = second.b ∙ first.b;
+  requests = second.requests ∙ first.requests;
+  arbiter = second.arbiter ∙ first.arbiter;
+  report = second.report ∙ first.report;
+}
+
 pub finished_is : (b : Bool) (v w : View) → IsTrue b ↔ (v.ended ≡ Some v.next) → v ≡ w → ends_at w.ended w.next ≡ b
 finished_is b v w report same =
     ap (λ (u : View). ends_at u.ended u.next) (sym same) ∙ tells_end b v.ended v.next report
@@ -236,3 +250,27 @@ open_last a old new v next known over same is_next is_known is =
     (is_known ∙ ap (λ (u : View). u.known) same)
     ∙ ap (λ (b : Bool). with_more (if b then finished_line a.view.next old.failures
     else open_line a.view.next a.view.known old.failures) old) (sym over)
+
+-- ---- at its end
+
+-- a run of which the ports and the arbiter are left so
+abbrev pub Listened : {D P E : Type 0} → (D → Port P) → P → ℕ → ℕ → ListenerState P → Result ℕ E → Option (List ℕ) →
+    Option (List ℕ) → D → D → D → Arbitration → Type 0
+Listened known server burst turns start result old new a b requests arbitration =
+    Ran (listening server burst) turns start last_line status (Agrees (known a) (known b) (known requests) arbitration)
+    result old new (known requests).sent
+
+-- they end as they were left
+pub listened_so : {D P E : Type 0} (known : D → Port P) (server : P) (burst turns : ℕ) (start : ListenerState P)
+    (result : Result ℕ E) (old new : Option (List ℕ)) (a a_end b b_end requests requests_end : D)
+    (arbitration arbitration_end : Arbitration) → a_end ≡ a → b_end ≡ b → requests_end ≡ requests →
+    arbitration_end ≡ arbitration →
+    Listened known server burst turns start result old new a b requests arbitration →
+    Listened known server burst turns start result old new a_end b_end requests_end arbitration_end
+listened_so {D} known server burst turns start result old new a a_end b b_end requests requests_end arbitration
+    arbitration_end is_a is_b is_requests is_arbiter listened =
+    let leaves : D → D → D → Arbitration → Type 0 = Listened known server burst turns start result old new in
+    subst (λ (d : D). leaves d b_end requests_end arbitration_end) (sym is_a)
+    (subst (λ (d : D). leaves a d requests_end arbitration_end) (sym is_b)
+    (subst (λ (d : D). leaves a b d arbitration_end) (sym is_requests)
+    (subst (λ (w : Arbitration). leaves a b requests w) (sym is_arbiter) listened)))

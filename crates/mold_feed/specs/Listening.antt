@@ -10,6 +10,7 @@ use Rattle.mold_receiver.specs.declared.line.Line.{Line}
 use Rattle.mold_receiver.specs.declared.line.Line.TheVariants.{A, B}
 use Rattle.mold_feed.specs.Outgoing.{OutgoingState, failed_once, nothing_out, with_front, with_more}
 use Rattle.mold_feed.specs.Runs.{Begins, Loop}
+use Rattle.mold_feed.specs.declared.feed_listener.FeedListener.{FeedListener}
 use Rattle.mold_wire.specs.Request.{request_spelling}
 use Rattle.mold_wire.specs.declared.request.Request.{Request}
 use Rattle.mold_feed.specs.Text.{finished_line, open_line, taking_text}
@@ -101,6 +102,22 @@ pub record ListenerState (P : Type 0) : Type 0 where
 abbrev pub listener : {P : Type 0} → Port P → Port P → Port P → Arbitration → OutgoingState → ListenerState P
 listener a b requests arbitration outgoing =
     record { a = a; b = b; requests = requests; hearing = hearing arbitration outgoing }
+
+-- a listener as its ports are known, and what of it asks
+abbrev pub state : {D P : Type 0} → (D → Port P) → FeedListener D → ListenerState P
+state port feed =
+    listener (port feed.a.now) (port feed.b.now) (port feed.requests.now) feed.arbiter.now feed.report.now.outgoing
+
+abbrev pub asking_state : {D P : Type 0} → (D → Port P) → FeedListener D → Asking P
+asking_state port feed = asking (port feed.requests.now) feed.arbiter.now feed.report.now.outgoing
+
+-- it still works on the same ports, arbiter and report
+pub record IsSame {D : Type 0} (old new : FeedListener D) : Type 0 where
+  pub a : new.a.ghost_name ≡ old.a.ghost_name
+  pub b : new.b.ghost_name ≡ old.b.ghost_name
+  pub requests : new.requests.ghost_name ≡ old.requests.ghost_name
+  pub arbiter : new.arbiter.ghost_name ≡ old.arbiter.ghost_name
+  pub report : new.report.ghost_name ≡ old.report.ghost_name
 
 -- one receive on each line
 abbrev pub lines_heard : {P : Type 0} → ListenerState P → Hearing

@@ -1,74 +1,22 @@
 //! The loop that listens.
 
-ghost use Rattle.std.specs.Prelude.{◌≡◌, true, length, IfOk, OnOk};
-ghost use Rattle.mold_feed.specs.Listening.{Agrees, HasTurned, beginning, hearing};
-ghost use Rattle.mold_feed.specs.Listening.{hearing_line, hearing_status, last_line, listening};
-ghost use Rattle.mold_feed.specs.Listening.{listener, put_before, status};
+ghost use Rattle.std.specs.Prelude.{◌≡◌, true, IfOk, OnOk};
 ghost use Rattle.mold_devices.specs.Faults.{CountsSink};
+ghost use Rattle.mold_feed.specs.Listening.{Agrees, beginning, hearing, hearing_line, hearing_status, last_line};
+ghost use Rattle.mold_feed.specs.Listening.{listening, status};
 ghost use Rattle.mold_feed.specs.Outgoing.{with_more};
-ghost use Rattle.mold_feed.specs.Runs.{Ran, Rests};
+ghost use Rattle.mold_feed.specs.Runs.{Ran};
 ghost use Rattle.mold_feed.specs.Text.{finished_line, open_line};
 
-use crate::hearing::{LONGEST, ask, hear_port};
+use crate::feed_listener::FeedListener;
+use crate::hearing::LONGEST;
 use crate::outgoing::Outgoing;
 use crate::report::Report;
 use mold_devices::{CommandFault, Sink};
 use mold_ports::Datagrams;
-use mold_receiver::{Arbiter, Line};
+use mold_receiver::Arbiter;
 use mold_text::Word;
 use std::alloc::{AllocError, Global};
-
-// One turn.
-fn take_turn<D: Datagrams>(
-    a: &mut D,
-    b: &mut D,
-    requests: &mut D,
-    server: D::Peer,
-    burst: u16,
-    place: &mut [u8],
-    arbiter: &mut Arbiter,
-    report: &mut Report,
-) -> Result<(), AllocError>
-    requires { length place.old ≡ 65507 }
-    ensures { D.tells ≡ true → HasTurned server burst result
-        (listener (D.port a.old) (D.port b.old) (D.port requests.old) arbiter.old report.old.outgoing)
-        (listener (D.port a.new) (D.port b.new) (D.port requests.new) arbiter.new report.new.outgoing) }
-{
-    hear_port(a, Some(Line::A), place, arbiter, report)?;
-    hear_port(b, Some(Line::B), place, arbiter, report)?;
-    ask(requests, server, burst, place, arbiter, report)
-}
-
-// At most so many turns, up to the first at whose end the receiver is finished. What is less than a large
-// write is left to print.
-fn take_turns<D: Datagrams, K: Sink>(
-    a: &mut D,
-    b: &mut D,
-    requests: &mut D,
-    server: D::Peer,
-    arbiter: &mut Arbiter,
-    burst: u16,
-    turns: u64,
-    place: &mut [u8],
-    report: &mut Report,
-    sink: &mut K,
-) -> Result<(), CommandFault>
-    requires { length place.old ≡ 65507 }
-    ensures run { D.tells ≡ true → Rests (listening server burst) put_before turns
-        (listener (D.port a.old) (D.port b.old) (D.port requests.old) arbiter.old report.old.outgoing)
-        result (K.held sink.old) (K.held sink.new)
-        (listener (D.port a.new) (D.port b.new) (D.port requests.new) arbiter.new report.new.outgoing) }
-    ensures sink { CountsSink (K.failed sink.old) (K.failed sink.new) result }
-{
-    for _turn in 0..turns {
-        take_turn(a, b, requests, server, burst, place, arbiter, report)?;
-        if arbiter.receiver().finished() {
-            return Ok(());
-        }
-        report.outgoing.send_large(sink)?;
-    }
-    Ok(())
-}
 
 // The last line where the session was handed on to its end.
 fn push_finished(outgoing: &mut Outgoing, next: u64) -> Result<(), AllocError>
@@ -142,19 +90,12 @@ pub fn listen_loop<D: Datagrams, K: Sink>(
 {
     let mut place = vec![in alloc; 0; LONGEST]?;
     let mut report = Report::new(alloc);
-    take_turns(
+    let mut listener = FeedListener {
         a,
         b,
         requests,
-        server,
         arbiter,
-        burst,
-        turns,
-        place.as_mut_slice(),
-        &mut report,
-        sink,
-    )?;
-    let status = push_last(arbiter, &mut report.outgoing)?;
-    report.outgoing.send(sink)?;
-    Ok(status)
+        report: &mut report,
+    };
+    listener.listen(server, burst, turns, place.as_mut_slice(), sink)
 }

@@ -1,9 +1,8 @@
-use Rattle.std.proofs.Common.{◌∙◌, ap, false, refl}
-use Rattle.mold_feed.proofs.FaultLemmas.{counts_memory, counts_same, counts_write}
-use Rattle.mold_feed.proofs.RunLemmas.{ran_cut, ran_front, ran_none, ran_whole}
-use Rattle.mold_feed.specs.Listening.{Agrees, beginning, last_line, listener, status}
-use Rattle.mold_feed.specs.Outgoing.{OutgoingState}
-use Rattle.mold_feed.proofs.TurnLemmas.{is_loop}
+use Rattle.std.proofs.Common.{false, refl, rules, sym}
+use Rattle.mold_feed.proofs.FaultLemmas.{counts_memory}
+use Rattle.mold_feed.proofs.RunLemmas.{ran_none}
+use Rattle.mold_feed.specs.Listening.{beginning, last_line, status}
+use Rattle.mold_feed.proofs.TurnLemmas.{is_loop, listened_so}
 use Rattle.mold_feed.proofs.listening.listen_loop.Goals as goal
 
 pub returns-in_err-place-clause-run : goal.returns-in_err-place-clause-run
@@ -16,69 +15,15 @@ returns-in_err-place-clause-run g c = λ t.
 pub returns-in_err-place-clause-sink : goal.returns-in_err-place-clause-sink
 returns-in_err-place-clause-sink g c = counts_memory c.from_residual.result _ _ c.from_residual.ensures.1 refl
 
-pub returns-in_err-take_turns-clause-run : goal.returns-in_err-take_turns-clause-run
-returns-in_err-take_turns-clause-run g c = λ t.
-    ran_cut (is_loop c.args.server c.args.burst) c.args.turns
-    (beginning (g.D.Datagrams.port c.args.a.now) (g.D.Datagrams.port c.args.b.now)
-    (g.D.Datagrams.port c.args.requests.now) c.args.arbiter.now)
-    last_line status _ c.take_turns.result c.from_residual-in_err-take_turns.result
-    (rw c.new-report.ensures at c.take_turns.ensures.run t)
-    c.from_residual-in_err-take_turns.ensures.0
-
-pub returns-in_err-take_turns-clause-sink : goal.returns-in_err-take_turns-clause-sink
-returns-in_err-take_turns-clause-sink g c =
-    counts_same c.from_residual-in_err-take_turns.result c.in_err-take_turns.field-0.0 _ _
-    c.from_residual-in_err-take_turns.ensures.1 c.in_err-take_turns.ensures.sink
-
-pub returns-in_err-status-clause-run : goal.returns-in_err-status-clause-run
-returns-in_err-status-clause-run g c = λ t.
-    ran_cut (is_loop c.args.server c.args.burst) c.args.turns
-    (beginning (g.D.Datagrams.port c.args.a.now) (g.D.Datagrams.port c.args.b.now)
-    (g.D.Datagrams.port c.args.requests.now) c.args.arbiter.now)
-    last_line status _ c.take_turns.result c.from_residual-in_err-status.result
-    (rw c.new-report.ensures at c.take_turns.ensures.run t)
-    c.from_residual-in_err-status.ensures.0
-
-pub returns-in_err-status-clause-sink : goal.returns-in_err-status-clause-sink
-returns-in_err-status-clause-sink g c =
-    counts_memory c.from_residual-in_err-status.result _ _ c.from_residual-in_err-status.ensures.1
-    c.in_ok-take_turns.ensures.sink
-
-pub returns-in_err-send-clause-run : goal.returns-in_err-send-clause-run
-returns-in_err-send-clause-run g c = λ t.
-    ran_front (is_loop c.args.server c.args.burst) c.args.turns
-    (beginning (g.D.Datagrams.port c.args.a.now) (g.D.Datagrams.port c.args.b.now)
-    (g.D.Datagrams.port c.args.requests.now) c.args.arbiter.now)
-    last_line status _ (λ front s. refl) c.in_ok-take_turns.field-0
-    (listener (g.D.Datagrams.port c.take_turns.new.a) (g.D.Datagrams.port c.take_turns.new.b)
-    (g.D.Datagrams.port c.take_turns.new.requests) c.take_turns.new.arbiter c.take_turns.new.report.outgoing)
-    (rw c.new-report.ensures at c.in_ok-take_turns.ensures.run t)
-    c.from_residual-in_err-send.result c.push_last.new.outgoing.text
-    (ap (λ (out : OutgoingState). out.text) c.in_ok-status.ensures.line) c.send.ensures.front
-    c.from_residual-in_err-send.ensures.0
-
-pub returns-in_err-send-clause-sink : goal.returns-in_err-send-clause-sink
-returns-in_err-send-clause-sink g c =
-    counts_write c.from_residual-in_err-send.result c.in_err-send.field-0.0 _ (g.K.Sink.failed c.take_turns.new.sink) _
-    c.from_residual-in_err-send.ensures.1 c.in_err-send.ensures.fault c.in_err-send.ensures.sink
-    c.in_ok-take_turns.ensures.sink
-
 pub returns-clause-run : goal.returns-clause-run
 returns-clause-run g c = λ t.
-    ran_whole (is_loop c.args.server c.args.burst) c.args.turns
+    listened_so g.D.Datagrams.port c.args.server c.args.burst c.args.turns
     (beginning (g.D.Datagrams.port c.args.a.now) (g.D.Datagrams.port c.args.b.now)
     (g.D.Datagrams.port c.args.requests.now) c.args.arbiter.now)
-    last_line status
-    (Agrees (g.D.Datagrams.port c.take_turns.new.a) (g.D.Datagrams.port c.take_turns.new.b)
-    (g.D.Datagrams.port c.take_turns.new.requests) c.take_turns.new.arbiter)
-    (λ front s. refl) c.in_ok-take_turns.field-0
-    (listener (g.D.Datagrams.port c.take_turns.new.a) (g.D.Datagrams.port c.take_turns.new.b)
-    (g.D.Datagrams.port c.take_turns.new.requests) c.take_turns.new.arbiter c.take_turns.new.report.outgoing)
-    (rw c.new-report.ensures at c.in_ok-take_turns.ensures.run t)
-    c.in_ok-status.status c.push_last.new.outgoing.text
-    (ap (λ (out : OutgoingState). out.text) c.in_ok-status.ensures.line) c.in_ok-send.ensures.whole
-    c.in_ok-status.ensures.status
-    (record { a_left = refl; b_left = refl; requests_left = refl; arbiter_left = refl })
-
-pub returns-clause-sink : goal.returns-clause-sink
-returns-clause-sink g c = c.in_ok-send.ensures.sink ∙ c.in_ok-take_turns.ensures.sink
+    c.listen.result _ _ c.listen.new.self.a.now _ c.listen.new.self.b.now _ c.listen.new.self.requests.now _
+    c.listen.new.self.arbiter.now _
+    (let same = sym c.listen.ensures.same.a in search rules)
+    (let same = sym c.listen.ensures.same.b in search rules)
+    (let same = sym c.listen.ensures.same.requests in search rules)
+    (let same = sym c.listen.ensures.same.arbiter in search rules)
+    (rw c.new-report.ensures at c.listen.ensures.run t)
