@@ -334,3 +334,31 @@ pub many_messages : (next : ℕ) (one other : JournalState) → next ≡ length 
     next - 1 ≡ length other.messages
 many_messages next one other is same =
     omega (arith, is, ap (λ (j : JournalState). length j.messages) same)
+
+-- what was published, where the port ends as it was left
+pub published_so : {D P : Type 0} (known : D → Port P) (a b : P) (beats ends : ℕ) (start : PublisherState)
+    (input : Option (List ℕ)) (result : Result ℕ CommandFault) (before : Port P) (port end : D)
+    (text_old text_new file_old file_new : Option (List ℕ)) → end ≡ port →
+    IfSome input (λ bytes. PublishRun a b beats ends start.limit (lines_published start.journal (lines_of bytes)) result
+    before (known port) text_old text_new file_old file_new) →
+    IfSome input (λ bytes. PublishRun a b beats ends start.limit (lines_published start.journal (lines_of bytes)) result
+    before (known end) text_old text_new file_old file_new)
+published_so {D} known a b beats ends start input result before port end text_old text_new file_old file_new same run =
+    subst
+    (λ (d : D).
+    IfSome input (λ bytes. PublishRun a b beats ends start.limit (lines_published start.journal (lines_of bytes)) result
+    before (known d) text_old text_new file_old file_new))
+    (sym same)
+    run
+
+-- and the publisher
+pub left_so : {T E : Type 0} (start : PublisherState) (input : Option (List ℕ)) (result : Result T E) (Tells : Type 0)
+    (journal left : JournalState) → left ≡ journal →
+    IfOk result (λ _. Tells → IfSome input (λ bytes. journal ≡ left_journal (lines_published start.journal (lines_of bytes)))) →
+    IfOk result (λ _. Tells → IfSome input (λ bytes. left ≡ left_journal (lines_published start.journal (lines_of bytes))))
+left_so start input result Tells journal left same is =
+    subst
+    (λ (j : JournalState). IfOk result (λ _. Tells → IfSome input (λ bytes.
+    j ≡ left_journal (lines_published start.journal (lines_of bytes)))))
+    (sym same)
+    is

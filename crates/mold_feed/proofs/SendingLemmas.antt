@@ -1,6 +1,7 @@
 -- Data that are sent on two lines, one after the other.
 use Rattle.std.proofs.Common.{arith, ◌≡◌, ◌∙◌, ℕ, zero, suc, ◌+◌, ◌<◌, ◌≤◌, Bool, true, false, List, [], ◌∷◌, ◌++◌, length, map}
 use Rattle.std.proofs.Common.{Option, None, Some, Result, Ok, Err, ap, refl, sym, subst, append_assoc, append-nil, replicate, length-append}
+use Rattle.std.specs.Borrow.{Bor}
 use Rattle.std.specs.Prelude.{IfSome, IsErr, OnOk, OnErr}
 use Rattle.std.specs.Io.KnownBytes.{prepend_known}
 use Rattle.std.proofs.KnownBytes.{prepend_known-nil}
@@ -14,7 +15,10 @@ use Rattle.mold_session.specs.Publisher.{Lends, PublisherState, next_datagram, a
 use Rattle.mold_feed.specs.Runs.{Begins}
 use Rattle.mold_feed.proofs.RunLemmas.{begins_more, begins_trans, begins_whole, none_answered, none_ok}
 use Rattle.mold_publish.specs.Sending.{all_but_last, packets_behind}
-use Rattle.mold_feed.specs.PublishLoop.{PublicationState, Sends, SendsLines, both}
+use Rattle.mold_ports.specs.Ports.{Port}
+use Rattle.mold_feed.specs.PublishLoop.{IsSame, IsSameLines, PublicationState, Sends, SendsBoth, SendsLines, both, lines_state}
+use Rattle.mold_feed.specs.declared.publication.Publication.{Publication}
+use Rattle.mold_feed.specs.declared.sending.TwoLines.{TwoLines}
 use Rattle.mold_feed.specs.PublishLoop.{data_behind, offer, packets_to_send}
 use Rattle.mold_feed.specs.PublishLoop.{spelled_some}
 use Rattle.mold_publish.specs.Publishing.{PublishedLines, lines_published, HasRoom, IsJustFull, Fills}
@@ -31,6 +35,51 @@ pub sends_more : {P : Type 0} (a b : P) (xs ys : List (List ℕ)) (old mid new :
 sends_more a b [] ys old mid new first second = subst (λ (o : PublicationState _). Sends (both a b ys) o new) first second
 sends_more a b (x ∷ xs) ys old mid new first second =
     (first.0, (first.1.0, sends_more a b xs ys (offer first.1.0 b x (offer first.0 a x old)) mid new first.1.1 second))
+
+-- to a and then to b
+pub sends_on_both : {P : Type 0} (a b to : P) (datagram : List ℕ) (old mid new : PublicationState P) →
+    Sends ((a, datagram) ∷ []) old mid → Sends ((to, datagram) ∷ []) mid new → to ≡ b →
+    Sends (both a b (datagram ∷ [])) old new
+sends_on_both {P} a b to datagram old mid new first second same = (
+  first.0,
+  (
+    second.0,
+    second.1
+        ∙ ap (λ (p : PublicationState P). offer second.0 to datagram p) first.1
+        ∙ ap (λ (t : P). offer second.0 t datagram (offer first.0 a datagram old)) same,
+  ),
+)
+
+-- ---- what sends is still the same
+
+pub lines_at_first : {D A : Type 0} (lines : TwoLines D A) → IsSameLines lines lines
+lines_at_first lines = record { port = refl; a = refl; b = refl; outgoing = refl }
+
+pub lines_twice : {D A : Type 0} {one two three : TwoLines D A} → IsSameLines one two → IsSameLines two three →
+    IsSameLines one three
+lines_twice first second = record {
+  port = second.port ∙ first.port;
+  a = second.a ∙ first.a;
+  b = second.b ∙ first.b;
+  outgoing = second.outgoing ∙ first.outgoing;
+}
+
+pub same_at_first : {D A : Type 0} (publication : Publication D A) → IsSame publication publication
+same_at_first publication = record { publisher = refl; lines = lines_at_first publication.lines }
+
+-- so it sends to the same two
+pub sends_same : {D P : Type 0} (port : D → Port P) (datagrams : List (List ℕ)) (old mid new : TwoLines D P) →
+    IsSameLines old mid → SendsBoth port datagrams mid new →
+    Sends (both old.a.now old.b.now datagrams) (lines_state port mid) (lines_state port new)
+sends_same {D} {P} port datagrams old mid new same sends =
+    subst (λ (to : Bor P). Sends (both to.now old.b.now datagrams) (lines_state port mid) (lines_state port new)) same.a
+    (subst (λ (to : Bor P). Sends (both mid.a.now to.now datagrams) (lines_state port mid) (lines_state port new)) same.b
+    sends)
+
+pub sends_behind : {D P : Type 0} (port : D → Port P) (xs ys : List (List ℕ)) (old mid new : TwoLines D P) →
+    IsSameLines old mid → SendsBoth port xs old mid → SendsBoth port ys mid new → SendsBoth port (xs ++ ys) old new
+sends_behind port xs ys old mid new same first second =
+    sends_more old.a.now old.b.now xs ys _ _ _ first (sends_same port ys old mid new same second)
 
 pub replicate_push : {A : Type 0} (n : ℕ) (x : A) → replicate n x ++ x ∷ [] ≡ replicate (n + 1) x
 replicate_push zero x = refl

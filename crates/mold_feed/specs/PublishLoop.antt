@@ -18,6 +18,8 @@ use Rattle.mold_session.specs.Publisher.{PublisherState}
 use Rattle.mold_text.specs.Line.{line_of}
 use Rattle.mold_feed.specs.Outgoing.{OutgoingState, failed_once, nothing_out}
 use Rattle.mold_feed.specs.Runs.{Begins}
+use Rattle.mold_feed.specs.declared.publication.Publication.{Publication}
+use Rattle.mold_feed.specs.declared.sending.TwoLines.{TwoLines}
 use Rattle.mold_publish.specs.Sending.{all_but_last, end_packet, packets_behind}
 use Rattle.mold_publish.specs.Publishing.{packed_status, PublishedLines, lines_published, refused_text}
 use Rattle.mold_publish.specs.declared.line_refusal.LineRefusal.{LineRefusal}
@@ -51,6 +53,26 @@ Sends (letter ∷ letters) old new = (fails : Bool) × Sends letters (offer fail
 abbrev pub both : {P : Type 0} → P → P → List (List ℕ) → List (P × List ℕ)
 both a b [] = []
 both a b (datagram ∷ datagrams) = (a, datagram) ∷ (b, datagram) ∷ both a b datagrams
+
+-- what sends on two lines, as its port is known
+abbrev pub lines_state : {D A P : Type 0} → (D → Port P) → TwoLines D A → PublicationState P
+lines_state port lines = publication_of (port lines.port.now) lines.outgoing.now
+
+-- it sends datagrams on both, one after the other
+abbrev pub SendsBoth : {D P : Type 0} → (D → Port P) → List (List ℕ) → TwoLines D P → TwoLines D P → Type 0
+SendsBoth port datagrams old new = Sends (both old.a.now old.b.now datagrams) (lines_state port old) (lines_state port new)
+
+-- it still sends from the same port to the same two
+pub record IsSameLines {D A : Type 0} (old new : TwoLines D A) : Type 0 where
+  pub port : new.port.ghost_name ≡ old.port.ghost_name
+  pub a : new.a ≡ old.a
+  pub b : new.b ≡ old.b
+  pub outgoing : new.outgoing.ghost_name ≡ old.outgoing.ghost_name
+
+-- so does a publication, with the same publisher
+pub record IsSame {D A : Type 0} (old new : Publication D A) : Type 0 where
+  pub publisher : new.publisher.ghost_name ≡ old.publisher.ghost_name
+  pub lines : IsSameLines old.lines new.lines
 
 -- the datagram of a packet, where there is one
 abbrev pub spelled_some : Option Packet → List (List ℕ)
@@ -133,6 +155,13 @@ pub record SendsLines {P E : Type 0} (a b : P) (start now : PublisherState) (kno
   pub whole : IfOk result (λ refused. IfSome known (λ input.
       (data_behind start.limit start.sent (lines_published start.journal (lines_of input)) ≡ front)
       × (lines_published start.journal (lines_of input) ≡ record { journal = now.journal; refused = refused })))
+
+-- a publication does so, and counts the datagrams
+abbrev pub SendsInput : {D P E : Type 0} → (D → Port P) → Option (List ℕ) → Result (Option LineRefusal) E →
+    Publication D P → Publication D P → Type 0
+SendsInput port known result old new =
+    SendsLines old.lines.a.now old.lines.b.now old.publisher.now new.publisher.now known result
+    (lines_state port old.lines) (lines_state port new.lines) new.datagrams
 
 -- What publishing the lines of an input leaves. All its datagrams are offered to a and then to b, from the port
 -- as it was, with some choice of which sends fail, and `end` is the publication after them. At an answer the port

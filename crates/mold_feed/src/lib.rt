@@ -11,6 +11,7 @@ mod loop_parts;
 mod looping;
 mod outgoing;
 mod passing;
+mod publication;
 mod publishing;
 mod repairing;
 mod report;

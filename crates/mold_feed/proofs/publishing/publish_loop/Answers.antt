@@ -1,132 +1,17 @@
-use Rattle.std.proofs.Common.{◌∙◌, ◌-◌, arith, ap, refl}
-use Rattle.mold_session.specs.Publisher.{PublisherState}
-use Rattle.mold_feed.proofs.RunLemmas.{none_answered, none_ok}
-use Rattle.mold_feed.proofs.PublishLoopLemmas.{empty_room, left_behind, many_messages, none_sent, run_printed, run_refused}
-use Rattle.mold_feed.proofs.PublishLoopLemmas.{run_unread, run_unsaved}
+use Rattle.std.proofs.Common.{◌≡◌, rules, sym, true}
+use Rattle.mold_feed.proofs.PublishLoopLemmas.{left_so, published_so}
 use Rattle.mold_feed.proofs.publishing.publish_loop.Goals as goal
-
-pub send_lines-requires-clause-room : goal.send_lines-requires-clause-room
-send_lines-requires-clause-room g c =
-    empty_room c.args.publisher.now c.publisher_holds.ensures.published c.requires.empty
-    (omega (arith, c.packet_length_law.ensures.none, c.publisher_holds.ensures.limited))
-
-pub returns-in_err-refused-clause-run : goal.returns-in_err-refused-clause-run
-returns-in_err-refused-clause-run g c tells =
-    run_unread c.args.a c.args.b c.args.beats c.args.ends c.args.publisher.now _ _ _ c.from_residual.result _ _ _ _ _ _ _
-    c.new-outgoing.ensures
-    (none_sent c.args.publisher.now c.publisher_holds.ensures.published c.requires.empty)
-    c.from_residual.ensures.0
-    (c.send_lines.ensures.sends tells)
-
-pub returns-in_err-push_line_refused-clause-run : goal.returns-in_err-push_line_refused-clause-run
-returns-in_err-push_line_refused-clause-run g c tells =
-    run_unread c.args.a c.args.b c.args.beats c.args.ends c.args.publisher.now _ _ _
-    c.from_residual-in_err-push_line_refused.result _ _ _ _ _ _ _
-    c.new-outgoing.ensures
-    (none_sent c.args.publisher.now c.publisher_holds.ensures.published c.requires.empty)
-    c.from_residual-in_err-push_line_refused.ensures.0
-    (c.send_lines.ensures.sends tells)
-
-pub returns-in_err-send-clause-run : goal.returns-in_err-send-clause-run
-returns-in_err-send-clause-run g c tells =
-    run_refused c.args.a c.args.b c.args.beats c.args.ends c.args.publisher.now c.send_lines.new.publisher _
-    c.in-Some.why c.from_residual-in_err-send.result _ _ _ c.push_line_refused.new.self _ _ _ _ _ c.next.result
-    c.new-outgoing.ensures
-    (none_sent c.args.publisher.now c.publisher_holds.ensures.published c.requires.empty)
-    c.requires.unclosed
-    (rw c.in-Some.is at (c.in_ok-refused.ensures.sends tells))
-    (rw c.journal.ensures at c.next.ensures.value)
-    c.in_ok-push_line_refused.ensures
-    c.send.ensures.front
-    (none_answered c.from_residual-in_err-send.result _ c.from_residual-in_err-send.ensures.0)
-
-pub returns-in-Some-clause-run : goal.returns-in-Some-clause-run
-returns-in-Some-clause-run g c tells =
-    run_refused c.args.a c.args.b c.args.beats c.args.ends c.args.publisher.now c.send_lines.new.publisher _
-    c.in-Some.why _ _ _ _ c.push_line_refused.new.self _ _ _ _ _ c.next.result
-    c.new-outgoing.ensures
-    (none_sent c.args.publisher.now c.publisher_holds.ensures.published c.requires.empty)
-    c.requires.unclosed
-    (rw c.in-Some.is at (c.in_ok-refused.ensures.sends tells))
-    (rw c.journal.ensures at c.next.ensures.value)
-    c.in_ok-push_line_refused.ensures
-    c.send.ensures.front
-    (c.in_ok-send.ensures.whole, refl)
-
-pub returns-in_err-save_journal-clause-run : goal.returns-in_err-save_journal-clause-run
-returns-in_err-save_journal-clause-run g c tells =
-    run_unsaved c.args.a c.args.b c.args.beats c.args.ends c.args.publisher.now c.send_lines.new.publisher _
-    c.from_residual-in_err-save_journal.result _ _ _ c.send_close.new.outgoing c.send_lines.new.datagrams _ _ _ _ _
-    c.journal-2.result.now
-    c.new-outgoing.ensures
-    (none_sent c.args.publisher.now c.publisher_holds.ensures.published c.requires.empty)
-    c.requires.unclosed
-    (rw c.in_default.is at (c.in_ok-refused.ensures.sends tells))
-    (c.send_close.ensures.sends tells)
-    (c.journal-2.ensures ∙ ap (λ (p : PublisherState). p.journal) c.send_close.ensures.closed)
-    c.from_residual-in_err-save_journal.ensures.0
-    c.save_journal.ensures.front
-
-pub returns-in_err-push_published-clause-run : goal.returns-in_err-push_published-clause-run
-returns-in_err-push_published-clause-run g c tells =
-    run_unsaved c.args.a c.args.b c.args.beats c.args.ends c.args.publisher.now c.send_lines.new.publisher _
-    c.from_residual-in_err-push_published.result _ _ _ c.send_close.new.outgoing c.send_lines.new.datagrams _ _ _ _ _
-    c.journal-2.result.now
-    c.new-outgoing.ensures
-    (none_sent c.args.publisher.now c.publisher_holds.ensures.published c.requires.empty)
-    c.requires.unclosed
-    (rw c.in_default.is at (c.in_ok-refused.ensures.sends tells))
-    (c.send_close.ensures.sends tells)
-    (c.journal-2.ensures ∙ ap (λ (p : PublisherState). p.journal) c.send_close.ensures.closed)
-    c.from_residual-in_err-push_published.ensures.0
-    c.save_journal.ensures.front
-
-pub returns-in_err-send-2-clause-run : goal.returns-in_err-send-2-clause-run
-returns-in_err-send-2-clause-run g c tells =
-    let closed = ap (λ (p : PublisherState). p.journal) c.send_close.ensures.closed in
-    let failed = c.from_residual-in_err-send-2.ensures.0 in
-    run_printed c.args.a c.args.b c.args.beats c.args.ends c.args.publisher.now c.send_lines.new.publisher _
-    c.from_residual-in_err-send-2.result _ _ _ c.send_close.new.outgoing c.push_published.new.outgoing
-    c.send_lines.new.datagrams (c.next-2.result - 1) _ _ _ _ _ _ c.journal-2.result.now
-    c.new-outgoing.ensures
-    (none_sent c.args.publisher.now c.publisher_holds.ensures.published c.requires.empty)
-    c.requires.unclosed
-    (rw c.in_default.is at (c.in_ok-refused.ensures.sends tells))
-    (c.send_close.ensures.sends tells)
-    (c.journal-2.ensures ∙ closed)
-    (many_messages _ _ _ c.next-2.ensures.value (c.journal-3.ensures ∙ closed))
-    c.in_ok-push_published.ensures
-    (none_answered c.from_residual-in_err-send-2.result _ failed)
-    c.send-2.ensures.front
-    (none_ok c.from_residual-in_err-send-2.result _ failed)
-    c.save_journal.ensures.front
 
 pub returns-clause-run : goal.returns-clause-run
 returns-clause-run g c tells =
-    let closed = ap (λ (p : PublisherState). p.journal) c.send_close.ensures.closed in
-    run_printed c.args.a c.args.b c.args.beats c.args.ends c.args.publisher.now c.send_lines.new.publisher _
-    _ _ _ _ c.send_close.new.outgoing c.push_published.new.outgoing c.send_lines.new.datagrams (c.next-2.result - 1)
-    _ _ _ _ _ _ c.journal-2.result.now
-    c.new-outgoing.ensures
-    (none_sent c.args.publisher.now c.publisher_holds.ensures.published c.requires.empty)
-    c.requires.unclosed
-    (rw c.in_default.is at (c.in_ok-refused.ensures.sends tells))
-    (c.send_close.ensures.sends tells)
-    (c.journal-2.ensures ∙ closed)
-    (many_messages _ _ _ c.next-2.ensures.value (c.journal-3.ensures ∙ closed))
-    c.in_ok-push_published.ensures
-    (c.in_ok-send-2.ensures.whole, refl)
-    c.send-2.ensures.front
-    c.in_ok-save_journal.ensures.whole
-    c.save_journal.ensures.front
-
-pub returns-in-Some-clause-journal : goal.returns-in-Some-clause-journal
-returns-in-Some-clause-journal g c tells =
-    left_behind c.args.a c.args.b c.args.publisher.now c.send_lines.new.publisher _ _ _ _ _ _
-    (rw c.in-Some.is at (c.in_ok-refused.ensures.sends tells)) refl
+    published_so g.D.Datagrams.port c.args.a c.args.b c.args.beats c.args.ends c.args.publisher.now _ c.publish.result
+    _ c.publish.new.self.lines.port.now _ _ _ _ _
+    (let same = sym c.publish.ensures.same.lines.port in search rules)
+    (c.publish.ensures.run tells)
 
 pub returns-clause-journal : goal.returns-clause-journal
-returns-clause-journal g c tells =
-    left_behind c.args.a c.args.b c.args.publisher.now c.send_lines.new.publisher _ _ _ _ _ _
-    (rw c.in_default.is at (c.in_ok-refused.ensures.sends tells))
-    (ap (λ (p : PublisherState). p.journal) c.send_close.ensures.closed)
+returns-clause-journal g c =
+    left_so c.args.publisher.now (g.S.Source.left c.args.source.now) c.publish.result
+    (g.D.Datagrams.tells ≡ true) c.publish.new.self.publisher.now.journal _
+    (let same = sym c.publish.ensures.same.publisher in search rules)
+    c.publish.ensures.journal
