@@ -1,12 +1,14 @@
 -- Where lines are cut, and what a reader of lines has read.
 use Rattle.std.proofs.Common.{◌≡◌, ℕ, zero, suc, ◌+◌, ◌-◌, ◌<◌, ◌≤◌, Bool, true, false, not, eqb, List, [], ◌∷◌, ◌++◌}
 use Rattle.std.proofs.Common.{length, length-append, take, drop, get_or, Option, None, Some, refl, sym, ap, subst, ◌∙◌}
-use Rattle.std.proofs.Common.{append-nil, add-one, inl, inr, arith}
+use Rattle.std.proofs.Common.{append-nil, add-one, inl, inr, arith, Result, Ok, Err}
+use Rattle.std.specs.Prelude.{OnErr}
 use Rattle.std.proofs.lemmas.Bool.{cond-true, cond-false, cases_Bool, cases_lt, eqb-true, eqb-false}
 use Rattle.std.proofs.lemmas.List.{take-append-le, drop-append-le, drop-drop, drop-take, get_or_append_left}
 use Rattle.std.proofs.lemmas.List.{get_or-append_right, nil_from_length}
 use Rattle.memchr.specs.Find.{NoneBefore, Nowhere, Passes, is_byte}
-use Rattle.std.specs.Io.KnownBytes.{Consumes, IsAtEnd, prepend_known}
+use Rattle.std.specs.Io.KnownBytes.{Consumes, IsAtEnd, Keeps, prepend_known}
+use Rattle.std.proofs.KnownBytes.{Consumes-kept, prepend_known-nil}
 use Rattle.mold_devices.specs.Lines.{onto_first, lines_of, GivesLine, HasNoEnd}
 
 -- the byte at this place ends a line
@@ -69,6 +71,26 @@ HasNoEnd-append front back first second k lt is =
 pub consumes_prepended : (piece : List ℕ) (known : Option (List ℕ)) → Consumes (prepend_known piece known) known piece
 consumes_prepended piece None = tt
 consumes_prepended piece (Some xs) = refl
+
+pub on_err : {T E : Type 0} (result : Result T E) {P : Type 0} → P → OnErr result P
+on_err (Ok _) p = tt
+on_err (Err _) p = p
+
+-- of what was known, so much was joined, and the piece that was read behind it is left
+pub begun_line : (known mid left : Option (List ℕ)) (joined piece : List ℕ) → Consumes known mid joined →
+    Consumes mid left piece → Consumes known (prepend_known piece left) joined
+begun_line None mid left joined piece begun read = tt
+begun_line (Some xs) None left joined piece begun read = absurd begun
+begun_line (Some xs) (Some ys) None joined piece begun read = absurd read
+begun_line (Some xs) (Some ys) (Some zs) joined piece begun read = begun ∙ ap (λ (t : List ℕ). joined ++ t) read
+
+-- or it couldn't be read, and nothing is left of it
+pub begun_unread : (known mid left : Option (List ℕ)) (joined piece : List ℕ) → Consumes known mid joined →
+    Keeps mid left → piece ≡ [] → Consumes known (prepend_known piece left) joined
+begun_unread known mid left joined piece begun kept none =
+    subst (λ (l : Option (List ℕ)). Consumes known l joined)
+    (sym (ap (λ (t : List ℕ). prepend_known t left) none ∙ prepend_known-nil left))
+    (Consumes-kept known mid left joined begun kept)
 
 -- a line that comes in pieces: of what was known, so much was joined, in which it doesn't end, and then
 -- a piece more was read

@@ -1,7 +1,7 @@
 //! Input in lines.
 
-ghost use Rattle.std.specs.Prelude.{◌≡◌, ◌<◌, ◌≤◌, ℕ, List, [], length, Bool, true, IfOk, MatchResult};
-ghost use Rattle.std.specs.Io.KnownBytes.{prepend_known};
+ghost use Rattle.std.specs.Prelude.{◌≡◌, ◌<◌, ◌≤◌, ℕ, List, [], length, Bool, true, IfOk, MatchResult, OnErr};
+ghost use Rattle.std.specs.Io.KnownBytes.{Consumes, prepend_known};
 ghost use Rattle.mold_devices.specs.Lines.{GivesLine, HasNoEnd, work_left};
 ghost use Rattle.mold_devices.specs.Faults.{CountsRead};
 
@@ -64,11 +64,15 @@ impl Lines {
     }
 
     /// Goes on to the next line, and answers whether there is one. It reads only where no whole line
-    /// was read before, and takes memory only for a line that comes in pieces or that nothing ends.
+    /// was read before, and takes memory only for a line that comes in pieces or that nothing ends. After a
+    /// fault `line` gives what was joined of the line until then, and what follows that is left.
     pub fn advance<S: Source>(&mut self, source: &mut S) -> Result<bool, ReadFault>
         ensures line { IfOk result (λ found. GivesLine
             (prepend_known self.old.rest (S.left source.old))
             (prepend_known self.new.rest (S.left source.new)) found self.new.line) }
+        ensures begun { OnErr result (Consumes
+            (prepend_known self.old.rest (S.left source.old))
+            (prepend_known self.new.rest (S.left source.new)) self.new.line) }
         ensures work { IfOk result (λ found. found ≡ true →
             work_left (S.bound source.new) self.new.rest < work_left (S.bound source.old) self.old.rest) }
         ensures failures { CountsRead (S.failed source.old) (S.failed source.new) result }
@@ -86,7 +90,8 @@ impl Lines {
     }
 }
 
-// Joins the line that begins in the piece and goes on behind it; false where there is no byte left.
+// Joins the line that begins in the piece and goes on behind it; false where there is no byte left. After a fault
+// what was joined is a beginning of it.
 fn join_line<S: Source>(
     piece: &mut Piece<PIECE>,
     joined: &mut Vec<u8>,
@@ -97,6 +102,9 @@ fn join_line<S: Source>(
     ensures line { IfOk result (λ found. GivesLine
         (prepend_known piece.old (S.left source.old))
         (prepend_known piece.new (S.left source.new)) found joined.new.items) }
+    ensures begun { OnErr result (Consumes
+        (prepend_known piece.old (S.left source.old))
+        (prepend_known piece.new (S.left source.new)) joined.new.items) }
     ensures work { IfOk result (λ found. found ≡ true →
         work_left (S.bound source.new) piece.new < work_left (S.bound source.old) piece.old) }
     ensures failures { CountsRead (S.failed source.old) (S.failed source.new) result }

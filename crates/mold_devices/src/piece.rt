@@ -1,7 +1,7 @@
 //! What was read from a source at once.
 
-ghost use Rattle.std.specs.Prelude.{◌≡◌, ◌<◌, ◌≤◌, [], drop, length, IfOk};
-ghost use Rattle.std.specs.Io.KnownBytes.{Consumes, IsAtEnd};
+ghost use Rattle.std.specs.Prelude.{◌≡◌, ◌<◌, ◌≤◌, [], drop, length, IfOk, OnErr};
+ghost use Rattle.std.specs.Io.KnownBytes.{Consumes, IsAtEnd, Keeps};
 ghost use Rattle.mold_devices.specs.Devices.{Counts};
 
 use crate::device_fault::DeviceFault;
@@ -56,7 +56,8 @@ impl<const N: usize> Piece<N> {
         self.start += n;
     }
 
-    /// Reads once, over what was not used, and answers how many bytes came: 0 is the end.
+    /// Reads once, over what was not used, and answers how many bytes came: 0 is the end. After a fault it has
+    /// none, and the source has lost none.
     pub fn refill<S: Source>(&mut self, source: &mut S) -> Result<usize, DeviceFault>
         ensures len { IfOk result (λ n. length self.new ≡ n) }
         ensures most { IfOk result (λ n. n ≤ N) }
@@ -64,10 +65,13 @@ impl<const N: usize> Piece<N> {
         ensures end { IfOk result (λ n. n ≡ 0 → IsAtEnd (S.left source.new)) }
         ensures bound { IfOk result (λ n. 0 < n → S.bound source.new < S.bound source.old) }
         ensures kept { S.bound source.new ≤ S.bound source.old }
+        ensures none { OnErr result (self.new ≡ []) }
+        ensures left { OnErr result (Keeps (S.left source.old) (S.left source.new)) }
         ensures failures { Counts (S.failed source.old) (S.failed source.new) result }
     {
-        let count = source.read(&mut self.bytes)?;
         self.start = 0;
+        self.end = 0;
+        let count = source.read(&mut self.bytes)?;
         self.end = count;
         Ok(count)
     }

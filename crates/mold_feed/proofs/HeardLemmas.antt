@@ -226,7 +226,7 @@ pub record HeardFront {P : Type 0} (a b : P) (datagrams : List (Routes × List �
   pub written : List ℕ
   pub appended : Appends old new written
   pub text : Begins written (run (passing a b) passes before).hearing.outgoing.text
-  pub sent : Begins after.publisher.sent (run (passing a b) passes before).publisher.sent
+  pub offered : after.publisher ≡ (run (passing a b) passes before).publisher
 
 pub heard_none : {P : Type 0} (a b : P) (s : LineState P) (held : Option (List ℕ)) → Heard a b [] s s held held
 unfolding run
@@ -292,9 +292,7 @@ heard_failed {P} a b {xs} {ys} {before} {now} {after} result heard has =
       text =
           subst (λ (s : LineState P). Begins heard.written s.hearing.outgoing.text) (sym end)
           (begins_more heard.written (run (passing a b) has.passes now).hearing.outgoing.text);
-      sent =
-          subst (λ (s : LineState P). Begins after.publisher.sent s.publisher.sent) (sym end)
-          (subst (λ (p : Port P). Begins after.publisher.sent p.sent) has.offered (begins_whole after.publisher.sent));
+      offered = has.offered ∙ ap (λ (s : LineState P). s.publisher) (sym end);
     }
 
 -- a write failed behind them
@@ -310,9 +308,7 @@ heard_cut {P} a b {xs} {before} {now} {old} {mid} {new} after same heard cut = r
   text =
       subst (λ (s : LineState P). Begins (heard.written ++ cut.front) s.hearing.outgoing.text) (sym heard.whole)
       (begins_behind heard.written (record { rest = cut.rest; parts = cut.parts }));
-  sent =
-      subst (λ (s : LineState P). Begins after.publisher.sent s.publisher.sent) (sym heard.whole)
-      (subst (λ (p : Port P). Begins after.publisher.sent p.sent) same (begins_whole after.publisher.sent));
+  offered = same ∙ ap (λ (s : LineState P). s.publisher) (sym heard.whole);
 }
 
 pub heard_still : {P : Type 0} (a b : P) {xs : List (Routes × List ℕ)} {before now : LineState P}

@@ -13,7 +13,7 @@ use Rattle.mold_session.specs.Publisher.{PublisherState, after_datagram, next_da
 use Rattle.mold_feed.proofs.HeardLemmas.{Heard, HeardFront, heard_cut, heard_failed, heard_more, heard_moved, heard_none, heard_still}
 use Rattle.mold_feed.proofs.HeardLemmas.{routed_more}
 use Rattle.mold_feed.proofs.SendingLemmas.{LeftToSend, any_known, begun, begun_all, left_end, left_full, left_refused, left_same}
-use Rattle.mold_feed.proofs.RunLemmas.{begins_more, begins_whole, none_answered, none_ok}
+use Rattle.mold_feed.proofs.RunLemmas.{begins_more, none_answered, none_ok}
 use Rattle.mold_feed.specs.Looping.{BeginsData, HasPassed, HearsLines, IsData, LineState, routed, text_front}
 use Rattle.mold_feed.specs.PublishLoop.{spelled_some}
 use Rattle.mold_feed.specs.Runs.{Begins, Moves}
@@ -92,7 +92,7 @@ hears_cut drops a b start last known front result first here old new heard begin
   appended = heard.appended;
   whole = none_ok result _ failed;
   text = heard.text;
-  sent = heard.sent;
+  offered = heard.offered;
   begins = begins;
   all = none_answered result _ failed;
 }
@@ -185,9 +185,7 @@ hears_all {P} drops a b start now known front refused first here old new heard a
   text =
       subst (λ (s : LineState P). Begins heard.written s.hearing.outgoing.text) (sym heard.whole)
       (begins_more heard.written here.hearing.outgoing.text);
-  sent =
-      subst (λ (s : LineState P). Begins here.publisher.sent s.publisher.sent) (sym heard.whole)
-      (begins_whole here.publisher.sent);
+  offered = ap (λ (s : LineState P). s.publisher) (sym heard.whole);
   begins = begun_all start now.journal refused known front all;
   all = all;
 }

@@ -3,7 +3,7 @@ use Rattle.std.proofs.Common.{◌≡◌, ◌∙◌, ℕ, ◌+◌, Bool, true, fa
 use Rattle.std.proofs.Common.{Option, None, Some, Result, Ok, ap, refl, sym, subst, append-nil}
 use Rattle.std.proofs.Math.ListN.{length-replicate}
 use Rattle.std.proofs.KnownBytes.{Appends-nil}
-use Rattle.std.specs.Prelude.{IfSome, IfOk, IsErr}
+use Rattle.std.specs.Prelude.{IfSome, IfOk, IsErr, OnOk}
 use Rattle.std.specs.Io.KnownBytes.{Appends}
 use Rattle.mold_devices.specs.Devices.{AppendsFront}
 use Rattle.mold_devices.specs.Lines.{lines_of}
@@ -17,18 +17,18 @@ use Rattle.mold_session.specs.Server.{ServerState}
 use Rattle.mold_feed.proofs.HeardLemmas.{Heard, heard_more, heard_failed, routed_more}
 use Rattle.mold_feed.proofs.SendingLemmas.{any_known}
 use Rattle.mold_feed.proofs.RunLemmas.{begins_more, begins_none, begins_trans, begins_whole}
-use Rattle.mold_feed.specs.Outgoing.{OutgoingState}
+use Rattle.mold_feed.specs.Outgoing.{OutgoingState, written_out}
 use Rattle.mold_feed.specs.Listening.{hearing, hearing_line, hearing_status}
-use Rattle.mold_feed.specs.Looping.{HasPassed, HearsLines, IsData, LineState, LoopAgrees, LoopRun}
+use Rattle.mold_feed.specs.Looping.{HasPassed, HearsLines, IsData, LineState, LoopRun}
 use Rattle.mold_feed.specs.Looping.{all_routed}
 use Rattle.mold_feed.specs.Looping.{routed, routed_end, with_heard}
-use Rattle.mold_feed.specs.PublishLoop.{data_behind}
-use Rattle.mold_feed.specs.Repairing.{RepairState, repairing, text_before}
-use Rattle.mold_feed.specs.Runs.{Begins, Rests, run}
+use Rattle.mold_feed.specs.PublishLoop.{closed_unless, data_behind, left_journal}
+use Rattle.mold_feed.specs.Repairing.{RepairState, answers_sent, repairing, text_before}
+use Rattle.mold_feed.specs.Runs.{Begins, RestsOfTwo, run}
 use Rattle.mold_feed.specs.Serving.{service_of}
 use Rattle.mold_feed.specs.declared.loop_parts.Drops.{Drops}
 use Rattle.mold_feed.specs.declared.loop_parts.Routes.{Routes}
-use Rattle.mold_feed.proofs.LoopLemmas.{run_cut, run_end, run_unrepaired}
+use Rattle.mold_feed.proofs.LoopLemmas.{LoopStands, run_cut, run_end, run_unrepaired}
 
 -- the run of what was published is what is to be shown
 run_from : {P E : Type 0} (drops : Drops) (a b to : P) (turns : ℕ) (start : PublisherState) (server : ServerState)
@@ -79,20 +79,20 @@ loop_unbegun drops a b to turns start server lines rounds known result held fail
       written = [];
       appended = Appends-nil held;
       text = begins_none lines.hearing.outgoing.text;
-      sent = begins_whole lines.publisher.sent;
+      offered = refl;
     })
-    (record { rest = _; parts = refl }) failed refl)
+    (record { rest = _; parts = refl }) failed refl refl)
 
 -- a fault while lines were read
 pub loop_unheard : {P E F : Type 0} (drops : Drops) (a b to : P) (turns : ℕ) (start last : PublisherState)
     (server : ServerState) (lines : LineState P) (rounds : RepairState P) (known : Option (List ℕ))
     (found : Result (Option LineRefusal) F) (result : Result ℕ E) (old new : Option (List ℕ)) (lines_left : LineState P)
-    (rounds_left : RepairState P) → IsErr result → rounds_left.requests ≡ rounds.requests →
-    HearsLines drops a b start last known found lines lines_left old new →
+    (rounds_left : RepairState P) → IsErr result → rounds_left.server ≡ rounds.server →
+    rounds_left.requests ≡ rounds.requests → HearsLines drops a b start last known found lines lines_left old new →
     IfSome known (λ input. LoopRun drops a b to turns start.limit start.sent
     (lines_published start.journal (lines_of input)) server lines rounds result old new lines_left rounds_left)
-loop_unheard drops a b to turns start last server lines rounds None found result old new lines_left rounds_left failed same hears = tt
-loop_unheard drops a b to turns start last server lines rounds (Some input) found result old new lines_left rounds_left failed same hears =
+loop_unheard drops a b to turns start last server lines rounds None found result old new lines_left rounds_left failed kept same hears = tt
+loop_unheard drops a b to turns start last server lines rounds (Some input) found result old new lines_left rounds_left failed kept same hears =
     let published : PublishedLines = lines_published start.journal (lines_of input) in
     run_cut drops a b to turns start.limit start.sent published server lines rounds result lines_left rounds_left old new
     (record {
@@ -101,9 +101,9 @@ loop_unheard drops a b to turns start last server lines rounds (Some input) foun
       written = hears.written;
       appended = hears.appended;
       text = hears.text;
-      sent = hears.sent;
+      offered = hears.offered;
     })
-    (begins_routed drops start.limit start.sent published hears.front hears.begins) failed same
+    (begins_routed drops start.limit start.sent published hears.front hears.begins) failed kept same
 
 heard_of : {P E : Type 0} (drops : Drops) (a b : P) (start now : PublisherState) (known : Option (List ℕ))
     (refused : Option LineRefusal) (first here : LineState P) (old new : Option (List ℕ)) →
@@ -126,10 +126,11 @@ pub loop_stopped : {P E F : Type 0} (drops : Drops) (a b to : P) (turns : ℕ) (
     number ≡ length now.journal.messages + 1 →
     AppendsFront mid new (here.hearing.outgoing.text ++ refused_text number why) →
     IfOk result (λ status. Appends mid new (here.hearing.outgoing.text ++ refused_text number why) × (status ≡ 2)) →
-    LoopAgrees lines_left here rounds_left (with_heard here.hearing rounds) →
+    LoopStands lines_left here rounds_left (with_heard here.hearing rounds) →
+    OnOk result (rounds_left.hearing.outgoing ≡ written_out here.hearing.outgoing) →
     IfSome known (λ input. LoopRun drops a b to turns start.limit start.sent
     (lines_published start.journal (lines_of input)) server lines rounds result old new lines_left rounds_left)
-loop_stopped {P} drops a b to turns start now server lines rounds known why number result old mid new here left asked hears numbered cut done agrees =
+loop_stopped {P} drops a b to turns start now server lines rounds known why number result old mid new here left asked hears numbered cut done agrees out =
     let published : PublishedLines = record { journal = now.journal; refused = Some why } in
     let text : List ℕ = here.hearing.outgoing.text in
     let choice : Bool × List Bool = (false, []) in
@@ -144,7 +145,7 @@ loop_stopped {P} drops a b to turns start now server lines rounds known why numb
     (length-replicate turns choice) (Appends-nil mid) refl
     (subst (λ (n : ℕ). AppendsFront mid new (text ++ refused_text n why)) numbered cut)
     (subst (λ (n : ℕ). IfOk result (λ status. Appends mid new (text ++ refused_text n why) × (status ≡ 2))) numbered done)
-    agrees)
+    agrees out)
 
 -- the data were passed, and then the end
 all_are : (drops : Drops) (start : PublisherState) (journal : JournalState) (front : List (List ℕ)) →
@@ -161,10 +162,10 @@ pub loop_unended : {P T E F G : Type 0} (drops : Drops) (a b to : P) (turns : �
     (rounds_left : RepairState P) →
     HearsLines {E = F} drops a b start now known (Ok None) lines here old new →
     HasPassed a b (routed_end now.journal None) ended here lines_left → IsErr result →
-    rounds_left.requests ≡ rounds.requests →
+    rounds_left.server ≡ rounds.server → rounds_left.requests ≡ rounds.requests →
     IfSome known (λ input. LoopRun drops a b to turns start.limit start.sent
     (lines_published start.journal (lines_of input)) server lines rounds result old new lines_left rounds_left)
-loop_unended {P} drops a b to turns start now server lines rounds known ended result old new here left asked hears has failed same =
+loop_unended {P} drops a b to turns start now server lines rounds known ended result old new here left asked hears has failed kept same =
     let published : PublishedLines = record { journal = now.journal; refused = None } in
     run_from drops a b to turns start server lines rounds known now.journal None hears.front result old new
     left asked hears.all
@@ -174,24 +175,25 @@ loop_unended {P} drops a b to turns start now server lines rounds known ended re
     (subst (λ (l : List (Routes × List ℕ)). Begins l (all_routed drops start.limit start.sent published))
     (all_are drops start now.journal hears.front whole)
     (begins_whole (all_routed drops start.limit start.sent published)))
-    failed same)
+    failed kept same)
 
 -- the rounds of requests begin with what was heard of the end
 pub rests_from : {P T E : Type 0} (to : P) (server : ServerState) (turns : ℕ) (journal other : JournalState)
     (port requests : Port P) (arbitration : Arbitration) (report : OutgoingState)
     (rounds : RepairState P) (result : Result T E) (old new : Option (List ℕ)) (now : RepairState P) →
     journal ≡ other → port ≡ rounds.server → requests ≡ rounds.requests → server.answered ≡ rounds.answered →
-    Rests (repairing to (service_of journal server)) text_before turns
+    RestsOfTwo (repairing to (service_of journal server)) answers_sent text_before turns
     (record { server = port; requests = requests; answered = server.answered; hearing = hearing arbitration report })
     result old new now →
-    Rests (repairing to (service_of other server)) text_before turns (with_heard (hearing arbitration report) rounds)
-    result old new now
+    RestsOfTwo (repairing to (service_of other server)) answers_sent text_before turns
+    (with_heard (hearing arbitration report) rounds) result old new now
 rests_from {P} to server turns journal other port requests arbitration report rounds result old new now same ports asked answered rests =
     let of : Port P → Port P → ℕ → RepairState P =
     λ p q n. record { server = p; requests = q; answered = n; hearing = hearing arbitration report } in
-    subst (λ (j : JournalState). Rests (repairing to (service_of j server)) text_before turns
+    subst (λ (j : JournalState). RestsOfTwo (repairing to (service_of j server)) answers_sent text_before turns
     (with_heard (hearing arbitration report) rounds) result old new now) same
-    (subst (λ (s : RepairState P). Rests (repairing to (service_of journal server)) text_before turns s result old new now)
+    (subst (λ (s : RepairState P). RestsOfTwo (repairing to (service_of journal server)) answers_sent text_before turns s
+    result old new now)
     (ap (λ (p : Port P). of p requests server.answered) ports
     ∙ ap (λ (q : Port P). of rounds.server q server.answered) asked
     ∙ ap (λ (n : ℕ). of rounds.server rounds.requests n) answered)
@@ -216,7 +218,7 @@ pub loop_unrepaired : {P T U E F G H : Type 0} (drops : Drops) (a b to : P) (tur
     (rounds_left : RepairState P) →
     HearsLines {E = F} drops a b start now known (Ok None) lines here old mid →
     HasPassed {T = T} {E = G} a b (routed_end now.journal None) (Ok value) here there →
-    Rests (repairing to (service_of (record now.journal { closed = true }) server)) text_before turns
+    RestsOfTwo (repairing to (service_of (record now.journal { closed = true }) server)) answers_sent text_before turns
     (with_heard there.hearing rounds) asked mid new rounds_left →
     IsErr result → lines_left.publisher ≡ there.publisher →
     IfSome known (λ input. LoopRun drops a b to turns start.limit start.sent
@@ -236,19 +238,30 @@ pub loop_done : {P T U E F G H : Type 0} (drops : Drops) (a b to : P) (turns : �
     (behind rounds_left : RepairState P) →
     HearsLines {E = F} drops a b start now known (Ok None) lines here old mid →
     HasPassed {T = T} {E = G} a b (routed_end now.journal None) (Ok value) here there →
-    Rests {E = H} (repairing to (service_of (record now.journal { closed = true }) server)) text_before turns
-    (with_heard there.hearing rounds) (Ok done) mid second behind →
+    RestsOfTwo {E = H} (repairing to (service_of (record now.journal { closed = true }) server)) answers_sent text_before
+    turns (with_heard there.hearing rounds) (Ok done) mid second behind →
     AppendsFront second new (behind.hearing.outgoing.text ++ hearing_line behind.hearing) →
     IfOk result (λ status. Appends second new (behind.hearing.outgoing.text ++ hearing_line behind.hearing)
     × (status ≡ hearing_status behind.hearing)) →
-    LoopAgrees lines_left there rounds_left behind →
+    LoopStands lines_left there rounds_left behind →
+    OnOk result (rounds_left.hearing.outgoing ≡ written_out behind.hearing.outgoing) →
     IfSome known (λ input. LoopRun drops a b to turns start.limit start.sent
     (lines_published start.journal (lines_of input)) server lines rounds result old new lines_left rounds_left)
-loop_done drops a b to turns start now server lines rounds known v done result old mid next new here there left made rest hears has rests cut printed agrees =
+loop_done drops a b to turns start now server lines rounds known v done result old mid next new here there left made rest hears has rests cut printed agrees out =
     run_from drops a b to turns start server lines rounds known now.journal None hears.front result old new
     left rest hears.all
     (λ whole.
     run_end drops a b to turns start.limit start.sent (record { journal = now.journal; refused = None }) server lines
-    rounds result there left made rest old mid next new rests.choices rests.written
-    (heard_all drops a b start now known lines here there old mid v hears has whole) rests.counted rests.appended
-    rests.whole cut printed agrees)
+    rounds result there left made rest old mid next new rests.rests.choices rests.rests.written
+    (heard_all drops a b start now known lines here there old mid v hears has whole) rests.rests.counted
+    rests.rests.appended rests.rests.whole cut printed agrees out)
+
+-- the journal that is left
+pub journal_left : {P E : Type 0} (drops : Drops) (a b : P) (start now : PublisherState) (known : Option (List ℕ))
+    (refused : Option LineRefusal) (lines here : LineState P) (old new : Option (List ℕ)) (journal : JournalState) →
+    HearsLines {E = E} drops a b start now known (Ok refused) lines here old new →
+    journal ≡ closed_unless refused now.journal →
+    IfSome known (λ input. journal ≡ left_journal (lines_published start.journal (lines_of input)))
+journal_left drops a b start now None refused lines here old new journal hears is = tt
+journal_left drops a b start now (Some input) refused lines here old new journal hears is =
+    is ∙ sym (ap (λ (p : PublishedLines). left_journal p) hears.all.1)

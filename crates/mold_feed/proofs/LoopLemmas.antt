@@ -3,6 +3,7 @@ use Rattle.std.proofs.Common.{◌≡◌, ◌∙◌, ℕ, Bool, true, false, List
 use Rattle.std.proofs.Common.{Option, None, Some, Result, Ok, Err, ap, refl, sym, subst, append_assoc}
 use Rattle.std.proofs.Math.ListN.{length-replicate}
 use Rattle.std.proofs.lemmas.List.{map-append}
+use Rattle.std.proofs.lemmas.Result.{on_ok_weaker}
 use Rattle.std.proofs.KnownBytes.{Appends-trans}
 use Rattle.std.specs.Prelude.{IfOk, IsErr, OnOk}
 use Rattle.std.specs.Io.KnownBytes.{Appends}
@@ -12,18 +13,18 @@ use Rattle.mold_publish.specs.Publishing.{PublishedLines}
 use Rattle.mold_publish.specs.declared.line_refusal.LineRefusal.{LineRefusal}
 use Rattle.mold_session.specs.Journal.{JournalState}
 use Rattle.mold_session.specs.Server.{ServerState}
-use Rattle.mold_feed.proofs.RunLemmas.{on_ok}
 use Rattle.mold_feed.proofs.HeardLemmas.{Heard, HeardFront, lines_grow, passes_are, run_behind}
-use Rattle.mold_feed.proofs.RepairLemmas.{rounds_are}
+use Rattle.mold_feed.proofs.RepairLemmas.{round_answers, rounds_are}
 use Rattle.mold_feed.proofs.RunLemmas.{begins_behind, begins_more, begins_trans, begins_whole, grows_in, none_answered, none_ok}
 use Rattle.mold_feed.proofs.TurnLemmas.{hearing_before}
 use Rattle.mold_feed.specs.Listening.{Hearing}
-use Rattle.mold_feed.specs.Looping.{LineState, LoopAgrees, LoopRun, Outcome, LeftOut, Sent, Pass}
+use Rattle.mold_feed.specs.Looping.{LineState, LoopRun, Outcome, LeftOut, Sent, Pass}
 use Rattle.mold_feed.specs.Looping.{all_routed, goes_out, lines_behind, loop_line, loop_status, loop_text, passing}
 use Rattle.mold_feed.specs.Looping.{rounds_behind, rounds_made, routed_by, text_front, with_heard}
+use Rattle.mold_feed.specs.Outgoing.{written_out}
 use Rattle.mold_feed.specs.PublishLoop.{left_journal}
-use Rattle.mold_feed.specs.Repairing.{RepairState, repairing, text_before}
-use Rattle.mold_feed.specs.Runs.{Begins, Rests, run}
+use Rattle.mold_feed.specs.Repairing.{RepairState, answers_sent, repairing, text_before}
+use Rattle.mold_feed.specs.Runs.{Begins, RestsOfTwo, run}
 use Rattle.mold_feed.specs.Serving.{Service, service_of}
 use Rattle.mold_feed.specs.declared.loop_parts.Drops.{Drops}
 use Rattle.mold_feed.specs.declared.loop_parts.Routes.{Routes}
@@ -78,6 +79,13 @@ rounds_send None to service choices s =
     grows_in (repairing to service) (repairing to service).sent (rounds_are to service).sends choices s
 rounds_send (Some why) to service choices s = begins_whole s.requests.sent
 
+rounds_answer : {P : Type 0} (refused : Option LineRefusal) (to : P) (service : Service)
+    (choices : List (Bool × List Bool)) (s : RepairState P) →
+    Begins s.server.sent (rounds_made refused to service choices s).server.sent
+rounds_answer None to service choices s =
+    grows_in (repairing to service) answers_sent (round_answers to service) choices s
+rounds_answer (Some why) to service choices s = begins_whole s.server.sent
+
 line_front : (journal : JournalState) (refused : Option LineRefusal) (front : List ℕ) (e : Hearing) →
     loop_line journal refused (hearing_before front e) ≡ loop_line journal refused e
 line_front journal None front e = refl
@@ -120,15 +128,25 @@ behind_ok (Ok answer) old mid new front text whole status other first same is do
 )
 behind_ok (Err _) old mid new front text whole status other first same is done = tt
 
+-- the ports and the arbiter stand so
+pub record LoopStands {P : Type 0} (lines line_end : LineState P) (rounds round_end : RepairState P) : Type 0 where
+  pub publisher_left : lines.publisher ≡ line_end.publisher
+  pub a_left : lines.a ≡ line_end.a
+  pub b_left : lines.b ≡ line_end.b
+  pub server_left : rounds.server ≡ round_end.server
+  pub requests_left : rounds.requests ≡ round_end.requests
+  pub answered_left : rounds.answered ≡ round_end.answered
+  pub arbiter_left : rounds.hearing.arbitration ≡ round_end.hearing.arbitration
+
 module _ {P : Type 0} (drops : Drops) (a b to : P) (turns limit sent : ℕ) (published : PublishedLines)
     (server : ServerState) (lines : LineState P) (rounds : RepairState P) where
   -- a fault while the data or the end were passed
   pub run_cut : {E : Type 0} (result : Result ℕ E) {xs : List (Routes × List ℕ)} (lines_left : LineState P)
       (rounds_left : RepairState P) (old new : Option (List ℕ)) → HeardFront a b xs lines lines_left old new →
       Begins xs (all_routed drops limit sent published) → IsErr result →
-      rounds_left.requests ≡ rounds.requests →
+      rounds_left.server ≡ rounds.server → rounds_left.requests ≡ rounds.requests →
       LoopRun drops a b to turns limit sent published server lines rounds result old new lines_left rounds_left
-  run_cut result {xs} lines_left rounds_left old new heard begins failed same =
+  run_cut result {xs} lines_left rounds_left old new heard begins failed kept same =
       let rest : List Pass = all_sent begins.rest in
       let passes : List Pass = heard.passes ++ rest in
       let choice : Bool × List Bool = (false, []) in
@@ -154,12 +172,13 @@ module _ {P : Type 0} (drops : Drops) (a b to : P) (turns limit sent : ℕ) (pub
         whole = none_answered result _ failed;
         left = none_ok result _ failed;
         front = record { front = heard.written; rest = text.rest; parts = text.parts; appended = heard.appended };
-        offers =
-            begins_trans heard.sent
-            (lines_grow a b (passing a b).sent (passes_are a b).sends heard.passes rest lines);
+        offers = record { front = heard.passes; begins = begins_more heard.passes rest; port = heard.offered };
         requests =
             subst (λ (p : Port P). Begins p.sent end.requests.sent) (sym same)
             (rounds_send published.refused to service choices (with_heard heard_there rounds));
+        answers =
+            subst (λ (p : Port P). Begins p.sent end.server.sent) (sym kept)
+            (rounds_answer published.refused to service choices (with_heard heard_there rounds));
       }
 
   -- all was passed and requested: what is left to write was written, or a beginning of it
@@ -170,9 +189,10 @@ module _ {P : Type 0} (drops : Drops) (a b to : P) (turns limit sent : ℕ) (pub
       AppendsFront second new (loop_text published now.hearing) →
       IfOk result (λ status. Appends second new (loop_text published now.hearing)
       × (status ≡ loop_status published.refused now.hearing)) →
-      LoopAgrees lines_left mid rounds_left now →
+      LoopStands lines_left mid rounds_left now →
+      OnOk result (rounds_left.hearing.outgoing ≡ written_out now.hearing.outgoing) →
       LoopRun drops a b to turns limit sent published server lines rounds result old new lines_left rounds_left
-  run_end result mid lines_left now rounds_left old first second new choices written heard counted appended made cut done agrees =
+  run_end result mid lines_left now rounds_left old first second new choices written heard counted appended made cut done agrees out =
       let before : List ℕ = heard.written ++ written in
       let end : RepairState P =
       rounds_behind to published server choices (lines_behind a b heard.passes lines).hearing rounds in
@@ -195,8 +215,8 @@ module _ {P : Type 0} (drops : Drops) (a b to : P) (turns limit sent : ℕ) (pub
             (loop_status published.refused now.hearing) (loop_status published.refused end.hearing) start text status
             done;
         left =
-            on_ok result
-            (record {
+            on_ok_weaker result
+            (λ nothing. record {
               publisher_left = agrees.publisher_left ∙ ap (λ (s : LineState P). s.publisher) (sym heard.whole);
               a_left = agrees.a_left ∙ ap (λ (s : LineState P). s.a) (sym heard.whole);
               b_left = agrees.b_left ∙ ap (λ (s : LineState P). s.b) (sym heard.whole);
@@ -204,7 +224,9 @@ module _ {P : Type 0} (drops : Drops) (a b to : P) (turns limit sent : ℕ) (pub
               requests_left = agrees.requests_left ∙ ap (λ (s : RepairState P). s.requests) (sym is);
               answered_left = agrees.answered_left ∙ ap (λ (s : RepairState P). s.answered) (sym is);
               arbiter_left = agrees.arbiter_left ∙ ap (λ (s : RepairState P). s.hearing.arbitration) (sym is);
-            });
+              outgoing_left = nothing ∙ ap (λ (s : RepairState P). written_out s.hearing.outgoing) (sym is);
+            })
+            out;
         front = record {
           front = before ++ cut.front;
           rest = cut.rest;
@@ -212,14 +234,19 @@ module _ {P : Type 0} (drops : Drops) (a b to : P) (turns limit sent : ℕ) (pub
               text ∙ ap (λ (t : List ℕ). before ++ t) cut.parts ∙ sym (append_assoc before cut.front cut.rest);
           appended = Appends-trans old second new before cut.front start cut.appended;
         };
-        offers =
-            subst (λ (p : Port P). Begins lines_left.publisher.sent p.sent)
-            (agrees.publisher_left ∙ ap (λ (s : LineState P). s.publisher) (sym heard.whole))
-            (begins_whole lines_left.publisher.sent);
+        offers = record {
+          front = heard.passes;
+          begins = begins_whole heard.passes;
+          port = agrees.publisher_left ∙ ap (λ (s : LineState P). s.publisher) (sym heard.whole);
+        };
         requests =
             subst (λ (p : Port P). Begins rounds_left.requests.sent p.sent)
             (agrees.requests_left ∙ ap (λ (s : RepairState P). s.requests) (sym is))
             (begins_whole rounds_left.requests.sent);
+        answers =
+            subst (λ (p : Port P). Begins rounds_left.server.sent p.sent)
+            (agrees.server_left ∙ ap (λ (s : RepairState P). s.server) (sym is))
+            (begins_whole rounds_left.server.sent);
       }
 
 -- a fault in a round
@@ -227,14 +254,15 @@ pub run_unrepaired : {P T E F : Type 0} (drops : Drops) (a b to : P) (turns limi
     (server : ServerState) (lines : LineState P) (rounds : RepairState P) (asked : Result T F) (result : Result ℕ E)
     (mid lines_left : LineState P) (now : RepairState P) (old first new : Option (List ℕ)) →
     Heard a b (all_routed drops limit sent (record { journal = journal; refused = None })) lines mid old first →
-    Rests (repairing to (service_of (left_journal (record { journal = journal; refused = None })) server)) text_before
-    turns (with_heard mid.hearing rounds) asked first new now →
+    RestsOfTwo (repairing to (service_of (left_journal (record { journal = journal; refused = None })) server)) answers_sent
+    text_before turns (with_heard mid.hearing rounds) asked first new now →
     IsErr result → lines_left.publisher ≡ mid.publisher →
     LoopRun drops a b to turns limit sent (record { journal = journal; refused = None }) server lines rounds result old
     new lines_left now
-run_unrepaired {P} drops a b to turns limit sent journal server lines rounds asked result mid lines_left now old first new heard rests failed same =
+run_unrepaired {P} drops a b to turns limit sent journal server lines rounds asked result mid lines_left now old first new heard two failed same =
     let published : PublishedLines = record { journal = journal; refused = None } in
     let service : Service = service_of (left_journal published) server in
+    let rests = two.rests in
     let end : RepairState P =
     rounds_behind to published server rests.choices (lines_behind a b heard.passes lines).hearing rounds in
     let made : RepairState P = run (repairing to service) rests.choices (with_heard mid.hearing rounds) in
@@ -259,10 +287,13 @@ run_unrepaired {P} drops a b to turns limit sent journal server lines rounds ask
         parts = text.parts;
         appended = Appends-trans old first new heard.written rests.written heard.appended rests.appended;
       };
-      offers =
-          subst (λ (s : LineState P). Begins lines_left.publisher.sent s.publisher.sent) (sym heard.whole)
-          (subst (λ (p : Port P). Begins lines_left.publisher.sent p.sent) same
-          (begins_whole lines_left.publisher.sent));
+      offers = record {
+        front = heard.passes;
+        begins = begins_whole heard.passes;
+        port = same ∙ ap (λ (s : LineState P). s.publisher) (sym heard.whole);
+      };
       requests =
           subst (λ (s : RepairState P). Begins now.requests.sent s.requests.sent) (sym is) rests.sent;
+      answers =
+          subst (λ (s : RepairState P). Begins now.server.sent s.server.sent) (sym is) two.others;
     }

@@ -1,6 +1,6 @@
 -- Text that goes out, with other text in front of it or after it.
-use Rattle.std.proofs.Common.{◌≡◌, ◌∙◌, ℕ, List, ◌++◌, ap, append_assoc, sym}
-use Rattle.mold_feed.specs.Outgoing.{OutgoingState, with_front, with_more}
+use Rattle.std.proofs.Common.{◌≡◌, ◌∙◌, ℕ, List, [], ◌++◌, ap, append_assoc, sym}
+use Rattle.mold_feed.specs.Outgoing.{OutgoingState, with_front, with_more, written_out}
 
 -- where a front of the text was written, what was there is that front and what is left
 pub written_front : (old new : OutgoingState) (front : List ℕ) → old.text ≡ front ++ new.text →
@@ -22,3 +22,9 @@ pub more_after : (front more : List ℕ) (outgoing : OutgoingState) →
 more_after front more outgoing =
     ap {B = OutgoingState} (λ (t : List ℕ). record { text = t; failures = outgoing.failures })
     (append_assoc front outgoing.text more)
+
+-- where nothing is left to write, and nothing failed meanwhile, all was written
+pub all_written : (old new : OutgoingState) → new.text ≡ [] → new.failures ≡ old.failures → new ≡ written_out old
+all_written old new none failures =
+    ap {B = OutgoingState} (λ (t : List ℕ). record { text = t; failures = new.failures }) none
+    ∙ ap {B = OutgoingState} (λ (n : ℕ). record { text = []; failures = n }) failures

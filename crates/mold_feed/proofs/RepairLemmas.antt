@@ -12,15 +12,17 @@ use Rattle.mold_wire.specs.declared.request.Request.{Request}
 use Rattle.mold_feed.specs.Listening.{Asking, Hearing, hear_answers, hearing, missed}
 use Rattle.mold_feed.specs.Outgoing.{OutgoingState}
 use Rattle.mold_feed.specs.Repairing.{HasRepaired, RepairState, answers_heard, after_answers, missed_more, repaired}
-use Rattle.mold_feed.specs.Repairing.{repairing, requested, round, served, text_before}
-use Rattle.mold_feed.specs.Runs.{Begins, Rests, run}
+use Rattle.mold_feed.specs.Repairing.{answers_sent, repairing, requested, round, served, text_before}
+use Rattle.mold_feed.specs.Runs.{Begins, RestsOfTwo, run}
 use Rattle.mold_feed.specs.Serving.{ResponderState, Service, responder_of, serve_turn}
 use Rattle.mold_feed.specs.Answering.{Reaches}
+use Rattle.mold_feed.specs.Tally.{no_tally}
 use Rattle.mold_feed.specs.declared.tally.Tally.{Tally}
 use Rattle.mold_session.specs.Server.{ServerState}
 use Rattle.mold_feed.proofs.ListenLemmas.{hearing_sends, stepped}
 use Rattle.mold_feed.proofs.OutgoingLemmas.{front_twice, written_front}
-use Rattle.mold_feed.proofs.RunLemmas.{Going, IsLoop, begins_more, begins_whole, none_ok, rests_all}
+use Rattle.mold_feed.proofs.RunLemmas.{Going, IsLoop, begins_more, begins_whole, none_ok, two_all}
+use Rattle.mold_feed.proofs.ServingLemmas.{serving_is}
 use Rattle.mold_feed.proofs.TurnLemmas.{answers_before, answers_print}
 
 -- ---- rounds go by turns
@@ -66,6 +68,11 @@ repaired_requests {P} service fails s =
     hearing_sends responder.tally.answered
     (record { port = s.requests; hearing = missed_more responder.tally.outgoing.failures s.hearing })
 
+repaired_answers : {P : Type 0} (service : Service) (fails : List Bool) (s : RepairState P) →
+    Begins s.server.sent (repaired service fails s).server.sent
+repaired_answers service fails s =
+    (serving_is service).sends fails (record { port = s.server; tally = no_tally; requests = s.answered })
+
 requested_prints : {P : Type 0} (wish : Option Request) (to : P) (service : Service) (choice : Bool × List Bool)
     (s : RepairState P) → Begins s.hearing.outgoing.text (requested wish to service choice s).hearing.outgoing.text
 requested_prints None to service choice s = begins_whole s.hearing.outgoing.text
@@ -94,6 +101,19 @@ requested_sends {P} (Some request) to service (false, fails) s =
     })))
     (begins_more s.requests.sent ((to, request_spelling request) ∷ []))
 
+requested_answers : {P : Type 0} (wish : Option Request) (to : P) (service : Service) (choice : Bool × List Bool)
+    (s : RepairState P) → Begins s.server.sent (requested wish to service choice s).server.sent
+requested_answers None to service choice s = begins_whole s.server.sent
+requested_answers (Some request) to service (true, fails) s = begins_whole s.server.sent
+requested_answers (Some request) to service (false, fails) s =
+    repaired_answers service fails
+    (record {
+      server = s.server;
+      requests = offered false to (request_spelling request) s.requests;
+      answered = s.answered;
+      hearing = s.hearing;
+    })
+
 round_prints : {P : Type 0} (to : P) (service : Service) (choice : Bool × List Bool) (s : RepairState P) →
     Begins s.hearing.outgoing.text (round to service choice s).hearing.outgoing.text
 unfolding round
@@ -103,6 +123,11 @@ round_sends : {P : Type 0} (to : P) (service : Service) (choice : Bool × List B
     Begins s.requests.sent (round to service choice s).requests.sent
 unfolding round
 round_sends to service choice s = requested_sends (wanted s.hearing.arbitration.view) to service choice s
+
+pub round_answers : {P : Type 0} (to : P) (service : Service) (choice : Bool × List Bool) (s : RepairState P) →
+    Begins (answers_sent s) (answers_sent (round to service choice s))
+unfolding round
+round_answers to service choice s = requested_answers (wanted s.hearing.arbitration.view) to service choice s
 
 pub rounds_are : {P : Type 0} (to : P) (service : Service) → IsLoop (repairing to service) text_before
 rounds_are {P} to service = record {
@@ -260,12 +285,12 @@ stays {P} to service (choice ∷ more) s none =
 pub rests_still : {P T E : Type 0} (to : P) (service : Service) (result : Result T E) (start now : RepairState P)
     (old new : Option (List ℕ)) (count turns : ℕ) → Going (repairing to service) text_before start old new count now →
     count ≤ turns → wanted now.hearing.arbitration.view ≡ None →
-    Rests (repairing to service) text_before turns start result old new now
+    RestsOfTwo (repairing to service) answers_sent text_before turns start result old new now
 rests_still {P} to service result start now old new count turns going few none =
     let choice : Bool × List Bool = (false, []) in
     let left : List (Bool × List Bool) = replicate (turns - count) choice in
     let all = going.choices ++ left in
-    rests_all (rounds_are to service) result turns
+    two_all (rounds_are to service) answers_sent (λ front s. refl) (round_answers to service) result turns
     (let same : length all ≡ turns =
     omega (arith, few, going.counted, length-append going.choices left, length-replicate (turns - count) choice) in same)
     (record {

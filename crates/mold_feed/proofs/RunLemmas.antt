@@ -7,7 +7,7 @@ use Rattle.std.specs.Prelude.{IsErr, IfOk, OnOk, if◌then◌else◌}
 use Rattle.std.specs.Io.KnownBytes.{Appends}
 use Rattle.std.proofs.KnownBytes.{Appends-nil, Appends-trans}
 use Rattle.mold_devices.specs.Devices.{AppendsFront}
-use Rattle.mold_feed.specs.Runs.{Loop, run, Begins, Moves, Rests, Ran}
+use Rattle.mold_feed.specs.Runs.{Loop, run, Begins, Moves, Rests, RestsOfTwo, Ran}
 
 -- ---- beginnings
 
@@ -307,6 +307,70 @@ module _ {C S M : Type 0} {loop : Loop C S M} {behind : List ℕ → S → S} (i
     front = rests.front;
     sent = subst (λ (l : List M). Begins l (loop.sent (run loop rests.choices start))) (sym same) rests.sent;
   }
+
+  -- ---- of a loop that sends from two ports
+
+  module _ (other : S → List M) (keeps : (front : List ℕ) (s : S) → other (behind front s) ≡ other s)
+      (more_sent : (choice : C) (s : S) → Begins (other s) (other (loop.turn choice s))) where
+    two_end : {T E : Type 0} (result : Result T E) {start now : S} {old new : Option (List ℕ)} {turns : ℕ} →
+        Going loop behind start old new turns now → RestsOfTwo loop other behind turns start result old new now
+    unfolding rests_end
+    two_end result {start} {now} going =
+        let end : run loop going.choices start ≡ behind going.written now =
+        ap (λ (l : List C). run loop l start) (sym (append-nil going.choices)) ∙ going.goes_on []
+        ∙ run_none loop (behind going.written now) in
+        record {
+          rests = rests_end result going;
+          others =
+              subst (λ (l : List M). Begins (other now) l) (sym (ap other end ∙ keeps going.written now))
+              (begins_whole (other now));
+        }
+
+    pub two_all : {T E : Type 0} (result : Result T E) {start now : S} {old new : Option (List ℕ)} {count : ℕ}
+        (turns : ℕ) → count ≡ turns → Going loop behind start old new count now →
+        RestsOfTwo loop other behind turns start result old new now
+    two_all result {start} {now} {old} {new} {count} turns made going =
+        two_end result (subst (λ (n : ℕ). Going loop behind start old new n now) made going)
+
+    pub two_failed : {T E : Type 0} (result : Result T E) {start now : S} {old new : Option (List ℕ)} {count : ℕ}
+        (turns : ℕ) (choice : C) (after : S) → Going loop behind start old new count now → count < turns →
+        Begins (loop.sent after) (loop.sent (loop.turn choice now)) →
+        Begins (other after) (other (loop.turn choice now)) → IsErr result →
+        RestsOfTwo loop other behind turns start result old new after
+    unfolding rests_failed filled
+    two_failed result {start} {now} {old} {new} {count} turns choice after going few sent sent_too failed =
+        let fill : List C = replicate (turns - (count + 1)) choice in
+        let here : S = behind going.written now in
+        record {
+          rests = rests_failed result turns choice after going few sent failed;
+          others =
+              subst (λ (s : S). Begins (other after) (other s)) (sym (going.goes_on (choice ∷ fill)))
+              (begins_trans
+              (subst (λ (l : List M). Begins (other after) l)
+              (sym (ap other (is.turn going.written choice now) ∙ keeps going.written (loop.turn choice now)))
+              sent_too)
+              (grows_from loop other more_sent choice fill here));
+        }
+
+    -- a turn was made, and then a write failed, behind which the state is `left`
+    pub two_cut : {T E : Type 0} (result : Result T E) {start now : S} {old mid new : Option (List ℕ)} {count : ℕ}
+        (turns : ℕ) (choice : C) (after left : S) → Going loop behind start old mid count now → count < turns →
+        after ≡ loop.turn choice now → AppendsFront mid new (loop.text after) → loop.sent left ≡ loop.sent after →
+        other left ≡ other after → IsErr result → RestsOfTwo loop other behind turns start result old new left
+    unfolding rests_left rests_cut filled
+    two_cut result {start} {now} {old} {mid} {new} {count} turns choice after left going few made cut same same_too failed =
+        let fill : List C = replicate (turns - (count + 1)) choice in
+        let here : S = behind going.written now in
+        let made_behind : other (loop.turn choice here) ≡ other left =
+        ap other (is.turn going.written choice now ∙ ap (behind going.written) (sym made))
+        ∙ keeps going.written after ∙ sym same_too in
+        record {
+          rests = rests_left result left (rests_cut result turns choice after going few made cut failed) same failed;
+          others =
+              subst (λ (s : S). Begins (other left) (other s)) (sym (going.goes_on (choice ∷ fill)))
+              (subst (λ (l : List M). Begins l (other (run loop (choice ∷ fill) here))) made_behind
+              (grows_from loop other more_sent choice fill here));
+        }
 
   -- ---- behind the turns
 

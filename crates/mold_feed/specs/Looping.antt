@@ -17,7 +17,7 @@ use Rattle.mold_session.specs.Publisher.{PublisherState}
 use Rattle.mold_session.specs.Server.{ServerState}
 use Rattle.mold_wire.specs.Packet.{spelling_of}
 use Rattle.mold_feed.specs.Listening.{Hearing, hear, hearing, hearing_line, hearing_status}
-use Rattle.mold_feed.specs.Outgoing.{OutgoingState, failed_once, with_front}
+use Rattle.mold_feed.specs.Outgoing.{OutgoingState, failed_once, with_front, written_out}
 use Rattle.mold_feed.specs.Passing.{both_routes, routes_of}
 use Rattle.mold_feed.specs.PublishLoop.{data_behind, left_journal}
 use Rattle.mold_feed.specs.Repairing.{RepairState, repairing}
@@ -177,7 +177,7 @@ IsData start front journal refused input =
 
 -- The lines of the input were published, and their data passed: of what is known of the input, `front` is what was
 -- passed. At an answer that is all the data; what was written of the text stands in front of what is left to print.
--- After a fault what was passed, written and sent are beginnings.
+-- After a fault what was passed and written are beginnings. The publisher's port stands as behind what was passed.
 pub record HearsLines {P E : Type 0} (drops : Drops) (a b : P) (start now : PublisherState) (known : Option (List ℕ))
     (result : Result (Option LineRefusal) E) (before after : LineState P) (old new : Option (List ℕ)) : Type 0 where
   pub front : List (List ℕ)
@@ -187,7 +187,7 @@ pub record HearsLines {P E : Type 0} (drops : Drops) (a b : P) (start now : Publ
   pub appended : Appends old new written
   pub whole : OnOk result (run (passing a b) passes before ≡ text_front written after)
   pub text : Begins written (run (passing a b) passes before).hearing.outgoing.text
-  pub sent : Begins after.publisher.sent (run (passing a b) passes before).publisher.sent
+  pub offered : after.publisher ≡ (run (passing a b) passes before).publisher
   pub begins : IfSome known (BeginsData start front)
   pub all : IfOk result (λ refused. IfSome known (IsData start front now.journal refused))
 
@@ -214,7 +214,8 @@ loop_status (Some why) e = 2
 abbrev pub loop_text : PublishedLines → Hearing → List ℕ
 loop_text published e = e.outgoing.text ++ loop_line published.journal published.refused e
 
--- the ports and the arbiter stand as at the end of the passes and of the rounds
+-- the ports, the arbiter and the failures stand as at the end of the passes and of the rounds, and nothing is left to
+-- write
 pub record LoopAgrees {P : Type 0} (lines line_end : LineState P) (rounds round_end : RepairState P) : Type 0 where
   pub publisher_left : lines.publisher ≡ line_end.publisher
   pub a_left : lines.a ≡ line_end.a
@@ -223,6 +224,7 @@ pub record LoopAgrees {P : Type 0} (lines line_end : LineState P) (rounds round_
   pub requests_left : rounds.requests ≡ round_end.requests
   pub answered_left : rounds.answered ≡ round_end.answered
   pub arbiter_left : rounds.hearing.arbitration ≡ round_end.hearing.arbitration
+  pub outgoing_left : rounds.hearing.outgoing ≡ written_out round_end.hearing.outgoing
 
 -- what the datagrams that are passed make of the lines
 abbrev pub lines_behind : {P : Type 0} → P → P → List Pass → LineState P → LineState P
@@ -240,10 +242,16 @@ abbrev pub loop_end : {P : Type 0} → P → P → P → PublishedLines → Serv
 loop_end a b to published server passes choices lines rounds =
     rounds_behind to published server choices (lines_behind a b passes lines).hearing rounds
 
+-- a port stands as the publisher's behind the first of some passes
+pub record StandsBehind {P : Type 0} (a b : P) (passes : List Pass) (lines : LineState P) (left : Port P) : Type 0 where
+  pub front : List Pass
+  pub begins : Begins front passes
+  pub port : left ≡ (lines_behind a b front lines).publisher
+
 -- What a loop in one process leaves, whose publisher published these lines. All its datagrams are passed, and then
 -- rounds are made. At an answer the text of what was heard and the last line are written, the answer is its status, and
--- the ports and the arbiter stand as at the end. After a fault what was written, and what the publisher and the port of
--- requests sent, are beginnings.
+-- the ports, the arbiter and the failures stand as at the end. After a fault the publisher's port stands as behind the
+-- first of these passes, and what was written and what the server and the port of requests sent are beginnings.
 pub record LoopRun {P E : Type 0} (drops : Drops) (a b to : P) (turns limit sent : ℕ) (published : PublishedLines)
     (server : ServerState) (lines : LineState P) (rounds : RepairState P) (result : Result ℕ E)
     (old new : Option (List ℕ)) (lines_left : LineState P) (rounds_left : RepairState P) : Type 0 where
@@ -259,6 +267,8 @@ pub record LoopRun {P E : Type 0} (drops : Drops) (a b to : P) (turns limit sent
       (loop_end a b to published server passes choices lines rounds))
   pub front : AppendsFront old new
       (loop_text published (loop_end a b to published server passes choices lines rounds).hearing)
-  pub offers : Begins lines_left.publisher.sent (lines_behind a b passes lines).publisher.sent
+  pub offers : StandsBehind a b passes lines lines_left.publisher
   pub requests : Begins rounds_left.requests.sent
       (loop_end a b to published server passes choices lines rounds).requests.sent
+  pub answers : Begins rounds_left.server.sent
+      (loop_end a b to published server passes choices lines rounds).server.sent

@@ -19,6 +19,10 @@ with_more more outgoing = record { text = outgoing.text ++ more; failures = outg
 abbrev pub with_front : List ℕ → OutgoingState → OutgoingState
 with_front front outgoing = record { text = front ++ outgoing.text; failures = outgoing.failures }
 
+-- after all of the text was written
+abbrev pub written_out : OutgoingState → OutgoingState
+written_out outgoing = record { text = []; failures = outgoing.failures }
+
 -- after a send or a receive that failed
 abbrev pub failed_once : OutgoingState → OutgoingState
 failed_once outgoing = record { text = outgoing.text; failures = one_more outgoing.failures }

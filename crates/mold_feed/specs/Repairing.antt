@@ -86,6 +86,10 @@ repairing to service = record {
   sent = λ s. s.requests.sent;
 }
 
+-- what the server sent
+abbrev pub answers_sent : {P : Type 0} → RepairState P → List (P × List ℕ)
+answers_sent s = s.server.sent
+
 -- with a text in front of what is to be printed
 abbrev pub text_before : {P : Type 0} → List ℕ → RepairState P → RepairState P
 text_before front s = record {

@@ -43,6 +43,12 @@ pub record Rests {C S M T E : Type 0} (loop : Loop C S M) (behind : List ℕ →
   pub front : Begins written (loop.text (run loop choices start))
   pub sent : Begins (loop.sent now) (loop.sent (run loop choices start))
 
+-- of a loop that sends from two ports: what the other one sent is a beginning of the run's too
+pub record RestsOfTwo {C S M T E : Type 0} (loop : Loop C S M) (other : S → List M) (behind : List ℕ → S → S)
+    (turns : ℕ) (start : S) (result : Result T E) (old new : Option (List ℕ)) (now : S) : Type 0 where
+  pub rests : Rests loop behind turns start result old new now
+  pub others : Begins (other now) (other (run loop rests.choices start))
+
 -- What a loop of so many turns that begins with `start` leaves at its end. There is a choice for each turn: at
 -- an answer the run's text and then its last line are written, the answer is its status, and what else the loop
 -- works on agrees with the run's end; after a fault what was written and what was sent are beginnings of the

@@ -1,13 +1,15 @@
 //! A publisher, its re-request server and a listener in one process.
 
-ghost use Rattle.std.specs.Prelude.{◌≡◌, ◌≤◌, ◌++◌, true, IfOk, IfSome};
+ghost use Rattle.std.specs.Prelude.{◌≡◌, ◌≤◌, ◌++◌, true, IfOk, IfSome, OnOk};
 ghost use Rattle.std.specs.Io.KnownBytes.{Appends};
 ghost use Rattle.mold_devices.specs.Devices.{AppendsFront};
 ghost use Rattle.mold_devices.specs.Faults.{CountsCommand, CountsSink};
 ghost use Rattle.mold_devices.specs.Lines.{lines_of};
 ghost use Rattle.mold_feed.specs.Listening.{hearing, hearing_line, hearing_status};
 ghost use Rattle.mold_feed.specs.Looping.{LoopRun, line_state};
+ghost use Rattle.mold_feed.specs.Outgoing.{written_out};
 ghost use Rattle.mold_feed.specs.Passing.{LoopSends};
+ghost use Rattle.mold_feed.specs.PublishLoop.{left_journal};
 ghost use Rattle.mold_feed.specs.Repairing.{repair_state};
 ghost use Rattle.mold_publish.specs.Publishing.{HasRoom, lines_published, refused_text};
 
@@ -34,6 +36,7 @@ fn print_refused<K: Sink>(
     ensures whole { IfOk result (λ status.
         Appends (K.held sink.old) (K.held sink.new) (outgoing.old.text ++ refused_text number why) × (status ≡ 2)) }
     ensures front { AppendsFront (K.held sink.old) (K.held sink.new) (outgoing.old.text ++ refused_text number why) }
+    ensures left { OnOk result (outgoing.new ≡ written_out outgoing.old) }
     ensures sink { CountsSink (K.failed sink.old) (K.failed sink.new) result }
 {
     outgoing.send(sink)?;
@@ -50,6 +53,7 @@ fn print_last<K: Sink>(listener: &mut Listener, sink: &mut K) -> Result<u8, Comm
     ensures front { AppendsFront (K.held sink.old) (K.held sink.new)
         (listener.old.report.outgoing.text
         ++ hearing_line (hearing listener.old.arbiter listener.old.report.outgoing)) }
+    ensures left { OnOk result (listener.new.report.outgoing ≡ written_out listener.old.report.outgoing) }
     ensures arbiter { listener.new.arbiter ≡ listener.old.arbiter }
     ensures sink { CountsSink (K.failed sink.old) (K.failed sink.new) result }
 {
@@ -64,9 +68,12 @@ fn print_last<K: Sink>(listener: &mut Listener, sink: &mut K) -> Result<u8, Comm
 /// is requested in at most `turns` rounds. What is handed on is printed as a listener prints it, with its last
 /// line and its status. A refused line ends it: what was handed on stays printed, then comes the refusal,
 /// and the status is 2. A failed send or receive is counted, and nothing is received on a line where the send
-/// failed. The publisher's messages may have at most as many bytes as the server's, so that each request is
-/// answered. After a fault a beginning of the text is written, and beginnings of what the publisher and the
-/// port of requests send were sent. `Read` and `Write` come only where the source or the sink failed.
+/// failed. The publisher may have messages, of which those that it didn't put in a packet yet have to fit one; they
+/// are sent before the lines' or with them. The number of a refused line counts them too: it is the number that
+/// the line's message would have. The publisher's messages may have at most as many bytes as the server's, so that
+/// each request is answered. After a fault a beginning of the text is written, and beginnings of what the publisher,
+/// the port of requests and the server send were sent. The ports of the lines send nothing. `Read` and `Write` come
+/// only where the source or the sink failed.
 pub fn session_loop<D: Datagrams + Drop, S: Source, K: Sink>(
     alloc: Global,
     ports: &mut LoopPorts<D>,
@@ -97,6 +104,12 @@ pub fn session_loop<D: Datagrams + Drop, S: Source, K: Sink>(
         listener.new.report.outgoing)
         (repair_state (D.port ports.new.server) (D.port ports.new.requests) server.new listener.new.arbiter
         listener.new.report.outgoing)) }
+    ensures a { D.tells ≡ true → (D.port ports.new.a).sent ≡ (D.port ports.old.a).sent }
+    ensures b { D.tells ≡ true → (D.port ports.new.b).sent ≡ (D.port ports.old.b).sent }
+    ensures journal { D.tells ≡ true → OnOk result (IfSome (S.left source.old) (λ input.
+        publisher.new.journal ≡ left_journal (lines_published publisher.old.journal (lines_of input)))) }
+    ensures limit { OnOk result (publisher.new.limit ≡ publisher.old.limit) }
+    ensures server { server.new ≡ record server.old { answered = server.new.answered } }
     ensures failures { CountsCommand (S.failed source.old) (S.failed source.new) (K.failed sink.old) (K.failed sink.new)
         result }
 {

@@ -1,6 +1,6 @@
 //! Text that goes out, and the failures that are counted beside it.
 
-ghost use Rattle.std.specs.Prelude.{◌≡◌, ◌<◌, ◌≤◌, [], length, map, IfErr, IsOk, OnOk};
+ghost use Rattle.std.specs.Prelude.{◌≡◌, ◌<◌, ◌≤◌, [], length, map, take, IfErr, IsOk, OnErr, OnOk};
 ghost use Rattle.std.specs.Io.KnownBytes.{Appends};
 ghost use Rattle.mold_devices.specs.Devices.{AppendsFront, Counts};
 ghost use Rattle.mold_feed.specs.Outgoing.{failed_often, failed_once, nothing_out, with_more};
@@ -70,7 +70,9 @@ impl Outgoing {
 
     /// Adds the words as a line. After an error, which is want of memory, a part of the line stands after the text.
     pub fn push_line(&mut self, words: &[Word<'_>]) -> Result<(), AllocError>
-        ensures { OnOk result (self.new ≡ with_more (line_of (map word_text words.now)) self.old) }
+        ensures line { OnOk result (self.new ≡ with_more (line_of (map word_text words.now)) self.old) }
+        ensures kept { OnErr result (take (length self.old.text) self.new.text ≡ self.old.text) }
+        ensures failures { self.new.failures ≡ self.old.failures }
     {
         push_line(&mut self.text, words)
     }
@@ -108,11 +110,12 @@ impl Outgoing {
     }
 
     /// Writes the text where it has come to 65,536 bytes, and leaves it else. After a fault a front of it is
-    /// written.
+    /// written, and it stands as it was.
     pub fn send_large<K: Sink>(&mut self, sink: &mut K) -> Result<(), CommandFault>
         ensures moved { OnOk result (Moves (K.held sink.old) (K.held sink.new) self.old.text self.new.text) }
         ensures large { OnOk result (65536 ≤ length self.old.text → self.new.text ≡ []) }
         ensures small { length self.old.text < 65536 → IsOk result × (self.new ≡ self.old) }
+        ensures same { OnErr result (self.new ≡ self.old) }
         ensures failures { self.new.failures ≡ self.old.failures }
         ensures front { AppendsFront (K.held sink.old) (K.held sink.new) self.old.text }
         ensures fault { IfErr result (λ fault. fault ≡ CommandFault.Write) }
@@ -124,10 +127,11 @@ impl Outgoing {
         self.send(sink)
     }
 
-    /// Writes the text. After a fault a front of it is written.
+    /// Writes the text. After a fault a front of it is written, and it stands as it was.
     pub fn send<K: Sink>(&mut self, sink: &mut K) -> Result<(), CommandFault>
         ensures whole { OnOk result (Appends (K.held sink.old) (K.held sink.new) self.old.text) }
         ensures empty { OnOk result (self.new.text ≡ []) }
+        ensures same { OnErr result (self.new ≡ self.old) }
         ensures failures { self.new.failures ≡ self.old.failures }
         ensures front { AppendsFront (K.held sink.old) (K.held sink.new) self.old.text }
         ensures fault { IfErr result (λ fault. fault ≡ CommandFault.Write) }

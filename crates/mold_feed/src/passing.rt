@@ -92,6 +92,8 @@ fn hear_on<D: Datagrams + Drop>(
     ensures publisher { ports.new.publisher ≡ ports.old.publisher }
     ensures server { ports.new.server ≡ ports.old.server }
     ensures requests { ports.new.requests ≡ ports.old.requests }
+    ensures a { D.tells ≡ true → (D.port ports.new.a).sent ≡ (D.port ports.old.a).sent }
+    ensures b { D.tells ≡ true → (D.port ports.new.b).sent ≡ (D.port ports.old.b).sent }
     ensures heard { D.tells ≡ true → OnOk result
         (line_state (D.port ports.new.publisher) (D.port ports.new.a) (D.port ports.new.b) listener.new.arbiter
         listener.new.report.outgoing
@@ -127,6 +129,8 @@ fn pass<D: Datagrams + Drop>(
         listener.new.report.outgoing) }
     ensures server { ports.new.server ≡ ports.old.server }
     ensures requests { ports.new.requests ≡ ports.old.requests }
+    ensures a { D.tells ≡ true → (D.port ports.new.a).sent ≡ (D.port ports.old.a).sent }
+    ensures b { D.tells ≡ true → (D.port ports.new.b).sent ≡ (D.port ports.old.b).sent }
 {
     let port = &mut ports.publisher;
     let outgoing = &mut listener.report.outgoing;
@@ -159,6 +163,8 @@ fn pass_next<D: Datagrams + Drop>(
         listener.new.report.outgoing) }
     ensures server { ports.new.server ≡ ports.old.server }
     ensures requests { ports.new.requests ≡ ports.old.requests }
+    ensures a { D.tells ≡ true → (D.port ports.new.a).sent ≡ (D.port ports.old.a).sent }
+    ensures b { D.tells ≡ true → (D.port ports.new.b).sent ≡ (D.port ports.old.b).sent }
 {
     publisher_holds(publisher);
     let Some(datagram) = publisher.datagram() else {
@@ -195,6 +201,8 @@ pub(crate) fn pass_lines<D: Datagrams + Drop, S: Source, K: Sink>(
         (K.held sink.old) (K.held sink.new) }
     ensures server { ports.new.server ≡ ports.old.server }
     ensures requests { ports.new.requests ≡ ports.old.requests }
+    ensures a { D.tells ≡ true → (D.port ports.new.a).sent ≡ (D.port ports.old.a).sent }
+    ensures b { D.tells ≡ true → (D.port ports.new.b).sent ≡ (D.port ports.old.b).sent }
     ensures all { IfOk result (λ refused. refused ≡ None →
         publisher.new.sent ≡ length publisher.new.journal.messages) }
     ensures limit { OnOk result (publisher.new.limit ≡ publisher.old.limit) }
@@ -249,6 +257,8 @@ pub(crate) fn pass_end<D: Datagrams + Drop>(
         listener.new.report.outgoing) }
     ensures server { ports.new.server ≡ ports.old.server }
     ensures requests { ports.new.requests ≡ ports.old.requests }
+    ensures a { D.tells ≡ true → (D.port ports.new.a).sent ≡ (D.port ports.old.a).sent }
+    ensures b { D.tells ≡ true → (D.port ports.new.b).sent ≡ (D.port ports.old.b).sent }
 {
     let _ = publisher.close();
     match publisher.end() {

@@ -3,8 +3,9 @@
 ghost use Rattle.std.specs.Prelude.{◌≡◌, ◌≤◌, Some, true, Bool, List, length, OnOk};
 ghost use Rattle.mold_devices.specs.Faults.{CountsSink};
 ghost use Rattle.mold_feed.specs.Listening.{asking, hear_answers};
-ghost use Rattle.mold_feed.specs.Repairing.{HasRepaired, repair_state, repaired, repairing, requested, text_before};
-ghost use Rattle.mold_feed.specs.Runs.{Rests};
+ghost use Rattle.mold_feed.specs.Repairing.{HasRepaired, answers_sent, repair_state, repaired, repairing, requested};
+ghost use Rattle.mold_feed.specs.Repairing.{text_before};
+ghost use Rattle.mold_feed.specs.Runs.{RestsOfTwo};
 ghost use Rattle.mold_feed.specs.Serving.{service_of};
 
 use crate::hearing::hear_port;
@@ -119,7 +120,8 @@ pub(crate) fn repair_all<D: Datagrams + Drop, K: Sink>(
 ) -> Result<(), CommandFault>
     requires place { length place.old ≡ 65507 }
     requires longest { journal.now.max_message ≤ server.old.max_message }
-    ensures rests { D.tells ≡ true → Rests (repairing to (service_of journal.now server.old)) text_before turns
+    ensures rests { D.tells ≡ true →
+        RestsOfTwo (repairing to (service_of journal.now server.old)) answers_sent text_before turns
         (repair_state (D.port ports.old.server) (D.port ports.old.requests) server.old listener.old.arbiter
         listener.old.report.outgoing)
         result (K.held sink.old) (K.held sink.new)

@@ -1,6 +1,8 @@
 -- Of a loop that ends in a fault before its ports are used, and of one that is run with what an order makes.
 use Rattle.std.proofs.Common.{◌≡◌, ◌∙◌, ℕ, List, [], Option, None, Some, Result, Ok, Err, ap, inl, inr, refl, subst}
-use Rattle.std.specs.Prelude.{IfSome, IsErr, OnOk}
+use Rattle.std.specs.Prelude.{IfSome, IsErr, IsErrAnd, OnOk}
+use Rattle.mold_devices.specs.declared.fault.CommandFault.{CommandFault}
+use Rattle.mold_devices.specs.declared.fault.CommandFault.TheVariants.{Memory}
 use Rattle.mold_devices.specs.Lines.{lines_of}
 use Rattle.mold_ports.specs.Ports.{Port}
 use Rattle.mold_receiver.specs.Arbiter.{Arbitration}
@@ -33,17 +35,21 @@ nothing_sent drops a b start (Some input) result port failed = record {
   whole = not_answered result _ failed;
 }
 
+only_memory : (result : Result ℕ CommandFault) → IsErrAnd result (λ fault. fault ≡ Memory) → result ≡ Err Memory
+only_memory (Ok _) wants = absurd wants
+only_memory (Err fault) wants = ap {B = Result ℕ CommandFault} (λ (f : CommandFault). Err f) wants
+
 -- nothing was done
-pub nothing_done : {P E : Type 0} (order : LoopOrder) (a b to : P) (known : Option (List ℕ)) (result : Result ℕ E)
-    (held : Option (List ℕ)) (ports : FivePorts P) → IsErr result →
-    LoopsOver order a b to known result held held ports ports
-nothing_done order a b to None result held ports failed = tt
-nothing_done order a b to (Some input) result held ports failed =
-    inr (record { fault = failed; ports = refl; written = refl })
+pub nothing_done : {P : Type 0} (order : LoopOrder) (a b to : P) (known : Option (List ℕ))
+    (result : Result ℕ CommandFault) (held : Option (List ℕ)) (ports : FivePorts P) →
+    IsErrAnd result (λ fault. fault ≡ Memory) → LoopsOver order a b to known result held held ports ports
+nothing_done order a b to None result held ports wants = tt
+nothing_done order a b to (Some input) result held ports wants =
+    inr (record { fault = only_memory result wants; ports = refl; written = refl })
 
 -- the loop was run with what the order makes
-pub order_ran : {P E : Type 0} (order : LoopOrder) (a b to : P) (known : Option (List ℕ)) (result : Result ℕ E)
-    (held_old held_new : Option (List ℕ)) (old new : FivePorts P) (publisher : PublisherState) (server : ServerState)
+pub order_ran : {P : Type 0} (order : LoopOrder) (a b to : P) (known : Option (List ℕ))
+    (result : Result ℕ CommandFault) (held_old held_new : Option (List ℕ)) (old new : FivePorts P) (publisher : PublisherState) (server : ServerState)
     (drops : Drops) (arbitration : Arbitration) (report : OutgoingState) (heard : Hearing) (answered : ℕ) →
     publisher ≡ loop_publisher_of order → server ≡ loop_server_of order → drops ≡ drops_of order →
     arbitration ≡ loop_arbiter_of order → report ≡ nothing_out →

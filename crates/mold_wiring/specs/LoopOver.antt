@@ -1,6 +1,8 @@
 -- What `loop` of an order leaves over its ports.
-use Rattle.std.specs.Prelude.{◌≡◌, ◌⊎◌, ℕ, List, [], Option, Result, IfSome, IsErr}
+use Rattle.std.specs.Prelude.{◌≡◌, ◌⊎◌, ℕ, List, Option, Result, Err, IfSome}
 use Rattle.mold_devices.specs.Lines.{lines_of}
+use Rattle.mold_devices.specs.declared.fault.CommandFault.{CommandFault}
+use Rattle.mold_devices.specs.declared.fault.CommandFault.TheVariants.{Memory}
 use Rattle.mold_feed.specs.Listening.{Hearing}
 use Rattle.mold_feed.specs.Looping.{LineState, LoopRun}
 use Rattle.mold_feed.specs.Outgoing.{nothing_out}
@@ -46,14 +48,14 @@ pub record OrderRun {P E : Type 0} (order : LoopOrder) (a b to : P) (result : Re
       (lines_at new heard) (rounds_at new answered heard)
 
 -- memory was refused for what it is made of: nothing was sent, received or written
-pub record Unmade {P E : Type 0} (result : Result ℕ E) (held_old held_new : Option (List ℕ)) (old new : FivePorts P) :
-    Type 0 where
-  pub fault : IsErr result
+pub record Unmade {P : Type 0} (result : Result ℕ CommandFault) (held_old held_new : Option (List ℕ))
+    (old new : FivePorts P) : Type 0 where
+  pub fault : result ≡ Err Memory
   pub ports : new ≡ old
   pub written : held_new ≡ held_old
 
 -- of what is known of the input, one of both
-abbrev pub LoopsOver : {P E : Type 0} → LoopOrder → P → P → P → Option (List ℕ) → Result ℕ E → Option (List ℕ) →
-    Option (List ℕ) → FivePorts P → FivePorts P → Type 0
+abbrev pub LoopsOver : {P : Type 0} → LoopOrder → P → P → P → Option (List ℕ) → Result ℕ CommandFault →
+    Option (List ℕ) → Option (List ℕ) → FivePorts P → FivePorts P → Type 0
 LoopsOver order a b to known result held_old held_new old new = IfSome known (λ input.
     OrderRun order a b to result held_old held_new old new input ⊎ Unmade result held_old held_new old new)

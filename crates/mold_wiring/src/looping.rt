@@ -90,6 +90,8 @@ fn run_made<D: Datagrams + Drop, S: Source, K: Sink>(
         (D.port ports.old.requests))
         (five_ports (D.port ports.new.publisher) (D.port ports.new.server) (D.port ports.new.a) (D.port ports.new.b)
         (D.port ports.new.requests)) }
+    ensures a { D.tells ≡ true → (D.port ports.new.a).sent ≡ (D.port ports.old.a).sent }
+    ensures b { D.tells ≡ true → (D.port ports.new.b).sent ≡ (D.port ports.old.b).sent }
     ensures failures { CountsCommand (S.failed source.old) (S.failed source.new) (K.failed sink.old) (K.failed sink.new)
         result }
 {
@@ -110,7 +112,8 @@ fn run_made<D: Datagrams + Drop, S: Source, K: Sink>(
 }
 
 /// Publishes the lines of the source, and serves and listens to them, in one process, as the order says: each line's
-/// packets but those that the order leaves out of it. `Read` and `Write` come only where the source or the sink failed.
+/// packets but those that the order leaves out of it. The ports of the lines send nothing. `Read` and `Write` come only
+/// where the source or the sink failed.
 pub fn loop_over<D: Datagrams + Drop, S: Source, K: Sink>(
     alloc: Global,
     order: &LoopOrder,
@@ -129,6 +132,8 @@ pub fn loop_over<D: Datagrams + Drop, S: Source, K: Sink>(
         (D.port ports.old.requests))
         (five_ports (D.port ports.new.publisher) (D.port ports.new.server) (D.port ports.new.a) (D.port ports.new.b)
         (D.port ports.new.requests)) }
+    ensures a { D.tells ≡ true → (D.port ports.new.a).sent ≡ (D.port ports.old.a).sent }
+    ensures b { D.tells ≡ true → (D.port ports.new.b).sent ≡ (D.port ports.old.b).sent }
     ensures failures { CountsCommand (S.failed source.old) (S.failed source.new) (K.failed sink.old) (K.failed sink.new)
         result }
 {

@@ -117,8 +117,7 @@ ask_applied w new receiver place request bytes (Err error) here want asks applie
   elim applied.0 [
     | inl wanting ↦ inl (
       wanting.0,
-      subst (λ (t : Outcome). IsOk t)
-          (sym (asked_at w receiver place (Some request) here want)) refl,
+      record { place = place; request = request; here = here; lacks = sym want },
     )
     | inr other ↦ inr (asked_at w receiver place (Some request) here want
         ∙ sym (requested_at w bytes request asks) ∙ other)

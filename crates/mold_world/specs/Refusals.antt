@@ -3,6 +3,8 @@ use Rattle.std.specs.Prelude.{◌≡◌, ◌⊎◌, ℕ, List, Option, Some, Res
 use Rattle.std.specs.Prelude.{if◌then◌else◌, slice_get, position}
 use Rattle.std.specs.Option.{option_map}
 use Rattle.mold_receiver.specs.Receive.{IsCopied}
+use Rattle.mold_receiver.specs.Wanted.{wanted}
+use Rattle.mold_wire.specs.declared.request.Request.{Request as Asked}
 use Rattle.mold_world.specs.Event.{Happening}
 use Rattle.mold_world.specs.Effect.{effect}
 use Rattle.mold_world.specs.declared.event.EventOf.TheVariants.{Publish, Datagram, Heartbeat, Close, End}
@@ -43,9 +45,16 @@ pub record IsCopying (w : WorldState) (receiver sent : ℕ) : Type 0 where
   pub found : slice_get w.sent sent ≡ Some bytes
   pub copied : IsCopied place.arbitration.view bytes
 
+-- a receiver lacks messages, for which it asks
+pub record IsAsking (w : WorldState) (receiver : ℕ) : Type 0 where
+  pub place : PlaceState
+  pub request : Asked
+  pub here : slice_get w.places receiver ≡ Some place
+  pub lacks : wanted place.arbitration.view ≡ Some request
+
 -- where memory may be wanting: in place of a message's publication, before new messages are sent, in place of a
--- heartbeat, an end packet or an answer, where a receiver is that asks, where a datagram is copied, and in place of
--- a restart; so an event that is refused for another cause is refused for that
+-- heartbeat, an end packet or an answer, where a receiver asks for something, where a datagram is copied, and in place
+-- of a restart; so an event that is refused for another cause is refused for that
 abbrev pub MayWant : WorldState → Happening → Type 0
 MayWant w (Publish message) = IsOk (effect w (Publish message))
 MayWant w Datagram = Unit {0}
@@ -53,7 +62,7 @@ MayWant w Heartbeat = IsSome (next_heartbeat w.publisher)
 MayWant w Close = ⊥
 MayWant w End = IsSome (next_end w.publisher)
 MayWant w (Request bytes) = IsOk (effect w (Request bytes))
-MayWant w (Ask receiver) = IsOk (effect w (Ask receiver))
+MayWant w (Ask receiver) = IsAsking w receiver
 MayWant w (Deliver receiver way sent) = IsCopying w receiver sent
 MayWant w (Noise receiver way bytes) = ⊥
 MayWant w (Restart receiver next) = IsOk (effect w (Restart receiver next))

@@ -1,8 +1,9 @@
 use Rattle.std.proofs.Common.{◌≡◌, ◌∙◌, ◌++◌, ℕ, List, ap, arith, eqb, subst, sym}
 use Rattle.std.specs.Io.KnownBytes.{Consumes, prepend_known}
-use Rattle.std.proofs.KnownBytes.{Consumes-trans}
+use Rattle.std.proofs.KnownBytes.{Consumes-nil, Consumes-trans}
 use Rattle.mold_devices.specs.Lines.{HasNoEnd}
-use Rattle.mold_devices.proofs.LineLemmas.{HasNoEnd-append, InPieces, IsOver, found_end, gives_joined, gives_end, none_found}
+use Rattle.mold_devices.proofs.LineLemmas.{HasNoEnd-append, InPieces, IsOver, begun_line, begun_unread, found_end, gives_joined}
+use Rattle.mold_devices.proofs.LineLemmas.{gives_end, none_found, on_err}
 use Rattle.mold_devices.proofs.lines.join_line.Goals as goal
 
 pub returns-then-count-eq0-clause-line : goal.returns-then-count-eq0-clause-line
@@ -54,3 +55,37 @@ pieces-preserved g c =
       work = λ some. omega (arith, lower);
       failures = c.in_ok-count.ensures.failures ∙ c.pieces.invariant.failures;
     }
+
+pub returns-in_err-extend_from_slice-clause-begun : goal.returns-in_err-extend_from_slice-clause-begun
+returns-in_err-extend_from_slice-clause-begun g c =
+    let known = prepend_known c.args.piece.now (g.S.Source.left c.args.source.now) in
+    on_err c.from_residual.result
+    (subst (λ (t : List ℕ). Consumes known known t) (sym (c.in_err-extend_from_slice.ensures.items ∙ c.requires.empty))
+    (Consumes-nil known))
+
+pub returns-in_err-count-clause-begun : goal.returns-in_err-count-clause-begun
+returns-in_err-count-clause-begun g c =
+    on_err c.from_residual-in_err-count.result
+    (begun_unread (prepend_known c.args.piece.now (g.S.Source.left c.args.source.now)) (g.S.Source.left c.pieces.source)
+    (g.S.Source.left c.refill.new.source) c.pieces.joined.items c.refill.new.self c.pieces.invariant.read
+    c.in_err-count.ensures.left c.in_err-count.ensures.none)
+
+pub returns-in_err-extend_from_slice-2-clause-begun : goal.returns-in_err-extend_from_slice-2-clause-begun
+returns-in_err-extend_from_slice-2-clause-begun g c =
+    let known = prepend_known c.args.piece.now (g.S.Source.left c.args.source.now) in
+    let left = g.S.Source.left c.refill.new.source in
+    on_err c.from_residual-in_err-extend_from_slice-2.result
+    (subst (λ (t : List ℕ). Consumes known (prepend_known c.refill.new.self left) t)
+    (sym c.in_err-extend_from_slice-2.ensures.items)
+    (begun_line known (g.S.Source.left c.pieces.source) left c.pieces.joined.items c.refill.new.self
+    c.pieces.invariant.read c.in_ok-count.ensures.bytes))
+
+pub returns-in_err-extend_from_slice-3-clause-begun : goal.returns-in_err-extend_from_slice-3-clause-begun
+returns-in_err-extend_from_slice-3-clause-begun g c =
+    let known = prepend_known c.args.piece.now (g.S.Source.left c.args.source.now) in
+    let left = g.S.Source.left c.refill.new.source in
+    on_err c.from_residual-in_err-extend_from_slice-3.result
+    (subst (λ (t : List ℕ). Consumes known (prepend_known c.refill.new.self left) t)
+    (sym c.in_err-extend_from_slice-3.ensures.items)
+    (begun_line known (g.S.Source.left c.pieces.source) left c.pieces.joined.items c.refill.new.self
+    c.pieces.invariant.read c.in_ok-count.ensures.bytes))

@@ -1,7 +1,8 @@
-use Rattle.std.proofs.Common.{List, ℕ, ap, subst}
+use Rattle.std.proofs.Common.{◌∙◌, List, ℕ, ap, subst}
 use Rattle.std.specs.Io.KnownBytes.{Appends}
 use Rattle.mold_devices.specs.Devices.{AppendsFront}
 use Rattle.mold_feed.specs.Outgoing.{OutgoingState}
+use Rattle.mold_feed.proofs.OutgoingLemmas.{all_written}
 use Rattle.mold_feed.proofs.PrintingLemmas.{front_none}
 use Rattle.mold_feed.proofs.looping.print_last.Goals as goal
 
@@ -24,3 +25,8 @@ returns-clause-whole g c = (
       (ap (λ (r : OutgoingState). r.text) c.in_ok-status.ensures.line) c.in_ok-send.ensures.whole,
   c.in_ok-status.ensures.status,
 )
+
+pub returns-clause-left : goal.returns-clause-left
+returns-clause-left g c =
+    all_written c.args.listener.now.report.outgoing c.send.new.self c.in_ok-send.ensures.empty
+    (c.send.ensures.failures ∙ ap (λ (o : OutgoingState). o.failures) c.in_ok-status.ensures.line)

@@ -1,6 +1,7 @@
 use Rattle.std.proofs.Common.{◌++◌, ◌∙◌, List, ℕ, ap, refl}
 use Rattle.mold_publish.specs.Publishing.{refused_text}
 use Rattle.mold_feed.specs.Outgoing.{OutgoingState}
+use Rattle.mold_feed.proofs.OutgoingLemmas.{all_written}
 use Rattle.mold_feed.proofs.PrintingLemmas.{front_behind, front_more, front_whole, whole_behind}
 use Rattle.mold_feed.proofs.looping.print_refused.Goals as goal
 
@@ -34,3 +35,9 @@ returns-clause-whole g c =
           c.in_ok-send-2.ensures.whole,
       refl,
     )
+
+pub returns-clause-left : goal.returns-clause-left
+returns-clause-left g c =
+    all_written c.args.outgoing.now c.send-2.new.self c.in_ok-send-2.ensures.empty
+    (c.send-2.ensures.failures ∙ ap (λ (o : OutgoingState). o.failures) c.in_ok-push_line_refused.ensures
+    ∙ c.send.ensures.failures)

@@ -1,11 +1,13 @@
-use Rattle.std.proofs.Common.{◌∙◌, ap, refl}
+use Rattle.std.proofs.Common.{◌∙◌, None, Some, ap, refl}
 use Rattle.mold_feed.proofs.FaultLemmas.{counts_behind}
 use Rattle.mold_feed.specs.Looping.{line_state}
 use Rattle.mold_feed.specs.Repairing.{repair_state}
+use Rattle.mold_ports.specs.Ports.{Port}
 use Rattle.mold_session.specs.Publisher.{PublisherState}
-use Rattle.mold_feed.proofs.LoopEndLemmas.{loop_done, loop_stopped, loop_unbegun, loop_unended, loop_unheard, loop_unrepaired}
+use Rattle.mold_feed.proofs.LoopEndLemmas.{journal_left, loop_done, loop_stopped, loop_unbegun, loop_unended, loop_unheard, loop_unrepaired}
 use Rattle.mold_feed.proofs.LoopEndLemmas.{rests_from}
 use Rattle.mold_feed.proofs.PassingLemmas.{loop_closed, loop_none, loop_refused, loop_unread}
+use Rattle.mold_feed.proofs.RunLemmas.{on_ok}
 use Rattle.mold_feed.proofs.looping.session_loop.Goals as goal
 
 pub returns-in_err-refused-clause-sends : goal.returns-in_err-refused-clause-sends
@@ -70,7 +72,7 @@ returns-in_err-refused-clause-run g c tells =
     loop_unheard c.args.drops c.args.peers.now.a c.args.peers.now.b c.args.peers.now.server c.args.turns c.args.publisher.now
     c.pass_lines.new.publisher c.args.server.now lines rounds _ c.pass_lines.result
     c.from_residual-in_err-refused.result _ _ here left c.from_residual-in_err-refused.ensures.0
-    (ap port c.pass_lines.ensures.requests) (c.pass_lines.ensures.heard tells)
+    (ap port c.pass_lines.ensures.server) (ap port c.pass_lines.ensures.requests) (c.pass_lines.ensures.heard tells)
 
 pub returns-in-Some-clause-run : goal.returns-in-Some-clause-run
 returns-in-Some-clause-run g c tells =
@@ -100,6 +102,7 @@ returns-in-Some-clause-run g c tells =
       answered_left = refl;
       arbiter_left = refl;
     })
+    c.print_refused.ensures.left
 
 pub returns-in_err-pass_end-clause-run : goal.returns-in_err-pass_end-clause-run
 returns-in_err-pass_end-clause-run g c tells =
@@ -119,6 +122,7 @@ returns-in_err-pass_end-clause-run g c tells =
     c.from_residual-in_err-pass_end.result _ _ here there left
     (rw c.in_default.is at (c.in_ok-refused.ensures.heard tells)) (c.pass_end.ensures.passed tells)
     c.from_residual-in_err-pass_end.ensures.0
+    (ap port (c.pass_end.ensures.server ∙ c.pass_lines.ensures.server))
     (ap port (c.pass_end.ensures.requests ∙ c.pass_lines.ensures.requests))
 
 pub returns-in_err-repair_all-clause-run : goal.returns-in_err-repair_all-clause-run
@@ -185,3 +189,55 @@ returns-clause-run g c tells =
       answered_left = refl;
       arbiter_left = c.print_last.ensures.arbiter;
     })
+    c.print_last.ensures.left
+
+pub returns-in-Some-clause-journal : goal.returns-in-Some-clause-journal
+returns-in-Some-clause-journal g c tells =
+    on_ok c.print_refused.result
+    (journal_left c.args.drops c.args.peers.now.a c.args.peers.now.b c.args.publisher.now c.pass_lines.new.publisher _
+    (Some c.in-Some.why) _ _ _ _ _ (rw c.in-Some.is at (c.in_ok-refused.ensures.heard tells)) refl)
+
+pub returns-clause-journal : goal.returns-clause-journal
+returns-clause-journal g c tells =
+    on_ok c.print_last.result
+    (journal_left c.args.drops c.args.peers.now.a c.args.peers.now.b c.args.publisher.now c.pass_lines.new.publisher _
+    None _ _ _ _ _ (rw c.in_default.is at (c.in_ok-refused.ensures.heard tells))
+    (ap (λ (p : PublisherState). p.journal) c.pass_end.ensures.closed))
+
+pub returns-in-Some-clause-limit : goal.returns-in-Some-clause-limit
+returns-in-Some-clause-limit g c = on_ok c.print_refused.result c.in_ok-refused.ensures.limit
+
+pub returns-clause-limit : goal.returns-clause-limit
+returns-clause-limit g c =
+    on_ok c.print_last.result
+    (ap (λ (p : PublisherState). p.limit) c.pass_end.ensures.closed ∙ c.in_ok-refused.ensures.limit)
+
+pub returns-in_err-pass_end-clause-a : goal.returns-in_err-pass_end-clause-a
+returns-in_err-pass_end-clause-a g c tells = c.pass_end.ensures.a tells ∙ c.pass_lines.ensures.a tells
+
+pub returns-in_err-repair_all-clause-a : goal.returns-in_err-repair_all-clause-a
+returns-in_err-repair_all-clause-a g c tells =
+    ap (λ (p : Port _). p.sent) (ap g.D.Datagrams.port c.repair_all.ensures.a)
+    ∙ c.pass_end.ensures.a tells
+    ∙ c.pass_lines.ensures.a tells
+
+pub returns-clause-a : goal.returns-clause-a
+returns-clause-a g c tells =
+    ap (λ (p : Port _). p.sent) (ap g.D.Datagrams.port c.repair_all.ensures.a)
+    ∙ c.pass_end.ensures.a tells
+    ∙ c.pass_lines.ensures.a tells
+
+pub returns-in_err-pass_end-clause-b : goal.returns-in_err-pass_end-clause-b
+returns-in_err-pass_end-clause-b g c tells = c.pass_end.ensures.b tells ∙ c.pass_lines.ensures.b tells
+
+pub returns-in_err-repair_all-clause-b : goal.returns-in_err-repair_all-clause-b
+returns-in_err-repair_all-clause-b g c tells =
+    ap (λ (p : Port _). p.sent) (ap g.D.Datagrams.port c.repair_all.ensures.b)
+    ∙ c.pass_end.ensures.b tells
+    ∙ c.pass_lines.ensures.b tells
+
+pub returns-clause-b : goal.returns-clause-b
+returns-clause-b g c tells =
+    ap (λ (p : Port _). p.sent) (ap g.D.Datagrams.port c.repair_all.ensures.b)
+    ∙ c.pass_end.ensures.b tells
+    ∙ c.pass_lines.ensures.b tells

@@ -35,6 +35,8 @@ lines-init g c = record {
       (g.S.Source.left c.args.source.now) c.in_ok-lines.lines.rest _ _ c.in_ok-lines.ensures;
   server = refl;
   requests = refl;
+  a = λ tells. refl;
+  b = λ tells. refl;
   limit = refl;
   source = refl;
   sink = refl;
@@ -71,6 +73,8 @@ lines-preserved g c =
           c.in_ok-send_large.ensures.failures);
       server = c.pass_next.ensures.server ∙ c.lines.invariant.server;
       requests = c.pass_next.ensures.requests ∙ c.lines.invariant.requests;
+      a = λ tells. c.pass_next.ensures.a tells ∙ c.lines.invariant.a tells;
+      b = λ tells. c.pass_next.ensures.b tells ∙ c.lines.invariant.b tells;
       limit = ap (λ (p : PublisherState). p.limit) c.pass_next.ensures.sent ∙ filled.limit ∙ c.lines.invariant.limit;
       source = c.in_ok-fill.ensures.failures ∙ c.lines.invariant.source;
       sink = c.in_ok-send_large.ensures.sink ∙ c.lines.invariant.sink;

@@ -8,7 +8,7 @@ use Rattle.mold_feed.proofs.PassingLemmas.{PassedSoFar}
 use Rattle.mold_feed.proofs.passing.pass_lines.Given as goal
 
 -- what was published and not sent fits a datagram, the data so far were offered and heard, the limit and the other
--- ports are the same, and no device failed
+-- ports are the same, the lines' ports sent nothing, and no device failed
 abbrev pub invariant-lines : goal.invariant-lines
 invariant-lines g l = record {
   room : HasRoom l.publisher;
@@ -31,6 +31,8 @@ invariant-lines g l = record {
       (g.K.Sink.held l.fn.sink) (g.K.Sink.held l.sink) l.number;
   server : l.ports.server ≡ l.fn.ports.server;
   requests : l.ports.requests ≡ l.fn.ports.requests;
+  a : g.D.Datagrams.tells ≡ true → (g.D.Datagrams.port l.ports.a).sent ≡ (g.D.Datagrams.port l.fn.ports.a).sent;
+  b : g.D.Datagrams.tells ≡ true → (g.D.Datagrams.port l.ports.b).sent ≡ (g.D.Datagrams.port l.fn.ports.b).sent;
   limit : l.publisher.limit ≡ l.fn.publisher.limit;
   source : g.S.Source.failed l.source ≡ g.S.Source.failed l.fn.source;
   sink : g.K.Sink.failed l.sink ≡ g.K.Sink.failed l.fn.sink;

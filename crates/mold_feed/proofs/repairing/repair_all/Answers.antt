@@ -1,10 +1,11 @@
 use Rattle.std.proofs.Common.{arith, ◌≡◌, ◌≤◌, ◌∙◌, ℕ, ap, refl, subst, sym}
-use Rattle.mold_feed.specs.Repairing.{repair_state, round}
+use Rattle.mold_feed.specs.Repairing.{answers_sent, repair_state, round}
+use Rattle.mold_feed.specs.Runs.{Begins}
 use Rattle.mold_feed.specs.Serving.{Service, service_of}
 use Rattle.mold_receiver.specs.Wanted.{wanted}
 use Rattle.mold_session.specs.Server.{ServerState}
-use Rattle.mold_feed.proofs.RunLemmas.{going_init, going_on, going_sent, rests_all, rests_cut, rests_failed, rests_left}
-use Rattle.mold_feed.proofs.RepairLemmas.{rests_still, round_is, rounds_are, sent_alike, text_moved}
+use Rattle.mold_feed.proofs.RunLemmas.{going_init, going_on, going_sent, two_all, two_cut, two_failed}
+use Rattle.mold_feed.proofs.RepairLemmas.{rests_still, round_answers, round_is, rounds_are, sent_alike, text_moved}
 use Rattle.mold_feed.proofs.ServingLemmas.{same_service}
 use Rattle.mold_feed.proofs.repairing.repair_all.Goals as goal
 
@@ -77,9 +78,10 @@ returns-in_err-round-clause-rests g c = λ t.
     let done = c.round.ensures.requested t in
     let has = round_is _ c.args.to (service_of c.args.journal.now c.loop-turn.server) c.in-Some.request
     done.0 before after (ap wanted (sym c.receiver.ensures) ∙ sym c.in-Some.ensures.wanted) done.1 in
-    rests_failed (rounds_are c.args.to service) c.from_residual.result c.args.turns done.0 after
-    (c.loop-turn.invariant.going t) c.loop-turn-test.true
+    two_failed (rounds_are c.args.to service) answers_sent (λ front s. refl) (round_answers c.args.to service)
+    c.from_residual.result c.args.turns done.0 after (c.loop-turn.invariant.going t) c.loop-turn-test.true
     (sent_alike (has.requests ∙ ap (λ (s : Service). (round c.args.to s done.0 before).requests.sent) same))
+    (subst (λ (s : Service). Begins after.server.sent (round c.args.to s done.0 before).server.sent) same has.answers)
     c.from_residual.ensures.0
 
 pub returns-in_err-send_large-clause-rests : goal.returns-in_err-send_large-clause-rests
@@ -94,15 +96,16 @@ returns-in_err-send_large-clause-rests g c = λ t.
     let done = c.in_ok-round.ensures.requested t in
     let has = round_is _ c.args.to (service_of c.args.journal.now c.loop-turn.server) c.in-Some.request
     done.0 before made (ap wanted (sym c.receiver.ensures) ∙ sym c.in-Some.ensures.wanted) done.1 in
-    let failed = c.from_residual-in_err-send_large.ensures.0 in
-    rests_left (rounds_are c.args.to service) c.from_residual-in_err-send_large.result _
-    (rests_cut (rounds_are c.args.to service) c.from_residual-in_err-send_large.result c.args.turns done.0 made
-    (c.loop-turn.invariant.going t) c.loop-turn-test.true
-    (has.whole ∙ ap (λ (s : Service). round c.args.to s done.0 before) same) c.send_large.ensures.front failed)
-    refl failed
+    let left = repair_state (known c.round.new.ports.server) (known c.round.new.ports.requests) c.round.new.server
+    c.round.new.listener.arbiter c.send_large.new.self in
+    two_cut (rounds_are c.args.to service) answers_sent (λ front s. refl) (round_answers c.args.to service)
+    c.from_residual-in_err-send_large.result c.args.turns done.0 made left (c.loop-turn.invariant.going t)
+    c.loop-turn-test.true (has.whole ∙ ap (λ (s : Service). round c.args.to s done.0 before) same)
+    c.send_large.ensures.front refl refl c.from_residual-in_err-send_large.ensures.0
 
 pub returns-clause-rests : goal.returns-clause-rests
 returns-clause-rests g c = λ t.
     let made : c.loop-turn._turn ≡ c.args.turns = omega (arith, c.loop-turn-test.false, c.loop-turn.auto._turn-end) in
-    rests_all (rounds_are c.args.to (service_of c.args.journal.now c.args.server.now)) _ c.args.turns made
-    (c.loop-turn.invariant.going t)
+    let service = service_of c.args.journal.now c.args.server.now in
+    two_all (rounds_are c.args.to service) answers_sent (λ front s. refl) (round_answers c.args.to service) _ c.args.turns
+    made (c.loop-turn.invariant.going t)

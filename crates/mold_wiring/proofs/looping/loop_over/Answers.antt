@@ -15,9 +15,9 @@ returns-in_err-server-clause-sends g c tells =
 pub returns-in_err-publisher-clause-run : goal.returns-in_err-publisher-clause-run
 returns-in_err-publisher-clause-run g c tells =
     nothing_done c.args.order.now c.args.peers.now.a c.args.peers.now.b c.args.peers.now.server _ c.from_residual.result _ _
-    c.from_residual.ensures.0
+    c.from_residual.ensures.1
 
 pub returns-in_err-server-clause-run : goal.returns-in_err-server-clause-run
 returns-in_err-server-clause-run g c tells =
     nothing_done c.args.order.now c.args.peers.now.a c.args.peers.now.b c.args.peers.now.server _ c.from_residual-in_err-server.result _ _
-    c.from_residual-in_err-server.ensures.0
+    c.from_residual-in_err-server.ensures.1

@@ -12,7 +12,7 @@ returns-in_err-listener-clause-sends g c tells =
 pub returns-in_err-listener-clause-run : goal.returns-in_err-listener-clause-run
 returns-in_err-listener-clause-run g c tells =
     nothing_done c.args.order.now c.args.peers.now.a c.args.peers.now.b c.args.peers.now.server _ c.from_residual.result _ _
-    c.from_residual.ensures.0
+    c.from_residual.ensures.1
 
 pub returns-clause-run : goal.returns-clause-run
 returns-clause-run g c tells =

@@ -8,4 +8,4 @@ pub returns : goal.returns
 returns c =
     on_ok_weaker c.push_line.result
     (λ added. ap (λ (outgoing : OutgoingState). with_outgoing outgoing c.args.self.now) added)
-    (rw c.failures.ensures at c.push_line.ensures)
+    (rw c.failures.ensures at c.push_line.ensures.line)
