@@ -10,6 +10,7 @@ pub mod LinesPrintedLemmas
 pub mod LinesTextLemmas
 pub mod ListenLemmas
 pub mod LoopEndLemmas
+pub mod LoopLawLemmas
 pub mod LoopLemmas
 pub mod OutgoingLemmas
 pub mod PassingLemmas

@@ -30,7 +30,7 @@ use Rattle.mold_wire.specs.Truth.{IsTruePacket}
 use Rattle.mold_wire.specs.declared.session.Session.{Session}
 
 -- the journal that publishing the lines leaves
-abbrev left_by : JournalState → List (List ℕ) → JournalState
+abbrev pub left_by : JournalState → List (List ℕ) → JournalState
 left_by journal lines = left_journal (lines_published journal lines)
 
 -- what the laws say that the session's law stands on
@@ -72,7 +72,7 @@ pub record FeedLaws (P : Type 0) : Type 0 where
 -- ---- what was sent is true
 
 -- a port that had sent nothing
-none_sent : {P : Type 0} (Good : List ℕ → Type 0) (sent : List (P × List ℕ)) → sent ≡ [] → AllSent Good sent
+pub none_sent : {P : Type 0} (Good : List ℕ → Type 0) (sent : List (P × List ℕ)) → sent ≡ [] → AllSent Good sent
 none_sent {P} Good sent none = subst (λ (s : List (P × List ℕ)). AllSent Good s) (sym none) tt
 
 -- what is true of a copy is true of the journal
@@ -111,7 +111,7 @@ gives_weaker Good Other weaker (Datagram from bytes) gives = weaker _ gives
 gives_weaker Good Other weaker Quiet gives = tt
 gives_weaker Good Other weaker Failure gives = tt
 
-port_weaker : {P : Type 0} (Good Other : List ℕ → Type 0) → ((bytes : List ℕ) → Good bytes → Other bytes) →
+pub port_weaker : {P : Type 0} (Good Other : List ℕ → Type 0) → ((bytes : List ℕ) → Good bytes → Other bytes) →
     (port : Port P) → GivesOnly Good port → GivesOnly Other port
 port_weaker Good Other weaker port gives = each_weaker (Gives Good) (Gives Other) (gives_weaker Good Other weaker) port.comes gives
 
@@ -152,13 +152,13 @@ module _ {P : Type 0} (laws : FeedLaws P) (limit : ℕ) (journal : JournalState)
 
   -- ---- a listener of the session
 
-  module _ (unrefused : (lines_published journal lines).refused ≡ None) (first window burst turns : ℕ)
-      (least : 1 ≤ first) (most : first ≤ length lines + 1) (server : P) (a b requests : Port P)
-      (arbitration : Arbitration) (anew : arbitration.view ≡ fresh journal.session first window) where
-    has_lines : HasLines lines (left_by journal lines)
+  module _ (unrefused : (lines_published journal lines).refused ≡ None) (first window : ℕ) (least : 1 ≤ first)
+      (most : first ≤ length lines + 1) (arbitration : Arbitration)
+      (anew : arbitration.view ≡ fresh journal.session first window) where
+    pub has_lines : HasLines lines (left_by journal lines)
     has_lines = laws.lines limit journal lines opening unrefused
 
-    begins_honest : IsHonest arbitration.view (left_by journal lines).messages (left_by journal lines).closed
+    pub begins_honest : IsHonest arbitration.view (left_by journal lines).messages (left_by journal lines).closed
     begins_honest =
         let may = laws.answers limit limit journal lines opening (omega arith) opening.limited.1 in
         let many = spelled_length lines (left_by journal lines).messages has_lines.spelled in
@@ -166,14 +166,14 @@ module _ {P : Type 0} (laws : FeedLaws P) (limit : ℕ) (journal : JournalState)
         (laws.begins journal.session first window (left_by journal lines).messages (left_by journal lines).closed least
         (omega (arith, many, most)) may.journaled.few)
 
-    begins_in : arbitration.view.session ≡ (left_by journal lines).session
+    pub begins_in : arbitration.view.session ≡ (left_by journal lines).session
     begins_in = ap (λ (v : View). v.session) anew ∙ sym (left_session journal lines)
 
-    begins_at : arbitration.view.next ≡ first
+    pub begins_at : arbitration.view.next ≡ first
     begins_at = ap (λ (v : View). v.next) anew
 
-    module _ {E : Type 0} (agrees : ListenerState P → Type 0) (result : Result ℕ E) (old new : Option (List ℕ))
-        (sent : List (P × List ℕ))
+    module _ (burst turns : ℕ) (server : P) (a b requests : Port P) {E : Type 0} (agrees : ListenerState P → Type 0)
+        (result : Result ℕ E) (old new : Option (List ℕ)) (sent : List (P × List ℕ))
         (ran : Ran (listening server burst) turns (beginning a b requests arbitration) last_line status agrees result old
         new sent) where
       abbrev ending : ListenerState P

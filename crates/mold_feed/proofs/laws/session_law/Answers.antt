@@ -19,12 +19,12 @@ pub returns-clause-printed : goal.returns-clause-printed
 returns-clause-printed g c =
     λ limit first window turns burst journal lines server a b requests arbitration a_left b_left requests_left left result
     old new sent opening unrefused least most anew hears ran.
-    session_prints_lines (laws g c) limit journal lines opening unrefused first window burst turns least most server a b
-    requests arbitration anew _ result old new sent ran hears
+    session_prints_lines (laws g c) limit journal lines opening unrefused first window least most arbitration anew burst turns
+    server a b requests _ result old new sent ran hears
 
 pub returns-clause-among : goal.returns-clause-among
 returns-clause-among g c =
     λ limit first window turns burst journal lines server a b requests arbitration a_left b_left requests_left left result
     old new sent opening unrefused least most anew hears ran.
-    session_prints_among (laws g c) limit journal lines opening unrefused first window burst turns least most server a b
-    requests arbitration anew _ result old new sent ran hears
+    session_prints_among (laws g c) limit journal lines opening unrefused first window least most arbitration anew burst turns
+    server a b requests _ result old new sent ran hears

@@ -1,0 +1,40 @@
+use Rattle.mold_feed.proofs.HeardTakingLemmas.{HearingLaws}
+use Rattle.mold_feed.proofs.LoopLawLemmas.{LoopLaws, loop_prints_lines}
+use Rattle.mold_feed.proofs.SessionLawLemmas.{FeedLaws}
+use Rattle.mold_feed.proofs.laws.loop_law.Given.{Over}
+use Rattle.mold_feed.proofs.laws.loop_law.Goals.{After-reading_law}
+use Rattle.mold_feed.proofs.laws.loop_law.Goals as goal
+
+feed : (g : Over) → After-reading_law g → FeedLaws g.row.D-Peer.Denot
+feed g c = record {
+  published = c.published_law.ensures.sent;
+  lines = c.published_law.ensures.lines;
+  answers = c.published_law.ensures.answers;
+  served = c.served_law.ensures;
+  heard = c.listened_law.ensures.heard;
+  plain = c.listened_law.ensures.plain;
+  finished = c.listened_law.ensures.finished;
+  begins = c.honest_stays_law.ensures.fresh;
+}
+
+hearing : (g : Over) → After-reading_law g → HearingLaws
+hearing g c = record {
+  take = c.honest_take_law.ensures;
+  taken = c.taken_law.ensures;
+  spelled = c.reading_law.ensures.spelled;
+  fault = c.reading_law.ensures.fault;
+}
+
+laws : (g : Over) → After-reading_law g → LoopLaws g.row.D-Peer.Denot
+laws g c = record {
+  feed = feed g c;
+  offered = c.published_law.ensures.offered;
+  hearing = hearing g c;
+}
+
+pub returns : goal.returns
+returns g c =
+    λ drops a b to turns limit first window journal lines server start start_left rounds rounds_left result old new opening
+    unrefused serves longest least most anew blank own ran.
+    loop_prints_lines (laws g c) drops a b to turns limit journal lines server start start_left rounds rounds_left result
+    old new opening serves longest own ran unrefused first window least most anew blank
