@@ -1,28 +1,28 @@
 -- From the lines that a loop in one process publishes to the lines that it prints, where its ports give only what was
 -- sent in it.
-use Rattle.std.proofs.Common.{◌≡◌, ℕ, ◌+◌, ◌≤◌, Bool, true, false, List, [], ◌∷◌, ◌++◌, length, map, Option, None, Some}
+use Rattle.std.proofs.Common.{◌≡◌, ℕ, ◌+◌, ◌≤◌, Bool, true, false, List, [], ◌∷◌, ◌++◌, length, map, take, Option, None, Some}
 use Rattle.std.proofs.Common.{Result, inl, refl, sym, ap, subst, ◌∙◌, arith}
 use Rattle.std.specs.Io.KnownBytes.{Appends}
 use Rattle.std.specs.List.{AllByRecursion}
 use Rattle.std.proofs.lemmas.Result.{IfOk-weaker}
 use Rattle.mold_devices.specs.Devices.{AppendsFront}
-use Rattle.mold_feed.specs.Heard.{GivesOnly, PrintsLines, Saying, lines_text, sayings_text}
+use Rattle.mold_feed.specs.Heard.{GivesOnly, PrintsLines, PrintsRefused, Saying, lines_text, sayings_text}
 use Rattle.mold_feed.specs.Listening.{Asking, Hearing, ListenerState, hearing_line, hearing_status, missed}
 use Rattle.mold_feed.specs.Looping.{Failed, LeftOut, LineState, LoopRun, Outcome, Pass, Sent, StandsBehind, all_routed}
-use Rattle.mold_feed.specs.Looping.{heard_if, heard_on, lines_behind, loop_end, loop_line, loop_status, offered_by}
+use Rattle.mold_feed.specs.Looping.{heard_if, heard_on, lines_behind, loop_end, loop_line, loop_status, loop_text, offered_by}
 use Rattle.mold_feed.specs.Looping.{outgoing_after, passed, port_after, received_if, rounds_made}
 use Rattle.mold_feed.specs.Looping.{routed, routed_by, routed_end, sent_by, with_heard}
 use Rattle.mold_feed.specs.Outgoing.{OutgoingState}
 use Rattle.mold_feed.specs.Own.{GivesSent, OwnPorts, WasSent}
-use Rattle.mold_feed.specs.PublishLoop.{after_data, all_datagrams, data_behind}
+use Rattle.mold_feed.specs.PublishLoop.{after_data, all_datagrams, closed_unless, data_behind}
 use Rattle.mold_feed.specs.Repairing.{RepairState, missed_more, repaired, repairing, requested, round, served}
 use Rattle.mold_feed.specs.Runs.{run}
-use Rattle.mold_feed.specs.Sent.{AllSent, HasLines, IsOpening}
+use Rattle.mold_feed.specs.Sent.{AllSent, HasLines, HasLinesBefore, IsOpening}
 use Rattle.mold_feed.specs.Serving.{ResponderState, Service, serve_turn, service_of}
 use Rattle.mold_feed.specs.Text.{handed_text}
 use Rattle.mold_feed.specs.declared.loop_parts.Drops.{Drops}
 use Rattle.mold_feed.specs.declared.loop_parts.Routes.{Routes}
-use Rattle.mold_feed.proofs.HeardSayingLemmas.{text-handing}
+use Rattle.mold_feed.proofs.HeardSayingLemmas.{between_front, text-handing}
 use Rattle.mold_feed.proofs.HeardTakingLemmas.{HasHeard, HearingLaws, IsSound, MayCome, last_number, nothing_heard}
 use Rattle.mold_feed.proofs.HeardTakingLemmas.{then_heard}
 use Rattle.mold_feed.proofs.HeardTurnLemmas.{answers_heard, ends_so, port_heard, rest_gives}
@@ -32,8 +32,9 @@ use Rattle.mold_feed.proofs.SentLemmas.{each_append, each_begun, each_front, eac
 use Rattle.mold_feed.proofs.SessionLawLemmas.{FeedLaws, begins_at, begins_honest, begins_in, left_by}
 use Rattle.mold_feed.proofs.SessionLawLemmas.{none_sent, port_weaker}
 use Rattle.mold_ports.specs.Ports.{Port, offered}
-use Rattle.mold_publish.specs.Publishing.{PublishedLines, lines_published}
+use Rattle.mold_publish.specs.Publishing.{PublishedLines, lines_published, refused_text}
 use Rattle.mold_publish.specs.declared.line_refusal.LineRefusal.{LineRefusal}
+use Rattle.mold_receiver.specs.Store.{Message}
 use Rattle.mold_receiver.specs.View.{fresh}
 use Rattle.mold_receiver.specs.Wanted.{wanted}
 use Rattle.mold_receiver.specs.declared.line.Line.{Line}
@@ -51,6 +52,9 @@ pub record LoopLaws (P : Type 0) : Type 0 where
   pub offered : (beats ends limit : ℕ) (journal : JournalState) (lines : List (List ℕ)) → IsOpening journal limit →
       AllByRecursion (TellsTruth (left_by journal lines))
       (all_datagrams limit beats ends (lines_published journal lines))
+  pub before : (limit : ℕ) (journal : JournalState) (lines : List (List ℕ)) (why : LineRefusal) →
+      IsOpening journal limit → (lines_published journal lines).refused ≡ Some why →
+      HasLinesBefore lines why (lines_published journal lines).journal
   pub hearing : HearingLaws
 
 -- ---- what the publisher's port sends
@@ -269,6 +273,21 @@ module _ (journal : JournalState) (Plain : Type 0) (Good : List ℕ → Type 0) 
 
 -- ---- a loop
 
+-- closed or not, a journal has the same messages
+unless_messages : (refused : Option LineRefusal) (journal : JournalState) →
+    (closed_unless refused journal).messages ≡ journal.messages
+unless_messages None journal = refl
+unless_messages (Some why) journal = refl
+
+pub messages_within : (journal : JournalState) (lines : List (List ℕ)) (first : ℕ) →
+    first ≤ length (lines_published journal lines).journal.messages + 1 →
+    first ≤ length (left_by journal lines).messages + 1
+messages_within journal lines first most =
+    let published = lines_published journal lines in
+    let many : length (left_by journal lines).messages ≡ length published.journal.messages =
+    ap (λ (messages : List Message). length messages) (unless_messages published.refused published.journal) in
+    omega (arith, many, most)
+
 -- what was sent is true, so is what a port gives of it
 gives_true : {P : Type 0} (Good : List ℕ → Type 0) (sent : List (P × List ℕ)) (port : Port P) → AllSent Good sent →
     GivesSent sent port → GivesOnly Good port
@@ -335,72 +354,122 @@ module _ {P : Type 0} (laws : LoopLaws P) (drops : Drops) (a b to : P) (turns li
       (with_heard mid rounds) on_lines.sound
       (gives_true Good rounds_left.server.sent rounds.requests server_true own.requests))
 
-  -- ---- where no line is refused, and the listener is a new one
+  -- ---- a new listener
 
-  module _ (unrefused : (lines_published journal lines).refused ≡ None) (first window : ℕ) (least : 1 ≤ first)
-      (most : first ≤ length lines + 1) (anew : start.hearing.arbitration.view ≡ fresh journal.session first window)
+  module _ (first window : ℕ) (least : 1 ≤ first) (most : first ≤ length left.messages + 1)
+      (anew : start.hearing.arbitration.view ≡ fresh journal.session first window)
       (blank : start.hearing.outgoing.text ≡ []) where
-    spelled : HasLines lines left
-    spelled = laws.feed.lines limit journal lines opening unrefused
-
     begins : start.hearing.arbitration.view.next ≡ first
-    begins =
-        begins_at laws.feed limit journal lines opening unrefused first window least most start.hearing.arbitration anew
+    begins = begins_at laws.feed limit journal lines opening first window least most start.hearing.arbitration anew
 
     sound : IsSound left start.hearing
     sound = record {
       honest =
-          begins_honest laws.feed limit journal lines opening unrefused first window least most start.hearing.arbitration
-          anew;
-      session =
-          begins_in laws.feed limit journal lines opening unrefused first window least most start.hearing.arbitration
-          anew;
+          begins_honest laws.feed limit journal lines opening first window least most start.hearing.arbitration anew;
+      session = begins_in laws.feed limit journal lines opening first window least most start.hearing.arbitration anew;
     }
 
     done : HasHeard left (Unit {0}) Good start.hearing end
     done = hears_true sound
 
-    -- its text is the lines
-    text_is : end.outgoing.text ≡ lines_text first (between lines first end.arbitration.view.next)
+    from : first ≤ end.arbitration.view.next
+    from = omega (arith, begins, done.from)
+
+    within : end.arbitration.view.next ≤ length left.messages + 1
+    within = last_number left end done.sound
+
+    text_is : end.outgoing.text ≡ handed_text first (between left.messages first end.arbitration.view.next)
     text_is =
-        let from : ℕ = start.hearing.arbitration.view.next in
         let next : ℕ = end.arbitration.view.next in
         done.text
         ∙ ap (λ (text : List ℕ). text ++ sayings_text done.sayings) blank
         ∙ ap (λ (sayings : List Saying). sayings_text sayings) (done.plain tt)
-        ∙ text-handing from (between left.messages from next)
+        ∙ text-handing start.hearing.arbitration.view.next
+        (between left.messages start.hearing.arbitration.view.next next)
         ∙ ap (λ (n : ℕ). handed_text n (between left.messages n next)) begins
-        ∙ text_between lines left.messages first next spelled.spelled
 
-    -- its last line and its status are a listener's
-    line_is : loop_line published.journal published.refused end ≡ hearing_line end
-    line_is = ap (λ (refused : Option LineRefusal). loop_line published.journal refused end) unrefused
+    -- where a line is refused
 
-    status_is : loop_status published.refused end ≡ hearing_status end
-    status_is = ap (λ (refused : Option LineRefusal). loop_status refused end) unrefused
+    module _ (why : LineRefusal) (refused : published.refused ≡ Some why) where
+      abbrev count : ℕ
+      count = length published.journal.messages
 
-    abbrev ending : ListenerState P
-    ending = record { a = start.a; b = start.b; requests = rounds.requests; hearing = end }
+      same : left.messages ≡ published.journal.messages
+      same = unless_messages published.refused published.journal
 
-    comes : HasCome lines first ending result old new
-    comes =
-        let many : length lines ≡ length left.messages = spelled_length lines left.messages spelled.spelled in
-        record {
-          whole =
-              IfOk-weaker result _ _
-              (λ answer written. (
-                subst (λ (line : List ℕ). Appends old new (end.outgoing.text ++ line)) line_is written.0,
-                written.1 ∙ status_is,
-              ))
-              ran.whole;
-          front = subst (λ (line : List ℕ). AppendsFront old new (end.outgoing.text ++ line)) line_is ran.front;
-          from = omega (arith, begins, done.from);
-          to = omega (arith, many, last_number left end done.sound);
-          all = λ over.
-              let is = (done.sound.honest.ends end.arbitration.view.next
-              (ends_so end.arbitration.view.ended end.arbitration.view.next over)).1 in
-              omega (arith, many, is);
-        }
+      before : HasLinesBefore lines why published.journal
+      before = laws.before limit journal lines why opening refused
 
-    pub loop_prints_lines : PrintsLines lines first result old new
-    loop_prints_lines = prints_lines comes text_is
+      refused_is : end.outgoing.text ≡ lines_text first (between lines first end.arbitration.view.next)
+      refused_is =
+          let next : ℕ = end.arbitration.view.next in
+          text_is
+          ∙ ap (λ (messages : List Message). handed_text first (between messages first next)) same
+          ∙ text_between (take count lines) published.journal.messages first next before.spelled
+          ∙ ap (lines_text first) (between_front lines count first next least from
+          (let most_of = ap (λ (messages : List Message). length messages) same in omega (arith, most_of, within)))
+
+      -- the last line and the status are those of the refusal
+      all_is : loop_text published end
+          ≡ lines_text first (between lines first end.arbitration.view.next) ++ refused_text (count + 1) why
+      all_is =
+          ap (λ (text : List ℕ). text ++ loop_line published.journal published.refused end) refused_is
+          ∙ ap (λ (r : Option LineRefusal).
+          lines_text first (between lines first end.arbitration.view.next) ++ loop_line published.journal r end) refused
+
+      two_is : loop_status published.refused end ≡ 2
+      two_is = ap (λ (r : Option LineRefusal). loop_status r end) refused
+
+      pub loop_prints_refused : PrintsRefused lines (count + 1) why first result old new
+      loop_prints_refused = record {
+        next = end.arbitration.view.next;
+        from = from;
+        to = let most_of = ap (λ (messages : List Message). length messages) same in omega (arith, most_of, within);
+        text =
+            IfOk-weaker result _ _
+            (λ answer written.
+            (written.1 ∙ two_is, subst (λ (text : List ℕ). Appends old new text) all_is written.0))
+            ran.whole;
+        front = subst (λ (text : List ℕ). AppendsFront old new text) all_is ran.front;
+      }
+
+    -- where none is
+
+    module _ (unrefused : published.refused ≡ None) where
+      spelled : HasLines lines left
+      spelled = laws.feed.lines limit journal lines opening unrefused
+
+      -- the last line and the status are a listener's
+      line_is : loop_line published.journal published.refused end ≡ hearing_line end
+      line_is = ap (λ (refused : Option LineRefusal). loop_line published.journal refused end) unrefused
+
+      status_is : loop_status published.refused end ≡ hearing_status end
+      status_is = ap (λ (refused : Option LineRefusal). loop_status refused end) unrefused
+
+      abbrev ending : ListenerState P
+      ending = record { a = start.a; b = start.b; requests = rounds.requests; hearing = end }
+
+      comes : HasCome lines first ending result old new
+      comes =
+          let many : length lines ≡ length left.messages = spelled_length lines left.messages spelled.spelled in
+          record {
+            whole =
+                IfOk-weaker result _ _
+                (λ answer written. (
+                  subst (λ (line : List ℕ). Appends old new (end.outgoing.text ++ line)) line_is written.0,
+                  written.1 ∙ status_is,
+                ))
+                ran.whole;
+            front = subst (λ (line : List ℕ). AppendsFront old new (end.outgoing.text ++ line)) line_is ran.front;
+            from = from;
+            to = omega (arith, many, within);
+            all = λ over.
+                let is = (done.sound.honest.ends end.arbitration.view.next
+                (ends_so end.arbitration.view.ended end.arbitration.view.next over)).1 in
+                omega (arith, many, is);
+          }
+
+      pub loop_prints_lines : PrintsLines lines first result old new
+      loop_prints_lines =
+          prints_lines comes
+          (text_is ∙ text_between lines left.messages first end.arbitration.view.next spelled.spelled)

@@ -150,27 +150,47 @@ module _ {P : Type 0} (laws : FeedLaws P) (limit : ℕ) (journal : JournalState)
   fed_harmless bytes (inr strange) =
       inr (subst (λ (s : Session). IsStrange s bytes) (sym (left_session journal lines)) strange)
 
-  -- ---- a listener of the session
+  -- ---- a listener of the session that begins
 
-  module _ (unrefused : (lines_published journal lines).refused ≡ None) (first window : ℕ) (least : 1 ≤ first)
-      (most : first ≤ length lines + 1) (arbitration : Arbitration)
-      (anew : arbitration.view ≡ fresh journal.session first window) where
-    pub has_lines : HasLines lines (left_by journal lines)
-    has_lines = laws.lines limit journal lines opening unrefused
-
+  module _ (first window : ℕ) (least : 1 ≤ first) (most : first ≤ length (left_by journal lines).messages + 1)
+      (arbitration : Arbitration) (anew : arbitration.view ≡ fresh journal.session first window) where
     pub begins_honest : IsHonest arbitration.view (left_by journal lines).messages (left_by journal lines).closed
     begins_honest =
         let may = laws.answers limit limit journal lines opening (omega arith) opening.limited.1 in
-        let many = spelled_length lines (left_by journal lines).messages has_lines.spelled in
         subst (λ (v : View). IsHonest v (left_by journal lines).messages (left_by journal lines).closed) (sym anew)
         (laws.begins journal.session first window (left_by journal lines).messages (left_by journal lines).closed least
-        (omega (arith, many, most)) may.journaled.few)
+        most may.journaled.few)
 
     pub begins_in : arbitration.view.session ≡ (left_by journal lines).session
     begins_in = ap (λ (v : View). v.session) anew ∙ sym (left_session journal lines)
 
     pub begins_at : arbitration.view.next ≡ first
     begins_at = ap (λ (v : View). v.next) anew
+
+  -- as many messages as lines
+  pub lines_within : (lines_published journal lines).refused ≡ None → (first : ℕ) → first ≤ length lines + 1 →
+      first ≤ length (left_by journal lines).messages + 1
+  lines_within unrefused first most =
+      let has : HasLines lines (left_by journal lines) = laws.lines limit journal lines opening unrefused in
+      let many = spelled_length lines (left_by journal lines).messages has.spelled in
+      omega (arith, many, most)
+
+  -- ---- what it prints
+
+  module _ (unrefused : (lines_published journal lines).refused ≡ None) (first window : ℕ) (least : 1 ≤ first)
+      (most : first ≤ length lines + 1) (arbitration : Arbitration)
+      (anew : arbitration.view ≡ fresh journal.session first window) where
+    has_lines : HasLines lines (left_by journal lines)
+    has_lines = laws.lines limit journal lines opening unrefused
+
+    honest : IsHonest arbitration.view (left_by journal lines).messages (left_by journal lines).closed
+    honest = begins_honest first window least (lines_within unrefused first most) arbitration anew
+
+    in_session : arbitration.view.session ≡ (left_by journal lines).session
+    in_session = begins_in first window least (lines_within unrefused first most) arbitration anew
+
+    at_first : arbitration.view.next ≡ first
+    at_first = begins_at first window least (lines_within unrefused first most) arbitration anew
 
     module _ (burst turns : ℕ) (server : P) (a b requests : Port P) {E : Type 0} (agrees : ListenerState P → Type 0)
         (result : Result ℕ E) (old new : Option (List ℕ)) (sent : List (P × List ℕ))
@@ -185,16 +205,16 @@ module _ {P : Type 0} (laws : FeedLaws P) (limit : ℕ) (journal : JournalState)
           subst
           (λ (n : ℕ).
           HasListened (left_by journal lines) (Hears (beginning a b requests arbitration)) n [] ending.hearing)
-          begins_at
-          (laws.heard (left_by journal lines) server burst ran.choices (beginning a b requests arbitration) begins_honest
-          begins_in hears)
+          at_first
+          (laws.heard (left_by journal lines) server burst ran.choices (beginning a b requests arbitration) honest
+          in_session hears)
 
       comes_to : HearsOnly (IsHarmless (left_by journal lines)) (beginning a b requests arbitration) →
           HasCome lines first ending result old new
       comes_to hears =
           has_come (left_by journal lines) (Hears (beginning a b requests arbitration)) has_lines.spelled (has_heard hears)
           (laws.finished (left_by journal lines) server burst ran.choices (beginning a b requests arbitration)
-          begins_honest begins_in hears)
+          honest in_session hears)
           ran.whole ran.front
 
       pub session_prints_among : HearsOnly (IsFed P journal limit lines) (beginning a b requests arbitration) →
@@ -216,7 +236,7 @@ module _ {P : Type 0} (laws : FeedLaws P) (limit : ℕ) (journal : JournalState)
           (λ bytes tells. inl tells) (beginning a b requests arbitration) hears in
           let next = ending.hearing.arbitration.view.next in
           prints_lines (comes_to harmless)
-          (laws.plain (left_by journal lines) server burst ran.choices (beginning a b requests arbitration) begins_honest
-          begins_in hears
-          ∙ ap (λ (n : ℕ). handed_text n (between (left_by journal lines).messages n next)) begins_at
+          (laws.plain (left_by journal lines) server burst ran.choices (beginning a b requests arbitration) honest
+          in_session hears
+          ∙ ap (λ (n : ℕ). handed_text n (between (left_by journal lines).messages n next)) at_first
           ∙ text_between lines (left_by journal lines).messages first next has_lines.spelled)

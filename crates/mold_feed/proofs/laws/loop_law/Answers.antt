@@ -1,6 +1,6 @@
 use Rattle.mold_feed.proofs.HeardTakingLemmas.{HearingLaws}
-use Rattle.mold_feed.proofs.LoopLawLemmas.{LoopLaws, loop_prints_lines}
-use Rattle.mold_feed.proofs.SessionLawLemmas.{FeedLaws}
+use Rattle.mold_feed.proofs.LoopLawLemmas.{LoopLaws, loop_prints_lines, loop_prints_refused, messages_within}
+use Rattle.mold_feed.proofs.SessionLawLemmas.{FeedLaws, lines_within}
 use Rattle.mold_feed.proofs.laws.loop_law.Given.{Over}
 use Rattle.mold_feed.proofs.laws.loop_law.Goals.{After-reading_law}
 use Rattle.mold_feed.proofs.laws.loop_law.Goals as goal
@@ -29,12 +29,22 @@ laws : (g : Over) → After-reading_law g → LoopLaws g.row.D-Peer.Denot
 laws g c = record {
   feed = feed g c;
   offered = c.published_law.ensures.offered;
+  before = c.published_law.ensures.before;
   hearing = hearing g c;
 }
 
-pub returns : goal.returns
-returns g c =
+pub returns-clause-printed : goal.returns-clause-printed
+returns-clause-printed g c =
     λ drops a b to turns limit first window journal lines server start start_left rounds rounds_left result old new opening
     unrefused serves longest least most anew blank own ran.
+    let within = lines_within (feed g c) limit journal lines opening unrefused first most in
     loop_prints_lines (laws g c) drops a b to turns limit journal lines server start start_left rounds rounds_left result
-    old new opening serves longest own ran unrefused first window least most anew blank
+    old new opening serves longest own ran first window least within anew blank unrefused
+
+pub returns-clause-refused : goal.returns-clause-refused
+returns-clause-refused g c =
+    λ drops a b to turns limit first window journal lines why server start start_left rounds rounds_left result old new
+    opening refused serves longest least most anew blank own ran.
+    let within = messages_within journal lines first most in
+    loop_prints_refused (laws g c) drops a b to turns limit journal lines server start start_left rounds rounds_left result
+    old new opening serves longest own ran first window least within anew blank why refused
