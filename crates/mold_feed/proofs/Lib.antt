@@ -12,6 +12,7 @@ pub mod ListenLemmas
 pub mod LoopEndLemmas
 pub mod LoopLawLemmas
 pub mod LoopLemmas
+pub mod OpeningLemmas
 pub mod OutgoingLemmas
 pub mod PassingLemmas
 pub mod PrintingLemmas

@@ -14,11 +14,11 @@ use Rattle.mold_feed.specs.Looping.{outgoing_after, passed, port_after, received
 use Rattle.mold_feed.specs.Looping.{routed, routed_by, routed_end, sent_by, with_heard}
 use Rattle.mold_feed.specs.Outgoing.{OutgoingState}
 use Rattle.mold_feed.specs.Own.{GivesSent, OwnPorts, WasSent}
-use Rattle.mold_feed.specs.PublishLoop.{after_data, all_datagrams, closed_unless, data_behind}
+use Rattle.mold_feed.specs.PublishLoop.{after_data, all_datagrams, data_behind}
 use Rattle.mold_feed.specs.Repairing.{RepairState, missed_more, repaired, repairing, requested, round, served}
 use Rattle.mold_feed.specs.Runs.{run}
 use Rattle.mold_feed.specs.Sent.{AllSent, HasLines, HasLinesBefore, IsOpening}
-use Rattle.mold_feed.specs.Serving.{ResponderState, Service, serve_turn, service_of}
+use Rattle.mold_feed.specs.Serving.{ResponderState, Service, serve_turn, service_of, serving}
 use Rattle.mold_feed.specs.Text.{handed_text}
 use Rattle.mold_feed.specs.declared.loop_parts.Drops.{Drops}
 use Rattle.mold_feed.specs.declared.loop_parts.Routes.{Routes}
@@ -29,7 +29,7 @@ use Rattle.mold_feed.proofs.HeardTurnLemmas.{answers_heard, ends_so, port_heard,
 use Rattle.mold_feed.proofs.LinesPrintedLemmas.{HasCome, prints_lines}
 use Rattle.mold_feed.proofs.LinesTextLemmas.{spelled_length, text_between}
 use Rattle.mold_feed.proofs.SentLemmas.{each_append, each_begun, each_front, each_rest, sent_front, sent_offered, sent_one}
-use Rattle.mold_feed.proofs.SessionLawLemmas.{FeedLaws, begins_at, begins_honest, begins_in, left_by}
+use Rattle.mold_feed.proofs.OpeningLemmas.{OpeningLaws, begins_at, begins_honest, begins_in, left_by, left_messages}
 use Rattle.mold_feed.proofs.SessionLawLemmas.{none_sent, port_weaker}
 use Rattle.mold_ports.specs.Ports.{Port, offered}
 use Rattle.mold_publish.specs.Publishing.{PublishedLines, lines_published, refused_text}
@@ -48,7 +48,10 @@ use Rattle.mold_wire.specs.declared.request.Request.{Request}
 
 -- what the laws say that the loop's law stands on
 pub record LoopLaws (P : Type 0) : Type 0 where
-  pub feed : FeedLaws P
+  pub opening : OpeningLaws
+  pub served : (service : Service) (choices : List (List Bool)) (start : ResponderState P) →
+      MayAnswer service.journal service.limit → AllSent (TellsTruth service.journal) start.port.sent →
+      AllSent (TellsTruth service.journal) (run (serving service) choices start).port.sent
   pub offered : (beats ends limit : ℕ) (journal : JournalState) (lines : List (List ℕ)) → IsOpening journal limit →
       AllByRecursion (TellsTruth (left_by journal lines))
       (all_datagrams limit beats ends (lines_published journal lines))
@@ -273,21 +276,6 @@ module _ (journal : JournalState) (Plain : Type 0) (Good : List ℕ → Type 0) 
 
 -- ---- a loop
 
--- closed or not, a journal has the same messages
-unless_messages : (refused : Option LineRefusal) (journal : JournalState) →
-    (closed_unless refused journal).messages ≡ journal.messages
-unless_messages None journal = refl
-unless_messages (Some why) journal = refl
-
-pub messages_within : (journal : JournalState) (lines : List (List ℕ)) (first : ℕ) →
-    first ≤ length (lines_published journal lines).journal.messages + 1 →
-    first ≤ length (left_by journal lines).messages + 1
-messages_within journal lines first most =
-    let published = lines_published journal lines in
-    let many : length (left_by journal lines).messages ≡ length published.journal.messages =
-    ap (λ (messages : List Message). length messages) (unless_messages published.refused published.journal) in
-    omega (arith, many, most)
-
 -- what was sent is true, so is what a port gives of it
 gives_true : {P : Type 0} (Good : List ℕ → Type 0) (sent : List (P × List ℕ)) (port : Port P) → AllSent Good sent →
     GivesSent sent port → GivesOnly Good port
@@ -324,13 +312,13 @@ module _ {P : Type 0} (laws : LoopLaws P) (drops : Drops) (a b to : P) (turns li
 
   may_answer : MayAnswer left server.limit
   may_answer =
-      laws.feed.answers limit server.limit journal lines opening (omega (arith, opening.longest, longest, serves.longest))
+      laws.opening.answers limit server.limit journal lines opening (omega (arith, opening.longest, longest, serves.longest))
       serves.limited.1
 
   turn_true : (fails : List Bool) (responder : ResponderState P) → AllSent Good responder.port.sent →
       AllSent Good (serve_turn (service_of left server) fails responder).port.sent
   unfolding run
-  turn_true fails responder all = laws.feed.served (service_of left server) (fails ∷ []) responder may_answer all
+  turn_true fails responder all = laws.served (service_of left server) (fails ∷ []) responder may_answer all
 
   server_true : AllSent Good rounds_left.server.sent
   server_true =
@@ -360,13 +348,13 @@ module _ {P : Type 0} (laws : LoopLaws P) (drops : Drops) (a b to : P) (turns li
       (anew : start.hearing.arbitration.view ≡ fresh journal.session first window)
       (blank : start.hearing.outgoing.text ≡ []) where
     begins : start.hearing.arbitration.view.next ≡ first
-    begins = begins_at laws.feed limit journal lines opening first window least most start.hearing.arbitration anew
+    begins = begins_at laws.opening limit journal lines opening first window least most start.hearing.arbitration anew
 
     sound : IsSound left start.hearing
     sound = record {
       honest =
-          begins_honest laws.feed limit journal lines opening first window least most start.hearing.arbitration anew;
-      session = begins_in laws.feed limit journal lines opening first window least most start.hearing.arbitration anew;
+          begins_honest laws.opening limit journal lines opening first window least most start.hearing.arbitration anew;
+      session = begins_in laws.opening limit journal lines opening first window least most start.hearing.arbitration anew;
     }
 
     done : HasHeard left (Unit {0}) Good start.hearing end
@@ -395,7 +383,7 @@ module _ {P : Type 0} (laws : LoopLaws P) (drops : Drops) (a b to : P) (turns li
       count = length published.journal.messages
 
       same : left.messages ≡ published.journal.messages
-      same = unless_messages published.refused published.journal
+      same = left_messages journal lines
 
       before : HasLinesBefore lines why published.journal
       before = laws.before limit journal lines why opening refused
@@ -437,7 +425,7 @@ module _ {P : Type 0} (laws : LoopLaws P) (drops : Drops) (a b to : P) (turns li
 
     module _ (unrefused : published.refused ≡ None) where
       spelled : HasLines lines left
-      spelled = laws.feed.lines limit journal lines opening unrefused
+      spelled = laws.opening.lines limit journal lines opening unrefused
 
       -- the last line and the status are a listener's
       line_is : loop_line published.journal published.refused end ≡ hearing_line end

@@ -163,7 +163,6 @@ pub fn loop_law<D: Datagrams>()
 {
     published_law::<D>();
     served_law::<D>();
-    listened_law::<D>();
     honest_stays_law();
     honest_take_law();
     taken_law();

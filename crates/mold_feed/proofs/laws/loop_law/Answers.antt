@@ -1,19 +1,14 @@
 use Rattle.mold_feed.proofs.HeardTakingLemmas.{HearingLaws}
-use Rattle.mold_feed.proofs.LoopLawLemmas.{LoopLaws, loop_prints_lines, loop_prints_refused, messages_within}
-use Rattle.mold_feed.proofs.SessionLawLemmas.{FeedLaws, lines_within}
+use Rattle.mold_feed.proofs.LoopLawLemmas.{LoopLaws, loop_prints_lines, loop_prints_refused}
+use Rattle.mold_feed.proofs.OpeningLemmas.{OpeningLaws, lines_within, messages_within}
 use Rattle.mold_feed.proofs.laws.loop_law.Given.{Over}
 use Rattle.mold_feed.proofs.laws.loop_law.Goals.{After-reading_law}
 use Rattle.mold_feed.proofs.laws.loop_law.Goals as goal
 
-feed : (g : Over) → After-reading_law g → FeedLaws g.row.D-Peer.Denot
-feed g c = record {
-  published = c.published_law.ensures.sent;
+opening_laws : (g : Over) → After-reading_law g → OpeningLaws
+opening_laws g c = record {
   lines = c.published_law.ensures.lines;
   answers = c.published_law.ensures.answers;
-  served = c.served_law.ensures;
-  heard = c.listened_law.ensures.heard;
-  plain = c.listened_law.ensures.plain;
-  finished = c.listened_law.ensures.finished;
   begins = c.honest_stays_law.ensures.fresh;
 }
 
@@ -27,7 +22,8 @@ hearing g c = record {
 
 laws : (g : Over) → After-reading_law g → LoopLaws g.row.D-Peer.Denot
 laws g c = record {
-  feed = feed g c;
+  opening = opening_laws g c;
+  served = c.served_law.ensures;
   offered = c.published_law.ensures.offered;
   before = c.published_law.ensures.before;
   hearing = hearing g c;
@@ -37,7 +33,7 @@ pub returns-clause-printed : goal.returns-clause-printed
 returns-clause-printed g c =
     λ drops a b to turns limit first window journal lines server start start_left rounds rounds_left result old new opening
     unrefused serves longest least most anew blank own ran.
-    let within = lines_within (feed g c) limit journal lines opening unrefused first most in
+    let within = lines_within (opening_laws g c) limit journal lines opening unrefused first most in
     loop_prints_lines (laws g c) drops a b to turns limit journal lines server start start_left rounds rounds_left result
     old new opening serves longest own ran first window least within anew blank unrefused
 
