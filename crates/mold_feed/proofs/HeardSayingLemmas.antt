@@ -3,7 +3,8 @@ use Rattle.std.proofs.Common.{◌≡◌, ℕ, suc, ◌+◌, ◌-◌, ◌≤◌, 
 use Rattle.std.proofs.Common.{refl, sym, ap, ◌∙◌, arith, length-drop, take-add}
 use Rattle.std.specs.Prelude.{Some, slice_get}
 use Rattle.std.specs.List.{AllByRecursion}
-use Rattle.std.proofs.lemmas.List.{drop-drop, get_or_default, get_or-drop, get_or-take, length-take-le, same_lists}
+use Rattle.std.proofs.lemmas.List.{drop-drop, drop-take, get_or_default, get_or-drop, get_or-take, length-take-le}
+use Rattle.std.proofs.lemmas.List.{same_lists, take-take}
 use Rattle.std.proofs.lemmas.List.Concat.{flat_map-append}
 use Rattle.std.proofs.lemmas.Option.{get_or_from_slice_get, slice_get-get_or, slice_get_within}
 use Rattle.mold_receiver.specs.Store.{Message, numbered}
@@ -38,6 +39,17 @@ between_joined published from mid to first low high =
     ∙ take-add (mid - from) (to - mid) behind
     ∙ ap (λ (l : List Message). take (mid - from) behind ++ take (to - mid) l)
     (drop-drop (mid - from) (from - 1) published ∙ ap (λ (n : ℕ). drop n published) place)
+
+-- what is between two numbers is so among the first ones too, if they are as many
+pub between_front : (published : List Message) (count from to : ℕ) → 1 ≤ from → from ≤ to → to ≤ count + 1 →
+    between (take count published) from to ≡ between published from to
+between_front published count from to first low high =
+    let before : ℕ = from - 1 in
+    let more : ℕ = count - before in
+    let sum : count ≡ before + more = omega (arith, first, low, high) in
+    ap (λ (n : ℕ). take (to - from) (drop before (take n published))) sum
+    ∙ ap (take (to - from)) (drop-take before more published)
+    ∙ take-take (to - from) more (drop before published) (omega (arith, first, low, high))
 
 -- a function of numbered messages that goes over them one by one, so that it may go on at a third number
 pub counted_joined : {X : Type 0} (F : ℕ → List Message → List X) →

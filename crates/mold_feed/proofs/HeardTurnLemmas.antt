@@ -33,16 +33,16 @@ next_gives : {P : Type 0} (Good : List ℕ → Type 0) (comes : List (Receipt P)
 next_gives Good [] gives = tt
 next_gives Good (receipt ∷ more) gives = gives.0
 
-rest_gives : {P : Type 0} (Good : List ℕ → Type 0) (comes : List (Receipt P)) → AllByRecursion (Gives Good) comes →
+pub rest_gives : {P : Type 0} (Good : List ℕ → Type 0) (comes : List (Receipt P)) → AllByRecursion (Gives Good) comes →
     AllByRecursion (Gives Good) (drop 1 comes)
 rest_gives Good [] gives = tt
 rest_gives Good (receipt ∷ more) gives = gives.1
 
 -- what was heard, and what the port of requests still gives
-record HeardAnswers {P : Type 0} (journal : JournalState) (Plain : Type 0) (Good : List ℕ → Type 0) (old : Hearing)
+pub record HeardAnswers {P : Type 0} (journal : JournalState) (Plain : Type 0) (Good : List ℕ → Type 0) (old : Hearing)
     (new : Asking P) : Type 0 where
-  heard : HasHeard journal Plain Good old new.hearing
-  gives : GivesOnly Good new.port
+  pub heard : HasHeard journal Plain Good old new.hearing
+  pub gives : GivesOnly Good new.port
 
 -- what was heard, and what the three ports still give
 record HeardTurns {P : Type 0} (journal : JournalState) (Plain : Type 0) (Good : List ℕ → Type 0) (old : Hearing)
@@ -68,14 +68,14 @@ module _ (journal : JournalState) (Plain : Type 0) (Good : List ℕ → Type 0) 
   receipt_heard line Quiet e sound gives = nothing_heard journal Plain Good e e sound refl refl
   receipt_heard line Failure e sound gives = nothing_heard journal Plain Good e (missed e) sound refl refl
 
-  port_heard : {P : Type 0} (line : Option Line) (port : Port P) (e : Hearing) → IsSound journal e →
+  pub port_heard : {P : Type 0} (line : Option Line) (port : Port P) (e : Hearing) → IsSound journal e →
       GivesOnly Good port → HasHeard journal Plain Good e (hear line port e)
   unfolding hear
   port_heard line port e sound gives = receipt_heard line (next_of port) e sound (next_gives Good port.comes gives)
 
   -- ---- the answers to a request
 
-  answers_heard : {P : Type 0} (count : ℕ) (s : Asking P) → IsSound journal s.hearing → GivesOnly Good s.port →
+  pub answers_heard : {P : Type 0} (count : ℕ) (s : Asking P) → IsSound journal s.hearing → GivesOnly Good s.port →
       HeardAnswers journal Plain Good s.hearing (hear_answers count s)
   unfolding hear_answers
   answers_heard zero s sound gives = record {
@@ -229,7 +229,7 @@ run_plain {P} laws journal server burst choices start honest session hears =
     ∙ ap (λ (l : List ℕ). front ++ l) (text-handing from
     (between journal.messages from (run (listening server burst) choices start).hearing.arbitration.view.next))
 
-ends_so : (ended : Option ℕ) (next : ℕ) → ends_at ended next ≡ true → ended ≡ Some next
+pub ends_so : (ended : Option ℕ) (next : ℕ) → ends_at ended next ≡ true → ended ≡ Some next
 ends_so None next is = absurd (false≢true is)
 ends_so (Some end) next is = ap Some (eqb-true end next is)
 

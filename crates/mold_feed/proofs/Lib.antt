@@ -10,7 +10,9 @@ pub mod LinesPrintedLemmas
 pub mod LinesTextLemmas
 pub mod ListenLemmas
 pub mod LoopEndLemmas
+pub mod LoopLawLemmas
 pub mod LoopLemmas
+pub mod OpeningLemmas
 pub mod OutgoingLemmas
 pub mod PassingLemmas
 pub mod PrintingLemmas

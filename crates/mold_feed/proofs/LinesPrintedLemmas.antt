@@ -1,15 +1,14 @@
 -- What a listener has printed at its end: the published lines, and its last line by its status.
-use Rattle.std.proofs.Common.{◌≡◌, ℕ, ◌+◌, ◌≤◌, Bool, true, false, List, [], ◌++◌, length, Option, Result, refl, ap, subst}
-use Rattle.std.proofs.Common.{◌∙◌, arith}
-use Rattle.std.specs.Prelude.{IfOk, if◌then◌else◌}
+use Rattle.std.proofs.Common.{◌≡◌, ℕ, ◌+◌, ◌≤◌, true, List, [], ◌++◌, length, Option, Result, ap, subst}
+use Rattle.std.proofs.Common.{arith}
+use Rattle.std.specs.Prelude.{IfOk}
 use Rattle.std.specs.Io.KnownBytes.{Appends}
 use Rattle.std.specs.List.{AllByRecursion}
 use Rattle.std.proofs.lemmas.Result.{IfOk-weaker}
 use Rattle.mold_devices.specs.Devices.{AppendsFront}
 use Rattle.mold_feed.specs.Heard.{HasFinished, HasListened, PrintsAmong, PrintsLines, RefusesStrange, Saying, lines_text}
 use Rattle.mold_feed.specs.Heard.{listened_line, messages_text, sayings_text}
-use Rattle.mold_feed.specs.Listening.{Hearing, ListenerState, hearing_line, hearing_status, is_finished, last_line, status}
-use Rattle.mold_feed.specs.Text.{finished_line, open_line}
+use Rattle.mold_feed.specs.Listening.{Hearing, ListenerState, is_finished, last_line, status}
 use Rattle.mold_feed.proofs.LinesTextLemmas.{AreSpelled, lines_said, spelled_length}
 use Rattle.mold_session.specs.Answer.{between}
 use Rattle.mold_session.specs.Journal.{JournalState}

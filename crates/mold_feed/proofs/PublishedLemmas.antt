@@ -4,8 +4,8 @@ use Rattle.std.proofs.Common.{Option, None, Some, Result, Ok, Err, refl, sym, ap
 use Rattle.std.proofs.Common.{arith}
 use Rattle.std.specs.Prelude.{slice_get}
 use Rattle.std.specs.List.{AllByRecursion}
-use Rattle.std.proofs.lemmas.List.{map-append, take_all}
-use Rattle.std.proofs.lemmas.Option.{none-some}
+use Rattle.std.proofs.lemmas.List.{length-take-le, map-append, take_all}
+use Rattle.std.proofs.lemmas.Option.{none-some, slice_get_within}
 use Rattle.hex.specs.Hex.{decode_of}
 use Rattle.hex.specs.declared.error.FromHexError.{FromHexError}
 use Rattle.mold_devices.specs.declared.fault.CommandFault.{CommandFault}
@@ -27,7 +27,8 @@ use Rattle.mold_publish.proofs.DatagramLemmas.{grown}
 use Rattle.mold_feed.specs.Outgoing.{nothing_out}
 use Rattle.mold_feed.specs.PublishLoop.{PublicationState, PublishRun, Sends, all_datagrams, beat_packet, both}
 use Rattle.mold_feed.specs.PublishLoop.{close_datagrams, closed_unless, left_journal, offer, publication_of}
-use Rattle.mold_feed.specs.Sent.{AllSent, HasLines, IsOpening}
+use Rattle.mold_feed.specs.Sent.{AllSent, HasLines, HasLinesBefore, IsOpening}
+use Rattle.mold_feed.proofs.LinesTextLemmas.{spelled_length}
 use Rattle.mold_feed.proofs.SentLemmas.{each_append, sent_front, sent_offered}
 
 -- what the session's laws say
@@ -51,14 +52,44 @@ publisher_of journal limit = record { journal = journal; limit = limit; sent = 0
 abbrev as_spelled : List (List ℕ) → List (Result (List ℕ) FromHexError)
 as_spelled messages = map Ok messages
 
--- lines were published: a publisher of the journal stays one, and where none is refused, their messages are behind
+-- lines were published up to here: all of them, or to one that is refused
+record StopsAt (lines : List (List ℕ)) (count : ℕ) (why : LineRefusal) (journal : JournalState) : Type 0 where
+  pub line : List ℕ
+  pub place : slice_get lines count ≡ Some line
+  pub refused : line_outcome journal (decode_of line) ≡ Err why
+
+abbrev EndsAt : List (List ℕ) → ℕ → JournalState → Option LineRefusal → Type 0
+EndsAt lines count journal None = count ≡ length lines
+EndsAt lines count journal (Some why) = StopsAt lines count why journal
+
+-- with a line in front
+ends_behind : (line : List ℕ) (lines : List (List ℕ)) (count : ℕ) (journal : JournalState)
+    (refused : Option LineRefusal) → EndsAt lines count journal refused →
+    EndsAt (line ∷ lines) (suc count) journal refused
+ends_behind line lines count journal None ends = ap suc ends
+ends_behind line lines count journal (Some why) ends =
+    record { line = ends.line; place = ends.place; refused = ends.refused }
+
+-- lines were published: a publisher of the journal stays one, and the messages of the first so many lines are behind
 -- those that it had
 record HasTaken (limit : ℕ) (journal : JournalState) (lines : List (List ℕ)) (after : PublishedLines) : Type 0 where
   pub is : IsPublisher (publisher_of after.journal limit)
-  pub spelled : after.refused ≡ None →
-      as_spelled journal.messages ++ map decode_of lines ≡ as_spelled after.journal.messages
+  pub count : ℕ
+  pub spelled : as_spelled journal.messages ++ map decode_of (take count lines) ≡ as_spelled after.journal.messages
+  pub ends : EndsAt lines count after.journal after.refused
 
 module _ (laws : PublishedLaws) (limit : ℕ) where
+  -- a line that is refused
+  line_refused : (journal : JournalState) (line : List ℕ) (lines : List (List ℕ)) (why : LineRefusal) →
+      IsPublisher (publisher_of journal limit) → line_outcome journal (decode_of line) ≡ Err why →
+      HasTaken limit journal (line ∷ lines) (record { journal = journal; refused = Some why })
+  line_refused journal line lines why is refused = record {
+    is = is;
+    count = 0;
+    spelled = append-nil (as_spelled journal.messages);
+    ends = record { line = line; place = refl; refused = refused };
+  }
+
   -- a line more, whose message is taken or refused
   message_taken : (journal : JournalState) (line : List ℕ) (lines : List (List ℕ)) (message : List ℕ)
       (refusal : Option AppendError) (behind : JournalState → PublishedLines) → IsPublisher (publisher_of journal limit) →
@@ -67,18 +98,23 @@ module _ (laws : PublishedLaws) (limit : ℕ) where
       HasTaken limit journal (line ∷ lines) (published_from journal (unless_refused message refusal) behind)
   message_taken journal line lines message None behind is digits none each =
       let publisher = publisher_of journal limit in
-      let rest = each (appended journal message) (laws.stays publisher message is (laws.may publisher message none)) in
+      let next : JournalState = appended journal message in
+      let rest = each next (laws.stays publisher message is (laws.may publisher message none)) in
+      let front : List (List ℕ) = take rest.count lines in
       record {
         is = rest.is;
-        spelled = λ whole.
-            ap (λ (one : Result (List ℕ) FromHexError). as_spelled journal.messages ++ one ∷ map decode_of lines) digits
-            ∙ sym (append_assoc (as_spelled journal.messages) (Ok message ∷ []) (map decode_of lines))
-            ∙ ap (λ (front : List (Result (List ℕ) FromHexError)). front ++ map decode_of lines)
+        count = suc rest.count;
+        spelled =
+            ap (λ (one : Result (List ℕ) FromHexError). as_spelled journal.messages ++ one ∷ map decode_of front) digits
+            ∙ sym (append_assoc (as_spelled journal.messages) (Ok message ∷ []) (map decode_of front))
+            ∙ ap (λ (spelled : List (Result (List ℕ) FromHexError)). spelled ++ map decode_of front)
             (sym (map-append Ok journal.messages (message ∷ [])))
-            ∙ rest.spelled whole;
+            ∙ rest.spelled;
+        ends = ends_behind line lines rest.count (behind next).journal (behind next).refused rest.ends;
       }
   message_taken journal line lines message (Some why) behind is digits refused each =
-      record { is = is; spelled = λ whole. absurd (none-some (NotTaken why) (sym whole)) }
+      line_refused journal line lines (NotTaken why) is
+      (ap (line_outcome journal) digits ∙ ap (unless_refused message) refused)
 
   -- a line more, whose digits spell a message or none
   line_taken : (journal : JournalState) (line : List ℕ) (lines : List (List ℕ))
@@ -89,13 +125,14 @@ module _ (laws : PublishedLaws) (limit : ℕ) where
   line_taken journal line lines (Ok message) behind is digits each =
       message_taken journal line lines message (append_refusal journal message) behind is digits refl each
   line_taken journal line lines (Err _) behind is digits each =
-      record { is = is; spelled = λ whole. absurd (none-some NotHex (sym whole)) }
+      line_refused journal line lines NotHex is (ap (line_outcome journal) digits)
 
   -- all lines
   lines_taken : (lines : List (List ℕ)) (journal : JournalState) → IsPublisher (publisher_of journal limit) →
       HasTaken limit journal lines (lines_published journal lines)
   unfolding lines_published
-  lines_taken [] journal is = record { is = is; spelled = λ whole. append-nil (as_spelled journal.messages) }
+  lines_taken [] journal is =
+      record { is = is; count = 0; spelled = append-nil (as_spelled journal.messages); ends = refl }
   lines_taken (line ∷ lines) journal is =
       line_taken journal line lines (decode_of line) (λ next. lines_published next lines) is refl (lines_taken lines)
 
@@ -115,20 +152,61 @@ opening_is journal limit is =
       finished = λ closed. sym none;
     }
 
--- so the lines' messages are those of the journal that is left
+-- where the journal had no messages, the first so many lines spell those that it has now
+opening_spelled : (journal : JournalState) (lines : List (List ℕ)) (after : PublishedLines) (count : ℕ) →
+    journal.messages ≡ [] →
+    as_spelled journal.messages ++ map decode_of (take count lines) ≡ as_spelled after.journal.messages →
+    map decode_of (take count lines) ≡ as_spelled after.journal.messages
+opening_spelled journal lines after count empty spelled =
+    ap (λ (messages : List (List ℕ)). as_spelled messages ++ map decode_of (take count lines)) (sym empty) ∙ spelled
+
+-- they are all lines where none is refused
+all_spelled : (lines : List (List ℕ)) (count : ℕ) (journal : JournalState) (refused : Option LineRefusal) →
+    map decode_of (take count lines) ≡ as_spelled journal.messages → EndsAt lines count journal refused →
+    refused ≡ None → HasLines lines (closed_unless refused journal)
+all_spelled lines count journal None spelled ends whole = record {
+  closed = refl;
+  spelled =
+      ap (λ (ls : List (List ℕ)). map decode_of ls)
+      (sym (take_all count lines (omega (arith, ends))))
+      ∙ spelled;
+}
+all_spelled lines count journal (Some why) spelled ends whole = absurd (none-some why (sym whole))
+
 pub lines_spelled : (laws : PublishedLaws) (limit : ℕ) (journal : JournalState) (lines : List (List ℕ)) →
     IsOpening journal limit → (lines_published journal lines).refused ≡ None →
     HasLines lines (left_journal (lines_published journal lines))
 lines_spelled laws limit journal lines is whole =
     let after = lines_published journal lines in
     let taken = lines_taken laws limit lines journal (opening_is journal limit is) in
-    subst (λ (refused : Option LineRefusal). HasLines lines (closed_unless refused after.journal)) (sym whole)
-    (record {
-      closed = refl;
-      spelled =
-          ap (λ (messages : List (List ℕ)). as_spelled messages ++ map decode_of lines) (sym is.empty)
-          ∙ taken.spelled whole;
-    })
+    all_spelled lines taken.count after.journal after.refused
+    (opening_spelled journal lines after taken.count is.empty taken.spelled) taken.ends whole
+
+-- and the lines before the refused one where one is
+some_spelled : (lines : List (List ℕ)) (count : ℕ) (journal : JournalState) (why : LineRefusal) →
+    map decode_of (take count lines) ≡ as_spelled journal.messages → StopsAt lines count why journal →
+    HasLinesBefore lines why journal
+some_spelled lines count journal why spelled stops =
+    let within = slice_get_within lines count stops.line stops.place in
+    let as_many = spelled_length (take count lines) journal.messages spelled in
+    let long : length (take count lines) ≡ count = length-take-le count lines (omega (arith, within)) in
+    let many : count ≡ length journal.messages = omega (arith, as_many, long) in
+    record {
+      line = stops.line;
+      place = ap (slice_get lines) (sym many) ∙ stops.place;
+      refused = stops.refused;
+      spelled = ap (λ (n : ℕ). map decode_of (take n lines)) (sym many) ∙ spelled;
+    }
+
+pub lines_spelled_before : (laws : PublishedLaws) (limit : ℕ) (journal : JournalState) (lines : List (List ℕ))
+    (why : LineRefusal) → IsOpening journal limit → (lines_published journal lines).refused ≡ Some why →
+    HasLinesBefore lines why (lines_published journal lines).journal
+lines_spelled_before laws limit journal lines why is stopped =
+    let after = lines_published journal lines in
+    let taken = lines_taken laws limit lines journal (opening_is journal limit is) in
+    some_spelled lines taken.count after.journal why
+    (opening_spelled journal lines after taken.count is.empty taken.spelled)
+    (subst (λ (refused : Option LineRefusal). EndsAt lines taken.count after.journal refused) stopped taken.ends)
 
 -- ---- a server may answer from it
 

@@ -18,12 +18,22 @@ pub each_front : {X : Type 0} (Good : X → Type 0) (xs ys : List X) → AllByRe
 each_front Good [] ys each = tt
 each_front Good (x ∷ xs) ys each = (each.0, each_front Good xs ys each.1)
 
+-- the second of two
+pub each_rest : {X : Type 0} (Good : X → Type 0) (xs ys : List X) → AllByRecursion Good (xs ++ ys) →
+    AllByRecursion Good ys
+each_rest Good [] ys each = each
+each_rest Good (x ∷ xs) ys each = each_rest Good xs ys each.1
+
+-- a beginning
+pub each_begun : {X : Type 0} (Good : X → Type 0) (front whole : List X) → Begins front whole →
+    AllByRecursion Good whole → AllByRecursion Good front
+each_begun {X} Good front whole begins all =
+    each_front Good front begins.rest (subst (λ (xs : List X). AllByRecursion Good xs) begins.parts all)
+
 -- a beginning of what was sent
 pub sent_front : {P : Type 0} (Good : List ℕ → Type 0) (front whole : List (P × List ℕ)) → Begins front whole →
     AllSent Good whole → AllSent Good front
-sent_front {P} Good front whole begins all =
-    each_front (λ (letter : P × List ℕ). Good letter.1) front begins.rest
-    (subst (λ (sent : List (P × List ℕ)). AllSent Good sent) begins.parts all)
+sent_front {P} Good front whole begins all = each_begun (λ (letter : P × List ℕ). Good letter.1) front whole begins all
 
 -- one datagram more was offered
 pub sent_offered : {P : Type 0} (Good : List ℕ → Type 0) (fails : Bool) (to : P) (bytes : List ℕ) (port : Port P) →

@@ -1,50 +1,41 @@
 -- From the lines that are published to the lines that are heard, by what the laws of publishing, of serving and of
 -- listening say.
-use Rattle.std.proofs.Common.{◌≡◌, ℕ, ◌+◌, ◌<◌, ◌≤◌, Bool, true, List, [], ◌∷◌, ◌++◌, length, Option, None, Some, Result}
-use Rattle.std.proofs.Common.{inl, inr, refl, sym, ap, subst, ◌∙◌, arith}
+use Rattle.std.proofs.Common.{◌≡◌, ℕ, ◌+◌, ◌≤◌, Bool, true, List, [], ◌∷◌, ◌++◌, length, Option, None, Result}
+use Rattle.std.proofs.Common.{inl, inr, sym, ap, subst, ◌∙◌}
 use Rattle.std.specs.List.{AllByRecursion}
 use Rattle.mold_devices.specs.declared.fault.CommandFault.{CommandFault}
 use Rattle.mold_feed.specs.Heard.{Gives, GivesOnly, HasFinished, HasListened, Hears, HearsOnly, IsFed, IsHarmless, IsStrange, PrintsAmong}
 use Rattle.mold_feed.specs.Heard.{PrintsLines}
 use Rattle.mold_feed.specs.Listening.{ListenerState, beginning, is_finished, last_line, listening, status}
-use Rattle.mold_feed.specs.PublishLoop.{PublishRun, closed_unless, left_journal}
+use Rattle.mold_feed.specs.PublishLoop.{PublishRun}
 use Rattle.mold_feed.specs.Runs.{Ran, run}
 use Rattle.mold_feed.specs.Sent.{AllSent, HasLines, IsCopy, IsOpening, IsPublished, IsSent, IsServed}
 use Rattle.mold_feed.specs.Serving.{ResponderState, Service, serving}
 use Rattle.mold_feed.specs.Text.{handed_text}
 use Rattle.mold_feed.proofs.LinesPrintedLemmas.{HasCome, has_come, listened_among, prints_lines}
-use Rattle.mold_feed.proofs.LinesTextLemmas.{spelled_length, text_between}
+use Rattle.mold_feed.proofs.LinesTextLemmas.{text_between}
+use Rattle.mold_feed.proofs.OpeningLemmas.{OpeningLaws, begins_at, begins_honest, begins_in, left_by, left_session, lines_within}
 use Rattle.mold_feed.proofs.SentLemmas.{sent_one}
 use Rattle.mold_ports.specs.Ports.{Port, Receipt, Datagram, Quiet, Failure}
-use Rattle.mold_publish.proofs.DatagramLemmas.{grown}
 use Rattle.mold_publish.specs.Publishing.{lines_published}
-use Rattle.mold_publish.specs.declared.line_refusal.LineRefusal.{LineRefusal}
 use Rattle.mold_receiver.specs.Arbiter.{Arbitration}
 use Rattle.mold_receiver.specs.Honest.{IsHonest}
-use Rattle.mold_receiver.specs.Store.{Message}
-use Rattle.mold_receiver.specs.View.{View, fresh}
+use Rattle.mold_receiver.specs.View.{fresh}
 use Rattle.mold_session.specs.Answer.{between}
 use Rattle.mold_session.specs.Journal.{JournalState}
 use Rattle.mold_session.specs.Truthful.{MayAnswer, TellsTruth}
 use Rattle.mold_wire.specs.Truth.{IsTruePacket}
 use Rattle.mold_wire.specs.declared.session.Session.{Session}
 
--- the journal that publishing the lines leaves
-abbrev left_by : JournalState → List (List ℕ) → JournalState
-left_by journal lines = left_journal (lines_published journal lines)
-
 -- what the laws say that the session's law stands on
 pub record FeedLaws (P : Type 0) : Type 0 where
+  pub opening : OpeningLaws
   pub published : (a b : P) (beats ends limit : ℕ) (journal : JournalState) (lines : List (List ℕ))
       (result : Result ℕ CommandFault) (before after : Port P)
       (text_old text_new file_old file_new : Option (List ℕ)) → IsOpening journal limit →
       PublishRun a b beats ends limit (lines_published journal lines) result before after text_old text_new file_old
       file_new → AllSent (TellsTruth (left_by journal lines)) before.sent →
       AllSent (TellsTruth (left_by journal lines)) after.sent
-  pub lines : (limit : ℕ) (journal : JournalState) (lines : List (List ℕ)) → IsOpening journal limit →
-      (lines_published journal lines).refused ≡ None → HasLines lines (left_by journal lines)
-  pub answers : (limit other : ℕ) (journal : JournalState) (lines : List (List ℕ)) → IsOpening journal limit →
-      limit ≤ other → other ≤ 65507 → MayAnswer (left_by journal lines) other
   pub served : (service : Service) (choices : List (List Bool)) (start : ResponderState P) →
       MayAnswer service.journal service.limit → AllSent (TellsTruth service.journal) start.port.sent →
       AllSent (TellsTruth service.journal) (run (serving service) choices start).port.sent
@@ -65,14 +56,11 @@ pub record FeedLaws (P : Type 0) : Type 0 where
       start.hearing.arbitration.view.session ≡ journal.session → HearsOnly (IsHarmless journal) start →
       is_finished (run (listening server burst) choices start).hearing ≡ true →
       HasFinished journal (run (listening server burst) choices start).hearing
-  pub begins : (session : Session) (next window : ℕ) (published : List Message) (closed : Bool) → 1 ≤ next →
-      next ≤ length published + 1 → length published < 18446744073709551615 →
-      IsHonest (fresh session next window) published closed
 
 -- ---- what was sent is true
 
 -- a port that had sent nothing
-none_sent : {P : Type 0} (Good : List ℕ → Type 0) (sent : List (P × List ℕ)) → sent ≡ [] → AllSent Good sent
+pub none_sent : {P : Type 0} (Good : List ℕ → Type 0) (sent : List (P × List ℕ)) → sent ≡ [] → AllSent Good sent
 none_sent {P} Good sent none = subst (λ (s : List (P × List ℕ)). AllSent Good s) (sym none) tt
 
 -- what is true of a copy is true of the journal
@@ -87,17 +75,6 @@ copy_tells journal copy bytes is tells = record {
       (subst (λ (c : Bool). IsTruePacket tells.packet copy.messages c) is.closed tells.so);
 }
 
--- the journal that is left is of the same session
-unless_session : (refused : Option LineRefusal) (journal : JournalState) →
-    (closed_unless refused journal).session ≡ journal.session
-unless_session None journal = refl
-unless_session (Some why) journal = refl
-
-left_session : (journal : JournalState) (lines : List (List ℕ)) → (left_by journal lines).session ≡ journal.session
-left_session journal lines =
-    unless_session (lines_published journal lines).refused (lines_published journal lines).journal
-    ∙ (grown lines journal).session
-
 -- ---- what comes
 
 each_weaker : {X : Type 0} (Q R : X → Type 0) → ((x : X) → Q x → R x) → (xs : List X) → AllByRecursion Q xs →
@@ -111,7 +88,7 @@ gives_weaker Good Other weaker (Datagram from bytes) gives = weaker _ gives
 gives_weaker Good Other weaker Quiet gives = tt
 gives_weaker Good Other weaker Failure gives = tt
 
-port_weaker : {P : Type 0} (Good Other : List ℕ → Type 0) → ((bytes : List ℕ) → Good bytes → Other bytes) →
+pub port_weaker : {P : Type 0} (Good Other : List ℕ → Type 0) → ((bytes : List ℕ) → Good bytes → Other bytes) →
     (port : Port P) → GivesOnly Good port → GivesOnly Other port
 port_weaker Good Other weaker port gives = each_weaker (Gives Good) (Gives Other) (gives_weaker Good Other weaker) port.comes gives
 
@@ -150,30 +127,28 @@ module _ {P : Type 0} (laws : FeedLaws P) (limit : ℕ) (journal : JournalState)
   fed_harmless bytes (inr strange) =
       inr (subst (λ (s : Session). IsStrange s bytes) (sym (left_session journal lines)) strange)
 
-  -- ---- a listener of the session
+  -- ---- what a listener of the session prints
 
-  module _ (unrefused : (lines_published journal lines).refused ≡ None) (first window burst turns : ℕ)
-      (least : 1 ≤ first) (most : first ≤ length lines + 1) (server : P) (a b requests : Port P)
-      (arbitration : Arbitration) (anew : arbitration.view ≡ fresh journal.session first window) where
+  module _ (unrefused : (lines_published journal lines).refused ≡ None) (first window : ℕ) (least : 1 ≤ first)
+      (most : first ≤ length lines + 1) (arbitration : Arbitration)
+      (anew : arbitration.view ≡ fresh journal.session first window) where
     has_lines : HasLines lines (left_by journal lines)
-    has_lines = laws.lines limit journal lines opening unrefused
+    has_lines = laws.opening.lines limit journal lines opening unrefused
 
-    begins_honest : IsHonest arbitration.view (left_by journal lines).messages (left_by journal lines).closed
-    begins_honest =
-        let may = laws.answers limit limit journal lines opening (omega arith) opening.limited.1 in
-        let many = spelled_length lines (left_by journal lines).messages has_lines.spelled in
-        subst (λ (v : View). IsHonest v (left_by journal lines).messages (left_by journal lines).closed) (sym anew)
-        (laws.begins journal.session first window (left_by journal lines).messages (left_by journal lines).closed least
-        (omega (arith, many, most)) may.journaled.few)
+    within : first ≤ length (left_by journal lines).messages + 1
+    within = lines_within laws.opening limit journal lines opening unrefused first most
 
-    begins_in : arbitration.view.session ≡ (left_by journal lines).session
-    begins_in = ap (λ (v : View). v.session) anew ∙ sym (left_session journal lines)
+    honest : IsHonest arbitration.view (left_by journal lines).messages (left_by journal lines).closed
+    honest = begins_honest laws.opening limit journal lines opening first window least within arbitration anew
 
-    begins_at : arbitration.view.next ≡ first
-    begins_at = ap (λ (v : View). v.next) anew
+    in_session : arbitration.view.session ≡ (left_by journal lines).session
+    in_session = begins_in laws.opening limit journal lines opening first window least within arbitration anew
 
-    module _ {E : Type 0} (agrees : ListenerState P → Type 0) (result : Result ℕ E) (old new : Option (List ℕ))
-        (sent : List (P × List ℕ))
+    at_first : arbitration.view.next ≡ first
+    at_first = begins_at laws.opening limit journal lines opening first window least within arbitration anew
+
+    module _ (burst turns : ℕ) (server : P) (a b requests : Port P) {E : Type 0} (agrees : ListenerState P → Type 0)
+        (result : Result ℕ E) (old new : Option (List ℕ)) (sent : List (P × List ℕ))
         (ran : Ran (listening server burst) turns (beginning a b requests arbitration) last_line status agrees result old
         new sent) where
       abbrev ending : ListenerState P
@@ -185,16 +160,16 @@ module _ {P : Type 0} (laws : FeedLaws P) (limit : ℕ) (journal : JournalState)
           subst
           (λ (n : ℕ).
           HasListened (left_by journal lines) (Hears (beginning a b requests arbitration)) n [] ending.hearing)
-          begins_at
-          (laws.heard (left_by journal lines) server burst ran.choices (beginning a b requests arbitration) begins_honest
-          begins_in hears)
+          at_first
+          (laws.heard (left_by journal lines) server burst ran.choices (beginning a b requests arbitration) honest
+          in_session hears)
 
       comes_to : HearsOnly (IsHarmless (left_by journal lines)) (beginning a b requests arbitration) →
           HasCome lines first ending result old new
       comes_to hears =
           has_come (left_by journal lines) (Hears (beginning a b requests arbitration)) has_lines.spelled (has_heard hears)
           (laws.finished (left_by journal lines) server burst ran.choices (beginning a b requests arbitration)
-          begins_honest begins_in hears)
+          honest in_session hears)
           ran.whole ran.front
 
       pub session_prints_among : HearsOnly (IsFed P journal limit lines) (beginning a b requests arbitration) →
@@ -216,7 +191,7 @@ module _ {P : Type 0} (laws : FeedLaws P) (limit : ℕ) (journal : JournalState)
           (λ bytes tells. inl tells) (beginning a b requests arbitration) hears in
           let next = ending.hearing.arbitration.view.next in
           prints_lines (comes_to harmless)
-          (laws.plain (left_by journal lines) server burst ran.choices (beginning a b requests arbitration) begins_honest
-          begins_in hears
-          ∙ ap (λ (n : ℕ). handed_text n (between (left_by journal lines).messages n next)) begins_at
+          (laws.plain (left_by journal lines) server burst ran.choices (beginning a b requests arbitration) honest
+          in_session hears
+          ∙ ap (λ (n : ℕ). handed_text n (between (left_by journal lines).messages n next)) at_first
           ∙ text_between lines (left_by journal lines).messages first next has_lines.spelled)

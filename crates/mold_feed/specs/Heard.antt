@@ -5,6 +5,8 @@ use Rattle.std.specs.Io.KnownBytes.{Appends}
 use Rattle.std.specs.List.{AllByRecursion, Contains, flat_map}
 use Rattle.mold_devices.specs.Devices.{AppendsFront}
 use Rattle.mold_ports.specs.Ports.{Port, Receipt, Datagram, Quiet, Failure}
+use Rattle.mold_publish.specs.Publishing.{refused_text}
+use Rattle.mold_publish.specs.declared.line_refusal.LineRefusal.{LineRefusal}
 use Rattle.mold_receiver.specs.Honest.{IsHonest}
 use Rattle.mold_receiver.specs.Store.{Message, numbered}
 use Rattle.mold_rule.specs.declared.refusal.Refusal.{Refusal as Refused}
@@ -152,6 +154,18 @@ pub record PrintsLines {E : Type 0} (lines : List (List ℕ)) (first : ℕ) (res
       (lines_text first (between lines first next) ++ listened_line finished next known failures))
   pub front : AppendsFront old new
       (lines_text first (between lines first next) ++ listened_line finished next known failures)
+
+-- What a loop printed of which the line `place` is refused, and the listener began at the line `first`: the published
+-- lines behind their numbers, from that one to below some line that isn't behind the refused one, and then the refusal,
+-- with status 2. After a fault a beginning of such a text is written.
+pub record PrintsRefused {E : Type 0} (lines : List (List ℕ)) (place : ℕ) (why : LineRefusal) (first : ℕ)
+    (result : Result ℕ E) (old new : Option (List ℕ)) : Type 0 where
+  pub next : ℕ
+  pub from : first ≤ next
+  pub to : next ≤ place
+  pub text : IfOk result (λ status. (status ≡ 2) × Appends old new
+      (lines_text first (between lines first next) ++ refused_text place why))
+  pub front : AppendsFront old new (lines_text first (between lines first next) ++ refused_text place why)
 
 -- the lines of messages alone
 abbrev pub messages_text : List Saying → List ℕ

@@ -3,6 +3,7 @@ pub mod Heard
 pub mod Listening
 pub mod Looping
 pub mod Outgoing
+pub mod Own
 pub mod Passing
 pub mod PublishLoop
 pub mod Repairing

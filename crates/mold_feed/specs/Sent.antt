@@ -1,10 +1,12 @@
 -- From lines to datagrams: what publishing lines and serving their journal send is true of the journal that is left.
-use Rattle.std.specs.Prelude.{◌≡◌, ◌⊎◌, ℕ, ◌+◌, Bool, true, false, List, [], length, map, Option, Result, Ok}
+use Rattle.std.specs.Prelude.{◌≡◌, ◌⊎◌, ℕ, ◌+◌, Bool, true, false, List, [], length, map, take, slice_get}
+use Rattle.std.specs.Prelude.{Option, Some, Result, Ok, Err}
 use Rattle.std.specs.List.{AllByRecursion, Contains}
 use Rattle.hex.specs.Hex.{decode_of}
 use Rattle.mold_devices.specs.declared.fault.CommandFault.{CommandFault}
 use Rattle.mold_ports.specs.Ports.{Port}
-use Rattle.mold_publish.specs.Publishing.{lines_published}
+use Rattle.mold_publish.specs.Publishing.{line_outcome, lines_published}
+use Rattle.mold_publish.specs.declared.line_refusal.LineRefusal.{LineRefusal}
 use Rattle.mold_session.specs.Journal.{JournalState}
 use Rattle.mold_session.specs.Truthful.{MayAnswer}
 use Rattle.mold_wire.specs.Packer.{IsLimit}
@@ -25,6 +27,13 @@ pub record IsOpening (journal : JournalState) (limit : ℕ) : Type 0 where
 pub record HasLines (lines : List (List ℕ)) (journal : JournalState) : Type 0 where
   pub closed : journal.closed ≡ true
   pub spelled : map decode_of lines ≡ map Ok journal.messages
+
+-- the line behind those whose messages a journal has is refused by it, for this reason
+pub record HasLinesBefore (lines : List (List ℕ)) (why : LineRefusal) (journal : JournalState) : Type 0 where
+  pub line : List ℕ
+  pub place : slice_get lines (length journal.messages) ≡ Some line
+  pub refused : line_outcome journal (decode_of line) ≡ Err why
+  pub spelled : map decode_of (take (length journal.messages) lines) ≡ map Ok journal.messages
 
 -- all datagrams that were sent are such
 abbrev pub AllSent : {P : Type 0} → (List ℕ → Type 0) → List (P × List ℕ) → Type 0

@@ -1,25 +1,31 @@
 //! From the lines that are published to the lines that are heard: what holds of the definitions that the loops'
 //! contracts name. Each law is a function that does nothing: its contract is the law.
 
-ghost use Rattle.std.specs.Prelude.{◌≡◌, ◌+◌, ◌++◌, ◌≤◌, Bool, List, None, Option, Result, length, true, ℕ};
+ghost use Rattle.std.specs.Prelude.{◌≡◌, ◌+◌, ◌++◌, ◌≤◌, Bool, List, [], None, Option, Result, Some, length, true, ℕ};
 ghost use Rattle.std.specs.List.{AllByRecursion};
 ghost use Rattle.mold_devices.specs.declared.fault.CommandFault.{CommandFault};
 ghost use Rattle.mold_feed.specs.Heard.{HasFinished, HasListened, Hears, HearsOnly, IsFed, IsHarmless, PrintsAmong};
-ghost use Rattle.mold_feed.specs.Heard.{PrintsLines};
+ghost use Rattle.mold_feed.specs.Heard.{PrintsLines, PrintsRefused};
 ghost use Rattle.mold_feed.specs.Listening.{Agrees, ListenerState, beginning, is_finished, last_line, listening};
 ghost use Rattle.mold_feed.specs.Listening.{status};
+ghost use Rattle.mold_feed.specs.Looping.{LineState, LoopRun};
+ghost use Rattle.mold_feed.specs.Own.{OwnPorts};
 ghost use Rattle.mold_feed.specs.PublishLoop.{PublishRun, all_datagrams, left_journal};
+ghost use Rattle.mold_feed.specs.Repairing.{RepairState};
 ghost use Rattle.mold_feed.specs.Runs.{Ran, run};
-ghost use Rattle.mold_feed.specs.Sent.{AllSent, HasLines, IsOpening, IsSent};
+ghost use Rattle.mold_feed.specs.Sent.{AllSent, HasLines, HasLinesBefore, IsOpening, IsSent};
 ghost use Rattle.mold_feed.specs.Serving.{ResponderState, Service, serving};
 ghost use Rattle.mold_feed.specs.Text.{handed_text};
+ghost use Rattle.mold_feed.specs.declared.loop_parts.Drops.{Drops};
 ghost use Rattle.mold_ports.specs.Ports.{Port};
 ghost use Rattle.mold_publish.specs.Publishing.{lines_published};
+ghost use Rattle.mold_publish.specs.declared.line_refusal.LineRefusal.{LineRefusal};
 ghost use Rattle.mold_receiver.specs.Arbiter.{Arbitration};
 ghost use Rattle.mold_receiver.specs.Honest.{IsHonest};
 ghost use Rattle.mold_receiver.specs.View.{fresh};
 ghost use Rattle.mold_session.specs.Answer.{between};
 ghost use Rattle.mold_session.specs.Journal.{JournalState};
+ghost use Rattle.mold_session.specs.Server.{IsServer, ServerState};
 ghost use Rattle.mold_session.specs.Truthful.{MayAnswer, TellsTruth};
 
 use mold_ports::Datagrams;
@@ -28,8 +34,9 @@ use mold_session::laws::{answered_law, publisher_law, sending_law};
 use mold_wire::laws::reading_law;
 
 /// What publishing lines offers is true of the journal that is left, also where a line is refused and where the
-/// loop ended in a fault; so is what was sent of it, and all that a port has sent that sent nothing else. Where no line is refused, that
-/// journal is closed and has the messages of the lines; a server may answer from it.
+/// loop ended in a fault; so is what was sent of it, and all that a port has sent that sent nothing else. Where no line
+/// is refused, that journal is closed and has the messages of the lines; where one is, it has those of the lines before
+/// it. A server may answer from it.
 pub fn published_law<D: Datagrams>()
     ensures offered { (beats ends limit : ℕ) (journal : JournalState) (lines : List (List ℕ)) →
         IsOpening journal limit → AllByRecursion (TellsTruth (left_journal (lines_published journal lines)))
@@ -43,6 +50,9 @@ pub fn published_law<D: Datagrams>()
         AllSent (TellsTruth (left_journal (lines_published journal lines))) after.sent }
     ensures lines { (limit : ℕ) (journal : JournalState) (lines : List (List ℕ)) → IsOpening journal limit →
         (lines_published journal lines).refused ≡ None → HasLines lines (left_journal (lines_published journal lines)) }
+    ensures before { (limit : ℕ) (journal : JournalState) (lines : List (List ℕ)) (why : LineRefusal) →
+        IsOpening journal limit → (lines_published journal lines).refused ≡ Some why →
+        HasLinesBefore lines why (lines_published journal lines).journal }
     ensures answers { (limit other : ℕ) (journal : JournalState) (lines : List (List ℕ)) → IsOpening journal limit →
         limit ≤ other → other ≤ 65507 → MayAnswer (left_journal (lines_published journal lines)) other }
 {
@@ -121,4 +131,40 @@ pub fn session_law<D: Datagrams>()
     served_law::<D>();
     listened_law::<D>();
     honest_stays_law();
+}
+
+/// From the lines that are published to the lines that are printed, by a loop in one process. Lines are published into
+/// a session that begins; the server may have messages as long as the journal's; the listener is a new one that begins
+/// at a message that will be published or is next. Nothing is supposed of the ports but that they give what was sent in
+/// the loop (`OwnPorts`). Where no line is refused, the loop prints the published lines behind their numbers, from that
+/// one on, and with status 0 they are all of them. Where a line is refused, it prints lines before that one, and then
+/// the refusal. After a fault it printed a beginning of such a text.
+pub fn loop_law<D: Datagrams>()
+    ensures printed { (drops : Drops) (a b to : D.Peer) (turns limit first window : ℕ) (journal : JournalState)
+        (lines : List (List ℕ)) (server : ServerState) (start start_left : LineState D.Peer)
+        (rounds rounds_left : RepairState D.Peer) (result : Result ℕ CommandFault) (old new : Option (List ℕ)) →
+        IsOpening journal limit → (lines_published journal lines).refused ≡ None →
+        IsServer server → journal.max_message ≤ server.max_message →
+        1 ≤ first → first ≤ length lines + 1 → start.hearing.arbitration.view ≡ fresh journal.session first window →
+        start.hearing.outgoing.text ≡ [] → OwnPorts start start_left rounds rounds_left →
+        LoopRun drops a b to turns limit 0 (lines_published journal lines) server start rounds result old new
+        start_left rounds_left → PrintsLines lines first result old new }
+    ensures refused { (drops : Drops) (a b to : D.Peer) (turns limit first window : ℕ) (journal : JournalState)
+        (lines : List (List ℕ)) (why : LineRefusal) (server : ServerState) (start start_left : LineState D.Peer)
+        (rounds rounds_left : RepairState D.Peer) (result : Result ℕ CommandFault) (old new : Option (List ℕ)) →
+        IsOpening journal limit → (lines_published journal lines).refused ≡ Some why →
+        IsServer server → journal.max_message ≤ server.max_message →
+        1 ≤ first → first ≤ length (lines_published journal lines).journal.messages + 1 →
+        start.hearing.arbitration.view ≡ fresh journal.session first window →
+        start.hearing.outgoing.text ≡ [] → OwnPorts start start_left rounds rounds_left →
+        LoopRun drops a b to turns limit 0 (lines_published journal lines) server start rounds result old new
+        start_left rounds_left →
+        PrintsRefused lines (length (lines_published journal lines).journal.messages + 1) why first result old new }
+{
+    published_law::<D>();
+    served_law::<D>();
+    honest_stays_law();
+    honest_take_law();
+    taken_law();
+    reading_law();
 }

@@ -1,30 +1,36 @@
+use Rattle.mold_feed.proofs.OpeningLemmas.{OpeningLaws}
 use Rattle.mold_feed.proofs.SessionLawLemmas.{FeedLaws, session_prints_among, session_prints_lines}
 use Rattle.mold_feed.proofs.laws.session_law.Given.{Over}
 use Rattle.mold_feed.proofs.laws.session_law.Goals.{After-honest_stays_law}
 use Rattle.mold_feed.proofs.laws.session_law.Goals as goal
 
-laws : (g : Over) → After-honest_stays_law g → FeedLaws g.row.D-Peer.Denot
-laws g c = record {
-  published = c.published_law.ensures.sent;
+opening_laws : (g : Over) → After-honest_stays_law g → OpeningLaws
+opening_laws g c = record {
   lines = c.published_law.ensures.lines;
   answers = c.published_law.ensures.answers;
+  begins = c.honest_stays_law.ensures.fresh;
+}
+
+laws : (g : Over) → After-honest_stays_law g → FeedLaws g.row.D-Peer.Denot
+laws g c = record {
+  opening = opening_laws g c;
+  published = c.published_law.ensures.sent;
   served = c.served_law.ensures;
   heard = c.listened_law.ensures.heard;
   plain = c.listened_law.ensures.plain;
   finished = c.listened_law.ensures.finished;
-  begins = c.honest_stays_law.ensures.fresh;
 }
 
 pub returns-clause-printed : goal.returns-clause-printed
 returns-clause-printed g c =
     λ limit first window turns burst journal lines server a b requests arbitration a_left b_left requests_left left result
     old new sent opening unrefused least most anew hears ran.
-    session_prints_lines (laws g c) limit journal lines opening unrefused first window burst turns least most server a b
-    requests arbitration anew _ result old new sent ran hears
+    session_prints_lines (laws g c) limit journal lines opening unrefused first window least most arbitration anew burst turns
+    server a b requests _ result old new sent ran hears
 
 pub returns-clause-among : goal.returns-clause-among
 returns-clause-among g c =
     λ limit first window turns burst journal lines server a b requests arbitration a_left b_left requests_left left result
     old new sent opening unrefused least most anew hears ran.
-    session_prints_among (laws g c) limit journal lines opening unrefused first window burst turns least most server a b
-    requests arbitration anew _ result old new sent ran hears
+    session_prints_among (laws g c) limit journal lines opening unrefused first window least most arbitration anew burst turns
+    server a b requests _ result old new sent ran hears
