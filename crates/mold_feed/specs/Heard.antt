@@ -155,9 +155,9 @@ pub record PrintsLines {E : Type 0} (lines : List (List ℕ)) (first : ℕ) (res
   pub front : AppendsFront old new
       (lines_text first (between lines first next) ++ listened_line finished next known failures)
 
--- What a loop printed of which the line `place` is refused, and the listener began at the line `first`: the published
--- lines behind their numbers, from that one to below some line that isn't behind the refused one, and then the refusal,
--- with status 2. After a fault a beginning of such a text is written.
+-- What a loop printed whose listener began at the line `first`, where the line `place` is refused: published lines
+-- behind their numbers, from the first one on, all of them before the refused one; then the refusal, with status 2.
+-- After a fault a beginning of such a text is written.
 pub record PrintsRefused {E : Type 0} (lines : List (List ℕ)) (place : ℕ) (why : LineRefusal) (first : ℕ)
     (result : Result ℕ E) (old new : Option (List ℕ)) : Type 0 where
   pub next : ℕ

@@ -15,9 +15,9 @@ pub record WasSent {P : Type 0} (sent : List (P × List ℕ)) (bytes : List ℕ)
 abbrev pub GivesSent : {P : Type 0} → List (P × List ℕ) → Port P → Type 0
 GivesSent sent port = GivesOnly (WasSent sent) port
 
--- The publisher's port and the server's had sent nothing when the loop began. By its end the ports of the lines have
--- given only what the publisher's port sent, and the port of requests only what the server's port sent. What comes to
--- the server's port is free.
+-- The publisher's port and the server's had sent nothing when the loop began. All that the ports of the lines give was
+-- sent from the publisher's port by the loop's end, and all that the port of requests gives from the server's port.
+-- What comes to the server's port is free.
 pub record OwnPorts {P : Type 0} (lines lines_left : LineState P) (rounds rounds_left : RepairState P) : Type 0 where
   pub publisher : lines.publisher.sent ≡ []
   pub server : rounds.server.sent ≡ []
