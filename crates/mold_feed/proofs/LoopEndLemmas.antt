@@ -247,14 +247,14 @@ pub loop_done : {P T U E F G H : Type 0} (drops : Drops) (a b to : P) (turns : �
     OnOk result (rounds_left.hearing.outgoing ≡ written_out behind.hearing.outgoing) →
     IfSome known (λ input. LoopRun drops a b to turns start.limit start.sent
     (lines_published start.journal (lines_of input)) server lines rounds result old new lines_left rounds_left)
-loop_done drops a b to turns start now server lines rounds known v done result old mid next new here there left made rest hears has rests cut printed agrees out =
+loop_done drops a b to turns start now server lines rounds known v done result old mid next new here there left made rest hears has rests cut printed is out =
     run_from drops a b to turns start server lines rounds known now.journal None hears.front result old new
     left rest hears.all
     (λ whole.
     run_end drops a b to turns start.limit start.sent (record { journal = now.journal; refused = None }) server lines
     rounds result there left made rest old mid next new rests.rests.choices rests.rests.written
     (heard_all drops a b start now known lines here there old mid v hears has whole) rests.rests.counted
-    rests.rests.appended rests.rests.whole cut printed agrees out)
+    rests.rests.appended rests.rests.whole cut printed is out)
 
 -- the journal that is left
 pub journal_left : {P E : Type 0} (drops : Drops) (a b : P) (start now : PublisherState) (known : Option (List ℕ))
