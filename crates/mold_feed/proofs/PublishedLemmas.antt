@@ -1,5 +1,5 @@
 -- What publishing lines sends is true of the journal that is left.
-use Rattle.std.proofs.Common.{◌≡◌, ℕ, zero, suc, ◌+◌, ◌-◌, ◌≤◌, true, List, [], ◌∷◌, ◌++◌, length, take, map, replicate}
+use Rattle.std.proofs.Common.{◌≡◌, ℕ, zero, suc, ◌+◌, ◌-◌, ◌≤◌, true, false, List, [], ◌∷◌, ◌++◌, length, take, map, replicate}
 use Rattle.std.proofs.Common.{Option, None, Some, Result, Ok, Err, refl, sym, ap, subst, ◌∙◌, append_assoc, append-nil}
 use Rattle.std.proofs.Common.{arith}
 use Rattle.std.specs.Prelude.{slice_get}
@@ -77,6 +77,7 @@ record HasTaken (limit : ℕ) (journal : JournalState) (lines : List (List ℕ))
   pub count : ℕ
   pub spelled : as_spelled journal.messages ++ map decode_of (take count lines) ≡ as_spelled after.journal.messages
   pub ends : EndsAt lines count after.journal after.refused
+  pub closed : after.journal.closed ≡ journal.closed
 
 module _ (laws : PublishedLaws) (limit : ℕ) where
   -- a line that is refused
@@ -88,6 +89,7 @@ module _ (laws : PublishedLaws) (limit : ℕ) where
     count = 0;
     spelled = append-nil (as_spelled journal.messages);
     ends = record { line = line; place = refl; refused = refused };
+    closed = refl;
   }
 
   -- a line more, whose message is taken or refused
@@ -111,6 +113,7 @@ module _ (laws : PublishedLaws) (limit : ℕ) where
             (sym (map-append Ok journal.messages (message ∷ [])))
             ∙ rest.spelled;
         ends = ends_behind line lines rest.count (behind next).journal (behind next).refused rest.ends;
+        closed = rest.closed;
       }
   message_taken journal line lines message (Some why) behind is digits refused each =
       line_refused journal line lines (NotTaken why) is
@@ -132,7 +135,7 @@ module _ (laws : PublishedLaws) (limit : ℕ) where
       HasTaken limit journal lines (lines_published journal lines)
   unfolding lines_published
   lines_taken [] journal is =
-      record { is = is; count = 0; spelled = append-nil (as_spelled journal.messages); ends = refl }
+      record { is = is; count = 0; spelled = append-nil (as_spelled journal.messages); ends = refl; closed = refl }
   lines_taken (line ∷ lines) journal is =
       line_taken journal line lines (decode_of line) (λ next. lines_published next lines) is refl (lines_taken lines)
 
@@ -185,8 +188,8 @@ lines_spelled laws limit journal lines is whole =
 -- and the lines before the refused one where one is
 some_spelled : (lines : List (List ℕ)) (count : ℕ) (journal : JournalState) (why : LineRefusal) →
     map decode_of (take count lines) ≡ as_spelled journal.messages → StopsAt lines count why journal →
-    HasLinesBefore lines why journal
-some_spelled lines count journal why spelled stops =
+    journal.closed ≡ false → HasLinesBefore lines why journal
+some_spelled lines count journal why spelled stops unclosed =
     let within = slice_get_within lines count stops.line stops.place in
     let as_many = spelled_length (take count lines) journal.messages spelled in
     let long : length (take count lines) ≡ count = length-take-le count lines (omega (arith, within)) in
@@ -196,6 +199,7 @@ some_spelled lines count journal why spelled stops =
       place = ap (slice_get lines) (sym many) ∙ stops.place;
       refused = stops.refused;
       spelled = ap (λ (n : ℕ). map decode_of (take n lines)) (sym many) ∙ spelled;
+      unclosed = unclosed;
     }
 
 pub lines_spelled_before : (laws : PublishedLaws) (limit : ℕ) (journal : JournalState) (lines : List (List ℕ))
@@ -207,6 +211,7 @@ lines_spelled_before laws limit journal lines why is stopped =
     some_spelled lines taken.count after.journal why
     (opening_spelled journal lines after taken.count is.empty taken.spelled)
     (subst (λ (refused : Option LineRefusal). EndsAt lines taken.count after.journal refused) stopped taken.ends)
+    (taken.closed ∙ is.unclosed)
 
 -- ---- a server may answer from it
 

@@ -1,25 +1,32 @@
 -- From the lines that are published to the lines that are heard, by what the laws of publishing, of serving and of
 -- listening say.
-use Rattle.std.proofs.Common.{◌≡◌, ℕ, ◌+◌, ◌≤◌, Bool, true, List, [], ◌∷◌, ◌++◌, length, Option, None, Result}
-use Rattle.std.proofs.Common.{inl, inr, sym, ap, subst, ◌∙◌}
+use Rattle.std.proofs.Common.{◌≡◌, ℕ, ◌+◌, ◌≤◌, Bool, true, false, List, [], ◌∷◌, ◌++◌, length, take, Option, None, Some}
+use Rattle.std.proofs.Common.{Result, inl, inr, sym, ap, subst, ◌∙◌, arith}
+use Rattle.std.specs.Io.KnownBytes.{Appends}
 use Rattle.std.specs.List.{AllByRecursion}
+use Rattle.std.proofs.lemmas.Bool.{false_from_ne_true, false≢true}
+use Rattle.std.proofs.lemmas.Result.{IfOk-weaker}
+use Rattle.mold_devices.specs.Devices.{AppendsFront}
 use Rattle.mold_devices.specs.declared.fault.CommandFault.{CommandFault}
 use Rattle.mold_feed.specs.Heard.{Gives, GivesOnly, HasFinished, HasListened, Hears, HearsOnly, IsFed, IsHarmless, IsStrange, PrintsAmong}
-use Rattle.mold_feed.specs.Heard.{PrintsLines}
+use Rattle.mold_feed.specs.Heard.{PrintsLines, PrintsOpen, lines_text, listened_line, listened_status}
 use Rattle.mold_feed.specs.Listening.{ListenerState, beginning, is_finished, last_line, listening, status}
-use Rattle.mold_feed.specs.PublishLoop.{PublishRun}
+use Rattle.mold_feed.specs.PublishLoop.{PublishRun, closed_unless}
 use Rattle.mold_feed.specs.Runs.{Ran, run}
-use Rattle.mold_feed.specs.Sent.{AllSent, HasLines, IsCopy, IsOpening, IsPublished, IsSent, IsServed}
+use Rattle.mold_feed.specs.Sent.{AllSent, HasLines, HasLinesBefore, IsCopy, IsOpening, IsPublished, IsSent, IsServed}
 use Rattle.mold_feed.specs.Serving.{ResponderState, Service, serving}
-use Rattle.mold_feed.specs.Text.{handed_text}
+use Rattle.mold_feed.specs.Text.{handed_text, open_line}
+use Rattle.mold_feed.proofs.HeardSayingLemmas.{between_front}
 use Rattle.mold_feed.proofs.LinesPrintedLemmas.{HasCome, has_come, listened_among, prints_lines}
 use Rattle.mold_feed.proofs.LinesTextLemmas.{text_between}
-use Rattle.mold_feed.proofs.OpeningLemmas.{OpeningLaws, begins_at, begins_honest, begins_in, left_by, left_session, lines_within}
+use Rattle.mold_feed.proofs.OpeningLemmas.{OpeningLaws, begins_at, begins_honest, begins_in, left_by, left_messages, left_session}
 use Rattle.mold_feed.proofs.SentLemmas.{sent_one}
 use Rattle.mold_ports.specs.Ports.{Port, Receipt, Datagram, Quiet, Failure}
 use Rattle.mold_publish.specs.Publishing.{lines_published}
+use Rattle.mold_publish.specs.declared.line_refusal.LineRefusal.{LineRefusal}
 use Rattle.mold_receiver.specs.Arbiter.{Arbitration}
 use Rattle.mold_receiver.specs.Honest.{IsHonest}
+use Rattle.mold_receiver.specs.Store.{Message}
 use Rattle.mold_receiver.specs.View.{fresh}
 use Rattle.mold_session.specs.Answer.{between}
 use Rattle.mold_session.specs.Journal.{JournalState}
@@ -36,6 +43,9 @@ pub record FeedLaws (P : Type 0) : Type 0 where
       PublishRun a b beats ends limit (lines_published journal lines) result before after text_old text_new file_old
       file_new → AllSent (TellsTruth (left_by journal lines)) before.sent →
       AllSent (TellsTruth (left_by journal lines)) after.sent
+  pub before : (limit : ℕ) (journal : JournalState) (lines : List (List ℕ)) (why : LineRefusal) →
+      IsOpening journal limit → (lines_published journal lines).refused ≡ Some why →
+      HasLinesBefore lines why (lines_published journal lines).journal
   pub served : (service : Service) (choices : List (List Bool)) (start : ResponderState P) →
       MayAnswer service.journal service.limit → AllSent (TellsTruth service.journal) start.port.sent →
       AllSent (TellsTruth service.journal) (run (serving service) choices start).port.sent
@@ -129,15 +139,8 @@ module _ {P : Type 0} (laws : FeedLaws P) (limit : ℕ) (journal : JournalState)
 
   -- ---- what a listener of the session prints
 
-  module _ (unrefused : (lines_published journal lines).refused ≡ None) (first window : ℕ) (least : 1 ≤ first)
-      (most : first ≤ length lines + 1) (arbitration : Arbitration)
-      (anew : arbitration.view ≡ fresh journal.session first window) where
-    has_lines : HasLines lines (left_by journal lines)
-    has_lines = laws.opening.lines limit journal lines opening unrefused
-
-    within : first ≤ length (left_by journal lines).messages + 1
-    within = lines_within laws.opening limit journal lines opening unrefused first most
-
+  module _ (first window : ℕ) (least : 1 ≤ first) (within : first ≤ length (left_by journal lines).messages + 1)
+      (arbitration : Arbitration) (anew : arbitration.view ≡ fresh journal.session first window) where
     honest : IsHonest arbitration.view (left_by journal lines).messages (left_by journal lines).closed
     honest = begins_honest laws.opening limit journal lines opening first window least within arbitration anew
 
@@ -151,47 +154,133 @@ module _ {P : Type 0} (laws : FeedLaws P) (limit : ℕ) (journal : JournalState)
         (result : Result ℕ E) (old new : Option (List ℕ)) (sent : List (P × List ℕ))
         (ran : Ran (listening server burst) turns (beginning a b requests arbitration) last_line status agrees result old
         new sent) where
+      abbrev start : ListenerState P
+      start = beginning a b requests arbitration
+
       abbrev ending : ListenerState P
-      ending = run (listening server burst) ran.choices (beginning a b requests arbitration)
+      ending = run (listening server burst) ran.choices start
 
-      has_heard : HearsOnly (IsHarmless (left_by journal lines)) (beginning a b requests arbitration) →
-          HasListened (left_by journal lines) (Hears (beginning a b requests arbitration)) first [] ending.hearing
+      abbrev next : ℕ
+      next = ending.hearing.arbitration.view.next
+
+      has_heard : HearsOnly (IsHarmless (left_by journal lines)) start →
+          HasListened (left_by journal lines) (Hears start) first [] ending.hearing
       has_heard hears =
-          subst
-          (λ (n : ℕ).
-          HasListened (left_by journal lines) (Hears (beginning a b requests arbitration)) n [] ending.hearing)
-          at_first
-          (laws.heard (left_by journal lines) server burst ran.choices (beginning a b requests arbitration) honest
-          in_session hears)
+          subst (λ (n : ℕ). HasListened (left_by journal lines) (Hears start) n [] ending.hearing) at_first
+          (laws.heard (left_by journal lines) server burst ran.choices start honest in_session hears)
 
-      comes_to : HearsOnly (IsHarmless (left_by journal lines)) (beginning a b requests arbitration) →
-          HasCome lines first ending result old new
-      comes_to hears =
-          has_come (left_by journal lines) (Hears (beginning a b requests arbitration)) has_lines.spelled (has_heard hears)
-          (laws.finished (left_by journal lines) server burst ran.choices (beginning a b requests arbitration)
-          honest in_session hears)
-          ran.whole ran.front
+      has_finished : HearsOnly (IsHarmless (left_by journal lines)) start → is_finished ending.hearing ≡ true →
+          HasFinished (left_by journal lines) ending.hearing
+      has_finished hears =
+          laws.finished (left_by journal lines) server burst ran.choices start honest in_session hears
 
-      pub session_prints_among : HearsOnly (IsFed P journal limit lines) (beginning a b requests arbitration) →
-          PrintsAmong journal.session (Hears (beginning a b requests arbitration)) lines first result old new
-      session_prints_among fed =
-          let hears = hears_weaker (IsFed P journal limit lines) (IsHarmless (left_by journal lines)) fed_harmless
-          (beginning a b requests arbitration) fed in
-          subst
-          (λ (s : Session). PrintsAmong s (Hears (beginning a b requests arbitration)) lines first result old new)
-          (left_session journal lines)
-          (listened_among (left_by journal lines) (Hears (beginning a b requests arbitration)) has_lines.spelled (has_heard hears) (comes_to hears))
+      -- nothing but what was sent of the session
+      all_true : HearsOnly (IsSent P journal limit lines) start → HearsOnly (TellsTruth (left_by journal lines)) start
+      all_true sent =
+          hears_weaker (IsSent P journal limit lines) (TellsTruth (left_by journal lines)) sent_tells start sent
 
-      pub session_prints_lines : HearsOnly (IsSent P journal limit lines) (beginning a b requests arbitration) →
-          PrintsLines lines first result old new
-      session_prints_lines fed =
-          let hears = hears_weaker (IsSent P journal limit lines) (TellsTruth (left_by journal lines)) sent_tells
-          (beginning a b requests arbitration) fed in
-          let harmless = hears_weaker (TellsTruth (left_by journal lines)) (IsHarmless (left_by journal lines))
-          (λ bytes tells. inl tells) (beginning a b requests arbitration) hears in
-          let next = ending.hearing.arbitration.view.next in
-          prints_lines (comes_to harmless)
-          (laws.plain (left_by journal lines) server burst ran.choices (beginning a b requests arbitration) honest
-          in_session hears
+      all_harmless : HearsOnly (TellsTruth (left_by journal lines)) start →
+          HearsOnly (IsHarmless (left_by journal lines)) start
+      all_harmless hears =
+          hears_weaker (TellsTruth (left_by journal lines)) (IsHarmless (left_by journal lines))
+          (λ bytes tells. inl tells) start hears
+
+      text_heard : HearsOnly (TellsTruth (left_by journal lines)) start →
+          ending.hearing.outgoing.text ≡ handed_text first (between (left_by journal lines).messages first next)
+      text_heard hears =
+          laws.plain (left_by journal lines) server burst ran.choices start honest in_session hears
           ∙ ap (λ (n : ℕ). handed_text n (between (left_by journal lines).messages n next)) at_first
-          ∙ text_between lines (left_by journal lines).messages first next has_lines.spelled)
+
+      -- where no line is refused
+
+      module _ (unrefused : (lines_published journal lines).refused ≡ None) where
+        has_lines : HasLines lines (left_by journal lines)
+        has_lines = laws.opening.lines limit journal lines opening unrefused
+
+        comes_to : HearsOnly (IsHarmless (left_by journal lines)) start → HasCome lines first ending result old new
+        comes_to hears =
+            has_come (left_by journal lines) (Hears start) has_lines.spelled (has_heard hears) (has_finished hears)
+            ran.whole ran.front
+
+        pub session_prints_among : HearsOnly (IsFed P journal limit lines) start →
+            PrintsAmong journal.session (Hears start) lines first result old new
+        session_prints_among fed =
+            let hears = hears_weaker (IsFed P journal limit lines) (IsHarmless (left_by journal lines)) fed_harmless start
+            fed in
+            subst (λ (s : Session). PrintsAmong s (Hears start) lines first result old new) (left_session journal lines)
+            (listened_among (left_by journal lines) (Hears start) has_lines.spelled (has_heard hears) (comes_to hears))
+
+        pub session_prints_lines : HearsOnly (IsSent P journal limit lines) start →
+            PrintsLines lines first result old new
+        session_prints_lines sent =
+            let hears = all_true sent in
+            prints_lines (comes_to (all_harmless hears))
+            (text_heard hears ∙ text_between lines (left_by journal lines).messages first next has_lines.spelled)
+
+      -- where one is
+
+      module _ (why : LineRefusal) (refused : (lines_published journal lines).refused ≡ Some why) where
+        abbrev count : ℕ
+        count = length (lines_published journal lines).journal.messages
+
+        same : (left_by journal lines).messages ≡ (lines_published journal lines).journal.messages
+        same = left_messages journal lines
+
+        before : HasLinesBefore lines why (lines_published journal lines).journal
+        before = laws.before limit journal lines why opening refused
+
+        unclosed : (left_by journal lines).closed ≡ false
+        unclosed =
+            ap (λ (r : Option LineRefusal). (closed_unless r (lines_published journal lines).journal).closed) refused
+            ∙ before.unclosed
+
+        unfinished : HearsOnly (IsHarmless (left_by journal lines)) start → is_finished ending.hearing ≡ false
+        unfinished hears =
+            false_from_ne_true (is_finished ending.hearing)
+            (λ finished. false≢true (sym unclosed ∙ (has_finished hears finished).closed))
+
+        up_to : HearsOnly (IsHarmless (left_by journal lines)) start → next ≤ count + 1
+        up_to hears =
+            let many = ap (λ (messages : List Message). length messages) same in
+            let most = (has_heard hears).to in
+            omega (arith, many, most)
+
+        lines_printed : HearsOnly (TellsTruth (left_by journal lines)) start →
+            ending.hearing.outgoing.text ≡ lines_text first (between lines first next)
+        lines_printed hears =
+            text_heard hears
+            ∙ ap (λ (messages : List Message). handed_text first (between messages first next)) same
+            ∙ text_between (take count lines) (lines_published journal lines).journal.messages first next before.spelled
+            ∙ ap (lines_text first)
+            (between_front lines count first next least (has_heard (all_harmless hears)).from (up_to (all_harmless hears)))
+
+        all_printed : HearsOnly (TellsTruth (left_by journal lines)) start →
+            ending.hearing.outgoing.text ++ last_line ending
+            ≡ lines_text first (between lines first next)
+            ++ open_line next ending.hearing.arbitration.view.known ending.hearing.outgoing.failures
+        all_printed hears =
+            ap (λ (text : List ℕ). text ++ last_line ending) (lines_printed hears)
+            ∙ ap (λ (finished : Bool). lines_text first (between lines first next)
+            ++ listened_line finished next ending.hearing.arbitration.view.known ending.hearing.outgoing.failures)
+            (unfinished (all_harmless hears))
+
+        pub session_prints_open : HearsOnly (IsSent P journal limit lines) start →
+            PrintsOpen lines (count + 1) first result old new
+        session_prints_open sent =
+            let hears = all_true sent in
+            let harmless = all_harmless hears in
+            record {
+              next = next;
+              known = ending.hearing.arbitration.view.known;
+              failures = ending.hearing.outgoing.failures;
+              from = (has_heard harmless).from;
+              to = up_to harmless;
+              text =
+                  IfOk-weaker result _ _
+                  (λ answer written. (
+                    written.1 ∙ ap listened_status (unfinished harmless),
+                    subst (λ (text : List ℕ). Appends old new text) (all_printed hears) written.0,
+                  ))
+                  ran.whole;
+              front = subst (λ (text : List ℕ). AppendsFront old new text) (all_printed hears) ran.front;
+            }

@@ -155,8 +155,22 @@ pub record PrintsLines {E : Type 0} (lines : List (List ℕ)) (first : ℕ) (res
   pub front : AppendsFront old new
       (lines_text first (between lines first next) ++ listened_line finished next known failures)
 
+-- What a listener printed that began at the line `first`, where the line `place` is refused: published lines behind
+-- their numbers, from the first one on, each of them before the refused one; and then its last line, with status 1,
+-- since the session has no end. After a fault a beginning of such a text is written.
+pub record PrintsOpen {E : Type 0} (lines : List (List ℕ)) (place first : ℕ) (result : Result ℕ E)
+    (old new : Option (List ℕ)) : Type 0 where
+  pub next : ℕ
+  pub known : ℕ
+  pub failures : ℕ
+  pub from : first ≤ next
+  pub to : next ≤ place
+  pub text : IfOk result (λ status. (status ≡ 1) × Appends old new
+      (lines_text first (between lines first next) ++ open_line next known failures))
+  pub front : AppendsFront old new (lines_text first (between lines first next) ++ open_line next known failures)
+
 -- What a loop printed whose listener began at the line `first`, where the line `place` is refused: published lines
--- behind their numbers, from the first one on, all of them before the refused one; then the refusal, with status 2.
+-- behind their numbers, from the first one on, each of them before the refused one; then the refusal, with status 2.
 -- After a fault a beginning of such a text is written.
 pub record PrintsRefused {E : Type 0} (lines : List (List ℕ)) (place : ℕ) (why : LineRefusal) (first : ℕ)
     (result : Result ℕ E) (old new : Option (List ℕ)) : Type 0 where

@@ -28,12 +28,13 @@ pub record HasLines (lines : List (List ℕ)) (journal : JournalState) : Type 0 
   pub closed : journal.closed ≡ true
   pub spelled : map decode_of lines ≡ map Ok journal.messages
 
--- the line behind those whose messages a journal has is refused by it, for this reason
+-- the line behind those whose messages a journal has is refused by it, for this reason, and the journal is still open
 pub record HasLinesBefore (lines : List (List ℕ)) (why : LineRefusal) (journal : JournalState) : Type 0 where
   pub line : List ℕ
   pub place : slice_get lines (length journal.messages) ≡ Some line
   pub refused : line_outcome journal (decode_of line) ≡ Err why
   pub spelled : map decode_of (take (length journal.messages) lines) ≡ map Ok journal.messages
+  pub unclosed : journal.closed ≡ false
 
 -- all datagrams that were sent are such
 abbrev pub AllSent : {P : Type 0} → (List ℕ → Type 0) → List (P × List ℕ) → Type 0

@@ -5,7 +5,7 @@ ghost use Rattle.std.specs.Prelude.{◌≡◌, ◌+◌, ◌++◌, ◌≤◌, Boo
 ghost use Rattle.std.specs.List.{AllByRecursion};
 ghost use Rattle.mold_devices.specs.declared.fault.CommandFault.{CommandFault};
 ghost use Rattle.mold_feed.specs.Heard.{HasFinished, HasListened, Hears, HearsOnly, IsFed, IsHarmless, PrintsAmong};
-ghost use Rattle.mold_feed.specs.Heard.{PrintsLines, PrintsRefused};
+ghost use Rattle.mold_feed.specs.Heard.{PrintsLines, PrintsOpen, PrintsRefused};
 ghost use Rattle.mold_feed.specs.Listening.{Agrees, ListenerState, beginning, is_finished, last_line, listening};
 ghost use Rattle.mold_feed.specs.Listening.{status};
 ghost use Rattle.mold_feed.specs.Looping.{LineState, LoopRun};
@@ -100,12 +100,13 @@ pub fn listened_law<D: Datagrams>()
     reading_law();
 }
 
-/// From the lines that are published to the lines that are heard. Lines are published into a session that begins, none
-/// of them refused; any number of servers answer from copies of the journal that is left; a listener begins at a
-/// message that was published or is next, and its ports give nothing else of the session than what these sent: each
-/// datagram any number of times, in any order, or never. Then it prints the published lines behind their numbers, from
-/// that one on, and with status 0 they are all of them. The same holds of the lines of messages that it prints where
-/// also bytes come that are no packets of the session.
+/// From the lines that are published to the lines that are heard. Lines are published into a session that begins; any
+/// number of servers answer from copies of the journal that is left; a listener begins at a message that was published
+/// or is next, and its ports give nothing else of the session than what these sent: each datagram any number of times,
+/// in any order, or never. Where no line is refused, it prints the published lines behind their numbers, from that
+/// one on, and with status 0 they are all of them. The same holds of the lines of messages that it prints where
+/// also bytes come that are no packets of the session. Where a line is refused, it prints lines before that one, and
+/// its status is 1.
 pub fn session_law<D: Datagrams>()
     ensures printed { (limit first window turns burst : ℕ) (journal : JournalState) (lines : List (List ℕ))
         (server : D.Peer) (a b requests : Port D.Peer) (arbitration : Arbitration)
@@ -126,6 +127,17 @@ pub fn session_law<D: Datagrams>()
         Ran (listening server burst) turns (beginning a b requests arbitration) last_line status
         (Agrees a_left b_left requests_left left) result old new sent →
         PrintsAmong journal.session (Hears (beginning a b requests arbitration)) lines first result old new }
+    ensures refused { (limit first window turns burst : ℕ) (journal : JournalState) (lines : List (List ℕ))
+        (why : LineRefusal) (server : D.Peer) (a b requests : Port D.Peer) (arbitration : Arbitration)
+        (a_left b_left requests_left : Port D.Peer) (left : Arbitration) (result : Result ℕ CommandFault)
+        (old new : Option (List ℕ)) (sent : List (D.Peer × List ℕ)) → IsOpening journal limit →
+        (lines_published journal lines).refused ≡ Some why →
+        1 ≤ first → first ≤ length (lines_published journal lines).journal.messages + 1 →
+        arbitration.view ≡ fresh journal.session first window →
+        HearsOnly (IsSent D.Peer journal limit lines) (beginning a b requests arbitration) →
+        Ran (listening server burst) turns (beginning a b requests arbitration) last_line status
+        (Agrees a_left b_left requests_left left) result old new sent →
+        PrintsOpen lines (length (lines_published journal lines).journal.messages + 1) first result old new }
 {
     published_law::<D>();
     served_law::<D>();

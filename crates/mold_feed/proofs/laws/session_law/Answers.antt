@@ -1,5 +1,5 @@
-use Rattle.mold_feed.proofs.OpeningLemmas.{OpeningLaws}
-use Rattle.mold_feed.proofs.SessionLawLemmas.{FeedLaws, session_prints_among, session_prints_lines}
+use Rattle.mold_feed.proofs.OpeningLemmas.{OpeningLaws, lines_within, messages_within}
+use Rattle.mold_feed.proofs.SessionLawLemmas.{FeedLaws, session_prints_among, session_prints_lines, session_prints_open}
 use Rattle.mold_feed.proofs.laws.session_law.Given.{Over}
 use Rattle.mold_feed.proofs.laws.session_law.Goals.{After-honest_stays_law}
 use Rattle.mold_feed.proofs.laws.session_law.Goals as goal
@@ -15,6 +15,7 @@ laws : (g : Over) → After-honest_stays_law g → FeedLaws g.row.D-Peer.Denot
 laws g c = record {
   opening = opening_laws g c;
   published = c.published_law.ensures.sent;
+  before = c.published_law.ensures.before;
   served = c.served_law.ensures;
   heard = c.listened_law.ensures.heard;
   plain = c.listened_law.ensures.plain;
@@ -25,12 +26,22 @@ pub returns-clause-printed : goal.returns-clause-printed
 returns-clause-printed g c =
     λ limit first window turns burst journal lines server a b requests arbitration a_left b_left requests_left left result
     old new sent opening unrefused least most anew hears ran.
-    session_prints_lines (laws g c) limit journal lines opening unrefused first window least most arbitration anew burst turns
-    server a b requests _ result old new sent ran hears
+    let within = lines_within (opening_laws g c) limit journal lines opening unrefused first most in
+    session_prints_lines (laws g c) limit journal lines opening first window least within arbitration anew burst turns
+    server a b requests _ result old new sent ran unrefused hears
 
 pub returns-clause-among : goal.returns-clause-among
 returns-clause-among g c =
     λ limit first window turns burst journal lines server a b requests arbitration a_left b_left requests_left left result
     old new sent opening unrefused least most anew hears ran.
-    session_prints_among (laws g c) limit journal lines opening unrefused first window least most arbitration anew burst turns
-    server a b requests _ result old new sent ran hears
+    let within = lines_within (opening_laws g c) limit journal lines opening unrefused first most in
+    session_prints_among (laws g c) limit journal lines opening first window least within arbitration anew burst turns
+    server a b requests _ result old new sent ran unrefused hears
+
+pub returns-clause-refused : goal.returns-clause-refused
+returns-clause-refused g c =
+    λ limit first window turns burst journal lines why server a b requests arbitration a_left b_left requests_left left
+    result old new sent opening refused least most anew hears ran.
+    let within = messages_within journal lines first most in
+    session_prints_open (laws g c) limit journal lines opening first window least within arbitration anew burst turns
+    server a b requests _ result old new sent ran why refused hears
