@@ -26,6 +26,8 @@ pub record HasCome {P E : Type 0} (lines : List (List ℕ)) (first : ℕ) (end :
   pub front : AppendsFront old new (end.hearing.outgoing.text ++ last_line end)
   pub from : first ≤ end.hearing.arbitration.view.next
   pub to : end.hearing.arbitration.view.next ≤ length lines + 1
+  pub ahead : end.hearing.arbitration.view.next ≤ end.hearing.arbitration.view.known
+  pub heard : end.hearing.arbitration.view.known ≤ length lines + 1
   pub all : is_finished end.hearing ≡ true → end.hearing.arbitration.view.next ≡ length lines + 1
 
 -- so it has where the messages of the session are those of the lines
@@ -42,6 +44,8 @@ has_come {P} {E} {lines} {first} {end} {result} {old} {new} journal Came spelled
       front = front;
       from = listened.from;
       to = omega (arith, many, listened.to);
+      ahead = listened.honest.well_formed.ahead;
+      heard = omega (arith, many, listened.honest.known);
       all = λ over. let is = (finished over).all in omega (arith, many, is);
     }
 
@@ -67,6 +71,8 @@ prints_lines {P} {E} {lines} {first} {end} {result} {old} {new} come is =
       failures = end.hearing.outgoing.failures;
       from = come.from;
       to = come.to;
+      ahead = come.ahead;
+      heard = come.heard;
       all = come.all;
       text =
           IfOk-weaker result _ _
@@ -91,6 +97,8 @@ prints_among {P} {E} {lines} {first} {end} {result} {old} {new} session Came say
       messages = messages;
       from = come.from;
       to = come.to;
+      ahead = come.ahead;
+      heard = come.heard;
       all = come.all;
       text =
           IfOk-weaker result _ _

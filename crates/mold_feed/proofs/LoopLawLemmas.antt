@@ -451,6 +451,8 @@ module _ {P : Type 0} (laws : LoopLaws P) (drops : Drops) (a b to : P) (turns li
             front = subst (λ (line : List ℕ). AppendsFront old new (end.outgoing.text ++ line)) line_is ran.front;
             from = from;
             to = omega (arith, many, within);
+            ahead = done.sound.honest.well_formed.ahead;
+            heard = omega (arith, many, done.sound.honest.known);
             all = λ over.
                 let is = (done.sound.honest.ends end.arbitration.view.next
                 (ends_so end.arbitration.view.ended end.arbitration.view.next over)).1 in

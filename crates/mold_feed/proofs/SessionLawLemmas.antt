@@ -239,11 +239,18 @@ module _ {P : Type 0} (laws : FeedLaws P) (limit : ℕ) (journal : JournalState)
             false_from_ne_true (is_finished ending.hearing)
             (λ finished. false≢true (sym unclosed ∙ (has_finished hears finished).closed))
 
-        up_to : HearsOnly (IsHarmless (left_by journal lines)) start → next ≤ count + 1
-        up_to hears =
+        known_to : HearsOnly (IsHarmless (left_by journal lines)) start →
+            ending.hearing.arbitration.view.known ≤ count + 1
+        known_to hears =
             let many = ap (λ (messages : List Message). length messages) same in
-            let most = (has_heard hears).to in
+            let most = (has_heard hears).honest.known in
             omega (arith, many, most)
+
+        ahead : HearsOnly (IsHarmless (left_by journal lines)) start → next ≤ ending.hearing.arbitration.view.known
+        ahead hears = (has_heard hears).honest.well_formed.ahead
+
+        up_to : HearsOnly (IsHarmless (left_by journal lines)) start → next ≤ count + 1
+        up_to hears = omega (arith, ahead hears, known_to hears)
 
         lines_printed : HearsOnly (TellsTruth (left_by journal lines)) start →
             ending.hearing.outgoing.text ≡ lines_text first (between lines first next)
@@ -275,6 +282,8 @@ module _ {P : Type 0} (laws : FeedLaws P) (limit : ℕ) (journal : JournalState)
               failures = ending.hearing.outgoing.failures;
               from = (has_heard harmless).from;
               to = up_to harmless;
+              ahead = ahead harmless;
+              heard = known_to harmless;
               text =
                   IfOk-weaker result _ _
                   (λ answer written. (

@@ -139,8 +139,8 @@ abbrev pub listened_status : Bool → ℕ
 listened_status finished = if finished then 0 else 1
 
 -- What a listener printed that began at the line `first`: the published lines behind their numbers, from that one to
--- below some line, and then its last line. Where it is finished, which status 0 says, they are all from the first one
--- on. After a fault a beginning of such a text is written.
+-- below some line, and then its last line, whose numbers are those of lines or the one behind. Where it is finished,
+-- which status 0 says, they are all from the first one on. After a fault a beginning of such a text is written.
 pub record PrintsLines {E : Type 0} (lines : List (List ℕ)) (first : ℕ) (result : Result ℕ E)
     (old new : Option (List ℕ)) : Type 0 where
   pub next : ℕ
@@ -149,6 +149,8 @@ pub record PrintsLines {E : Type 0} (lines : List (List ℕ)) (first : ℕ) (res
   pub failures : ℕ
   pub from : first ≤ next
   pub to : next ≤ length lines + 1
+  pub ahead : next ≤ known
+  pub heard : known ≤ length lines + 1
   pub all : finished ≡ true → next ≡ length lines + 1
   pub text : IfOk result (λ status. (status ≡ listened_status finished) × Appends old new
       (lines_text first (between lines first next) ++ listened_line finished next known failures))
@@ -156,8 +158,9 @@ pub record PrintsLines {E : Type 0} (lines : List (List ℕ)) (first : ℕ) (res
       (lines_text first (between lines first next) ++ listened_line finished next known failures)
 
 -- What a listener printed that began at the line `first`, where the line `place` is refused: published lines behind
--- their numbers, from the first one on, each of them before the refused one; and then its last line, with status 1,
--- since the session has no end. After a fault a beginning of such a text is written.
+-- their numbers, from the first one on, each of them before the refused one; and then its last line, which tells no
+-- number behind that one, with status 1, since the session has no end. After a fault a beginning of such a text is
+-- written.
 pub record PrintsOpen {E : Type 0} (lines : List (List ℕ)) (place first : ℕ) (result : Result ℕ E)
     (old new : Option (List ℕ)) : Type 0 where
   pub next : ℕ
@@ -165,6 +168,8 @@ pub record PrintsOpen {E : Type 0} (lines : List (List ℕ)) (place first : ℕ)
   pub failures : ℕ
   pub from : first ≤ next
   pub to : next ≤ place
+  pub ahead : next ≤ known
+  pub heard : known ≤ place
   pub text : IfOk result (λ status. (status ≡ 1) × Appends old new
       (lines_text first (between lines first next) ++ open_line next known failures))
   pub front : AppendsFront old new (lines_text first (between lines first next) ++ open_line next known failures)
@@ -200,6 +205,8 @@ pub record PrintsAmong {E : Type 0} (session : Session) (Came : List ℕ → Typ
   pub messages : messages_text sayings ≡ lines_text first (between lines first next)
   pub from : first ≤ next
   pub to : next ≤ length lines + 1
+  pub ahead : next ≤ known
+  pub heard : known ≤ length lines + 1
   pub all : finished ≡ true → next ≡ length lines + 1
   pub text : IfOk result (λ status. (status ≡ listened_status finished) × Appends old new
       (sayings_text sayings ++ listened_line finished next known failures))
