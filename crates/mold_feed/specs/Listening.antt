@@ -103,7 +103,7 @@ abbrev pub listener : {P : Type 0} → Port P → Port P → Port P → Arbitrat
 listener a b requests arbitration outgoing =
     record { a = a; b = b; requests = requests; hearing = hearing arbitration outgoing }
 
--- a listener as its ports are known, and what of it asks
+-- how far a listener is, and the part of it that asks; `port` says how a port stands
 abbrev pub state : {D P : Type 0} → (D → Port P) → FeedListener D → ListenerState P
 state port feed =
     listener (port feed.a.now) (port feed.b.now) (port feed.requests.now) feed.arbiter.now feed.report.now.outgoing

@@ -54,13 +54,14 @@ abbrev pub both : {P : Type 0} → P → P → List (List ℕ) → List (P × Li
 both a b [] = []
 both a b (datagram ∷ datagrams) = (a, datagram) ∷ (b, datagram) ∷ both a b datagrams
 
--- what sends on two lines, as its port is known
+-- how far what sends on two lines is; `port` says how a port stands
 abbrev pub lines_state : {D A P : Type 0} → (D → Port P) → TwoLines D A → PublicationState P
 lines_state port lines = publication_of (port lines.port.now) lines.outgoing.now
 
 -- it sends datagrams on both, one after the other
 abbrev pub SendsBoth : {D P : Type 0} → (D → Port P) → List (List ℕ) → TwoLines D P → TwoLines D P → Type 0
-SendsBoth port datagrams old new = Sends (both old.a.now old.b.now datagrams) (lines_state port old) (lines_state port new)
+SendsBoth port datagrams old new =
+    Sends (both old.a.now old.b.now datagrams) (lines_state port old) (lines_state port new)
 
 -- it still sends from the same port to the same two
 pub record IsSameLines {D A : Type 0} (old new : TwoLines D A) : Type 0 where

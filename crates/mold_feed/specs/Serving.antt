@@ -55,7 +55,7 @@ responder_of port tally server = record {
 abbrev pub service : {D : Type 0} → Responder D → Service
 service responder = service_of responder.journal.now responder.server.now
 
--- how far it is, as its port is known
+-- how far it is; `port` says how a port stands
 abbrev pub state : {D P : Type 0} → (D → Port P) → Responder D → ResponderState P
 state port responder = responder_of (port responder.port.now) responder.tally.now responder.server.now
 

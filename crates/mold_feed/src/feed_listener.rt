@@ -102,6 +102,7 @@ impl<'a, D: Datagrams> FeedListener<'a, D> {
         }
         Ok(())
     }
+
     /// Makes the turns, prints the last line, and answers the status: 0 finished, 1 open. `place` has `LONGEST` bytes.
     pub(crate) fn listen<K: Sink>(
         &mut self,

@@ -156,6 +156,7 @@ impl<'a, 'p, D: Datagrams> Publication<'a, 'p, D> {
         let _ = self.publisher.close();
         self.send_ends(ends);
     }
+
     /// Publishes the lines of the source as messages of an open publisher that has none, and sends them. Then it sends
     /// so many heartbeats and end packets, saves the journal in `journal_sink`, prints the last line, and answers the
     /// status: 0, or 2 where a line is refused, which is printed in place of all that is behind it.

@@ -125,6 +125,7 @@ impl<'a, D: Datagrams> Responder<'a, D> {
         }
         Ok(())
     }
+
     /// Makes the turns, prints the last line, and answers the status, which is 0. `place` has `LONGEST` bytes.
     pub(crate) fn serve<K: Sink>(
         &mut self,

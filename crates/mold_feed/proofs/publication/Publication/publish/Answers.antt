@@ -13,7 +13,8 @@ send_lines-requires-clause-room g c =
 
 pub returns-in_err-why-clause-run : goal.returns-in_err-why-clause-run
 returns-in_err-why-clause-run g c tells =
-    run_unread c.args.self.now.lines.a.now c.args.self.now.lines.b.now c.args.beats c.args.ends c.args.self.now.publisher.now _ _ _ c.from_residual.result _ _ _ _ _ _ _
+    run_unread c.args.self.now.lines.a.now c.args.self.now.lines.b.now c.args.beats c.args.ends
+    c.args.self.now.publisher.now _ _ _ c.from_residual.result _ _ _ _ _ _ _
     c.requires.quiet
     (none_sent c.args.self.now.publisher.now c.publisher_holds.ensures.published c.requires.empty)
     c.from_residual.ensures.0
@@ -21,7 +22,8 @@ returns-in_err-why-clause-run g c tells =
 
 pub returns-in_err-push_line_refused-clause-run : goal.returns-in_err-push_line_refused-clause-run
 returns-in_err-push_line_refused-clause-run g c tells =
-    run_unread c.args.self.now.lines.a.now c.args.self.now.lines.b.now c.args.beats c.args.ends c.args.self.now.publisher.now _ _ _
+    run_unread c.args.self.now.lines.a.now c.args.self.now.lines.b.now c.args.beats c.args.ends
+    c.args.self.now.publisher.now _ _ _
     c.from_residual-in_err-push_line_refused.result _ _ _ _ _ _ _
     c.requires.quiet
     (none_sent c.args.self.now.publisher.now c.publisher_holds.ensures.published c.requires.empty)
@@ -30,7 +32,8 @@ returns-in_err-push_line_refused-clause-run g c tells =
 
 pub returns-in_err-send-clause-run : goal.returns-in_err-send-clause-run
 returns-in_err-send-clause-run g c tells =
-    run_refused c.args.self.now.lines.a.now c.args.self.now.lines.b.now c.args.beats c.args.ends c.args.self.now.publisher.now c.send_lines.new.self.publisher.now _
+    run_refused c.args.self.now.lines.a.now c.args.self.now.lines.b.now c.args.beats c.args.ends
+    c.args.self.now.publisher.now c.send_lines.new.self.publisher.now _
     c.in-Some.why c.from_residual-in_err-send.result _ _ _ c.push_line_refused.new.self _ _ _ _ _ c.next-number.result
     c.requires.quiet
     (none_sent c.args.self.now.publisher.now c.publisher_holds.ensures.published c.requires.empty)
@@ -43,7 +46,8 @@ returns-in_err-send-clause-run g c tells =
 
 pub returns-in-Some-clause-run : goal.returns-in-Some-clause-run
 returns-in-Some-clause-run g c tells =
-    run_refused c.args.self.now.lines.a.now c.args.self.now.lines.b.now c.args.beats c.args.ends c.args.self.now.publisher.now c.send_lines.new.self.publisher.now _
+    run_refused c.args.self.now.lines.a.now c.args.self.now.lines.b.now c.args.beats c.args.ends
+    c.args.self.now.publisher.now c.send_lines.new.self.publisher.now _
     c.in-Some.why _ _ _ _ c.push_line_refused.new.self _ _ _ _ _ c.next-number.result
     c.requires.quiet
     (none_sent c.args.self.now.publisher.now c.publisher_holds.ensures.published c.requires.empty)
@@ -56,7 +60,8 @@ returns-in-Some-clause-run g c tells =
 
 pub returns-in_err-save_journal-clause-run : goal.returns-in_err-save_journal-clause-run
 returns-in_err-save_journal-clause-run g c tells =
-    run_unsaved c.args.self.now.lines.a.now c.args.self.now.lines.b.now c.args.beats c.args.ends c.args.self.now.publisher.now c.send_lines.new.self.publisher.now _
+    run_unsaved c.args.self.now.lines.a.now c.args.self.now.lines.b.now c.args.beats c.args.ends
+    c.args.self.now.publisher.now c.send_lines.new.self.publisher.now _
     c.from_residual-in_err-save_journal.result _ _ _ c.send_close.new.self.lines.outgoing.now c.send_lines.new.self.datagrams _ _ _ _ _
     c.journal-2.result.now
     c.requires.quiet
@@ -72,7 +77,8 @@ returns-in_err-save_journal-clause-run g c tells =
 
 pub returns-in_err-push_published-clause-run : goal.returns-in_err-push_published-clause-run
 returns-in_err-push_published-clause-run g c tells =
-    run_unsaved c.args.self.now.lines.a.now c.args.self.now.lines.b.now c.args.beats c.args.ends c.args.self.now.publisher.now c.send_lines.new.self.publisher.now _
+    run_unsaved c.args.self.now.lines.a.now c.args.self.now.lines.b.now c.args.beats c.args.ends
+    c.args.self.now.publisher.now c.send_lines.new.self.publisher.now _
     c.from_residual-in_err-push_published.result _ _ _ c.send_close.new.self.lines.outgoing.now c.send_lines.new.self.datagrams _ _ _ _ _
     c.journal-2.result.now
     c.requires.quiet
@@ -90,7 +96,8 @@ pub returns-in_err-send-2-clause-run : goal.returns-in_err-send-2-clause-run
 returns-in_err-send-2-clause-run g c tells =
     let closed = ap (λ (p : PublisherState). p.journal) c.send_close.ensures.closed in
     let failed = c.from_residual-in_err-send-2.ensures.0 in
-    run_printed c.args.self.now.lines.a.now c.args.self.now.lines.b.now c.args.beats c.args.ends c.args.self.now.publisher.now c.send_lines.new.self.publisher.now _
+    run_printed c.args.self.now.lines.a.now c.args.self.now.lines.b.now c.args.beats c.args.ends
+    c.args.self.now.publisher.now c.send_lines.new.self.publisher.now _
     c.from_residual-in_err-send-2.result _ _ _ c.send_close.new.self.lines.outgoing.now c.push_published.new.outgoing
     c.send_lines.new.self.datagrams (c.next-messages.result - 1) _ _ _ _ _ _ c.journal-2.result.now
     c.requires.quiet
@@ -111,7 +118,8 @@ returns-in_err-send-2-clause-run g c tells =
 pub returns-clause-run : goal.returns-clause-run
 returns-clause-run g c tells =
     let closed = ap (λ (p : PublisherState). p.journal) c.send_close.ensures.closed in
-    run_printed c.args.self.now.lines.a.now c.args.self.now.lines.b.now c.args.beats c.args.ends c.args.self.now.publisher.now c.send_lines.new.self.publisher.now _
+    run_printed c.args.self.now.lines.a.now c.args.self.now.lines.b.now c.args.beats c.args.ends
+    c.args.self.now.publisher.now c.send_lines.new.self.publisher.now _
     _ _ _ _ c.send_close.new.self.lines.outgoing.now c.push_published.new.outgoing c.send_lines.new.self.datagrams (c.next-messages.result - 1)
     _ _ _ _ _ _ c.journal-2.result.now
     c.requires.quiet
