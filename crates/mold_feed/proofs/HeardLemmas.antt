@@ -21,8 +21,8 @@ use Rattle.mold_feed.specs.Outgoing.{OutgoingState}
 use Rattle.mold_feed.specs.Listening.{Hearing}
 use Rattle.mold_feed.specs.Looping.{ComesOfBoth, HasPassed, LineState, Outcome, LeftOut, Failed, Sent}
 use Rattle.mold_feed.specs.Looping.{Pass, goes_out, heard_if, heard_on, is_sent, line_state, offered_by, passed, passing, port_after}
-use Rattle.mold_feed.specs.Looping.{received_if, outgoing_after, routed, routed_by, sent_by, text_front}
-use Rattle.mold_feed.specs.Passing.{routes_of}
+use Rattle.mold_feed.specs.Looping.{received_if, outgoing_after, routed_by, sent_by, text_front}
+use Rattle.mold_feed.specs.Passing.{routed, routes_of}
 use Rattle.mold_feed.specs.PublishLoop.{spelled_some}
 use Rattle.mold_feed.specs.Runs.{Begins, Loop, Moves, run}
 use Rattle.mold_feed.specs.declared.loop_parts.Drops.{Drops}

@@ -14,7 +14,8 @@ use Rattle.mold_feed.proofs.HeardLemmas.{Heard, HeardFront, heard_cut, heard_fai
 use Rattle.mold_feed.proofs.HeardLemmas.{routed_more}
 use Rattle.mold_feed.proofs.SendingLemmas.{LeftToSend, any_known, begun, begun_all, left_end, left_full, left_refused, left_same}
 use Rattle.mold_feed.proofs.RunLemmas.{begins_more, none_answered, none_ok}
-use Rattle.mold_feed.specs.Looping.{BeginsData, HasPassed, HearsLines, IsData, LineState, routed, text_front}
+use Rattle.mold_feed.specs.Looping.{BeginsData, HasPassed, HearsLines, IsData, LineState, text_front}
+use Rattle.mold_feed.specs.Passing.{routed}
 use Rattle.mold_feed.specs.PublishLoop.{spelled_some}
 use Rattle.mold_feed.specs.Runs.{Begins, Moves}
 use Rattle.mold_feed.specs.declared.loop_parts.Drops.{Drops}

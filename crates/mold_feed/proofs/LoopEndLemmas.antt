@@ -20,8 +20,8 @@ use Rattle.mold_feed.proofs.RunLemmas.{begins_more, begins_none, begins_trans, b
 use Rattle.mold_feed.specs.Outgoing.{OutgoingState, written_out}
 use Rattle.mold_feed.specs.Listening.{hearing, hearing_line, hearing_status}
 use Rattle.mold_feed.specs.Looping.{HasPassed, HearsLines, IsData, LineState, LoopRun}
-use Rattle.mold_feed.specs.Looping.{all_routed}
-use Rattle.mold_feed.specs.Looping.{routed, routed_end, with_heard}
+use Rattle.mold_feed.specs.Looping.{with_heard}
+use Rattle.mold_feed.specs.Passing.{all_routed, routed, routed_end}
 use Rattle.mold_feed.specs.PublishLoop.{closed_unless, data_behind, left_journal}
 use Rattle.mold_feed.specs.Repairing.{RepairState, answers_sent, repairing, text_before}
 use Rattle.mold_feed.specs.Runs.{Begins, RestsOfTwo, run}

@@ -19,9 +19,10 @@ use Rattle.mold_feed.proofs.RunLemmas.{begins_behind, begins_more, begins_trans,
 use Rattle.mold_feed.proofs.TurnLemmas.{hearing_before}
 use Rattle.mold_feed.specs.Listening.{Hearing}
 use Rattle.mold_feed.specs.Looping.{LineState, LoopRun, Outcome, LeftOut, Sent, Pass}
-use Rattle.mold_feed.specs.Looping.{all_routed, goes_out, lines_behind, loop_line, loop_status, loop_text, passing}
+use Rattle.mold_feed.specs.Looping.{goes_out, lines_behind, loop_line, loop_status, loop_text, passing}
 use Rattle.mold_feed.specs.Looping.{rounds_behind, rounds_made, routed_by, text_front, with_heard}
 use Rattle.mold_feed.specs.Outgoing.{written_out}
+use Rattle.mold_feed.specs.Passing.{all_routed}
 use Rattle.mold_feed.specs.PublishLoop.{left_journal}
 use Rattle.mold_feed.specs.Repairing.{RepairState, answers_sent, repairing, text_before}
 use Rattle.mold_feed.specs.Runs.{Begins, RestsOfTwo, run}

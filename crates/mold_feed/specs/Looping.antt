@@ -7,7 +7,6 @@ use Rattle.mold_devices.specs.Devices.{AppendsFront}
 use Rattle.mold_devices.specs.Lines.{lines_of}
 use Rattle.mold_ports.specs.Ports.{Port, offered, received}
 use Rattle.mold_publish.specs.Publishing.{PublishedLines, lines_published, refused_text}
-use Rattle.mold_publish.specs.Sending.{end_packet}
 use Rattle.mold_publish.specs.declared.line_refusal.LineRefusal.{LineRefusal}
 use Rattle.mold_receiver.specs.Arbiter.{Arbitration}
 use Rattle.mold_receiver.specs.declared.line.Line.{Line}
@@ -15,10 +14,9 @@ use Rattle.mold_receiver.specs.declared.line.Line.TheVariants.{A, B}
 use Rattle.mold_session.specs.Journal.{JournalState}
 use Rattle.mold_session.specs.Publisher.{PublisherState}
 use Rattle.mold_session.specs.Server.{ServerState}
-use Rattle.mold_wire.specs.Packet.{spelling_of}
 use Rattle.mold_feed.specs.Listening.{Hearing, hear, hearing, hearing_line, hearing_status}
 use Rattle.mold_feed.specs.Outgoing.{OutgoingState, failed_once, with_front, written_out}
-use Rattle.mold_feed.specs.Passing.{both_routes, routes_of}
+use Rattle.mold_feed.specs.Passing.{all_routed, routed}
 use Rattle.mold_feed.specs.PublishLoop.{data_behind, left_journal}
 use Rattle.mold_feed.specs.Repairing.{RepairState, repairing}
 use Rattle.mold_feed.specs.Runs.{Begins, Loop, run}
@@ -139,22 +137,6 @@ passing a b = record {
 abbrev pub text_front : {P : Type 0} → List ℕ → LineState P → LineState P
 text_front front s = line_state s.publisher s.a s.b s.hearing.arbitration
     (with_front front s.hearing.outgoing)
-
--- the datagrams of data packets with the lines that they go on; the first has this number
-abbrev pub routed : Drops → ℕ → List (List ℕ) → List (Routes × List ℕ)
-routed drops number [] = []
-routed drops number (datagram ∷ datagrams) = (routes_of drops number, datagram) ∷ routed drops (number + 1) datagrams
-
--- the end packet of a session with these messages, on both lines; nothing where a line is refused
-abbrev pub routed_end : JournalState → Option LineRefusal → List (Routes × List ℕ)
-routed_end journal None = (both_routes, spelling_of (end_packet journal)) ∷ []
-routed_end journal (Some why) = []
-
--- all that is passed: the packing of the messages behind the first `sent` ones, all but its last packet where a line
--- is refused, and the end
-abbrev pub all_routed : Drops → ℕ → ℕ → PublishedLines → List (Routes × List ℕ)
-all_routed drops limit sent published =
-    routed drops 1 (data_behind limit sent published) ++ routed_end published.journal published.refused
 
 -- these datagrams were passed; or after a fault the publisher's port is as behind them
 pub record HasPassed {P T E : Type 0} (a b : P) (datagrams : List (Routes × List ℕ)) (result : Result T E)

@@ -2,10 +2,8 @@
 
 ghost use Rattle.std.specs.Prelude.{◌≡◌, ◌+◌, ◌≤◌, [], ◌∷◌, true, None, length, IfOk, OnOk};
 ghost use Rattle.mold_devices.specs.Faults.{CountsCommand};
-ghost use Rattle.mold_feed.specs.Looping.{ComesOf, ComesOfBoth, HasPassed, HearsLines, heard_on, line_state, routed};
-ghost use Rattle.mold_feed.specs.Looping.{routed_end};
-ghost use Rattle.mold_feed.specs.Passing.{Offers, PassesLines, data_letters, end_letters, goes, letter, letters};
-ghost use Rattle.mold_feed.specs.Passing.{routes_of};
+ghost use Rattle.mold_feed.specs.Looping.{ComesOf, ComesOfBoth, HasPassed, HearsLines, heard_on, line_state};
+ghost use Rattle.mold_feed.specs.Passing.{goes, routed, routed_end, routes_of};
 ghost use Rattle.mold_feed.specs.PublishLoop.{spelled_some};
 ghost use Rattle.mold_publish.specs.Publishing.{HasRoom};
 ghost use Rattle.mold_session.specs.Publisher.{after_datagram, closed, next_datagram};
@@ -48,7 +46,6 @@ fn is_sent<D: Datagrams>(
     datagram: &[u8],
     outgoing: &mut Outgoing,
 ) -> bool
-    ensures offers { D.tells ≡ true → Offers (letter on to datagram.now) (D.port port.old) (D.port port.new) }
     ensures comes { D.tells ≡ true →
         ComesOf on result to datagram.now (D.port port.old) (D.port port.new) outgoing.old outgoing.new }
 {
@@ -70,8 +67,6 @@ fn send_on<D: Datagrams>(
     datagram: &[u8],
     outgoing: &mut Outgoing,
 ) -> Routes
-    ensures offers { D.tells ≡ true →
-        Offers (letters routes peers.now.a peers.now.b datagram.now) (D.port port.old) (D.port port.new) }
     ensures comes { D.tells ≡ true → ComesOfBoth routes result peers.now.a peers.now.b datagram.now
         (D.port port.old) (D.port port.new) outgoing.old outgoing.new }
 {
@@ -120,8 +115,6 @@ fn pass<D: Datagrams + Drop>(
     listener: &mut Listener,
 ) -> Result<(), AllocError>
     requires { length place.old ≡ 65507 }
-    ensures offers { D.tells ≡ true → Offers (letters routes peers.now.a peers.now.b datagram.now)
-        (D.port ports.old.publisher) (D.port ports.new.publisher) }
     ensures passed { D.tells ≡ true → HasPassed peers.now.a peers.now.b ((routes, datagram.now) ∷ []) result
         (line_state (D.port ports.old.publisher) (D.port ports.old.a) (D.port ports.old.b) listener.old.arbiter
         listener.old.report.outgoing)
@@ -151,8 +144,6 @@ fn pass_next<D: Datagrams + Drop>(
 ) -> Result<(), AllocError>
     requires place { length place.old ≡ 65507 }
     requires few { number.old ≤ publisher.old.sent }
-    ensures offers { D.tells ≡ true → Offers (data_letters drops (number.old + 1) peers.now.a peers.now.b
-        (spelled_some (next_datagram publisher.old))) (D.port ports.old.publisher) (D.port ports.new.publisher) }
     ensures counted { number.new ≡ number.old + length (spelled_some (next_datagram publisher.old)) }
     ensures sent { publisher.new ≡ after_datagram publisher.old }
     ensures passed { D.tells ≡ true → HasPassed peers.now.a peers.now.b
@@ -190,8 +181,6 @@ pub(crate) fn pass_lines<D: Datagrams + Drop, S: Source, K: Sink>(
 ) -> Result<Option<LineRefusal>, CommandFault>
     requires room { HasRoom publisher.old }
     requires place { length place.old ≡ 65507 }
-    ensures passes { D.tells ≡ true → PassesLines drops peers.now.a peers.now.b publisher.old publisher.new
-        (S.left source.old) result (D.port ports.old.publisher) (D.port ports.new.publisher) }
     ensures heard { D.tells ≡ true → HearsLines drops peers.now.a peers.now.b publisher.old publisher.new
         (S.left source.old) result
         (line_state (D.port ports.old.publisher) (D.port ports.old.a) (D.port ports.old.b) listener.old.arbiter
@@ -245,8 +234,6 @@ pub(crate) fn pass_end<D: Datagrams + Drop>(
 ) -> Result<(), AllocError>
     requires place { length place.old ≡ 65507 }
     requires sent { publisher.old.sent ≡ length publisher.old.journal.messages }
-    ensures offers { D.tells ≡ true → Offers (end_letters peers.now.a peers.now.b publisher.old.journal None)
-        (D.port ports.old.publisher) (D.port ports.new.publisher) }
     ensures limit { publisher.new.limit ≡ publisher.old.limit }
     ensures closed { publisher.new ≡ closed publisher.old }
     ensures passed { D.tells ≡ true →

@@ -2,12 +2,10 @@ use Rattle.std.proofs.Common.{◌∙◌, ap, arith, refl}
 use Rattle.mold_publish.proofs.DatagramLemmas.{PackingLaws, all_sent}
 use Rattle.mold_feed.proofs.SendingLemmas.{full_went}
 use Rattle.mold_session.specs.Publisher.{PublisherState}
-use Rattle.mold_feed.proofs.RunLemmas.{none_answered}
 use Rattle.mold_feed.specs.Looping.{line_state}
 use Rattle.mold_feed.proofs.HearsLemmas.{hears_end, hears_full, hears_last, hears_none, hears_refused, hears_still}
 use Rattle.mold_feed.proofs.HearsLemmas.{hears_unwritten, so_far_begun, so_far_full, so_far_moved}
 use Rattle.mold_feed.proofs.HeardLemmas.{lines_moved}
-use Rattle.mold_feed.proofs.PassingLemmas.{passed_begun, passed_cut, passed_end, passed_full, passed_not, passed_refused}
 use Rattle.mold_feed.proofs.passing.pass_lines.Given.{Over}
 use Rattle.mold_feed.proofs.passing.pass_lines.Goals as goal
 use Rattle.mold_feed.proofs.passing.pass_lines.Goals.{After-packing_law}
@@ -27,9 +25,6 @@ pub lines-init : goal.lines-init
 lines-init g c = record {
   room = c.requires.room;
   few = omega arith;
-  passed = λ tells.
-      passed_begun c.args.drops c.args.peers.now.a c.args.peers.now.b c.args.publisher.now
-      (g.S.Source.left c.args.source.now) c.in_ok-lines.lines.rest _ c.in_ok-lines.ensures;
   heard = λ tells.
       so_far_begun c.args.drops c.args.peers.now.a c.args.peers.now.b c.args.publisher.now
       (g.S.Source.left c.args.source.now) c.in_ok-lines.lines.rest _ _ c.in_ok-lines.ensures;
@@ -51,10 +46,6 @@ lines-preserved g c =
     record {
       room = went.0;
       few = went.1;
-      passed = λ tells.
-          passed_full known c.args.drops c.args.peers.now.a c.args.peers.now.b c.args.publisher.now c.lines.publisher
-          c.fill.new.publisher _ _ _ _ _ _ _ c.lines.number _ (c.lines.invariant.passed tells) filled
-          c.pass_next.ensures.sent (c.pass_next.ensures.offers tells) c.pass_next.ensures.counted;
       heard = λ tells.
           let port = g.D.Datagrams.port in
           let made = line_state (port c.pass_next.new.ports.publisher) (port c.pass_next.new.ports.a)
@@ -80,61 +71,11 @@ lines-preserved g c =
       sink = c.in_ok-send_large.ensures.sink ∙ c.lines.invariant.sink;
     }
 
-pub returns-in_err-lines-clause-passes : goal.returns-in_err-lines-clause-passes
-returns-in_err-lines-clause-passes g c tells =
-    passed_not c.args.drops c.args.peers.now.a c.args.peers.now.b c.args.publisher.now _ _ c.from_residual.result _
-    c.from_residual.ensures.0
-
-pub returns-in_err-pass_next-in-Full-clause-passes : goal.returns-in_err-pass_next-in-Full-clause-passes
-returns-in_err-pass_next-in-Full-clause-passes g c tells =
-    let filled = rw c.in-Full.is at c.in_ok-fill.ensures.filled in
-    let known = laws g (goal.at.returns-in_err-pass_next-in-Full-clause-passes g c).After-packing_law in
-    passed_cut c.args.drops c.args.peers.now.a c.args.peers.now.b c.args.publisher.now c.pass_next.new.publisher _ _ _
-    c.from_residual-in_err-pass_next-in-Full.result _ _ _
-    (passed_full known c.args.drops c.args.peers.now.a c.args.peers.now.b c.args.publisher.now c.lines.publisher
-    c.fill.new.publisher _ _ _ _ _ _ _ c.lines.number _ (c.lines.invariant.passed tells) filled
-    c.pass_next.ensures.sent (c.pass_next.ensures.offers tells) c.pass_next.ensures.counted)
-    c.from_residual-in_err-pass_next-in-Full.ensures.0
-
-pub returns-in_err-send_large-clause-passes : goal.returns-in_err-send_large-clause-passes
-returns-in_err-send_large-clause-passes g c tells =
-    let filled = rw c.in-Full.is at c.in_ok-fill.ensures.filled in
-    let known = laws g (goal.at.returns-in_err-send_large-clause-passes g c).After-packing_law in
-    passed_cut c.args.drops c.args.peers.now.a c.args.peers.now.b c.args.publisher.now c.pass_next.new.publisher _ _ _
-    c.from_residual-in_err-send_large.result _ _ _
-    (passed_full known c.args.drops c.args.peers.now.a c.args.peers.now.b c.args.publisher.now c.lines.publisher
-    c.fill.new.publisher _ _ _ _ _ _ _ c.lines.number _ (c.lines.invariant.passed tells) filled
-    c.pass_next.ensures.sent (c.pass_next.ensures.offers tells) c.pass_next.ensures.counted)
-    c.from_residual-in_err-send_large.ensures.0
-
-pub returns-in_err-pass_next-in-End-clause-passes : goal.returns-in_err-pass_next-in-End-clause-passes
-returns-in_err-pass_next-in-End-clause-passes g c tells =
-    passed_end (laws g (goal.at.returns-in_err-pass_next-in-End-clause-passes g c).After-packing_law) c.args.drops
-    c.args.peers.now.a c.args.peers.now.b c.args.publisher.now c.lines.publisher c.fill.new.publisher _ _ _ _ _ _
-    c.lines.number (c.lines.invariant.passed tells) (rw c.in-End.is at c.in_ok-fill.ensures.filled)
-    (c.pass_next-in-End.ensures.offers tells) _ c.from_residual-in_err-pass_next-in-End.result
-    c.pass_next-in-End.ensures.sent
-    (none_answered c.from_residual-in_err-pass_next-in-End.result _
-    c.from_residual-in_err-pass_next-in-End.ensures.0)
-
-pub returns-in-End-clause-passes : goal.returns-in-End-clause-passes
-returns-in-End-clause-passes g c tells =
-    passed_end (laws g (goal.at.returns-in-End-clause-passes g c).After-packing_law) c.args.drops
-    c.args.peers.now.a c.args.peers.now.b c.args.publisher.now c.lines.publisher c.fill.new.publisher _ _ _ _ _ _
-    c.lines.number (c.lines.invariant.passed tells) (rw c.in-End.is at c.in_ok-fill.ensures.filled)
-    (c.pass_next-in-End.ensures.offers tells) _ _ c.pass_next-in-End.ensures.sent refl
-
 pub returns-in-End-clause-all : goal.returns-in-End-clause-all
 returns-in-End-clause-all g c none =
     let filled = rw c.in-End.is at c.in_ok-fill.ensures.filled in
     rw c.pass_next-in-End.ensures.sent
     (all_sent (laws g (goal.at.returns-in-End-clause-all g c).After-packing_law) c.fill.new.publisher filled.room)
-
-pub returns-in-Refused-clause-passes : goal.returns-in-Refused-clause-passes
-returns-in-Refused-clause-passes g c tells =
-    passed_refused (laws g (goal.at.returns-in-Refused-clause-passes g c).After-packing_law) c.args.drops
-    c.args.peers.now.a c.args.peers.now.b c.args.publisher.now c.lines.publisher c.fill.new.publisher _ _ _ c.in-Refused.why
-    _ _ c.lines.number (c.lines.invariant.passed tells) (rw c.in-Refused.is at c.in_ok-fill.ensures.filled)
 
 pub returns-in_err-lines-clause-heard : goal.returns-in_err-lines-clause-heard
 returns-in_err-lines-clause-heard g c tells =

@@ -4,22 +4,14 @@ use Rattle.mold_devices.specs.Lines.{work_left}
 use Rattle.mold_publish.specs.Publishing.{HasRoom}
 use Rattle.mold_feed.specs.Looping.{line_state}
 use Rattle.mold_feed.proofs.HearsLemmas.{HeardSoFar}
-use Rattle.mold_feed.proofs.PassingLemmas.{PassedSoFar}
 use Rattle.mold_feed.proofs.passing.pass_lines.Given as goal
 
--- what was published and not sent fits a datagram, the data so far were offered and heard, the limit and the other
+-- what was published and not sent fits a datagram, the data so far were passed, the limit and the other
 -- ports are the same, the lines' ports sent nothing, and no device failed
 abbrev pub invariant-lines : goal.invariant-lines
 invariant-lines g l = record {
   room : HasRoom l.publisher;
   few : l.number ≤ l.publisher.sent;
-  passed :
-      g.D.Datagrams.tells ≡ true →
-      PassedSoFar l.fn.drops l.fn.peers.a l.fn.peers.b l.fn.publisher l.publisher (g.S.Source.left l.fn.source)
-      (prepend_known l.lines.rest (g.S.Source.left l.source))
-      (g.D.Datagrams.port l.fn.ports.publisher)
-      (g.D.Datagrams.port l.ports.publisher)
-      l.number;
   heard :
       g.D.Datagrams.tells ≡ true →
       HeardSoFar l.fn.drops l.fn.peers.a l.fn.peers.b l.fn.publisher l.publisher (g.S.Source.left l.fn.source)
