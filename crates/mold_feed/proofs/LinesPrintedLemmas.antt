@@ -7,8 +7,8 @@ use Rattle.std.specs.List.{AllByRecursion}
 use Rattle.std.proofs.lemmas.Result.{IfOk-weaker}
 use Rattle.mold_devices.specs.Devices.{AppendsFront}
 use Rattle.mold_feed.specs.Heard.{HasFinished, HasListened, PrintsAmong, PrintsLines, RefusesStrange, Saying, lines_text}
-use Rattle.mold_feed.specs.Heard.{listened_line, messages_text, sayings_text}
-use Rattle.mold_feed.specs.Listening.{Hearing, ListenerState, is_finished, last_line, status}
+use Rattle.mold_feed.specs.Heard.{closing_line, messages_text, sayings_text}
+use Rattle.mold_feed.specs.Listening.{Hearing, ListenerState, is_finished, listened_line, status}
 use Rattle.mold_feed.proofs.LinesTextLemmas.{AreSpelled, lines_said, spelled_length}
 use Rattle.mold_session.specs.Answer.{between}
 use Rattle.mold_session.specs.Journal.{JournalState}
@@ -16,14 +16,14 @@ use Rattle.mold_wire.specs.declared.session.Session.{Session}
 
 -- the last line that is printed at the end
 abbrev end_line : Hearing → List ℕ
-end_line e = listened_line (is_finished e) e.arbitration.view.next e.arbitration.view.known e.outgoing.failures
+end_line e = closing_line (is_finished e) e.arbitration.view.next e.arbitration.view.known e.outgoing.failures
 
 -- a listener that began at the line `first` has come to its end: its text and its last line are written
 pub record HasCome {P E : Type 0} (lines : List (List ℕ)) (first : ℕ) (end : ListenerState P) (result : Result ℕ E)
     (old new : Option (List ℕ)) : Type 0 where
   pub whole : IfOk result (λ answer.
-      Appends old new (end.hearing.outgoing.text ++ last_line end) × (answer ≡ status end))
-  pub front : AppendsFront old new (end.hearing.outgoing.text ++ last_line end)
+      Appends old new (end.hearing.outgoing.text ++ listened_line end) × (answer ≡ status end))
+  pub front : AppendsFront old new (end.hearing.outgoing.text ++ listened_line end)
   pub from : first ≤ end.hearing.arbitration.view.next
   pub to : end.hearing.arbitration.view.next ≤ length lines + 1
   pub ahead : end.hearing.arbitration.view.next ≤ end.hearing.arbitration.view.known
@@ -35,8 +35,8 @@ pub has_come : {P E : Type 0} {lines : List (List ℕ)} {first : ℕ} {end : Lis
     {old new : Option (List ℕ)} (journal : JournalState) (Came : List ℕ → Type 0) → AreSpelled lines journal.messages →
     HasListened journal Came first [] end.hearing → (is_finished end.hearing ≡ true → HasFinished journal end.hearing) →
     IfOk result (λ answer.
-    Appends old new (end.hearing.outgoing.text ++ last_line end) × (answer ≡ status end)) →
-    AppendsFront old new (end.hearing.outgoing.text ++ last_line end) → HasCome lines first end result old new
+    Appends old new (end.hearing.outgoing.text ++ listened_line end) × (answer ≡ status end)) →
+    AppendsFront old new (end.hearing.outgoing.text ++ listened_line end) → HasCome lines first end result old new
 has_come {P} {E} {lines} {first} {end} {result} {old} {new} journal Came spelled listened finished whole front =
     let many : length lines ≡ length journal.messages = spelled_length lines journal.messages spelled in
     record {
@@ -55,8 +55,8 @@ printed lines first end = lines_text first (between lines first end.hearing.arbi
 
 -- the text and the last line
 text_is : {P : Type 0} (end : ListenerState P) (text : List ℕ) → end.hearing.outgoing.text ≡ text →
-    end.hearing.outgoing.text ++ last_line end ≡ text ++ end_line end.hearing
-text_is end text is = ap (λ (t : List ℕ). t ++ last_line end) is
+    end.hearing.outgoing.text ++ listened_line end ≡ text ++ end_line end.hearing
+text_is end text is = ap (λ (t : List ℕ). t ++ listened_line end) is
 
 -- with the lines as its text, it printed the lines
 pub prints_lines : {P E : Type 0} {lines : List (List ℕ)} {first : ℕ} {end : ListenerState P} {result : Result ℕ E}

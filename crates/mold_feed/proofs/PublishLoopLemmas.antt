@@ -20,7 +20,7 @@ use Rattle.mold_feed.proofs.SendingLemmas.{AllSent, ended, sends_more}
 use Rattle.mold_publish.specs.Publishing.{packed_status}
 use Rattle.mold_feed.specs.PublishLoop.{PublicationState, PublishRun, Saves, Sends, SendsLines, all_datagrams, after_data, both, close_datagrams}
 use Rattle.mold_feed.specs.Outgoing.{OutgoingState, nothing_out, with_more}
-use Rattle.mold_feed.specs.PublishLoop.{data_behind, failed_after, last_line, offer, publication_of, published_text}
+use Rattle.mold_feed.specs.PublishLoop.{data_behind, failed_after, published_line, offer, publication_of, published_text}
 use Rattle.mold_feed.specs.PublishLoop.{closed_unless, left_journal, saved_bytes}
 use Rattle.mold_publish.specs.Publishing.{PublishedLines, lines_published, published_from, line_outcome, refused_text, HasRoom}
 use Rattle.mold_publish.specs.declared.line_refusal.LineRefusal.{LineRefusal}
@@ -220,9 +220,9 @@ run_closed : {P E : Type 0} (a b : P) (beats ends : ℕ) (start now : PublisherS
     (now.journal.closed ≡ false →
     Sends (both a b (close_datagrams beats ends now.journal)) (publication_of mid failed) (publication_of after lost)) →
     (lost.text ≡ [] → IfOk result (λ status.
-    Appends text_old text_new (last_line (length now.journal.messages) count lost.failures) × (status ≡ 0))) →
+    Appends text_old text_new (published_line (length now.journal.messages) count lost.failures) × (status ≡ 0))) →
     (lost.text ≡ [] →
-    AppendsFront text_old text_new (last_line (length now.journal.messages) count lost.failures)) →
+    AppendsFront text_old text_new (published_line (length now.journal.messages) count lost.failures)) →
     saved ≡ closed_unless None now.journal →
     OnOk result (AppendsFile file_old file_new saved.session saved.messages saved.closed) →
     (saved.closed ≡ true → AppendsFront file_old file_new (saved_bytes saved None)) →
@@ -244,10 +244,10 @@ run_closed {P} {E} a b beats ends start now known result before none failed lost
     (all_sends a b beats ends start.limit now.journal sent.front before none (publication_of mid failed)
     (publication_of after lost) zeroed whole_data sent.sends (closes shut))
     (subst (λ (n : ℕ). IfOk result (λ status.
-    Appends text_old text_new (last_line (length now.journal.messages) n lost.failures) × (status ≡ 0))) same
+    Appends text_old text_new (published_line (length now.journal.messages) n lost.failures) × (status ≡ 0))) same
     (report empty))
     (subst (λ (j : JournalState). OnOk result (AppendsFile file_old file_new j.session j.messages j.closed)) is file)
-    (subst (λ (n : ℕ). AppendsFront text_old text_new (last_line (length now.journal.messages) n lost.failures)) same
+    (subst (λ (n : ℕ). AppendsFront text_old text_new (published_line (length now.journal.messages) n lost.failures)) same
     (text empty))
     (subst (λ (j : JournalState). AppendsFront file_old file_new (saved_bytes j None)) is
     (front (ap (λ (j : JournalState). j.closed) is))))
@@ -269,7 +269,7 @@ run_unsaved {P} {E} a b beats ends start now known result before none failed los
     run_closed a b beats ends start now known result before none failed lost count mid after text text file_old
     file_new saved zeroed unsent unclosed sent closes
     (λ empty. none_answered result _ bad)
-    (λ empty. no_front text (last_line (length now.journal.messages) count lost.failures))
+    (λ empty. no_front text (published_line (length now.journal.messages) count lost.failures))
     is
     (none_ok result _ bad)
     front
@@ -283,7 +283,7 @@ pub run_printed : {P E : Type 0} (a b : P) (beats ends : ℕ) (start now : Publi
     (now.journal.closed ≡ false →
     Sends (both a b (close_datagrams beats ends now.journal)) (publication_of mid failed) (publication_of after lost)) →
     saved ≡ closed_unless None now.journal → many ≡ length now.journal.messages →
-    out ≡ with_more (last_line many count lost.failures) lost →
+    out ≡ with_more (published_line many count lost.failures) lost →
     IfOk result (λ status. Appends text_old text_new out.text × (status ≡ 0)) →
     AppendsFront text_old text_new out.text →
     OnOk result (AppendsFile file_old file_new saved.session saved.messages saved.closed) →
@@ -292,10 +292,10 @@ pub run_printed : {P E : Type 0} (a b : P) (beats ends : ℕ) (start now : Publi
     before after text_old text_new file_old file_new)
 run_printed {P} {E} a b beats ends start now known result before none failed lost out count many mid after text_old
     text_new file_old file_new saved zeroed unsent unclosed sent closes is all printed report text file front =
-    let line : lost.text ≡ [] → out.text ≡ last_line (length now.journal.messages) count lost.failures =
+    let line : lost.text ≡ [] → out.text ≡ published_line (length now.journal.messages) count lost.failures =
     λ empty. ap (λ (o : OutgoingState). o.text) printed
-    ∙ ap (λ (t : List ℕ). t ++ last_line many count lost.failures) empty
-    ∙ ap (λ (n : ℕ). last_line n count lost.failures) all in
+    ∙ ap (λ (t : List ℕ). t ++ published_line many count lost.failures) empty
+    ∙ ap (λ (n : ℕ). published_line n count lost.failures) all in
     run_closed a b beats ends start now known result before none failed lost count mid after text_old text_new file_old
     file_new saved zeroed unsent unclosed sent closes
     (λ empty. subst (λ (t : List ℕ). IfOk result (λ status. Appends text_old text_new t × (status ≡ 0))) (line empty)

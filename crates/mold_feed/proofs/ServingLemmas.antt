@@ -8,7 +8,7 @@ use Rattle.std.specs.Borrow.{Bor}
 use Rattle.mold_feed.specs.Serving.{IsSame, MayAnswer, Service, ResponderState, behind, fails_first, met, offer, offer_all}
 use Rattle.mold_feed.specs.Serving.{replied, reply, serve_turn, served_by, service, service_of, serving}
 use Rattle.mold_feed.specs.Outgoing.{OutgoingState}
-use Rattle.mold_feed.specs.Tally.{last_line, with_outgoing}
+use Rattle.mold_feed.specs.Tally.{served_line, with_outgoing}
 use Rattle.mold_feed.specs.declared.responder.Responder.{Responder}
 use Rattle.mold_feed.specs.declared.tally.Tally.{Tally}
 use Rattle.mold_session.specs.Journal.{JournalState}
@@ -253,19 +253,19 @@ rests_as {P} {T} {E} service turns start one other result old new same failed re
 pub served_so : {D P E : Type 0} (known : D → Port P) (service : Service) (turns : ℕ) (start : ResponderState P)
     (result : Result ℕ E) (old new : Option (List ℕ)) (first : ServerState) (port end : D) (server last : ServerState) →
     end ≡ port → last ≡ server →
-    Ran (serving service) turns start (λ s. last_line s.tally) (λ s. 0)
+    Ran (serving service) turns start (λ s. served_line s.tally) (λ s. 0)
     (λ s. (known port ≡ s.port) × (server ≡ served_by first s)) result old new (known port).sent →
-    Ran (serving service) turns start (λ s. last_line s.tally) (λ s. 0)
+    Ran (serving service) turns start (λ s. served_line s.tally) (λ s. 0)
     (λ s. (known end ≡ s.port) × (last ≡ served_by first s)) result old new (known end).sent
 served_so {D} {P} {E} known service turns start result old new first port end server last is_port is_server ran =
     subst
     (λ (d : D).
-    Ran (serving service) turns start (λ s. last_line s.tally) (λ s. 0)
+    Ran (serving service) turns start (λ s. served_line s.tally) (λ s. 0)
     (λ s. (known d ≡ s.port) × (last ≡ served_by first s)) result old new (known d).sent)
     (sym is_port)
     (subst
     (λ (n : ServerState).
-    Ran (serving service) turns start (λ s. last_line s.tally) (λ s. 0)
+    Ran (serving service) turns start (λ s. served_line s.tally) (λ s. 0)
     (λ s. (known port ≡ s.port) × (n ≡ served_by first s)) result old new (known port).sent)
     (sym is_server)
     ran)

@@ -9,8 +9,8 @@ use Rattle.std.proofs.lemmas.Result.{IfOk-weaker}
 use Rattle.mold_devices.specs.Devices.{AppendsFront}
 use Rattle.mold_devices.specs.declared.fault.CommandFault.{CommandFault}
 use Rattle.mold_feed.specs.Heard.{Gives, GivesOnly, HasFinished, HasListened, Hears, HearsOnly, IsFed, IsHarmless, IsStrange, PrintsAmong}
-use Rattle.mold_feed.specs.Heard.{PrintsLines, PrintsOpen, lines_text, listened_line, listened_status}
-use Rattle.mold_feed.specs.Listening.{ListenerState, beginning, is_finished, last_line, listening, status}
+use Rattle.mold_feed.specs.Heard.{PrintsLines, PrintsOpen, lines_text, closing_line, closing_status}
+use Rattle.mold_feed.specs.Listening.{ListenerState, beginning, is_finished, listened_line, listening, status}
 use Rattle.mold_feed.specs.PublishLoop.{PublishRun, closed_unless}
 use Rattle.mold_feed.specs.Runs.{Ran, run}
 use Rattle.mold_feed.specs.Sent.{AllSent, HasLines, HasLinesBefore, IsCopy, IsOpening, IsPublished, IsSent, IsServed}
@@ -152,7 +152,7 @@ module _ {P : Type 0} (laws : FeedLaws P) (limit : ℕ) (journal : JournalState)
 
     module _ (burst turns : ℕ) (server : P) (a b requests : Port P) {E : Type 0} (agrees : ListenerState P → Type 0)
         (result : Result ℕ E) (old new : Option (List ℕ)) (sent : List (P × List ℕ))
-        (ran : Ran (listening server burst) turns (beginning a b requests arbitration) last_line status agrees result old
+        (ran : Ran (listening server burst) turns (beginning a b requests arbitration) listened_line status agrees result old
         new sent) where
       abbrev start : ListenerState P
       start = beginning a b requests arbitration
@@ -262,13 +262,13 @@ module _ {P : Type 0} (laws : FeedLaws P) (limit : ℕ) (journal : JournalState)
             (between_front lines count first next least (has_heard (all_harmless hears)).from (up_to (all_harmless hears)))
 
         all_printed : HearsOnly (TellsTruth (left_by journal lines)) start →
-            ending.hearing.outgoing.text ++ last_line ending
+            ending.hearing.outgoing.text ++ listened_line ending
             ≡ lines_text first (between lines first next)
             ++ open_line next ending.hearing.arbitration.view.known ending.hearing.outgoing.failures
         all_printed hears =
-            ap (λ (text : List ℕ). text ++ last_line ending) (lines_printed hears)
+            ap (λ (text : List ℕ). text ++ listened_line ending) (lines_printed hears)
             ∙ ap (λ (finished : Bool). lines_text first (between lines first next)
-            ++ listened_line finished next ending.hearing.arbitration.view.known ending.hearing.outgoing.failures)
+            ++ closing_line finished next ending.hearing.arbitration.view.known ending.hearing.outgoing.failures)
             (unfinished (all_harmless hears))
 
         pub session_prints_open : HearsOnly (IsSent P journal limit lines) start →
@@ -287,7 +287,7 @@ module _ {P : Type 0} (laws : FeedLaws P) (limit : ℕ) (journal : JournalState)
               text =
                   IfOk-weaker result _ _
                   (λ answer written. (
-                    written.1 ∙ ap listened_status (unfinished harmless),
+                    written.1 ∙ ap closing_status (unfinished harmless),
                     subst (λ (text : List ℕ). Appends old new text) (all_printed hears) written.0,
                   ))
                   ran.whole;

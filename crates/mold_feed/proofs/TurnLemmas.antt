@@ -18,7 +18,7 @@ use Rattle.mold_wire.specs.declared.request.Request.{Request}
 use Rattle.mold_feed.specs.Text.{finished_line, open_line, taking_text}
 use Rattle.mold_feed.specs.Listening.{Asking, Hearing, HasAsked, HasTurned, ListenerState, asked, hearing, hearing_line, hearing_status}
 use Rattle.mold_feed.specs.Outgoing.{OutgoingState, with_front, with_more}
-use Rattle.mold_feed.specs.Listening.{Agrees, IsSame, ends_at, hear, hear_answers, heard, is_finished, last_line}
+use Rattle.mold_feed.specs.Listening.{Agrees, IsSame, ends_at, hear, hear_answers, heard, is_finished, listened_line}
 use Rattle.mold_feed.specs.Listening.{lines_heard, listening, longest, listener, put_before, receives, status, turn, turn_asked}
 use Rattle.mold_feed.proofs.ListenLemmas.{hearing_sends, stepped}
 use Rattle.mold_feed.proofs.OutgoingLemmas.{front_twice, more_after, written_front}
@@ -257,7 +257,7 @@ open_last a old new v next known over same is_next is_known is =
 abbrev pub Listened : {D P E : Type 0} → (D → Port P) → P → ℕ → ℕ → ListenerState P → Result ℕ E → Option (List ℕ) →
     Option (List ℕ) → D → D → D → Arbitration → Type 0
 Listened known server burst turns start result old new a b requests arbitration =
-    Ran (listening server burst) turns start last_line status (Agrees (known a) (known b) (known requests) arbitration)
+    Ran (listening server burst) turns start listened_line status (Agrees (known a) (known b) (known requests) arbitration)
     result old new (known requests).sent
 
 -- they end as they were left

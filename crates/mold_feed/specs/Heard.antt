@@ -131,12 +131,12 @@ lines_text number (line ∷ lines) =
     line_of (decimal number ∷ shown line ∷ []) ++ lines_text (number + 1) lines
 
 -- the last line of a listener that is finished or not, and its status
-abbrev pub listened_line : Bool → ℕ → ℕ → ℕ → List ℕ
-listened_line finished next known failures =
+abbrev pub closing_line : Bool → ℕ → ℕ → ℕ → List ℕ
+closing_line finished next known failures =
     if finished then finished_line next failures else open_line next known failures
 
-abbrev pub listened_status : Bool → ℕ
-listened_status finished = if finished then 0 else 1
+abbrev pub closing_status : Bool → ℕ
+closing_status finished = if finished then 0 else 1
 
 -- What a listener printed that began at the line `first`: the published lines behind their numbers, from that one to
 -- below some line, and then its last line, whose numbers are those of lines or the one behind. Where it is finished,
@@ -152,10 +152,10 @@ pub record PrintsLines {E : Type 0} (lines : List (List ℕ)) (first : ℕ) (res
   pub ahead : next ≤ known
   pub heard : known ≤ length lines + 1
   pub all : finished ≡ true → next ≡ length lines + 1
-  pub text : IfOk result (λ status. (status ≡ listened_status finished) × Appends old new
-      (lines_text first (between lines first next) ++ listened_line finished next known failures))
+  pub text : IfOk result (λ status. (status ≡ closing_status finished) × Appends old new
+      (lines_text first (between lines first next) ++ closing_line finished next known failures))
   pub front : AppendsFront old new
-      (lines_text first (between lines first next) ++ listened_line finished next known failures)
+      (lines_text first (between lines first next) ++ closing_line finished next known failures)
 
 -- What a listener printed that began at the line `first`, where the line `place` is refused: published lines behind
 -- their numbers, from the first one on, each of them before the refused one; and then its last line, which tells no
@@ -208,6 +208,6 @@ pub record PrintsAmong {E : Type 0} (session : Session) (Came : List ℕ → Typ
   pub ahead : next ≤ known
   pub heard : known ≤ length lines + 1
   pub all : finished ≡ true → next ≡ length lines + 1
-  pub text : IfOk result (λ status. (status ≡ listened_status finished) × Appends old new
-      (sayings_text sayings ++ listened_line finished next known failures))
-  pub front : AppendsFront old new (sayings_text sayings ++ listened_line finished next known failures)
+  pub text : IfOk result (λ status. (status ≡ closing_status finished) × Appends old new
+      (sayings_text sayings ++ closing_line finished next known failures))
+  pub front : AppendsFront old new (sayings_text sayings ++ closing_line finished next known failures)

@@ -182,8 +182,8 @@ hearing_line e =
 abbrev pub hearing_status : Hearing → ℕ
 hearing_status e = if is_finished e then 0 else 1
 
-abbrev pub last_line : {P : Type 0} → ListenerState P → List ℕ
-last_line s = hearing_line s.hearing
+abbrev pub listened_line : {P : Type 0} → ListenerState P → List ℕ
+listened_line s = hearing_line s.hearing
 
 abbrev pub status : {P : Type 0} → ListenerState P → ℕ
 status s = hearing_status s.hearing

@@ -111,14 +111,14 @@ all_datagrams limit beats ends published =
     data_behind limit 0 published ++ after_data beats ends published.journal published.refused
 
 -- the last line: how many messages, data datagrams and failed sends there were
-abbrev pub last_line : ℕ → ℕ → ℕ → List ℕ
-last_line messages datagrams failed = line_of
+abbrev pub published_line : ℕ → ℕ → ℕ → List ℕ
+published_line messages datagrams failed = line_of
     (codes "published" ∷ decimal messages ∷ codes "datagrams" ∷ decimal datagrams
     ∷ codes "failed" ∷ decimal failed ∷ [])
 
 -- the text: the last line, or the line of the refusal
 abbrev pub report_text : JournalState → Option LineRefusal → ℕ → ℕ → List ℕ
-report_text journal None datagrams failed = last_line (length journal.messages) datagrams failed
+report_text journal None datagrams failed = published_line (length journal.messages) datagrams failed
 report_text journal (Some why) datagrams failed = refused_text (length journal.messages + 1) why
 
 abbrev pub published_text : ℕ → PublishedLines → ℕ → List ℕ

@@ -3,7 +3,7 @@ use Rattle.std.specs.Prelude.{ℕ, List, ◌∷◌, [], codes, decimal}
 use Rattle.mold_devices.specs.Devices.{one_more}
 use Rattle.mold_session.specs.declared.error.AnswerError.{AnswerError}
 use Rattle.mold_feed.specs.Outgoing.{OutgoingState, failed_once, nothing_out, with_more}
-use Rattle.mold_feed.specs.Text.{answered_text, refused_text}
+use Rattle.mold_feed.specs.Text.{answered_text, request_refused_text}
 use Rattle.mold_feed.specs.declared.tally.Tally.{Tally}
 use Rattle.mold_text.specs.Line.{line_of}
 
@@ -32,7 +32,7 @@ with_answered sequence count tally = record {
 -- after a request that was refused
 abbrev pub with_refused : AnswerError → Tally → Tally
 with_refused why tally = record {
-  outgoing = with_more (refused_text why) tally.outgoing;
+  outgoing = with_more (request_refused_text why) tally.outgoing;
   answered = tally.answered;
   refused = one_more tally.refused;
   quiet = tally.quiet;
@@ -52,8 +52,8 @@ abbrev pub with_failed : Tally → Tally
 with_failed tally = with_outgoing (failed_once tally.outgoing) tally
 
 -- the last line
-abbrev pub last_line : Tally → List ℕ
-last_line tally =
+abbrev pub served_line : Tally → List ℕ
+served_line tally =
     line_of
     (codes "answered"
     ∷ decimal tally.answered

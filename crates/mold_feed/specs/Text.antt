@@ -11,8 +11,8 @@ use Rattle.mold_session.specs.declared.error.AnswerError.{AnswerError}
 -- ---- serving
 
 -- the line of a refused request
-abbrev pub refused_text : AnswerError → List ℕ
-refused_text why = refused_line (answer_words why)
+abbrev pub request_refused_text : AnswerError → List ℕ
+request_refused_text why = refused_line (answer_words why)
 
 -- the line of a datagram that was sent, by the sequence number and the message count of its header
 abbrev pub answered_text : ℕ → ℕ → List ℕ

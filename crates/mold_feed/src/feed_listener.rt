@@ -2,8 +2,8 @@
 
 ghost use Rattle.std.specs.Prelude.{◌≡◌, true, length, OnOk};
 ghost use Rattle.mold_devices.specs.Faults.{CountsSink};
-ghost use Rattle.mold_feed.specs.Listening.{Agrees, HasAsked, HasTurned, IsSame, asking_state, hear_answers, last_line};
-ghost use Rattle.mold_feed.specs.Listening.{listening, put_before, receives, state, status};
+ghost use Rattle.mold_feed.specs.Listening.{Agrees, HasAsked, HasTurned, IsSame, asking_state, hear_answers};
+ghost use Rattle.mold_feed.specs.Listening.{listened_line, listening, put_before, receives, state, status};
 ghost use Rattle.mold_feed.specs.Runs.{Ran, Rests};
 ghost use Rattle.mold_receiver.specs.Wanted.{wanted};
 
@@ -113,7 +113,7 @@ impl<'a, D: Datagrams> FeedListener<'a, D> {
         sink: &mut K,
     ) -> Result<u8, CommandFault>
         requires { length place.old ≡ 65507 }
-        ensures run { D.tells ≡ true → Ran (listening server burst) turns (state D.port self.old) last_line status
+        ensures run { D.tells ≡ true → Ran (listening server burst) turns (state D.port self.old) listened_line status
             (Agrees (D.port self.new.a.now) (D.port self.new.b.now) (D.port self.new.requests.now) self.new.arbiter.now)
             result (K.held sink.old) (K.held sink.new) (D.port self.new.requests.now).sent }
         ensures same { IsSame self.old self.new }

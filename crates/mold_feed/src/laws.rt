@@ -6,7 +6,7 @@ ghost use Rattle.std.specs.List.{AllByRecursion};
 ghost use Rattle.mold_devices.specs.declared.fault.CommandFault.{CommandFault};
 ghost use Rattle.mold_feed.specs.Heard.{HasFinished, HasListened, Hears, HearsOnly, IsFed, IsHarmless, PrintsAmong};
 ghost use Rattle.mold_feed.specs.Heard.{PrintsLines, PrintsOpen, PrintsRefused};
-ghost use Rattle.mold_feed.specs.Listening.{Agrees, ListenerState, beginning, is_finished, last_line, listening};
+ghost use Rattle.mold_feed.specs.Listening.{Agrees, ListenerState, beginning, is_finished, listened_line, listening};
 ghost use Rattle.mold_feed.specs.Listening.{status};
 ghost use Rattle.mold_feed.specs.Looping.{LineState, LoopRun};
 ghost use Rattle.mold_feed.specs.Own.{OwnPorts};
@@ -115,7 +115,7 @@ pub fn session_law<D: Datagrams>()
         (lines_published journal lines).refused ≡ None →
         1 ≤ first → first ≤ length lines + 1 → arbitration.view ≡ fresh journal.session first window →
         HearsOnly (IsSent D.Peer journal limit lines) (beginning a b requests arbitration) →
-        Ran (listening server burst) turns (beginning a b requests arbitration) last_line status
+        Ran (listening server burst) turns (beginning a b requests arbitration) listened_line status
         (Agrees a_left b_left requests_left left) result old new sent → PrintsLines lines first result old new }
     ensures among { (limit first window turns burst : ℕ) (journal : JournalState) (lines : List (List ℕ))
         (server : D.Peer) (a b requests : Port D.Peer) (arbitration : Arbitration)
@@ -124,7 +124,7 @@ pub fn session_law<D: Datagrams>()
         (lines_published journal lines).refused ≡ None →
         1 ≤ first → first ≤ length lines + 1 → arbitration.view ≡ fresh journal.session first window →
         HearsOnly (IsFed D.Peer journal limit lines) (beginning a b requests arbitration) →
-        Ran (listening server burst) turns (beginning a b requests arbitration) last_line status
+        Ran (listening server burst) turns (beginning a b requests arbitration) listened_line status
         (Agrees a_left b_left requests_left left) result old new sent →
         PrintsAmong journal.session (Hears (beginning a b requests arbitration)) lines first result old new }
     ensures refused { (limit first window turns burst : ℕ) (journal : JournalState) (lines : List (List ℕ))
@@ -135,7 +135,7 @@ pub fn session_law<D: Datagrams>()
         1 ≤ first → first ≤ length (lines_published journal lines).journal.messages + 1 →
         arbitration.view ≡ fresh journal.session first window →
         HearsOnly (IsSent D.Peer journal limit lines) (beginning a b requests arbitration) →
-        Ran (listening server burst) turns (beginning a b requests arbitration) last_line status
+        Ran (listening server burst) turns (beginning a b requests arbitration) listened_line status
         (Agrees a_left b_left requests_left left) result old new sent →
         PrintsOpen lines (length (lines_published journal lines).journal.messages + 1) first result old new }
 {

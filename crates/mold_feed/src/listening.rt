@@ -2,7 +2,7 @@
 
 ghost use Rattle.std.specs.Prelude.{◌≡◌, true, IfOk, OnOk};
 ghost use Rattle.mold_devices.specs.Faults.{CountsSink};
-ghost use Rattle.mold_feed.specs.Listening.{Agrees, beginning, hearing, hearing_line, hearing_status, last_line};
+ghost use Rattle.mold_feed.specs.Listening.{Agrees, beginning, hearing, hearing_line, hearing_status, listened_line};
 ghost use Rattle.mold_feed.specs.Listening.{listening, status};
 ghost use Rattle.mold_feed.specs.Outgoing.{with_more};
 ghost use Rattle.mold_feed.specs.Runs.{Ran};
@@ -84,7 +84,7 @@ pub fn listen_loop<D: Datagrams, K: Sink>(
 ) -> Result<u8, CommandFault>
     ensures run { D.tells ≡ true → Ran (listening server burst) turns
         (beginning (D.port a.old) (D.port b.old) (D.port requests.old) arbiter.old)
-        last_line status (Agrees (D.port a.new) (D.port b.new) (D.port requests.new) arbiter.new)
+        listened_line status (Agrees (D.port a.new) (D.port b.new) (D.port requests.new) arbiter.new)
         result (K.held sink.old) (K.held sink.new) (D.port requests.new).sent }
     ensures sink { CountsSink (K.failed sink.old) (K.failed sink.new) result }
 {

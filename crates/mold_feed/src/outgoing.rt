@@ -5,8 +5,8 @@ ghost use Rattle.std.specs.Io.KnownBytes.{Appends};
 ghost use Rattle.mold_devices.specs.Devices.{AppendsFront, Counts};
 ghost use Rattle.mold_feed.specs.Outgoing.{failed_often, failed_once, nothing_out, with_more};
 ghost use Rattle.mold_feed.specs.Runs.{Moves};
-ghost use Rattle.mold_feed.specs.Text.{handed_text, refused_text};
-ghost use Rattle.mold_publish.specs.Publishing.{refused_text as line_refused_text};
+ghost use Rattle.mold_feed.specs.Text.{handed_text, request_refused_text};
+ghost use Rattle.mold_publish.specs.Publishing.{refused_text};
 ghost use Rattle.mold_text.specs.Line.{line_of, word_text};
 ghost use Rattle.mold_text.specs.Text.{refusal_words, refused_line};
 
@@ -93,7 +93,7 @@ impl Outgoing {
 
     // Adds why a server refuses a request.
     pub(crate) fn push_request_refused(&mut self, why: AnswerError) -> Result<(), AllocError>
-        ensures { OnOk result (self.new ≡ with_more (refused_text why) self.old) }
+        ensures { OnOk result (self.new ≡ with_more (request_refused_text why) self.old) }
     {
         push_answer_refusal(&mut self.text, &[Word::Text(b"refused")], why)
     }
@@ -104,7 +104,7 @@ impl Outgoing {
         number: u64,
         why: LineRefusal,
     ) -> Result<(), AllocError>
-        ensures { OnOk result (self.new ≡ with_more (line_refused_text number why) self.old) }
+        ensures { OnOk result (self.new ≡ with_more (refused_text number why) self.old) }
     {
         push_line_refused(&mut self.text, number, why)
     }

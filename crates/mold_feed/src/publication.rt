@@ -6,7 +6,7 @@ ghost use Rattle.mold_devices.specs.Faults.{CountsRead};
 ghost use Rattle.mold_devices.specs.Lines.{lines_of};
 ghost use Rattle.mold_feed.specs.Outgoing.{nothing_out, with_more};
 ghost use Rattle.mold_feed.specs.PublishLoop.{CountsPublish, IsSame, PublishRun, SendsBoth, SendsInput, beat_packet};
-ghost use Rattle.mold_feed.specs.PublishLoop.{close_datagrams, last_line, left_journal, saved_bytes, spelled_some};
+ghost use Rattle.mold_feed.specs.PublishLoop.{close_datagrams, published_line, left_journal, saved_bytes, spelled_some};
 ghost use Rattle.mold_publish.specs.Publishing.{HasRoom, lines_published};
 ghost use Rattle.mold_publish.specs.Sending.{end_packet};
 ghost use Rattle.mold_session.specs.File.{AppendsFile};
@@ -42,7 +42,7 @@ fn save_journal<K: Sink>(journal: &Journal, sink: &mut K) -> Result<(), CommandF
 // Adds the last line.
 fn push_published(outgoing: &mut Outgoing, messages: u64, datagrams: u64) -> Result<(), AllocError>
     ensures { OnOk result
-        (outgoing.new ≡ with_more (last_line messages datagrams outgoing.old.failures) outgoing.old) }
+        (outgoing.new ≡ with_more (published_line messages datagrams outgoing.old.failures) outgoing.old) }
 {
     let words = [
         Word::Text(b"published"),

@@ -6,7 +6,7 @@ ghost use Rattle.mold_feed.specs.Answering.{OffersNext, OffersOne, Reaches, left
 ghost use Rattle.mold_feed.specs.Runs.{Ran, Rests};
 ghost use Rattle.mold_feed.specs.Serving.{IsSame, MayAnswer, behind, offer_all, replied, reply, serve_turn, service};
 ghost use Rattle.mold_feed.specs.Serving.{served_by, serving, state};
-ghost use Rattle.mold_feed.specs.Tally.{last_line};
+ghost use Rattle.mold_feed.specs.Tally.{served_line};
 
 use crate::tally::Tally;
 use mold_devices::{CommandFault, Sink};
@@ -136,7 +136,7 @@ impl<'a, D: Datagrams> Responder<'a, D> {
         requires longest { MayAnswer self.old }
         requires place { length place.old ≡ 65507 }
         ensures run { D.tells ≡ true → Ran (serving (service self.old)) turns
-            (state D.port self.old) (λ responder. last_line responder.tally) (λ responder. 0)
+            (state D.port self.old) (λ responder. served_line responder.tally) (λ responder. 0)
             (λ responder. (D.port self.new.port.now ≡ responder.port)
             × (self.new.server.now ≡ served_by self.old.server.now responder))
             result (K.held sink.old) (K.held sink.new) (D.port self.new.port.now).sent }

@@ -5,7 +5,7 @@ ghost use Rattle.mold_devices.specs.Faults.{CountsSink};
 ghost use Rattle.mold_feed.specs.Answering.{Reaches};
 ghost use Rattle.mold_feed.specs.Runs.{Ran};
 ghost use Rattle.mold_feed.specs.Serving.{replied, reply, responder_of, served_by, service_of, serving};
-ghost use Rattle.mold_feed.specs.Tally.{last_line, no_tally};
+ghost use Rattle.mold_feed.specs.Tally.{served_line, no_tally};
 
 use crate::hearing::LONGEST;
 use crate::responder::Responder;
@@ -57,7 +57,7 @@ pub fn serve_loop<D: Datagrams, K: Sink>(
 ) -> Result<u8, CommandFault>
     requires { journal.now.max_message ≤ server.old.max_message }
     ensures run { D.tells ≡ true → Ran (serving (service_of journal.now server.old)) turns
-        (responder_of (D.port port.old) no_tally server.old) (λ responder. last_line responder.tally) (λ responder. 0)
+        (responder_of (D.port port.old) no_tally server.old) (λ responder. served_line responder.tally) (λ responder. 0)
         (λ responder. (D.port port.new ≡ responder.port) × (server.new ≡ served_by server.old responder))
         result (K.held sink.old) (K.held sink.new) (D.port port.new).sent }
     ensures sink { CountsSink (K.failed sink.old) (K.failed sink.new) result }

@@ -3,7 +3,7 @@
 ghost use Rattle.std.specs.Prelude.{◌≡◌, OnOk};
 ghost use Rattle.mold_devices.specs.Devices.{one_more};
 ghost use Rattle.mold_feed.specs.Outgoing.{with_more};
-ghost use Rattle.mold_feed.specs.Tally.{last_line, no_tally, with_answered, with_failed, with_outgoing};
+ghost use Rattle.mold_feed.specs.Tally.{served_line, no_tally, with_answered, with_failed, with_outgoing};
 ghost use Rattle.mold_feed.specs.Tally.{with_quiet, with_refused};
 
 use crate::outgoing::Outgoing;
@@ -76,7 +76,7 @@ impl Tally {
 
     // Prints the last line.
     pub(crate) fn push_last(&mut self) -> Result<(), AllocError>
-        ensures { OnOk result (self.new ≡ with_outgoing (with_more (last_line self.old) self.old.outgoing) self.old) }
+        ensures { OnOk result (self.new ≡ with_outgoing (with_more (served_line self.old) self.old.outgoing) self.old) }
     {
         let words = [
             Word::Text(b"answered"),

@@ -5,7 +5,7 @@ ghost use Rattle.std.specs.Io.KnownBytes.{Appends};
 ghost use Rattle.mold_devices.specs.Devices.{AppendsFront};
 ghost use Rattle.mold_refusals.specs.Words.{file_fault_words};
 ghost use Rattle.mold_feed.specs.Serving.{served_by, service_of, serving, responder_of};
-ghost use Rattle.mold_feed.specs.Tally.{last_line, no_tally};
+ghost use Rattle.mold_feed.specs.Tally.{served_line, no_tally};
 ghost use Rattle.mold_text.specs.Text.{refused_line};
 ghost use Rattle.mold_devices.specs.Faults.{CountsSink};
 ghost use Rattle.mold_feed.specs.Runs.{Ran};
@@ -83,7 +83,7 @@ pub fn serve_over<D: Datagrams, K: Sink>(
     requires server { server.old ≡ server_of order.now }
     requires journal { journal.now.max_message ≡ order.now.limit - 22 }
     ensures run { D.tells ≡ true → Ran (serving (service_of journal.now (server_of order.now))) order.now.turns
-        (responder_of (D.port port.old) no_tally (server_of order.now)) (λ s. last_line s.tally) (λ s. 0)
+        (responder_of (D.port port.old) no_tally (server_of order.now)) (λ s. served_line s.tally) (λ s. 0)
         (λ responder. (D.port port.new ≡ responder.port) × (server.new ≡ served_by (server_of order.now) responder))
         result (K.held sink.old) (K.held sink.new) (D.port port.new).sent }
     ensures sink { CountsSink (K.failed sink.old) (K.failed sink.new) result }

@@ -1,7 +1,7 @@
 use Rattle.std.proofs.Common.{◌≡◌, ℕ, [], rules, sym, List}
 use Rattle.mold_ports.specs.Ports.{Port}
 use Rattle.mold_feed.specs.Serving.{ResponderState, served_by, service_of, responder_of}
-use Rattle.mold_feed.specs.Tally.{last_line, no_tally}
+use Rattle.mold_feed.specs.Tally.{served_line, no_tally}
 use Rattle.mold_feed.proofs.ServingLemmas.{served_so, serving_is}
 use Rattle.mold_session.specs.Server.{ServerState}
 use Rattle.mold_feed.proofs.RunLemmas.{ran_none}
@@ -9,7 +9,7 @@ use Rattle.mold_feed.proofs.serving.serve_loop.Goals as goal
 
 -- the last line, and that port and server stand as at the end
 abbrev last : {P : Type 0} → ResponderState P → List ℕ
-last responder = last_line responder.tally
+last responder = served_line responder.tally
 
 abbrev Agrees : {P : Type 0} → Port P → ServerState → ServerState → ResponderState P → Type 0
 Agrees port old new responder = (port ≡ responder.port) × (new ≡ served_by old responder)

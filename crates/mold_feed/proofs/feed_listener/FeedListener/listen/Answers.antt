@@ -1,7 +1,7 @@
 use Rattle.std.proofs.Common.{◌∙◌, ap, refl}
 use Rattle.mold_feed.proofs.FaultLemmas.{counts_memory, counts_same, counts_write}
 use Rattle.mold_feed.proofs.RunLemmas.{ran_cut, ran_front, ran_whole}
-use Rattle.mold_feed.specs.Listening.{Agrees, last_line, state, status}
+use Rattle.mold_feed.specs.Listening.{Agrees, listened_line, state, status}
 use Rattle.mold_feed.specs.Outgoing.{OutgoingState}
 use Rattle.mold_feed.proofs.TurnLemmas.{is_loop}
 use Rattle.mold_feed.proofs.feed_listener.FeedListener.listen.Goals as goal
@@ -10,7 +10,7 @@ pub returns-in_err-take_turns-clause-run : goal.returns-in_err-take_turns-clause
 returns-in_err-take_turns-clause-run g c = λ t.
     ran_cut (is_loop c.args.server c.args.burst) c.args.turns
     (state g.D.Datagrams.port c.args.self.now)
-    last_line status _ c.take_turns.result c.from_residual.result
+    listened_line status _ c.take_turns.result c.from_residual.result
     (c.take_turns.ensures.run t)
     c.from_residual.ensures.0
 
@@ -23,7 +23,7 @@ pub returns-in_err-status-clause-run : goal.returns-in_err-status-clause-run
 returns-in_err-status-clause-run g c = λ t.
     ran_cut (is_loop c.args.server c.args.burst) c.args.turns
     (state g.D.Datagrams.port c.args.self.now)
-    last_line status _ c.take_turns.result c.from_residual-in_err-status.result
+    listened_line status _ c.take_turns.result c.from_residual-in_err-status.result
     (c.take_turns.ensures.run t)
     c.from_residual-in_err-status.ensures.0
 
@@ -36,7 +36,7 @@ pub returns-in_err-send-clause-run : goal.returns-in_err-send-clause-run
 returns-in_err-send-clause-run g c = λ t.
     ran_front (is_loop c.args.server c.args.burst) c.args.turns
     (state g.D.Datagrams.port c.args.self.now)
-    last_line status _ (λ front s. refl) c.in_ok-take_turns.field-0
+    listened_line status _ (λ front s. refl) c.in_ok-take_turns.field-0
     (state g.D.Datagrams.port c.take_turns.new.self)
     (c.in_ok-take_turns.ensures.run t)
     c.from_residual-in_err-send.result c.push_last.new.outgoing.text
@@ -53,7 +53,7 @@ pub returns-clause-run : goal.returns-clause-run
 returns-clause-run g c = λ t.
     ran_whole (is_loop c.args.server c.args.burst) c.args.turns
     (state g.D.Datagrams.port c.args.self.now)
-    last_line status
+    listened_line status
     (Agrees (g.D.Datagrams.port c.take_turns.new.self.a.now) (g.D.Datagrams.port c.take_turns.new.self.b.now)
     (g.D.Datagrams.port c.take_turns.new.self.requests.now) c.take_turns.new.self.arbiter.now)
     (λ front s. refl) c.in_ok-take_turns.field-0

@@ -1,7 +1,7 @@
 use Rattle.std.proofs.Common.{◌≡◌, ℕ, ap, refl, List}
 use Rattle.mold_ports.specs.Ports.{Port}
 use Rattle.mold_feed.specs.Serving.{ResponderState, served_by, service, state}
-use Rattle.mold_feed.specs.Tally.{last_line}
+use Rattle.mold_feed.specs.Tally.{served_line}
 use Rattle.mold_feed.specs.declared.tally.Tally.{Tally}
 use Rattle.mold_feed.proofs.ServingLemmas.{serving_is}
 use Rattle.mold_session.specs.Server.{ServerState}
@@ -10,7 +10,7 @@ use Rattle.mold_feed.proofs.responder.Responder.serve.Goals as goal
 
 -- the last line, and that port and server stand as at the end
 abbrev last : {P : Type 0} → ResponderState P → List ℕ
-last responder = last_line responder.tally
+last responder = served_line responder.tally
 
 abbrev Agrees : {P : Type 0} → Port P → ServerState → ServerState → ResponderState P → Type 0
 Agrees port old new responder = (port ≡ responder.port) × (new ≡ served_by old responder)
