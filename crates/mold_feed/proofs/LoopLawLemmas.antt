@@ -8,12 +8,13 @@ use Rattle.std.proofs.lemmas.Result.{IfOk-weaker}
 use Rattle.mold_devices.specs.Devices.{AppendsFront}
 use Rattle.mold_feed.specs.Heard.{GivesOnly, PrintsLines, PrintsRefused, Saying, lines_text, sayings_text}
 use Rattle.mold_feed.specs.Listening.{Asking, Hearing, ListenerState, hearing_line, hearing_status, missed}
-use Rattle.mold_feed.specs.Looping.{Failed, LeftOut, LineState, LoopRun, Outcome, Pass, Sent, StandsBehind, all_routed}
+use Rattle.mold_feed.specs.Looping.{Failed, LeftOut, LineState, LoopRun, Outcome, Pass, Sent, StandsBehind}
 use Rattle.mold_feed.specs.Looping.{heard_if, heard_on, lines_behind, loop_end, loop_line, loop_status, loop_text, offered_by}
 use Rattle.mold_feed.specs.Looping.{outgoing_after, passed, port_after, received_if, rounds_made}
-use Rattle.mold_feed.specs.Looping.{routed, routed_by, routed_end, sent_by, with_heard}
+use Rattle.mold_feed.specs.Looping.{routed_by, sent_by, with_heard}
 use Rattle.mold_feed.specs.Outgoing.{OutgoingState}
 use Rattle.mold_feed.specs.Own.{GivesSent, OwnPorts, WasSent}
+use Rattle.mold_feed.specs.Passing.{all_routed, routed, routed_end}
 use Rattle.mold_feed.specs.PublishLoop.{after_data, all_datagrams, data_behind}
 use Rattle.mold_feed.specs.Repairing.{RepairState, missed_more, repaired, repairing, requested, round, served}
 use Rattle.mold_feed.specs.Runs.{run}
