@@ -7,7 +7,6 @@ ghost use Rattle.mold_ranges.specs.Ranges.{Range, IsLongest, lacking, range, ran
 
 /// The ranges are just the longest ones of lacking numbers, in ascending order, with a number between each
 /// two of them.
-#[tactic(auto, using(crate::proofs::LongestLemmas::ranges_longest, crate::proofs::LongestLemmas::longest_among, crate::proofs::LongestLemmas::ranges_ascend))]
 pub fn ranges_law()
     ensures longest { (lacks : ℕ → Bool) (low count i : ℕ) (r : Range) →
         slice_get (ranges lacks low count) i ≡ Some r → IsLongest lacks low (low + count) r }
@@ -21,7 +20,6 @@ pub fn ranges_law()
 /// How the ranges are found by walking over the numbers: those that are there are passed over, and those
 /// that are lacking, up to one that is there or to the end, are the first range. What else is lacking
 /// doesn't matter.
-#[tactic(auto, using(crate::proofs::RangeLemmas::ranges_none, crate::proofs::RangeLemmas::ranges_skip, crate::proofs::RangeLemmas::ranges_run, crate::proofs::RangeLemmas::ranges_same))]
 pub fn ranges_walk_law()
     ensures none { (lacks : ℕ → Bool) (low : ℕ) → ranges lacks low 0 ≡ [] }
     ensures skip { (lacks : ℕ → Bool) (low count more : ℕ) →
@@ -44,7 +42,6 @@ pub fn ranges_size_law()
 {}
 
 /// How many numbers are lacking is counted in parts: all where each is lacking, none where each is there.
-#[tactic(auto, using(crate::proofs::LackingLemmas::lacking_parts, crate::proofs::LackingLemmas::all_lacking, crate::proofs::LackingLemmas::none_lacking, crate::proofs::LackingLemmas::lacking_same))]
 pub fn lacking_law()
     ensures parts { (lacks : ℕ → Bool) (low count more : ℕ) →
         lacking lacks low (count + more) ≡ lacking lacks low count + lacking lacks (low + count) more }

@@ -97,7 +97,6 @@ pub fn through_law()
 
 /// What is wanted is asked from `next` on, for the gap there as far as a request may ask; nothing is wanted
 /// exactly where nothing below `known` is lacking.
-#[tactic(auto, using(crate::proofs::LawLemmas::wanted_is, crate::proofs::LawLemmas::gap_is, crate::proofs::LawLemmas::wanted_none))]
 pub fn wanted_law()
     ensures asks { (v : View) (r : Request) → wanted v ≡ Some r →
         (r.session ≡ v.session) × (r.sequence ≡ v.next) × (r.count ≡ min 65534 (gap_end v - v.next)) }
