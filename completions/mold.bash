@@ -8,8 +8,8 @@ _mold_options() {
     pack) printf '%s ' --session --limit ;;
     sim) printf '%s ' --session --limit --server-limit --window --receivers --burst ;;
     publish) printf '%s ' --session --limit --a --b --journal --beats --ends ;;
-    serve) printf '%s ' --journal --limit --burst --bind --turns ;;
-    listen) printf '%s ' --session --next --window --a --b --server --burst --turns ;;
+    serve) printf '%s ' --journal --limit --burst --bind --turns --live ;;
+    listen) printf '%s ' --session --next --window --a --b --server --burst --turns --live ;;
     loop) printf '%s ' --session --limit --server-limit --window --burst --drop-a --drop-b --turns ;;
     upgrade) printf '%s ' --journal --to --close ;;
     esac
@@ -50,7 +50,7 @@ _mold() {
         compopt -o nospace 2>/dev/null
         _mold_words '127.0.0.1: 0.0.0.0:' "$word"
         ;;
-    show:--request | upgrade:--close) _mold_words "$(_mold_options "$command")" "$word" ;;
+    show:--request | upgrade:--close | *:--live) _mold_words "$(_mold_options "$command")" "$word" ;;
     *:--help) ;;
     *:--*) ;;
     check:*) case $word in

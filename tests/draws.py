@@ -338,6 +338,13 @@ def upgrade(chance):
     return Case(others, [(file(chance),)], ["--close"] if others["close"] else [])
 
 
+def maybe_live(chance, case):
+    """The case, in which what is printed may be written at once: its text is the same."""
+    if has(chance, 0.3):
+        case.words.append("--live")
+    return case
+
+
 def serve(chance):
     options = {"limit": chance.choice([64, 65, 100, 1400, 65507]), "burst": chance.choice(BURSTS)}
     drawn = file(chance)
@@ -345,7 +352,7 @@ def serve(chance):
         drawn = file(chance)
     sessions, behind = [drawn[8:18]] * 9 + [NAME.encode()], chance.choice([1, 2, 3, 10])
     requests = [(request(chance, chance.choice(sessions), behind),) for _ in range(chance.randint(1, 8))]
-    return case_of(chance, options, requests, file=drawn)
+    return maybe_live(chance, case_of(chance, options, requests, file=drawn))
 
 
 def told(view, way, datagram):
@@ -403,4 +410,4 @@ def listen(chance):
         drawn = damaged(chance, drawn) if has(chance, 0.1) else drawn
         items.append((chance.choice([b"a", b"a", b"b", b"b", b"answer"]), drawn))
         view = told(view, *items[-1]) or view
-    return case_of(chance, options, items)
+    return maybe_live(chance, case_of(chance, options, items))

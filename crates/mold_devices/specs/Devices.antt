@@ -1,5 +1,5 @@
 -- What sources and sinks of bytes do, in words that their contracts share.
-use Rattle.std.specs.Prelude.{◌≡◌, ℕ, ◌+◌, ◌-◌, ◌^◌, min, List, ◌++◌, Option, None, Some, Result, MatchResult}
+use Rattle.std.specs.Prelude.{◌≡◌, ℕ, ◌+◌, ◌-◌, ◌^◌, min, Bool, List, ◌++◌, Option, None, Some, Result, MatchResult}
 use Rattle.std.specs.Io.KnownBytes.{Appends}
 
 -- a count that rose by one, or stands at its limit
@@ -23,10 +23,11 @@ pub record ReaderState (R : Type 0) : Type 0 where
   pub calls_left : ℕ
   pub failures : ℕ
 
--- a writer that stands as a sink, and its failures
+-- a writer that stands as a sink, its failures, and whether text is written to it as soon as it is there
 pub record WriterState (W : Type 0) : Type 0 where
   pub writer : W
   pub failures : ℕ
+  pub live : Bool
 
 -- what a file holds that is not made yet, or tells its bytes or doesn't
 abbrev pub held_by : {F : Type 0} → (F → Option (List ℕ)) → Option F → Option (List ℕ)

@@ -1,6 +1,6 @@
 //! A writer as a sink.
 
-ghost use Rattle.std.specs.Prelude.{◌≡◌};
+ghost use Rattle.std.specs.Prelude.{◌≡◌, false, true};
 
 use crate::device_fault::DeviceFault;
 use crate::sink::Sink;
@@ -8,11 +8,13 @@ use std::io::Write;
 use std::marker::Model;
 
 /// A writer as a sink. Every error of the writer is a failure, also an interrupted call, and so is
-/// a write of one byte or more that takes none. Nothing is flushed here.
+/// a write of one byte or more that takes none. Nothing is flushed here, also where it is live: standard output
+/// gathers nothing by itself.
 #[derive(Debug, Drop)]
 pub struct IntoWrite<W> {
     writer: W,
     failures: u64,
+    live: bool,
 }
 
 impl<W> Model for IntoWrite<W> {
@@ -20,18 +22,32 @@ impl<W> Model for IntoWrite<W> {
 
     ghost Value = { WriterState W };
 
-    ghost view = { λ s. record { writer = s.writer; failures = s.failures } };
+    ghost view = { λ s. record { writer = s.writer; failures = s.failures; live = s.live } };
 }
 
 impl<W> IntoWrite<W> {
+    /// A sink to which text is written in large pieces.
     pub fn new(writer: W) -> IntoWrite<W>
         ensures writer { result.writer ≡ writer }
         ensures failures { result.failures ≡ 0 }
+        ensures live { result.live ≡ false }
     {
         IntoWrite {
             writer,
             failures: 0,
+            live: false,
         }
+    }
+
+    /// A sink to which text is written as soon as it is there.
+    pub fn live(writer: W) -> IntoWrite<W>
+        ensures writer { result.writer ≡ writer }
+        ensures failures { result.failures ≡ 0 }
+        ensures live { result.live ≡ true }
+    {
+        let mut sink = IntoWrite::new(writer);
+        sink.live = true;
+        sink
     }
 
     /// Gives the writer back, as to flush it.
@@ -41,6 +57,7 @@ impl<W> IntoWrite<W> {
         let IntoWrite {
             writer,
             failures: _,
+            live: _,
         } = self;
         writer
     }
@@ -50,6 +67,8 @@ impl<W: Write> Sink for IntoWrite<W> {
     ghost held = { λ s. W.contents s.writer };
 
     ghost failed = { λ s. s.failures };
+
+    ghost live = { λ s. s.live };
 
     fn write(&mut self, bytes: &[u8]) -> Result<usize, DeviceFault> {
         if let Ok(count) = self.writer.write(bytes) {
@@ -63,5 +82,9 @@ impl<W: Write> Sink for IntoWrite<W> {
 
     fn failures(&self) -> u64 {
         self.failures
+    }
+
+    fn is_live(&self) -> bool {
+        self.live
     }
 }

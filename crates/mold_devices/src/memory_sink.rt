@@ -1,7 +1,7 @@
 //! Memory as a sink.
 
 ghost use Rattle.std.specs.Prelude.{◌≡◌, ◌+◌, ◌-◌, ◌<◌, ◌≤◌, ◌⊎◌, ◌++◌, min, take, length, [], Some, IfOk, IsErr};
-ghost use Rattle.std.specs.Prelude.{MatchResult};
+ghost use Rattle.std.specs.Prelude.{MatchResult, false};
 ghost use Rattle.mold_devices.specs.Devices.{Counts};
 
 use crate::device_fault::DeviceFault;
@@ -71,6 +71,8 @@ impl Sink for MemorySink {
 
     ghost failed = { λ s. s.failures };
 
+    ghost live = { λ s. false };
+
     fn write(&mut self, bytes: &[u8]) -> Result<usize, DeviceFault>
         ensures fails { self.old.fails_at ≡ 1 → IsErr result }
 
@@ -96,5 +98,9 @@ impl Sink for MemorySink {
 
     fn failures(&self) -> u64 {
         self.plan.failures
+    }
+
+    fn is_live(&self) -> bool {
+        false
     }
 }

@@ -1,6 +1,6 @@
 //! What bytes are written to.
 
-ghost use Rattle.std.specs.Prelude.{◌≡◌, ◌<◌, ℕ, List, Option, length, IfOk, IsOk, OnOk};
+ghost use Rattle.std.specs.Prelude.{◌≡◌, ◌<◌, ℕ, Bool, List, Option, length, IfOk, IsOk, OnOk};
 ghost use Rattle.std.specs.Io.{WritesAtMost};
 ghost use Rattle.std.specs.Io.KnownBytes.{Appends, WriteAppends};
 ghost use Rattle.mold_devices.specs.Devices.{AppendsFront, Counts};
@@ -15,6 +15,9 @@ pub trait Sink {
     // How often the sink failed. The count stands at `u64::MAX` once it is there.
     ghost failed: { Self → ℕ };
 
+    // Whether text is written as soon as it is there, and not gathered.
+    ghost live: { Self → Bool };
+
     /// Takes a front of `bytes`, and answers how many it took.
     fn write(&mut self, bytes: &[u8]) -> Result<usize, DeviceFault>
         ensures count { WritesAtMost result bytes.now }
@@ -25,6 +28,11 @@ pub trait Sink {
     /// How often the sink failed, up to `u64::MAX`.
     fn failures(&self) -> u64
         ensures { result ≡ failed self.now };
+
+    /// Whether text is written as soon as it is there. Else it is gathered, and written in pieces of 65,536 bytes or
+    /// more.
+    fn is_live(&self) -> bool
+        ensures { result ≡ live self.now };
 }
 
 /// Writes all of `bytes`, in as many calls as the sink needs, and stops at the first fault.

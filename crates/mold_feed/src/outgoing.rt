@@ -1,6 +1,7 @@
 //! Text that goes out, and the failures that are counted beside it.
 
-ghost use Rattle.std.specs.Prelude.{◌≡◌, ◌<◌, ◌≤◌, [], length, map, take, IfErr, IsOk, OnErr, OnOk};
+ghost use Rattle.std.specs.Prelude.{◌≡◌, ◌<◌, ◌≤◌, [], false, true, length, map, take, IfErr, IsOk, OnErr};
+ghost use Rattle.std.specs.Prelude.{OnOk};
 ghost use Rattle.std.specs.Io.KnownBytes.{Appends};
 ghost use Rattle.mold_devices.specs.Devices.{AppendsFront, Counts};
 ghost use Rattle.mold_feed.specs.Outgoing.{failed_often, failed_once, nothing_out, with_more};
@@ -109,19 +110,20 @@ impl Outgoing {
         push_line_refused(&mut self.text, number, why)
     }
 
-    /// Writes the text where it has come to 65,536 bytes, and leaves it else. After a fault a front of it is
-    /// written, and it stands as it was.
+    /// Writes the text where it has come to 65,536 bytes or the sink is live, and leaves it else. After a fault a front
+    /// of it is written, and it stands as it was.
     pub fn send_large<K: Sink>(&mut self, sink: &mut K) -> Result<(), CommandFault>
         ensures moved { OnOk result (Moves (K.held sink.old) (K.held sink.new) self.old.text self.new.text) }
         ensures large { OnOk result (65536 ≤ length self.old.text → self.new.text ≡ []) }
-        ensures small { length self.old.text < 65536 → IsOk result × (self.new ≡ self.old) }
+        ensures small { K.live sink.old ≡ false → length self.old.text < 65536 → IsOk result × (self.new ≡ self.old) }
+        ensures live { K.live sink.old ≡ true → OnOk result (self.new.text ≡ []) }
         ensures same { OnErr result (self.new ≡ self.old) }
         ensures failures { self.new.failures ≡ self.old.failures }
         ensures front { AppendsFront (K.held sink.old) (K.held sink.new) self.old.text }
         ensures fault { IfErr result (λ fault. fault ≡ CommandFault.Write) }
         ensures sink { Counts (K.failed sink.old) (K.failed sink.new) result }
     {
-        if self.text.len() < LARGE {
+        if self.text.len() < LARGE && !sink.is_live() {
             return Ok(());
         }
         self.send(sink)

@@ -12,7 +12,7 @@ use mold_wiring::{
 };
 use mold_words::{Address, ListenOrder, LoopOrder, PublishOrder, ServeOrder};
 use std::fs::File;
-use std::io::Write;
+use std::io::{Stdout, Write};
 use std::net::SocketAddr;
 
 /// A port that the system gives, on every address of the machine, and on this machine alone.
@@ -30,6 +30,15 @@ fn open_port(rt: &HostRuntime, address: Address) -> Result<UdpPort, ProgramFault
     match UdpPort::bind(rt, socket_address(address)) {
         Ok(port) => Ok(port),
         Err(_) => Err(ProgramFault::Socket),
+    }
+}
+
+// Standard output as a sink, to which text is written at once where it is to be live.
+fn standard_output(rt: &HostRuntime, live: bool) -> IntoWrite<Stdout> {
+    if live {
+        IntoWrite::live(rt.stdout())
+    } else {
+        IntoWrite::new(rt.stdout())
     }
 }
 
@@ -63,7 +72,7 @@ fn serve_on(
     requires { journal.now.max_message ≡ order.now.limit - 22 }
 {
     let mut server = make_server(rt.alloc(), order)?;
-    let mut sink = IntoWrite::new(rt.stdout());
+    let mut sink = standard_output(rt, order.live);
     let outcome = serve_over(rt.alloc(), order, port, &mut server, journal, &mut sink);
     flushed(outcome, sink.into_inner().flush())
 }
@@ -92,7 +101,7 @@ fn listen_on(
 ) -> Result<u8, CommandFault> {
     let mut arbiter = make_arbiter(rt.alloc(), order)?;
     let server = SocketAddr::V4(socket_address(order.server));
-    let mut sink = IntoWrite::new(rt.stdout());
+    let mut sink = standard_output(rt, order.live);
     let outcome = listen_over(
         rt.alloc(),
         order,

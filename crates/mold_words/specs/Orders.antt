@@ -42,16 +42,18 @@ pub record PublishWanted : Type 0 where
   pub ends : ℕ
 
 -- a journal's file from which requests are answered: the limit of the packets and how many answer one, the
--- port, and how many receives are made
+-- port, how many receives are made, and whether what is printed is written at once
 pub record ServeWanted : Type 0 where
   pub journal : Text
   pub limit : ℕ
   pub burst : ℕ
   pub bind : Place
   pub turns : ℕ
+  pub live : Bool
 
 -- a session that is heard on two lines: the number of its first message that is printed, the window, the
--- lines, the re-request server and how many packets answer a request, and the most turns
+-- lines, the re-request server and how many packets answer a request, the most turns, and whether what is printed is
+-- written at once
 pub record ListenWanted : Type 0 where
   pub session : List ℕ
   pub next : ℕ
@@ -61,6 +63,7 @@ pub record ListenWanted : Type 0 where
   pub server : Place
   pub burst : ℕ
   pub turns : ℕ
+  pub live : Bool
 
 -- a session that is sent to itself: the limits of publisher and server, the window, how many packets answer a
 -- request, which packets are left out of the lines, and the most rounds
@@ -116,6 +119,7 @@ view (Serve order) = serve_wanted (record {
   burst = order.burst;
   bind = address_view order.bind;
   turns = order.turns;
+  live = order.live;
 })
 view (Listen order) = listen_wanted (record {
   session = order.session;
@@ -126,6 +130,7 @@ view (Listen order) = listen_wanted (record {
   server = address_view order.server;
   burst = order.burst;
   turns = order.turns;
+  live = order.live;
 })
 view (Loop order) = loop_wanted (record {
   session = order.session;
@@ -173,6 +178,10 @@ burst_in rows = number_in (codes "burst") 1 1 64 rows
 
 abbrev pub turns_in : List Row → Option ℕ
 turns_in rows = number_in (codes "turns") 1000 1 1000000 rows
+
+-- what is printed is written at once
+abbrev pub live_in : List Row → Bool
+live_in rows = flag_in (codes "live") rows
 
 -- the limits of publisher and server, the latter not below the former
 unfoldable pub limits_in : List Row → Option (ℕ × ℕ)
@@ -274,6 +283,7 @@ serve_of rows =
       burst = burst;
       bind = bind;
       turns = turns;
+      live = live_in rows;
     })))
     (turns_in rows))
     (address_in (codes "bind") rows))
@@ -301,6 +311,7 @@ listen_of rows =
       server = server;
       burst = burst;
       turns = turns;
+      live = live_in rows;
     })))
     (turns_in rows))
     (burst_in rows))

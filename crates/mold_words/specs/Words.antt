@@ -27,13 +27,13 @@ commands =
     ∷ (
       codes "serve",
       (codes "journal", Required) ∷ (codes "limit", Optional) ∷ (codes "burst", Optional)
-          ∷ (codes "bind", Required) ∷ (codes "turns", Optional) ∷ [],
+          ∷ (codes "bind", Required) ∷ (codes "turns", Optional) ∷ (codes "live", Flag) ∷ [],
     )
     ∷ (
       codes "listen",
       (codes "session", Required) ∷ (codes "next", Optional) ∷ (codes "window", Optional)
           ∷ (codes "a", Required) ∷ (codes "b", Required) ∷ (codes "server", Required)
-          ∷ (codes "burst", Optional) ∷ (codes "turns", Optional) ∷ [],
+          ∷ (codes "burst", Optional) ∷ (codes "turns", Optional) ∷ (codes "live", Flag) ∷ [],
     )
     ∷ (
       codes "loop",

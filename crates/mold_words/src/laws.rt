@@ -85,9 +85,9 @@ pub fn publish_taken_law()
 {}
 
 /// The words `serve --journal J --bind ..` are taken, and say to answer requests from the journal of `J` in one
-/// packet of up to 1,400 bytes each, with 1,000 receives.
+/// packet of up to 1,400 bytes each, with 1,000 receives; `--live` says to write at once what is printed.
 pub fn serve_taken_law()
-    ensures { Say
+    ensures usual { Say
         (codes "serve" ∷ codes "--journal" ∷ codes "J" ∷ codes "--bind" ∷ codes "0.0.0.0:65535" ∷ [])
         (serve_wanted (record {
           journal = codes "J";
@@ -95,13 +95,25 @@ pub fn serve_taken_law()
           burst = 1;
           bind = (0 ∷ 0 ∷ 0 ∷ 0 ∷ [], 65535);
           turns = 1000;
+          live = false;
+        })) }
+    ensures live { Say
+        (codes "serve" ∷ codes "--live" ∷ codes "--journal" ∷ codes "J" ∷ codes "--bind" ∷ codes "0.0.0.0:0" ∷ [])
+        (serve_wanted (record {
+          journal = codes "J";
+          limit = 1400;
+          burst = 1;
+          bind = (0 ∷ 0 ∷ 0 ∷ 0 ∷ [], 0);
+          turns = 1000;
+          live = true;
         })) }
 {}
 
 /// The words `listen --session MKT --a .. --b .. --server ..` are taken, and say to print the session `MKT` from
-/// message 1 on with a window of 1,024 messages, one packet to a request, in 1,000 turns at most.
+/// message 1 on with a window of 1,024 messages, one packet to a request, in 1,000 turns at most; `--live` says to
+/// write at once what is printed.
 pub fn listen_taken_law()
-    ensures { Say
+    ensures usual { Say
         (codes "listen" ∷ codes "--session" ∷ codes "MKT" ∷ codes "--a" ∷ codes "127.0.0.1:9000"
         ∷ codes "--b" ∷ codes "127.0.0.1:9001" ∷ codes "--server" ∷ codes "127.0.0.1:9002" ∷ [])
         (listen_wanted (record {
@@ -113,6 +125,21 @@ pub fn listen_taken_law()
           server = (127 ∷ 0 ∷ 0 ∷ 1 ∷ [], 9002);
           burst = 1;
           turns = 1000;
+          live = false;
+        })) }
+    ensures live { Say
+        (codes "listen" ∷ codes "--session" ∷ codes "MKT" ∷ codes "--a" ∷ codes "0.0.0.0:0"
+        ∷ codes "--b" ∷ codes "0.0.0.0:0" ∷ codes "--server" ∷ codes "0.0.0.0:0" ∷ codes "--live" ∷ [])
+        (listen_wanted (record {
+          session = codes "MKT       ";
+          next = 1;
+          window = 1024;
+          a = (0 ∷ 0 ∷ 0 ∷ 0 ∷ [], 0);
+          b = (0 ∷ 0 ∷ 0 ∷ 0 ∷ [], 0);
+          server = (0 ∷ 0 ∷ 0 ∷ 0 ∷ [], 0);
+          burst = 1;
+          turns = 1000;
+          live = true;
         })) }
 {}
 

@@ -25,6 +25,8 @@ pub struct ListenOrder {
     pub burst: u16,
     /// The most turns that are made, 1 to 1,000,000.
     pub turns: u32,
+    /// Whether what a turn printed is written at its end, and not gathered.
+    pub live: bool,
     ghost named: { list_all is_character session ≡ true },
     ghost first: { (1 ≤ next) × (next ≤ 9223372036854775807) },
     ghost windowed: { (1 ≤ window) × (window ≤ 65536) },

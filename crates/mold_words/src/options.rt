@@ -5,7 +5,8 @@ ghost use Rattle.std.specs.List.{list_all};
 ghost use Rattle.clap.specs.Words.{first_of, found_of, rows_of};
 ghost use Rattle.mold_words.specs.NoOrders.{LacksOrder, LacksValue, is_address};
 ghost use Rattle.mold_words.specs.Orders.{address_in, address_view, flag_in, has_no_address, is_no_address};
-ghost use Rattle.mold_words.specs.Orders.{burst_in, limit_in, limits_in, number_in, session_in, turns_in, window_in};
+ghost use Rattle.mold_words.specs.Orders.{burst_in, limit_in, limits_in, live_in, number_in, session_in, turns_in};
+ghost use Rattle.mold_words.specs.Orders.{window_in};
 ghost use Rattle.mold_words.specs.Values.{is_character};
 
 use crate::address::Address;
@@ -145,6 +146,13 @@ pub(crate) fn turns_in(options: &ArgMatches<'_>) -> Result<u32, NoOrder>
     ensures within { IfOk result (λ number. (1 ≤ number) × (number ≤ 1000000)) }
 {
     Ok(number_in(options, "turns", USUAL_TURNS, 1, MOST_TURNS)? as u32)
+}
+
+/// Whether what is printed is written at once.
+pub(crate) fn live_in(options: &ArgMatches<'_>) -> bool
+    ensures { result ≡ live_in (rows_of (found_of options.now)) }
+{
+    flag_in(options, "live")
 }
 
 /// The limits of the publisher and of its server, which has room for the publisher's messages.

@@ -10,8 +10,8 @@ use crate::listen_order::ListenOrder;
 use crate::loop_order::LoopOrder;
 use crate::no_order::NoOrder;
 use crate::options::{
-    address_in, burst_in, check_addresses, flag_in, limit_in, limits_in, number_in, required_in,
-    session_in, string_in, turns_in, window_in,
+    address_in, burst_in, check_addresses, flag_in, limit_in, limits_in, live_in, number_in,
+    required_in, session_in, string_in, turns_in, window_in,
 };
 use crate::pack_order::PackOrder;
 use crate::publish_order::PublishOrder;
@@ -179,6 +179,7 @@ fn serve_order(alloc: Global, options: &ArgMatches<'_>) -> Result<Order, NoOrder
         burst,
         bind,
         turns,
+        live: live_in(options),
     }))
 }
 
@@ -206,6 +207,7 @@ fn listen_order(options: &ArgMatches<'_>) -> Result<Order, NoOrder>
         server,
         burst,
         turns,
+        live: live_in(options),
     }))
 }
 

@@ -17,6 +17,8 @@ pub struct ServeOrder {
     pub bind: Address,
     /// How many receives are made, 1 to 1,000,000.
     pub turns: u32,
+    /// Whether what a turn printed is written at its end, and not gathered.
+    pub live: bool,
     ghost limited: { (64 ≤ limit) × (limit ≤ 65507) },
     ghost bursting: { (1 ≤ burst) × (burst ≤ 64) },
     ghost turning: { (1 ≤ turns) × (turns ≤ 1000000) },

@@ -81,6 +81,13 @@ const BURST: OptionRow = OptionRow {
     help: "The most packets that answer a request, 1 to 64 [default: 1]",
 };
 
+// Output for who reads it while it comes.
+const LIVE: OptionRow = OptionRow {
+    name: "live",
+    kind: Kind::Flag,
+    help: "Write at the end of each turn what it printed, and do not gather it",
+};
+
 /// The commands, in the order in which help lists them.
 pub static COMMANDS: [CommandRow; 9] = [
     CommandRow {
@@ -183,6 +190,7 @@ pub static COMMANDS: [CommandRow; 9] = [
                 help: "How many turns are made, 1 to 1000000 [default: 1000]\n\
                     A turn is one receive, which waits 100 ms at most",
             },
+            LIVE,
         ],
         example: "Example:\n  mold serve --journal day.journal --bind 127.0.0.1:9003 --turns 1000000",
     },
@@ -220,6 +228,7 @@ pub static COMMANDS: [CommandRow; 9] = [
                     A turn is a receive on A, one on B, and one request where something\n\
                     is missing; a receive waits 100 ms at most",
             },
+            LIVE,
         ],
         example: "Example:\n  mold listen --session SESSION001 --a 127.0.0.1:9001 --b 127.0.0.1:9002 \\\
             \n    --server 127.0.0.1:9003 --turns 1000000 > heard",

@@ -1,7 +1,7 @@
 //! Text that is written once enough of it came together.
 
 use crate::comparisons::same_size;
-use mold_devices::MemorySink;
+use mold_devices::{IntoWrite, MemorySink, Sink};
 use mold_feed::Outgoing;
 use mold_text::Word;
 use std::test::Fail;
@@ -19,5 +19,17 @@ fn text_is_written_from_65536_bytes_on(rt: HostRuntime) -> Result<(), Fail> {
     same_size(&rt, sink.bytes().len(), 65536);
     assert!(rt; outgoing.send(&mut sink).is_ok());
     same_size(&rt, sink.bytes().len(), 65536);
+    Ok(())
+}
+
+#[test]
+fn text_is_written_at_once_to_a_live_sink(rt: HostRuntime) -> Result<(), Fail> {
+    let mut sink = IntoWrite::live(Vec::new(rt.alloc()));
+    let mut outgoing = Outgoing::new(rt.alloc());
+    assert!(rt; sink.is_live());
+    outgoing.push_line(&[Word::Text(b"x")])?;
+    assert!(rt; outgoing.send_large(&mut sink).is_ok());
+    let written = sink.into_inner();
+    assert!(rt; written.as_slice() == b"x\n".as_slice());
     Ok(())
 }

@@ -155,6 +155,7 @@ fn expect_serve(rt: &impl Abort, order: &ServeOrder, line: &str) {
     same_numbers(rt, &found, &[65507, 64, 1_000_000], line);
     same_address(rt, order.bind, [0; 4], 0, line);
     same_text(rt, order.journal.as_str(), "J", line);
+    same_answer(rt, order.live, false, line);
 }
 
 #[test]
@@ -175,7 +176,7 @@ fn listen_of(alloc: Global, line: &str) -> Result<ListenOrder, Fail> {
 #[test]
 fn words_of_listen(rt: HostRuntime) -> Result<(), Fail> {
     let line = "listen --session MKT --next 9223372036854775807 --window 4 --a 127.0.0.1:1 \
-        --b 127.0.0.1:2 --server 127.0.0.1:3 --burst 2 --turns 5";
+        --b 127.0.0.1:2 --server 127.0.0.1:3 --burst 2 --turns 5 --live";
     let order = listen_of(rt.alloc(), line)?;
     let found = [
         order.next,
@@ -188,6 +189,7 @@ fn words_of_listen(rt: HostRuntime) -> Result<(), Fail> {
     same_address(&rt, order.a, [127, 0, 0, 1], 1, line);
     same_address(&rt, order.b, [127, 0, 0, 1], 2, line);
     same_address(&rt, order.server, [127, 0, 0, 1], 3, line);
+    same_answer(&rt, order.live, true, line);
     Ok(())
 }
 
