@@ -6,11 +6,11 @@ ghost use Rattle.mold_devices.specs.Devices.{AppendsFront};
 ghost use Rattle.mold_devices.specs.Faults.{CountsCommand, CountsSink};
 ghost use Rattle.mold_devices.specs.Lines.{lines_of};
 ghost use Rattle.mold_feed.specs.Listening.{hearing, hearing_line, hearing_status};
-ghost use Rattle.mold_feed.specs.Looping.{LoopRun, line_state};
+ghost use Rattle.mold_feed.specs.Looping.{LoopRun, lines_at};
 ghost use Rattle.mold_feed.specs.Outgoing.{written_out};
 ghost use Rattle.mold_feed.specs.Passing.{LoopSends};
 ghost use Rattle.mold_feed.specs.PublishLoop.{left_journal};
-ghost use Rattle.mold_feed.specs.Repairing.{repair_state};
+ghost use Rattle.mold_feed.specs.Repairing.{rounds_at};
 ghost use Rattle.mold_publish.specs.Publishing.{HasRoom, lines_published, refused_text};
 
 use crate::hearing::LONGEST;
@@ -95,15 +95,9 @@ pub fn session_loop<D: Datagrams + Drop, S: Source, K: Sink>(
     ensures run { D.tells ≡ true → IfSome (S.left source.old) (λ input.
         LoopRun drops peers.now.a peers.now.b peers.now.server turns publisher.old.limit publisher.old.sent
         (lines_published publisher.old.journal (lines_of input)) server.old
-        (line_state (D.port ports.old.publisher) (D.port ports.old.a) (D.port ports.old.b) listener.old.arbiter
-        listener.old.report.outgoing)
-        (repair_state (D.port ports.old.server) (D.port ports.old.requests) server.old listener.old.arbiter
-        listener.old.report.outgoing)
+        (lines_at D.port ports.old listener.old) (rounds_at D.port ports.old server.old listener.old)
         result (K.held sink.old) (K.held sink.new)
-        (line_state (D.port ports.new.publisher) (D.port ports.new.a) (D.port ports.new.b) listener.new.arbiter
-        listener.new.report.outgoing)
-        (repair_state (D.port ports.new.server) (D.port ports.new.requests) server.new listener.new.arbiter
-        listener.new.report.outgoing)) }
+        (lines_at D.port ports.new listener.new) (rounds_at D.port ports.new server.new listener.new)) }
     ensures a { D.tells ≡ true → (D.port ports.new.a).sent ≡ (D.port ports.old.a).sent }
     ensures b { D.tells ≡ true → (D.port ports.new.b).sent ≡ (D.port ports.old.b).sent }
     ensures journal { D.tells ≡ true → OnOk result (IfSome (S.left source.old) (λ input.

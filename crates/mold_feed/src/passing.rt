@@ -2,7 +2,7 @@
 
 ghost use Rattle.std.specs.Prelude.{◌≡◌, ◌+◌, ◌≤◌, [], ◌∷◌, true, None, length, IfOk, OnOk};
 ghost use Rattle.mold_devices.specs.Faults.{CountsCommand};
-ghost use Rattle.mold_feed.specs.Looping.{ComesOf, ComesOfBoth, HasPassed, HearsLines, heard_on, line_state};
+ghost use Rattle.mold_feed.specs.Looping.{ComesOf, ComesOfBoth, HasPassed, HearsLines, heard_on, lines_at};
 ghost use Rattle.mold_feed.specs.Passing.{goes, routed, routed_end, routes_of};
 ghost use Rattle.mold_feed.specs.PublishLoop.{spelled_some};
 ghost use Rattle.mold_publish.specs.Publishing.{HasRoom};
@@ -90,10 +90,7 @@ fn hear_on<D: Datagrams + Drop>(
     ensures a { D.tells ≡ true → (D.port ports.new.a).sent ≡ (D.port ports.old.a).sent }
     ensures b { D.tells ≡ true → (D.port ports.new.b).sent ≡ (D.port ports.old.b).sent }
     ensures heard { D.tells ≡ true → OnOk result
-        (line_state (D.port ports.new.publisher) (D.port ports.new.a) (D.port ports.new.b) listener.new.arbiter
-        listener.new.report.outgoing
-        ≡ heard_on routes (line_state (D.port ports.old.publisher) (D.port ports.old.a) (D.port ports.old.b)
-        listener.old.arbiter listener.old.report.outgoing)) }
+        (lines_at D.port ports.new listener.new ≡ heard_on routes (lines_at D.port ports.old listener.old)) }
 {
     let Listener { arbiter, report } = listener;
     if routes.a {
@@ -116,10 +113,7 @@ fn pass<D: Datagrams + Drop>(
 ) -> Result<(), AllocError>
     requires { length place.old ≡ 65507 }
     ensures passed { D.tells ≡ true → HasPassed peers.now.a peers.now.b ((routes, datagram.now) ∷ []) result
-        (line_state (D.port ports.old.publisher) (D.port ports.old.a) (D.port ports.old.b) listener.old.arbiter
-        listener.old.report.outgoing)
-        (line_state (D.port ports.new.publisher) (D.port ports.new.a) (D.port ports.new.b) listener.new.arbiter
-        listener.new.report.outgoing) }
+        (lines_at D.port ports.old listener.old) (lines_at D.port ports.new listener.new) }
     ensures server { ports.new.server ≡ ports.old.server }
     ensures requests { ports.new.requests ≡ ports.old.requests }
     ensures a { D.tells ≡ true → (D.port ports.new.a).sent ≡ (D.port ports.old.a).sent }
@@ -148,10 +142,7 @@ fn pass_next<D: Datagrams + Drop>(
     ensures sent { publisher.new ≡ after_datagram publisher.old }
     ensures passed { D.tells ≡ true → HasPassed peers.now.a peers.now.b
         (routed drops (number.old + 1) (spelled_some (next_datagram publisher.old))) result
-        (line_state (D.port ports.old.publisher) (D.port ports.old.a) (D.port ports.old.b) listener.old.arbiter
-        listener.old.report.outgoing)
-        (line_state (D.port ports.new.publisher) (D.port ports.new.a) (D.port ports.new.b) listener.new.arbiter
-        listener.new.report.outgoing) }
+        (lines_at D.port ports.old listener.old) (lines_at D.port ports.new listener.new) }
     ensures server { ports.new.server ≡ ports.old.server }
     ensures requests { ports.new.requests ≡ ports.old.requests }
     ensures a { D.tells ≡ true → (D.port ports.new.a).sent ≡ (D.port ports.old.a).sent }
@@ -183,10 +174,7 @@ pub(crate) fn pass_lines<D: Datagrams + Drop, S: Source, K: Sink>(
     requires place { length place.old ≡ 65507 }
     ensures heard { D.tells ≡ true → HearsLines drops peers.now.a peers.now.b publisher.old publisher.new
         (S.left source.old) result
-        (line_state (D.port ports.old.publisher) (D.port ports.old.a) (D.port ports.old.b) listener.old.arbiter
-        listener.old.report.outgoing)
-        (line_state (D.port ports.new.publisher) (D.port ports.new.a) (D.port ports.new.b) listener.new.arbiter
-        listener.new.report.outgoing)
+        (lines_at D.port ports.old listener.old) (lines_at D.port ports.new listener.new)
         (K.held sink.old) (K.held sink.new) }
     ensures server { ports.new.server ≡ ports.old.server }
     ensures requests { ports.new.requests ≡ ports.old.requests }
@@ -238,10 +226,7 @@ pub(crate) fn pass_end<D: Datagrams + Drop>(
     ensures closed { publisher.new ≡ closed publisher.old }
     ensures passed { D.tells ≡ true →
         HasPassed peers.now.a peers.now.b (routed_end publisher.old.journal None) result
-        (line_state (D.port ports.old.publisher) (D.port ports.old.a) (D.port ports.old.b) listener.old.arbiter
-        listener.old.report.outgoing)
-        (line_state (D.port ports.new.publisher) (D.port ports.new.a) (D.port ports.new.b) listener.new.arbiter
-        listener.new.report.outgoing) }
+        (lines_at D.port ports.old listener.old) (lines_at D.port ports.new listener.new) }
     ensures server { ports.new.server ≡ ports.old.server }
     ensures requests { ports.new.requests ≡ ports.old.requests }
     ensures a { D.tells ≡ true → (D.port ports.new.a).sent ≡ (D.port ports.old.a).sent }

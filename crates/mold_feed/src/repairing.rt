@@ -3,8 +3,8 @@
 ghost use Rattle.std.specs.Prelude.{◌≡◌, ◌≤◌, Some, true, Bool, List, length, OnOk};
 ghost use Rattle.mold_devices.specs.Faults.{CountsSink};
 ghost use Rattle.mold_feed.specs.Listening.{asking, hear_answers};
-ghost use Rattle.mold_feed.specs.Repairing.{HasRepaired, answers_sent, repair_state, repaired, repairing, requested};
-ghost use Rattle.mold_feed.specs.Repairing.{text_before};
+ghost use Rattle.mold_feed.specs.Repairing.{HasRepaired, answers_sent, repaired, repairing, requested};
+ghost use Rattle.mold_feed.specs.Repairing.{rounds_at, text_before};
 ghost use Rattle.mold_feed.specs.Runs.{RestsOfTwo};
 ghost use Rattle.mold_feed.specs.Serving.{service_of};
 
@@ -55,11 +55,9 @@ fn repair<D: Datagrams + Drop>(
     requires place { length place.old ≡ 65507 }
     requires longest { journal.now.max_message ≤ server.old.max_message }
     ensures repaired { D.tells ≡ true → (fails : List Bool) × HasRepaired result
-        (repair_state (D.port ports.new.server) (D.port ports.new.requests) server.new listener.new.arbiter
-        listener.new.report.outgoing)
+        (rounds_at D.port ports.new server.new listener.new)
         (repaired (service_of journal.now server.old) fails
-        (repair_state (D.port ports.old.server) (D.port ports.old.requests) server.old listener.old.arbiter
-        listener.old.report.outgoing)) }
+        (rounds_at D.port ports.old server.old listener.old)) }
     ensures server { server.new ≡ record server.old { answered = server.new.answered } }
     ensures publisher { ports.new.publisher ≡ ports.old.publisher }
     ensures a { ports.new.a ≡ ports.old.a }
@@ -97,11 +95,9 @@ fn round<D: Datagrams + Drop>(
     requires place { length place.old ≡ 65507 }
     requires longest { journal.now.max_message ≤ server.old.max_message }
     ensures requested { D.tells ≡ true → (choice : Bool × List Bool) × HasRepaired result
-        (repair_state (D.port ports.new.server) (D.port ports.new.requests) server.new listener.new.arbiter
-        listener.new.report.outgoing)
+        (rounds_at D.port ports.new server.new listener.new)
         (requested (Some request.now) to (service_of journal.now server.old) choice
-        (repair_state (D.port ports.old.server) (D.port ports.old.requests) server.old listener.old.arbiter
-        listener.old.report.outgoing)) }
+        (rounds_at D.port ports.old server.old listener.old)) }
     ensures server { server.new ≡ record server.old { answered = server.new.answered } }
     ensures publisher { ports.new.publisher ≡ ports.old.publisher }
     ensures a { ports.new.a ≡ ports.old.a }
@@ -131,11 +127,9 @@ pub(crate) fn repair_all<D: Datagrams + Drop, K: Sink>(
     requires longest { journal.now.max_message ≤ server.old.max_message }
     ensures rests { D.tells ≡ true →
         RestsOfTwo (repairing to (service_of journal.now server.old)) answers_sent text_before turns
-        (repair_state (D.port ports.old.server) (D.port ports.old.requests) server.old listener.old.arbiter
-        listener.old.report.outgoing)
+        (rounds_at D.port ports.old server.old listener.old)
         result (K.held sink.old) (K.held sink.new)
-        (repair_state (D.port ports.new.server) (D.port ports.new.requests) server.new listener.new.arbiter
-        listener.new.report.outgoing) }
+        (rounds_at D.port ports.new server.new listener.new) }
     ensures server { server.new ≡ record server.old { answered = server.new.answered } }
     ensures publisher { ports.new.publisher ≡ ports.old.publisher }
     ensures a { ports.new.a ≡ ports.old.a }
