@@ -1,6 +1,6 @@
 -- A loop in one process: what its publisher's datagrams, and then its rounds of requests, make of the ports and of
 -- what was heard. The datagrams are a run of `passing`, and the rounds one of `repairing`.
-use Rattle.std.specs.Prelude.{◌≡◌, ℕ, ◌+◌, Bool, true, false, List, [], ◌∷◌, ◌++◌, length, map}
+use Rattle.std.specs.Prelude.{◌≡◌, ℕ, ◌+◌, Bool, true, false, List, ◌++◌, length, map}
 use Rattle.std.specs.Prelude.{Option, None, Some, Result, IfOk, IfSome, OnOk}
 use Rattle.std.specs.Io.KnownBytes.{Appends}
 use Rattle.mold_devices.specs.Devices.{AppendsFront}
