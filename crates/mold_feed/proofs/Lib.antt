@@ -9,6 +9,7 @@ pub mod HearsLemmas
 pub mod LinesPrintedLemmas
 pub mod LinesTextLemmas
 pub mod ListenLemmas
+pub mod LocalFeedLemmas
 pub mod LoopEndLemmas
 pub mod LoopLawLemmas
 pub mod LoopLemmas

@@ -9,7 +9,7 @@ use Rattle.mold_publish.specs.Publishing.{PublishedLines, lines_published}
 use Rattle.mold_session.specs.Publisher.{PublisherState}
 use Rattle.mold_session.specs.Server.{ServerState}
 use Rattle.mold_feed.specs.Looping.{LineState, LoopRun, Outcome, LeftOut, Failed, Sent, Pass}
-use Rattle.mold_feed.specs.Looping.{goes_out, lines_behind, passed, passing, port_after, routed_by}
+use Rattle.mold_feed.specs.Looping.{goes_out, passed, passing, port_after, routed_by}
 use Rattle.mold_feed.specs.Passing.{LoopSends, Offers, all_routed, all_sends, send_if, sends_on}
 use Rattle.mold_feed.specs.Repairing.{RepairState}
 use Rattle.mold_feed.specs.Runs.{Begins, run}

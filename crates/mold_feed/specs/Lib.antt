@@ -1,6 +1,7 @@
 pub mod Answering
 pub mod Heard
 pub mod Listening
+pub mod LocalFeed
 pub mod Looping
 pub mod Outgoing
 pub mod Own

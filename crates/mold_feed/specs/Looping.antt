@@ -1,6 +1,6 @@
 -- A loop in one process: what its publisher's datagrams, and then its rounds of requests, make of the ports and of
 -- what was heard. The datagrams are a run of `passing`, and the rounds one of `repairing`.
-use Rattle.std.specs.Prelude.{◌≡◌, ℕ, ◌+◌, Bool, true, false, List, [], ◌∷◌, ◌++◌, length, map}
+use Rattle.std.specs.Prelude.{◌≡◌, ℕ, ◌+◌, Bool, true, false, List, ◌++◌, length, map}
 use Rattle.std.specs.Prelude.{Option, None, Some, Result, IfOk, IfSome, OnOk}
 use Rattle.std.specs.Io.KnownBytes.{Appends}
 use Rattle.mold_devices.specs.Devices.{AppendsFront}
@@ -22,6 +22,8 @@ use Rattle.mold_feed.specs.Repairing.{RepairState, repairing}
 use Rattle.mold_feed.specs.Runs.{Begins, Loop, run}
 use Rattle.mold_feed.specs.Serving.{Service, service_of}
 use Rattle.mold_feed.specs.declared.loop_parts.Drops.{Drops}
+use Rattle.mold_feed.specs.declared.loop_parts.Listener.{Listener}
+use Rattle.mold_feed.specs.declared.loop_parts.LoopPorts.{LoopPorts}
 use Rattle.mold_feed.specs.declared.loop_parts.Routes.{Routes}
 
 -- what comes of a datagram on a line: it is left out there, its send fails, or it is sent
@@ -95,6 +97,11 @@ pub record LineState (P : Type 0) : Type 0 where
 abbrev pub line_state : {P : Type 0} → Port P → Port P → Port P → Arbitration → OutgoingState → LineState P
 line_state publisher a b arbitration outgoing =
     record { publisher = publisher; a = a; b = b; hearing = hearing arbitration outgoing }
+
+-- how far the lines of a loop with these ports and this listener are; `port` says how a port stands
+abbrev pub lines_at : {D A P : Type 0} → (D → Port P) → LoopPorts D A → Listener → LineState P
+lines_at port ports listener =
+    line_state (port ports.publisher) (port ports.a) (port ports.b) listener.arbiter listener.report.outgoing
 
 -- the datagram is offered, to A and then to B
 abbrev pub offered_by : {P : Type 0} → P → P → Pass → LineState P → LineState P

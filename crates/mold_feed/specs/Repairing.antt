@@ -12,6 +12,8 @@ use Rattle.mold_feed.specs.Outgoing.{OutgoingState, failed_often, with_front}
 use Rattle.mold_feed.specs.Runs.{Begins, Loop}
 use Rattle.mold_feed.specs.Serving.{ResponderState, Service, serve_turn}
 use Rattle.mold_feed.specs.Tally.{no_tally}
+use Rattle.mold_feed.specs.declared.loop_parts.Listener.{Listener}
+use Rattle.mold_feed.specs.declared.loop_parts.LoopPorts.{LoopPorts}
 
 -- the server's port and the port of requests, how many requests the server has answered, and what was heard
 pub record RepairState (P : Type 0) : Type 0 where
@@ -27,6 +29,11 @@ repair_state port requests server arbitration outgoing = record {
   answered = server.answered;
   hearing = hearing arbitration outgoing;
 }
+
+-- how far the rounds of a loop with these ports, this server and this listener are; `port` says how a port stands
+abbrev pub rounds_at : {D A P : Type 0} → (D → Port P) → LoopPorts D A → ServerState → Listener → RepairState P
+rounds_at port ports server listener =
+    repair_state (port ports.server) (port ports.requests) server listener.arbiter listener.report.outgoing
 
 -- so many sends and receives failed more
 abbrev pub missed_more : ℕ → Hearing → Hearing

@@ -7,6 +7,7 @@ mod handed;
 mod hearing;
 pub mod laws;
 mod listening;
+mod local_feed;
 mod loop_parts;
 mod looping;
 mod outgoing;

@@ -6,19 +6,19 @@ ghost use Rattle.mold_devices.specs.Devices.{AppendsFront};
 ghost use Rattle.mold_devices.specs.Faults.{CountsCommand, CountsSink};
 ghost use Rattle.mold_devices.specs.Lines.{lines_of};
 ghost use Rattle.mold_feed.specs.Listening.{hearing, hearing_line, hearing_status};
-ghost use Rattle.mold_feed.specs.Looping.{LoopRun, line_state};
+ghost use Rattle.mold_feed.specs.LocalFeed.{HasPlace, IsSame, lines, rounds};
+ghost use Rattle.mold_feed.specs.Looping.{LoopRun, lines_at};
 ghost use Rattle.mold_feed.specs.Outgoing.{written_out};
 ghost use Rattle.mold_feed.specs.Passing.{LoopSends};
 ghost use Rattle.mold_feed.specs.PublishLoop.{left_journal};
-ghost use Rattle.mold_feed.specs.Repairing.{repair_state};
+ghost use Rattle.mold_feed.specs.Repairing.{rounds_at};
 ghost use Rattle.mold_publish.specs.Publishing.{HasRoom, lines_published, refused_text};
 
 use crate::hearing::LONGEST;
 use crate::listening::push_last;
+use crate::local_feed::LocalFeed;
 use crate::loop_parts::{Drops, Listener, LoopPeers, LoopPorts};
 use crate::outgoing::Outgoing;
-use crate::passing::{pass_end, pass_lines};
-use crate::repairing::repair_all;
 use crate::sending::publisher_holds;
 use mold_devices::{CommandFault, Sink, Source};
 use mold_ports::Datagrams;
@@ -63,6 +63,49 @@ fn print_last<K: Sink>(listener: &mut Listener, sink: &mut K) -> Result<u8, Comm
     Ok(status)
 }
 
+impl<'a, 'p, D: Datagrams + Drop> LocalFeed<'a, 'p, D> {
+    // Passes what is published, repairs what is missing then, prints the last line, and answers the status.
+    fn run<S: Source, K: Sink>(
+        &mut self,
+        alloc: Global,
+        publisher: &mut Publisher,
+        server: &mut Server,
+        turns: u32,
+        source: &mut S,
+        sink: &mut K,
+    ) -> Result<u8, CommandFault>
+        requires place { HasPlace self.old }
+        requires room { HasRoom publisher.old }
+        requires longest { publisher.old.journal.max_message ≤ server.old.max_message }
+        ensures run { D.tells ≡ true → IfSome (S.left source.old) (λ input.
+            LoopRun self.old.drops self.old.peers.now.a self.old.peers.now.b self.old.peers.now.server turns
+            publisher.old.limit publisher.old.sent (lines_published publisher.old.journal (lines_of input)) server.old
+            (lines D.port self.old) (rounds D.port server.old self.old) result (K.held sink.old) (K.held sink.new)
+            (lines D.port self.new) (rounds D.port server.new self.new)) }
+        ensures a { D.tells ≡ true → (D.port self.new.ports.now.a).sent ≡ (D.port self.old.ports.now.a).sent }
+        ensures b { D.tells ≡ true → (D.port self.new.ports.now.b).sent ≡ (D.port self.old.ports.now.b).sent }
+        ensures journal { D.tells ≡ true → OnOk result (IfSome (S.left source.old) (λ input.
+            publisher.new.journal ≡ left_journal (lines_published publisher.old.journal (lines_of input)))) }
+        ensures limit { OnOk result (publisher.new.limit ≡ publisher.old.limit) }
+        ensures server { server.new ≡ record server.old { answered = server.new.answered } }
+        ensures same { IsSame self.old self.new }
+        ensures failures { CountsCommand (S.failed source.old) (S.failed source.new)
+            (K.failed sink.old) (K.failed sink.new) result }
+    {
+        publisher_holds(publisher);
+        let refused = self.pass_lines(alloc, publisher, source, sink)?;
+        if let Some(why) = refused {
+            let number = publisher.journal().next();
+            return print_refused(&mut self.listener.report.outgoing, number, why, sink);
+        }
+        self.pass_end(publisher)?;
+        publisher_holds(publisher);
+        let journal = publisher.journal();
+        self.repair_all(alloc, server, journal, turns, sink)?;
+        print_last(self.listener, sink)
+    }
+}
+
 /// Publishes the lines of the source as messages, and listens to them: each datagram goes on both lines but
 /// where it is left out; after the last one the session is closed and its end is sent, and what is missing
 /// is requested in at most `turns` rounds. What is handed on is printed as a listener prints it, with its last
@@ -95,15 +138,9 @@ pub fn session_loop<D: Datagrams + Drop, S: Source, K: Sink>(
     ensures run { D.tells ≡ true → IfSome (S.left source.old) (λ input.
         LoopRun drops peers.now.a peers.now.b peers.now.server turns publisher.old.limit publisher.old.sent
         (lines_published publisher.old.journal (lines_of input)) server.old
-        (line_state (D.port ports.old.publisher) (D.port ports.old.a) (D.port ports.old.b) listener.old.arbiter
-        listener.old.report.outgoing)
-        (repair_state (D.port ports.old.server) (D.port ports.old.requests) server.old listener.old.arbiter
-        listener.old.report.outgoing)
+        (lines_at D.port ports.old listener.old) (rounds_at D.port ports.old server.old listener.old)
         result (K.held sink.old) (K.held sink.new)
-        (line_state (D.port ports.new.publisher) (D.port ports.new.a) (D.port ports.new.b) listener.new.arbiter
-        listener.new.report.outgoing)
-        (repair_state (D.port ports.new.server) (D.port ports.new.requests) server.new listener.new.arbiter
-        listener.new.report.outgoing)) }
+        (lines_at D.port ports.new listener.new) (rounds_at D.port ports.new server.new listener.new)) }
     ensures a { D.tells ≡ true → (D.port ports.new.a).sent ≡ (D.port ports.old.a).sent }
     ensures b { D.tells ≡ true → (D.port ports.new.b).sent ≡ (D.port ports.old.b).sent }
     ensures journal { D.tells ≡ true → OnOk result (IfSome (S.left source.old) (λ input.
@@ -113,29 +150,13 @@ pub fn session_loop<D: Datagrams + Drop, S: Source, K: Sink>(
     ensures failures { CountsCommand (S.failed source.old) (S.failed source.new) (K.failed sink.old) (K.failed sink.new)
         result }
 {
-    publisher_holds(publisher);
     let mut place = vec![in alloc; 0; LONGEST]?;
-    let place = place.as_mut_slice();
-    let refused = pass_lines(
-        alloc, publisher, ports, peers, drops, place, listener, source, sink,
-    )?;
-    if let Some(why) = refused {
-        let number = publisher.journal().next();
-        return print_refused(&mut listener.report.outgoing, number, why, sink);
-    }
-    pass_end(publisher, ports, peers, place, listener)?;
-    publisher_holds(publisher);
-    let journal = publisher.journal();
-    repair_all(
-        alloc,
+    let mut feed = LocalFeed {
         ports,
-        peers.server,
-        server,
-        journal,
-        turns,
-        place,
+        peers,
+        drops,
+        place: place.as_mut_slice(),
         listener,
-        sink,
-    )?;
-    print_last(listener, sink)
+    };
+    feed.run(alloc, publisher, server, turns, source, sink)
 }

@@ -3,13 +3,14 @@
 ghost use Rattle.std.specs.Prelude.{◌≡◌, ◌≤◌, Some, true, Bool, List, length, OnOk};
 ghost use Rattle.mold_devices.specs.Faults.{CountsSink};
 ghost use Rattle.mold_feed.specs.Listening.{asking, hear_answers};
-ghost use Rattle.mold_feed.specs.Repairing.{HasRepaired, answers_sent, repair_state, repaired, repairing, requested};
-ghost use Rattle.mold_feed.specs.Repairing.{text_before};
+ghost use Rattle.mold_feed.specs.LocalFeed.{HasPlace, OnlyRepairs, rounds};
+ghost use Rattle.mold_feed.specs.Repairing.{HasRepaired, answers_sent, repaired, repairing, requested, text_before};
 ghost use Rattle.mold_feed.specs.Runs.{RestsOfTwo};
 ghost use Rattle.mold_feed.specs.Serving.{service_of};
 
 use crate::hearing::hear_port;
-use crate::loop_parts::{Listener, LoopPorts};
+use crate::local_feed::LocalFeed;
+use crate::loop_parts::Listener;
 use crate::responder::Responder;
 use crate::tally::Tally;
 use mold_devices::{CommandFault, Sink};
@@ -43,111 +44,88 @@ fn take_answers<D: Datagrams>(
     Ok(())
 }
 
-// Lets the server take a turn, in which it answers a request that came to it, and takes the answers.
-fn repair<D: Datagrams + Drop>(
-    alloc: Global,
-    ports: &mut LoopPorts<D>,
-    server: &mut Server,
-    journal: &Journal,
-    place: &mut [u8],
-    listener: &mut Listener,
-) -> Result<(), AllocError>
-    requires place { length place.old ≡ 65507 }
-    requires longest { journal.now.max_message ≤ server.old.max_message }
-    ensures repaired { D.tells ≡ true → (fails : List Bool) × HasRepaired result
-        (repair_state (D.port ports.new.server) (D.port ports.new.requests) server.new listener.new.arbiter
-        listener.new.report.outgoing)
-        (repaired (service_of journal.now server.old) fails
-        (repair_state (D.port ports.old.server) (D.port ports.old.requests) server.old listener.old.arbiter
-        listener.old.report.outgoing)) }
-    ensures server { server.new ≡ record server.old { answered = server.new.answered } }
-    ensures publisher { ports.new.publisher ≡ ports.old.publisher }
-    ensures a { ports.new.a ≡ ports.old.a }
-    ensures b { ports.new.b ≡ ports.old.b }
-{
-    let mut tally = Tally::new(alloc);
-    let mut responder = Responder {
-        port: &mut ports.server,
-        server,
-        journal,
-        tally: &mut tally,
-    };
-    responder.take_turn(place)?;
-    let outgoing = &mut listener.report.outgoing;
-    outgoing.count_failures(responder.tally.outgoing.failures());
-    take_answers(
-        &mut ports.requests,
-        responder.tally.answered,
-        place,
-        listener,
-    )
-}
-
-// One round: a request goes to the server, and its answers are taken. A request that can't be sent is counted.
-fn round<D: Datagrams + Drop>(
-    alloc: Global,
-    ports: &mut LoopPorts<D>,
-    to: D::Peer,
-    server: &mut Server,
-    journal: &Journal,
-    request: &Request,
-    place: &mut [u8],
-    listener: &mut Listener,
-) -> Result<(), AllocError>
-    requires place { length place.old ≡ 65507 }
-    requires longest { journal.now.max_message ≤ server.old.max_message }
-    ensures requested { D.tells ≡ true → (choice : Bool × List Bool) × HasRepaired result
-        (repair_state (D.port ports.new.server) (D.port ports.new.requests) server.new listener.new.arbiter
-        listener.new.report.outgoing)
-        (requested (Some request.now) to (service_of journal.now server.old) choice
-        (repair_state (D.port ports.old.server) (D.port ports.old.requests) server.old listener.old.arbiter
-        listener.old.report.outgoing)) }
-    ensures server { server.new ≡ record server.old { answered = server.new.answered } }
-    ensures publisher { ports.new.publisher ≡ ports.old.publisher }
-    ensures a { ports.new.a ≡ ports.old.a }
-    ensures b { ports.new.b ≡ ports.old.b }
-{
-    if ports.requests.send(to, &request.encode()).is_err() {
-        listener.report.outgoing.count_failure();
-        return Ok(());
-    }
-    repair(alloc, ports, server, journal, place, listener)
-}
-
-/// At most so many rounds while something is wanted: a request, and its answers. What is less than a large write is
-/// left to print.
-pub(crate) fn repair_all<D: Datagrams + Drop, K: Sink>(
-    alloc: Global,
-    ports: &mut LoopPorts<D>,
-    to: D::Peer,
-    server: &mut Server,
-    journal: &Journal,
-    turns: u32,
-    place: &mut [u8],
-    listener: &mut Listener,
-    sink: &mut K,
-) -> Result<(), CommandFault>
-    requires place { length place.old ≡ 65507 }
-    requires longest { journal.now.max_message ≤ server.old.max_message }
-    ensures rests { D.tells ≡ true →
-        RestsOfTwo (repairing to (service_of journal.now server.old)) answers_sent text_before turns
-        (repair_state (D.port ports.old.server) (D.port ports.old.requests) server.old listener.old.arbiter
-        listener.old.report.outgoing)
-        result (K.held sink.old) (K.held sink.new)
-        (repair_state (D.port ports.new.server) (D.port ports.new.requests) server.new listener.new.arbiter
-        listener.new.report.outgoing) }
-    ensures server { server.new ≡ record server.old { answered = server.new.answered } }
-    ensures publisher { ports.new.publisher ≡ ports.old.publisher }
-    ensures a { ports.new.a ≡ ports.old.a }
-    ensures b { ports.new.b ≡ ports.old.b }
-    ensures sink { CountsSink (K.failed sink.old) (K.failed sink.new) result }
-{
-    for _turn in 0..turns {
-        let Some(request) = listener.arbiter.receiver().wanted() else {
-            return Ok(());
+impl<'a, 'p, D: Datagrams + Drop> LocalFeed<'a, 'p, D> {
+    // Lets the server take a turn, in which it answers a request that came to it, and takes the answers.
+    fn repair(
+        &mut self,
+        alloc: Global,
+        server: &mut Server,
+        journal: &Journal,
+    ) -> Result<(), AllocError>
+        requires place { HasPlace self.old }
+        requires longest { journal.now.max_message ≤ server.old.max_message }
+        ensures repaired { D.tells ≡ true → (fails : List Bool) × HasRepaired result (rounds D.port server.new self.new)
+            (repaired (service_of journal.now server.old) fails (rounds D.port server.old self.old)) }
+        ensures server { server.new ≡ record server.old { answered = server.new.answered } }
+        ensures only { OnlyRepairs self.old self.new }
+    {
+        let mut tally = Tally::new(alloc);
+        let mut responder = Responder {
+            port: &mut self.ports.server,
+            server,
+            journal,
+            tally: &mut tally,
         };
-        round(alloc, ports, to, server, journal, &request, place, listener)?;
-        listener.report.outgoing.send_large(sink)?;
+        responder.take_turn(self.place)?;
+        let answered = responder.tally.answered;
+        let failures = responder.tally.outgoing.failures();
+        self.listener.report.outgoing.count_failures(failures);
+        let requests = &mut self.ports.requests;
+        take_answers(requests, answered, self.place, self.listener)
     }
-    Ok(())
+
+    // One round: a request goes to the server, and its answers are taken. A request that can't be sent is counted.
+    fn round(
+        &mut self,
+        alloc: Global,
+        server: &mut Server,
+        journal: &Journal,
+        request: &Request,
+    ) -> Result<(), AllocError>
+        requires place { HasPlace self.old }
+        requires longest { journal.now.max_message ≤ server.old.max_message }
+        ensures requested { D.tells ≡ true → (choice : Bool × List Bool) × HasRepaired result
+            (rounds D.port server.new self.new)
+            (requested (Some request.now) self.old.peers.now.server (service_of journal.now server.old) choice
+            (rounds D.port server.old self.old)) }
+        ensures server { server.new ≡ record server.old { answered = server.new.answered } }
+        ensures only { OnlyRepairs self.old self.new }
+    {
+        let to = self.peers.server;
+        if self.ports.requests.send(to, &request.encode()).is_err() {
+            self.listener.report.outgoing.count_failure();
+            return Ok(());
+        }
+        self.repair(alloc, server, journal)
+    }
+
+    /// At most so many rounds while something is wanted: a request, and its answers. What is less than a large write
+    /// is left to print.
+    pub(crate) fn repair_all<K: Sink>(
+        &mut self,
+        alloc: Global,
+        server: &mut Server,
+        journal: &Journal,
+        turns: u32,
+        sink: &mut K,
+    ) -> Result<(), CommandFault>
+        requires place { HasPlace self.old }
+        requires longest { journal.now.max_message ≤ server.old.max_message }
+        ensures rests { D.tells ≡ true → RestsOfTwo
+            (repairing self.old.peers.now.server (service_of journal.now server.old)) answers_sent text_before turns
+            (rounds D.port server.old self.old) result (K.held sink.old) (K.held sink.new)
+            (rounds D.port server.new self.new) }
+        ensures server { server.new ≡ record server.old { answered = server.new.answered } }
+        ensures only { OnlyRepairs self.old self.new }
+        ensures sink { CountsSink (K.failed sink.old) (K.failed sink.new) result }
+    {
+        for _turn in 0..turns {
+            let Some(request) = self.listener.arbiter.receiver().wanted() else {
+                return Ok(());
+            };
+            self.round(alloc, server, journal, &request)?;
+            self.listener.report.outgoing.send_large(sink)?;
+        }
+        Ok(())
+    }
 }
