@@ -6,7 +6,9 @@ use Rattle.mold_devices.specs.declared.fault.CommandFault.TheVariants.{Memory}
 use Rattle.mold_feed.specs.Listening.{Hearing}
 use Rattle.mold_feed.specs.Looping.{LineState, LoopRun}
 use Rattle.mold_feed.specs.Outgoing.{nothing_out}
+use Rattle.mold_feed.specs.Passing.{LoopSends}
 use Rattle.mold_feed.specs.Repairing.{RepairState}
+use Rattle.mold_feed.specs.declared.loop_parts.LoopPorts.{LoopPorts}
 use Rattle.mold_ports.specs.Ports.{Port}
 use Rattle.mold_publish.specs.Publishing.{lines_published}
 use Rattle.mold_words.specs.declared.loop_order.LoopOrder.{LoopOrder}
@@ -23,6 +25,11 @@ pub record FivePorts (P : Type 0) : Type 0 where
 abbrev pub five_ports : {P : Type 0} → Port P → Port P → Port P → Port P → Port P → FivePorts P
 five_ports publisher server a b requests =
     record { publisher = publisher; server = server; a = a; b = b; requests = requests }
+
+-- how the ports of a loop stand; `port` says it of each
+abbrev pub ports_at : {D A P : Type 0} → (D → Port P) → LoopPorts D A → FivePorts P
+ports_at port ports =
+    five_ports (port ports.publisher) (port ports.server) (port ports.a) (port ports.b) (port ports.requests)
 
 -- those of the lines, and those of the requests, where this was heard
 abbrev pub lines_at : {P : Type 0} → FivePorts P → Hearing → LineState P
@@ -53,6 +60,12 @@ pub record Unmade {P : Type 0} (result : Result ℕ CommandFault) (held_old held
   pub fault : result ≡ Err Memory
   pub ports : new ≡ old
   pub written : held_new ≡ held_old
+
+-- of what is known of the input: what the publisher sent of the order's lines
+abbrev pub SendsOver : {P : Type 0} → LoopOrder → P → P → Option (List ℕ) → Result ℕ CommandFault → Port P → Port P →
+    Type 0
+SendsOver order a b known result old new = IfSome known (λ input. LoopSends (drops_of order) a b order.limits.limit 0
+    (lines_published (loop_publisher_of order).journal (lines_of input)) result old new)
 
 -- of what is known of the input, one of both
 abbrev pub LoopsOver : {P : Type 0} → LoopOrder → P → P → P → Option (List ℕ) → Result ℕ CommandFault →

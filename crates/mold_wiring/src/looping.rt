@@ -1,12 +1,9 @@
 //! What `loop` is made of.
 
-ghost use Rattle.std.specs.Prelude.{◌≡◌, true, IfOk, IfSome};
+ghost use Rattle.std.specs.Prelude.{◌≡◌, true, IfOk};
 ghost use Rattle.mold_devices.specs.Faults.{CountsCommand};
-ghost use Rattle.mold_devices.specs.Lines.{lines_of};
 ghost use Rattle.mold_feed.specs.Outgoing.{nothing_out};
-ghost use Rattle.mold_feed.specs.Passing.{LoopSends};
-ghost use Rattle.mold_publish.specs.Publishing.{lines_published};
-ghost use Rattle.mold_wiring.specs.LoopOver.{LoopsOver, five_ports};
+ghost use Rattle.mold_wiring.specs.LoopOver.{LoopsOver, SendsOver, ports_at};
 ghost use Rattle.mold_wiring.specs.Wiring.{drops_of, loop_arbiter_of, loop_publisher_of, loop_server_of};
 
 use crate::limits::longest_message;
@@ -80,16 +77,10 @@ fn run_made<D: Datagrams + Drop, S: Source, K: Sink>(
 ) -> Result<u8, CommandFault>
     requires publisher { publisher.old ≡ loop_publisher_of order.now }
     requires server { server.old ≡ loop_server_of order.now }
-    ensures sends { D.tells ≡ true → IfSome (S.left source.old) (λ input.
-        LoopSends (drops_of order.now) peers.now.a peers.now.b order.now.limits.limit 0
-        (lines_published (loop_publisher_of order.now).journal (lines_of input)) result
-        (D.port ports.old.publisher) (D.port ports.new.publisher)) }
+    ensures sends { D.tells ≡ true → SendsOver order.now peers.now.a peers.now.b (S.left source.old) result
+        (D.port ports.old.publisher) (D.port ports.new.publisher) }
     ensures run { D.tells ≡ true → LoopsOver order.now peers.now.a peers.now.b peers.now.server (S.left source.old)
-        result (K.held sink.old) (K.held sink.new)
-        (five_ports (D.port ports.old.publisher) (D.port ports.old.server) (D.port ports.old.a) (D.port ports.old.b)
-        (D.port ports.old.requests))
-        (five_ports (D.port ports.new.publisher) (D.port ports.new.server) (D.port ports.new.a) (D.port ports.new.b)
-        (D.port ports.new.requests)) }
+        result (K.held sink.old) (K.held sink.new) (ports_at D.port ports.old) (ports_at D.port ports.new) }
     ensures a { D.tells ≡ true → (D.port ports.new.a).sent ≡ (D.port ports.old.a).sent }
     ensures b { D.tells ≡ true → (D.port ports.new.b).sent ≡ (D.port ports.old.b).sent }
     ensures failures { CountsCommand (S.failed source.old) (S.failed source.new) (K.failed sink.old) (K.failed sink.new)
@@ -122,16 +113,10 @@ pub fn loop_over<D: Datagrams + Drop, S: Source, K: Sink>(
     source: &mut S,
     sink: &mut K,
 ) -> Result<u8, CommandFault>
-    ensures sends { D.tells ≡ true → IfSome (S.left source.old) (λ input.
-        LoopSends (drops_of order.now) peers.now.a peers.now.b order.now.limits.limit 0
-        (lines_published (loop_publisher_of order.now).journal (lines_of input)) result
-        (D.port ports.old.publisher) (D.port ports.new.publisher)) }
+    ensures sends { D.tells ≡ true → SendsOver order.now peers.now.a peers.now.b (S.left source.old) result
+        (D.port ports.old.publisher) (D.port ports.new.publisher) }
     ensures run { D.tells ≡ true → LoopsOver order.now peers.now.a peers.now.b peers.now.server (S.left source.old)
-        result (K.held sink.old) (K.held sink.new)
-        (five_ports (D.port ports.old.publisher) (D.port ports.old.server) (D.port ports.old.a) (D.port ports.old.b)
-        (D.port ports.old.requests))
-        (five_ports (D.port ports.new.publisher) (D.port ports.new.server) (D.port ports.new.a) (D.port ports.new.b)
-        (D.port ports.new.requests)) }
+        result (K.held sink.old) (K.held sink.new) (ports_at D.port ports.old) (ports_at D.port ports.new) }
     ensures a { D.tells ≡ true → (D.port ports.new.a).sent ≡ (D.port ports.old.a).sent }
     ensures b { D.tells ≡ true → (D.port ports.new.b).sent ≡ (D.port ports.old.b).sent }
     ensures failures { CountsCommand (S.failed source.old) (S.failed source.new) (K.failed sink.old) (K.failed sink.new)

@@ -1,5 +1,5 @@
 use Rattle.mold_feed.specs.Listening.{hearing}
-use Rattle.mold_wiring.specs.LoopOver.{five_ports}
+use Rattle.mold_wiring.specs.LoopOver.{ports_at}
 use Rattle.mold_wiring.proofs.LoopLemmas.{nothing_done, nothing_sent, order_ran}
 use Rattle.mold_wiring.specs.Wiring.{drops_of, loop_publisher_of}
 use Rattle.mold_wiring.proofs.looping.run_made.Goals as goal
@@ -19,10 +19,7 @@ returns-clause-run g c tells =
     let port = g.D.Datagrams.port in
     order_ran c.args.order.now c.args.peers.now.a c.args.peers.now.b c.args.peers.now.server
     (g.S.Source.left c.args.source.now) c.session_loop.result _ _
-    (five_ports (port c.args.ports.now.publisher) (port c.args.ports.now.server) (port c.args.ports.now.a)
-    (port c.args.ports.now.b) (port c.args.ports.now.requests))
-    (five_ports (port c.session_loop.new.ports.publisher) (port c.session_loop.new.ports.server)
-    (port c.session_loop.new.ports.a) (port c.session_loop.new.ports.b) (port c.session_loop.new.ports.requests))
+    (ports_at port c.args.ports.now) (ports_at port c.session_loop.new.ports)
     c.args.publisher.now c.args.server.now c.make_drops.result c.in_ok-listener.listener.arbiter
     c.in_ok-listener.listener.report.outgoing
     (hearing c.session_loop.new.listener.arbiter c.session_loop.new.listener.report.outgoing)
