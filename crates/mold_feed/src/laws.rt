@@ -146,11 +146,11 @@ pub fn session_law<D: Datagrams>()
 }
 
 /// From the lines that are published to the lines that are printed, by a loop in one process. Lines are published into
-/// a session that begins; the server may have messages as long as the journal's; the listener is a new one that begins
-/// at a message that will be published or is next. Nothing is supposed of the ports but that they give what was sent in
-/// the loop (`OwnPorts`). Where no line is refused, the loop prints the published lines behind their numbers, from that
-/// one on, and with status 0 they are all of them. Where a line is refused, it prints lines before that one, and then
-/// the refusal. After a fault it printed a beginning of such a text.
+/// a session that begins; the listener is a new one that begins at a message that will be published or is next. Nothing
+/// is supposed of the ports but that they give what was sent in the loop (`OwnPorts`). Where no line is refused, and the
+/// server may have messages as long as the journal's, the loop prints the published lines behind their numbers, from
+/// that one on, and with status 0 they are all of them. Where a line is refused, no server is asked: it prints lines
+/// before that one, and then the refusal. After a fault it printed a beginning of such a text.
 pub fn loop_law<D: Datagrams>()
     ensures printed { (drops : Drops) (a b to : D.Peer) (turns limit first window : ℕ) (journal : JournalState)
         (lines : List (List ℕ)) (server : ServerState) (start start_left : LineState D.Peer)
@@ -165,7 +165,6 @@ pub fn loop_law<D: Datagrams>()
         (lines : List (List ℕ)) (why : LineRefusal) (server : ServerState) (start start_left : LineState D.Peer)
         (rounds rounds_left : RepairState D.Peer) (result : Result ℕ CommandFault) (old new : Option (List ℕ)) →
         IsOpening journal limit → (lines_published journal lines).refused ≡ Some why →
-        IsServer server → journal.max_message ≤ server.max_message →
         1 ≤ first → first ≤ length (lines_published journal lines).journal.messages + 1 →
         start.hearing.arbitration.view ≡ fresh journal.session first window →
         start.hearing.outgoing.text ≡ [] → OwnPorts start start_left rounds rounds_left →
