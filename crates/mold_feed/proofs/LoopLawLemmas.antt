@@ -286,8 +286,7 @@ pub server_may : (laws : OpeningLaws) (limit : ℕ) (journal : JournalState) (li
     IsOpening journal limit → IsServer server → journal.max_message ≤ server.max_message →
     MayAnswer (left_by journal lines) server.limit
 server_may laws limit journal lines server opening serves longest =
-    laws.answers limit server.limit journal lines opening (omega (arith, opening.longest, longest, serves.longest))
-    serves.limited.1
+    laws.answers limit server.limit journal lines opening serves.limited (omega (arith, longest, serves.longest))
 
 -- what was sent is true, so is what a port gives of it
 gives_true : {P : Type 0} (Good : List ℕ → Type 0) (sent : List (P × List ℕ)) (port : Port P) → AllSent Good sent →

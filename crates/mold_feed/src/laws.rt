@@ -27,6 +27,7 @@ ghost use Rattle.mold_session.specs.Answer.{between};
 ghost use Rattle.mold_session.specs.Journal.{JournalState};
 ghost use Rattle.mold_session.specs.Server.{IsServer, ServerState};
 ghost use Rattle.mold_session.specs.Truthful.{MayAnswer, TellsTruth};
+ghost use Rattle.mold_wire.specs.Packer.{IsLimit};
 
 use mold_ports::Datagrams;
 use mold_receiver::laws::{honest_stays_law, honest_take_law, taken_law};
@@ -36,7 +37,7 @@ use mold_wire::laws::reading_law;
 /// What publishing lines offers is true of the journal that is left, also where a line is refused and where the
 /// loop ended in a fault; so is what was sent of it, and all that a port has sent that sent nothing else. Where no line
 /// is refused, that journal is closed and has the messages of the lines; where one is, it has those of the lines before
-/// it. A server may answer from it.
+/// it. A server may answer from it whose datagrams have room for its longest message.
 pub fn published_law<D: Datagrams>()
     ensures offered { (beats ends limit : ℕ) (journal : JournalState) (lines : List (List ℕ)) →
         IsOpening journal limit → AllByRecursion (TellsTruth (left_journal (lines_published journal lines)))
@@ -54,7 +55,8 @@ pub fn published_law<D: Datagrams>()
         IsOpening journal limit → (lines_published journal lines).refused ≡ Some why →
         HasLinesBefore lines why (lines_published journal lines).journal }
     ensures answers { (limit other : ℕ) (journal : JournalState) (lines : List (List ℕ)) → IsOpening journal limit →
-        limit ≤ other → other ≤ 65507 → MayAnswer (left_journal (lines_published journal lines)) other }
+        IsLimit other → journal.max_message + 22 ≤ other →
+        MayAnswer (left_journal (lines_published journal lines)) other }
 {
     publisher_law();
     sending_law();
