@@ -140,10 +140,14 @@ module _ {P : Type 0} (Good : List ℕ → Type 0) (to : P) (service : Service)
       rounds_send choices (round to service choice s)
       (requested_sends (wanted s.hearing.arbitration.view) choice s all)
 
-  made_sends : (refused : Option LineRefusal) (choices : List (Bool × List Bool)) (s : RepairState P) →
-      AllSent Good s.server.sent → AllSent Good (rounds_made refused to service choices s).server.sent
-  made_sends None choices s all = rounds_send choices s all
-  made_sends (Some why) choices s all = all
+-- no round is made where a line is refused
+made_sends : {P : Type 0} (Good : List ℕ → Type 0) (to : P) (service : Service) (refused : Option LineRefusal)
+    (choices : List (Bool × List Bool)) (s : RepairState P) →
+    (refused ≡ None → (fails : List Bool) (responder : ResponderState P) → AllSent Good responder.port.sent →
+    AllSent Good (serve_turn service fails responder).port.sent) → AllSent Good s.server.sent →
+    AllSent Good (rounds_made refused to service choices s).server.sent
+made_sends Good to service None choices s serves all = rounds_send Good to service (serves refl) choices s all
+made_sends Good to service (Some why) choices s serves all = all
 
 -- ---- what is heard
 
@@ -277,6 +281,13 @@ module _ (journal : JournalState) (Plain : Type 0) (Good : List ℕ → Type 0) 
 
 -- ---- a loop
 
+-- a server that may have messages as long as the journal's answers from it
+pub server_may : (laws : OpeningLaws) (limit : ℕ) (journal : JournalState) (lines : List (List ℕ)) (server : ServerState) →
+    IsOpening journal limit → IsServer server → journal.max_message ≤ server.max_message →
+    MayAnswer (left_by journal lines) server.limit
+server_may laws limit journal lines server opening serves longest =
+    laws.answers limit server.limit journal lines opening serves.limited (omega (arith, longest, serves.longest))
+
 -- what was sent is true, so is what a port gives of it
 gives_true : {P : Type 0} (Good : List ℕ → Type 0) (sent : List (P × List ℕ)) (port : Port P) → AllSent Good sent →
     GivesSent sent port → GivesOnly Good port
@@ -286,7 +297,7 @@ gives_true Good sent port all gives =
 module _ {P : Type 0} (laws : LoopLaws P) (drops : Drops) (a b to : P) (turns limit : ℕ) (journal : JournalState)
     (lines : List (List ℕ)) (server : ServerState) (start start_left : LineState P) (rounds rounds_left : RepairState P)
     {E : Type 0} (result : Result ℕ E) (old new : Option (List ℕ)) (opening : IsOpening journal limit)
-    (serves : IsServer server) (longest : journal.max_message ≤ server.max_message)
+    (may : (lines_published journal lines).refused ≡ None → MayAnswer (left_by journal lines) server.limit)
     (own : OwnPorts start start_left rounds rounds_left)
     (ran : LoopRun drops a b to turns limit 0 (lines_published journal lines) server start rounds result old new
     start_left rounds_left) where
@@ -311,35 +322,31 @@ module _ {P : Type 0} (laws : LoopLaws P) (drops : Drops) (a b to : P) (turns li
       (published_routed Good drops limit published (laws.offered 0 1 limit journal lines opening))))
       (none_sent Good start.publisher.sent own.publisher)
 
-  may_answer : MayAnswer left server.limit
-  may_answer =
-      laws.opening.answers limit server.limit journal lines opening (omega (arith, opening.longest, longest, serves.longest))
-      serves.limited.1
-
-  turn_true : (fails : List Bool) (responder : ResponderState P) → AllSent Good responder.port.sent →
-      AllSent Good (serve_turn (service_of left server) fails responder).port.sent
+  turn_true : published.refused ≡ None → (fails : List Bool) (responder : ResponderState P) →
+      AllSent Good responder.port.sent → AllSent Good (serve_turn (service_of left server) fails responder).port.sent
   unfolding run
-  turn_true fails responder all = laws.served (service_of left server) (fails ∷ []) responder may_answer all
+  turn_true unrefused fails responder all =
+      laws.served (service_of left server) (fails ∷ []) responder (may unrefused) all
 
   server_true : AllSent Good rounds_left.server.sent
   server_true =
       let whole = loop_end a b to published server ran.passes ran.choices start rounds in
       sent_front Good rounds_left.server.sent whole.server.sent ran.answers
-      (made_sends Good to (service_of left server) turn_true published.refused ran.choices
-      (with_heard (lines_behind a b ran.passes start).hearing rounds)
+      (made_sends Good to (service_of left server) published.refused ran.choices
+      (with_heard (lines_behind a b ran.passes start).hearing rounds) turn_true
       (none_sent Good rounds.server.sent own.server))
 
   -- an honest listener has heard only the truth
   hears_true : IsSound left start.hearing → HasHeard left (Unit {0}) Good start.hearing end
   hears_true sound =
-      let may : MayCome left (Unit {0}) Good =
+      let comes : MayCome left (Unit {0}) Good =
       record { harmless = λ bytes told. inl told; told = λ is_plain bytes told. told } in
       let mid : Hearing = (lines_behind a b ran.passes start).hearing in
-      let on_lines = passes_heard left (Unit {0}) Good laws.hearing may a b ran.passes start sound
+      let on_lines = passes_heard left (Unit {0}) Good laws.hearing comes a b ran.passes start sound
       (gives_true Good start_left.publisher.sent start.a publisher_true own.a)
       (gives_true Good start_left.publisher.sent start.b publisher_true own.b) in
       then_heard left (Unit {0}) Good start.hearing mid end sound on_lines
-      (made_heard left (Unit {0}) Good laws.hearing may published.refused to (service_of left server) ran.choices
+      (made_heard left (Unit {0}) Good laws.hearing comes published.refused to (service_of left server) ran.choices
       (with_heard mid rounds) on_lines.sound
       (gives_true Good rounds_left.server.sent rounds.requests server_true own.requests))
 

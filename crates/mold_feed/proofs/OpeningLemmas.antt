@@ -13,6 +13,7 @@ use Rattle.mold_receiver.specs.Store.{Message}
 use Rattle.mold_receiver.specs.View.{View, fresh}
 use Rattle.mold_session.specs.Journal.{JournalState}
 use Rattle.mold_session.specs.Truthful.{MayAnswer}
+use Rattle.mold_wire.specs.Packer.{IsLimit}
 use Rattle.mold_wire.specs.declared.session.Session.{Session}
 
 -- ---- the journal that is left
@@ -56,7 +57,7 @@ pub record OpeningLaws : Type 0 where
   pub lines : (limit : ℕ) (journal : JournalState) (lines : List (List ℕ)) → IsOpening journal limit →
       (lines_published journal lines).refused ≡ None → HasLines lines (left_by journal lines)
   pub answers : (limit other : ℕ) (journal : JournalState) (lines : List (List ℕ)) → IsOpening journal limit →
-      limit ≤ other → other ≤ 65507 → MayAnswer (left_by journal lines) other
+      IsLimit other → journal.max_message + 22 ≤ other → MayAnswer (left_by journal lines) other
   pub begins : (session : Session) (next window : ℕ) (published : List Message) (closed : Bool) → 1 ≤ next →
       next ≤ length published + 1 → length published < 18446744073709551615 →
       IsHonest (fresh session next window) published closed
@@ -75,7 +76,7 @@ module _ (laws : OpeningLaws) (limit : ℕ) (journal : JournalState) (lines : Li
       (arbitration : Arbitration) (anew : arbitration.view ≡ fresh journal.session first window) where
     pub begins_honest : IsHonest arbitration.view (left_by journal lines).messages (left_by journal lines).closed
     begins_honest =
-        let may = laws.answers limit limit journal lines opening (omega arith) opening.limited.1 in
+        let may = laws.answers limit limit journal lines opening opening.limited opening.longest in
         subst (λ (v : View). IsHonest v (left_by journal lines).messages (left_by journal lines).closed) (sym anew)
         (laws.begins journal.session first window (left_by journal lines).messages (left_by journal lines).closed least
         most may.journaled.few)

@@ -1,7 +1,7 @@
 -- What publishing lines sends is true of the journal that is left.
 use Rattle.std.proofs.Common.{◌≡◌, ℕ, zero, suc, ◌+◌, ◌-◌, ◌≤◌, true, false, List, [], ◌∷◌, ◌++◌, length, take, map, replicate}
 use Rattle.std.proofs.Common.{Option, None, Some, Result, Ok, Err, refl, sym, ap, subst, ◌∙◌, append_assoc, append-nil}
-use Rattle.std.proofs.Common.{arith}
+use Rattle.std.proofs.Common.{arith, length-append}
 use Rattle.std.specs.Prelude.{slice_get}
 use Rattle.std.specs.List.{AllByRecursion}
 use Rattle.std.proofs.lemmas.List.{length-take-le, map-append, take_all}
@@ -10,13 +10,14 @@ use Rattle.hex.specs.Hex.{decode_of}
 use Rattle.hex.specs.declared.error.FromHexError.{FromHexError}
 use Rattle.mold_devices.specs.declared.fault.CommandFault.{CommandFault}
 use Rattle.mold_ports.specs.Ports.{Port}
+use Rattle.mold_wire.specs.Packer.{IsLimit}
 use Rattle.mold_wire.specs.Packet.{spelling_of}
 use Rattle.mold_wire.specs.declared.packet.Packet.{Packet}
 use Rattle.mold_wire.specs.declared.session.Session.{Session}
 use Rattle.mold_session.specs.Answer.{IsPlan, PlanState, planned}
 use Rattle.mold_session.specs.Datagrams.{packing}
-use Rattle.mold_session.specs.Journal.{IsWithin, JournalState, append_refusal, appended}
-use Rattle.mold_session.specs.Publisher.{IsPublisher, MayPublish, PublisherState, published}
+use Rattle.mold_session.specs.Journal.{IsJournal, IsWithin, JournalState, append_refusal, appended}
+use Rattle.mold_session.specs.Publisher.{MayPublish, PublisherState}
 use Rattle.mold_session.specs.Truthful.{MayAnswer, TellsTruth}
 use Rattle.mold_session.specs.declared.error.AppendError.{AppendError}
 use Rattle.mold_publish.specs.Publishing.{PublishedLines, line_outcome, lines_published, published_from, unless_refused}
@@ -35,18 +36,12 @@ use Rattle.mold_feed.proofs.SentLemmas.{each_append, sent_front, sent_offered}
 pub record PublishedLaws : Type 0 where
   pub may : (publisher : PublisherState) (message : List ℕ) →
       append_refusal publisher.journal message ≡ None → MayPublish publisher message
-  pub stays : (publisher : PublisherState) (message : List ℕ) → IsPublisher publisher →
-      MayPublish publisher message → IsPublisher (published publisher message)
   pub told : (journal : JournalState) (limit : ℕ) (plan : PlanState) (place : ℕ) (packet : Packet) →
       MayAnswer journal limit → IsPlan plan → plan.to ≤ length journal.messages + 1 →
       plan.session ≡ journal.session → slice_get (planned journal.messages limit plan) place ≡ Some packet →
       TellsTruth journal (spelling_of packet)
 
 -- ---- the lines
-
--- a publisher of the journal, before its first datagram
-abbrev publisher_of : JournalState → ℕ → PublisherState
-publisher_of journal limit = record { journal = journal; limit = limit; sent = 0 }
 
 -- messages, as what lines of digits may spell
 abbrev as_spelled : List (List ℕ) → List (Result (List ℕ) FromHexError)
@@ -70,22 +65,36 @@ ends_behind line lines count journal None ends = ap suc ends
 ends_behind line lines count journal (Some why) ends =
     record { line = ends.line; place = ends.place; refused = ends.refused }
 
--- lines were published: a publisher of the journal stays one, and the messages of the first so many lines are behind
--- those that it had
-record HasTaken (limit : ℕ) (journal : JournalState) (lines : List (List ℕ)) (after : PublishedLines) : Type 0 where
-  pub is : IsPublisher (publisher_of after.journal limit)
+-- lines were published: a journal stays one, whose messages may be as long, and the messages of the first so many lines
+-- are behind those that it had
+record HasTaken (journal : JournalState) (lines : List (List ℕ)) (after : PublishedLines) : Type 0 where
+  pub is : IsJournal after.journal
+  pub longest : after.journal.max_message ≡ journal.max_message
   pub count : ℕ
   pub spelled : as_spelled journal.messages ++ map decode_of (take count lines) ≡ as_spelled after.journal.messages
   pub ends : EndsAt lines count after.journal after.refused
   pub closed : after.journal.closed ≡ journal.closed
 
-module _ (laws : PublishedLaws) (limit : ℕ) where
+module _ (laws : PublishedLaws) where
+  -- with a message more that nothing refuses it stays a journal
+  journal_stays : (journal : JournalState) (message : List ℕ) → IsJournal journal →
+      append_refusal journal message ≡ None → IsJournal (appended journal message)
+  journal_stays journal message is none =
+      let publisher : PublisherState = record { journal = journal; limit = 0; sent = 0 } in
+      let may : MayPublish publisher message = laws.may publisher message none in
+      record {
+        few = omega (arith, length-append journal.messages (message ∷ []), is.few, may.number);
+        each =
+            each_append (IsWithin journal.max_message) journal.messages (message ∷ []) is.each (may.short, tt);
+      }
+
   -- a line that is refused
   line_refused : (journal : JournalState) (line : List ℕ) (lines : List (List ℕ)) (why : LineRefusal) →
-      IsPublisher (publisher_of journal limit) → line_outcome journal (decode_of line) ≡ Err why →
-      HasTaken limit journal (line ∷ lines) (record { journal = journal; refused = Some why })
+      IsJournal journal → line_outcome journal (decode_of line) ≡ Err why →
+      HasTaken journal (line ∷ lines) (record { journal = journal; refused = Some why })
   line_refused journal line lines why is refused = record {
     is = is;
+    longest = refl;
     count = 0;
     spelled = append-nil (as_spelled journal.messages);
     ends = record { line = line; place = refl; refused = refused };
@@ -94,17 +103,17 @@ module _ (laws : PublishedLaws) (limit : ℕ) where
 
   -- a line more, whose message is taken or refused
   message_taken : (journal : JournalState) (line : List ℕ) (lines : List (List ℕ)) (message : List ℕ)
-      (refusal : Option AppendError) (behind : JournalState → PublishedLines) → IsPublisher (publisher_of journal limit) →
+      (refusal : Option AppendError) (behind : JournalState → PublishedLines) → IsJournal journal →
       decode_of line ≡ Ok message → append_refusal journal message ≡ refusal →
-      ((next : JournalState) → IsPublisher (publisher_of next limit) → HasTaken limit next lines (behind next)) →
-      HasTaken limit journal (line ∷ lines) (published_from journal (unless_refused message refusal) behind)
+      ((next : JournalState) → IsJournal next → HasTaken next lines (behind next)) →
+      HasTaken journal (line ∷ lines) (published_from journal (unless_refused message refusal) behind)
   message_taken journal line lines message None behind is digits none each =
-      let publisher = publisher_of journal limit in
       let next : JournalState = appended journal message in
-      let rest = each next (laws.stays publisher message is (laws.may publisher message none)) in
+      let rest = each next (journal_stays journal message is none) in
       let front : List (List ℕ) = take rest.count lines in
       record {
         is = rest.is;
+        longest = rest.longest;
         count = suc rest.count;
         spelled =
             ap (λ (one : Result (List ℕ) FromHexError). as_spelled journal.messages ++ one ∷ map decode_of front) digits
@@ -122,37 +131,37 @@ module _ (laws : PublishedLaws) (limit : ℕ) where
   -- a line more, whose digits spell a message or none
   line_taken : (journal : JournalState) (line : List ℕ) (lines : List (List ℕ))
       (digits : Result (List ℕ) FromHexError) (behind : JournalState → PublishedLines) →
-      IsPublisher (publisher_of journal limit) → decode_of line ≡ digits →
-      ((next : JournalState) → IsPublisher (publisher_of next limit) → HasTaken limit next lines (behind next)) →
-      HasTaken limit journal (line ∷ lines) (published_from journal (line_outcome journal digits) behind)
+      IsJournal journal → decode_of line ≡ digits →
+      ((next : JournalState) → IsJournal next → HasTaken next lines (behind next)) →
+      HasTaken journal (line ∷ lines) (published_from journal (line_outcome journal digits) behind)
   line_taken journal line lines (Ok message) behind is digits each =
       message_taken journal line lines message (append_refusal journal message) behind is digits refl each
   line_taken journal line lines (Err _) behind is digits each =
       line_refused journal line lines NotHex is (ap (line_outcome journal) digits)
 
   -- all lines
-  lines_taken : (lines : List (List ℕ)) (journal : JournalState) → IsPublisher (publisher_of journal limit) →
-      HasTaken limit journal lines (lines_published journal lines)
+  lines_taken : (lines : List (List ℕ)) (journal : JournalState) → IsJournal journal →
+      HasTaken journal lines (lines_published journal lines)
   unfolding lines_published
-  lines_taken [] journal is =
-      record { is = is; count = 0; spelled = append-nil (as_spelled journal.messages); ends = refl; closed = refl }
+  lines_taken [] journal is = record {
+    is = is;
+    longest = refl;
+    count = 0;
+    spelled = append-nil (as_spelled journal.messages);
+    ends = refl;
+    closed = refl;
+  }
   lines_taken (line ∷ lines) journal is =
       line_taken journal line lines (decode_of line) (λ next. lines_published next lines) is refl (lines_taken lines)
 
--- a session that begins has a publisher
-opening_is : (journal : JournalState) (limit : ℕ) → IsOpening journal limit → IsPublisher (publisher_of journal limit)
+-- a session that begins has a journal
+opening_is : (journal : JournalState) (limit : ℕ) → IsOpening journal limit → IsJournal journal
 opening_is journal limit is =
     let none : length journal.messages ≡ 0 = ap (λ (messages : List (List ℕ)). length messages) is.empty in
     record {
-      limited = is.limited;
-      longest = is.longest;
-      journaled = record {
-        few = omega (arith, none);
-        each = subst (λ (messages : List (List ℕ)). AllByRecursion (IsWithin journal.max_message) messages)
-            (sym is.empty) tt;
-      };
-      published = omega arith;
-      finished = λ closed. sym none;
+      few = omega (arith, none);
+      each = subst (λ (messages : List (List ℕ)). AllByRecursion (IsWithin journal.max_message) messages)
+          (sym is.empty) tt;
     }
 
 -- where the journal had no messages, the first so many lines spell those that it has now
@@ -181,7 +190,7 @@ pub lines_spelled : (laws : PublishedLaws) (limit : ℕ) (journal : JournalState
     HasLines lines (left_journal (lines_published journal lines))
 lines_spelled laws limit journal lines is whole =
     let after = lines_published journal lines in
-    let taken = lines_taken laws limit lines journal (opening_is journal limit is) in
+    let taken = lines_taken laws lines journal (opening_is journal limit is) in
     all_spelled lines taken.count after.journal after.refused
     (opening_spelled journal lines after taken.count is.empty taken.spelled) taken.ends whole
 
@@ -207,7 +216,7 @@ pub lines_spelled_before : (laws : PublishedLaws) (limit : ℕ) (journal : Journ
     HasLinesBefore lines why (lines_published journal lines).journal
 lines_spelled_before laws limit journal lines why is stopped =
     let after = lines_published journal lines in
-    let taken = lines_taken laws limit lines journal (opening_is journal limit is) in
+    let taken = lines_taken laws lines journal (opening_is journal limit is) in
     some_spelled lines taken.count after.journal why
     (opening_spelled journal lines after taken.count is.empty taken.spelled)
     (subst (λ (refused : Option LineRefusal). EndsAt lines taken.count after.journal refused) stopped taken.ends)
@@ -227,22 +236,23 @@ left_may None journal limit may = record {
 left_may (Some why) journal limit may = may
 
 taken_may : (laws : PublishedLaws) (limit other : ℕ) (journal : JournalState) (lines : List (List ℕ)) →
-    IsOpening journal limit → limit ≤ other → other ≤ 65507 → MayAnswer (lines_published journal lines).journal other
-taken_may laws limit other journal lines is least most =
-    let taken = lines_taken laws limit lines journal (opening_is journal limit is) in
+    IsOpening journal limit → IsLimit other → journal.max_message + 22 ≤ other →
+    MayAnswer (lines_published journal lines).journal other
+taken_may laws limit other journal lines is limited room =
+    let taken = lines_taken laws lines journal (opening_is journal limit is) in
     record {
-      journaled = taken.is.journaled;
+      journaled = taken.is;
       named = subst (λ (session : Session). length session.0 ≡ 10) (sym (grown lines journal).session) is.named;
-      limited = (omega (arith, is.limited.0, least), most);
-      room = omega (arith, taken.is.longest, least);
+      limited = limited;
+      room = omega (arith, taken.longest, room);
     }
 
 pub published_may : (laws : PublishedLaws) (limit other : ℕ) (journal : JournalState) (lines : List (List ℕ)) →
-    IsOpening journal limit → limit ≤ other → other ≤ 65507 →
+    IsOpening journal limit → IsLimit other → journal.max_message + 22 ≤ other →
     MayAnswer (left_journal (lines_published journal lines)) other
-published_may laws limit other journal lines is least most =
+published_may laws limit other journal lines is limited room =
     let after = lines_published journal lines in
-    left_may after.refused after.journal other (taken_may laws limit other journal lines is least most)
+    left_may after.refused after.journal other (taken_may laws limit other journal lines is limited room)
 
 -- ---- its datagrams are true
 
@@ -343,7 +353,7 @@ pub offered_true : (laws : PublishedLaws) (beats ends limit : ℕ) (journal : Jo
 offered_true laws beats ends limit journal lines is =
     let published = lines_published journal lines in
     all_true laws limit beats ends published.refused published.journal
-    (taken_may laws limit limit journal lines is (omega arith) is.limited.1)
+    (taken_may laws limit limit journal lines is is.limited is.longest)
 
 -- ---- what was sent of them
 

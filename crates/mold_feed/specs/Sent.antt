@@ -1,5 +1,5 @@
 -- From lines to datagrams: what publishing lines and serving their journal send is true of the journal that is left.
-use Rattle.std.specs.Prelude.{◌≡◌, ◌⊎◌, ℕ, ◌+◌, Bool, true, false, List, [], length, map, take, slice_get}
+use Rattle.std.specs.Prelude.{◌≡◌, ◌⊎◌, ℕ, ◌+◌, ◌≤◌, Bool, true, false, List, [], length, map, take, slice_get}
 use Rattle.std.specs.Prelude.{Option, Some, Result, Ok, Err}
 use Rattle.std.specs.List.{AllByRecursion, Contains}
 use Rattle.hex.specs.Hex.{decode_of}
@@ -19,7 +19,7 @@ use Rattle.mold_feed.specs.Serving.{ResponderState, Service, serving}
 pub record IsOpening (journal : JournalState) (limit : ℕ) : Type 0 where
   pub named : length journal.session.0 ≡ 10
   pub limited : IsLimit limit
-  pub longest : journal.max_message + 22 ≡ limit
+  pub longest : journal.max_message + 22 ≤ limit
   pub empty : journal.messages ≡ []
   pub unclosed : journal.closed ≡ false
 

@@ -27,6 +27,7 @@ ghost use Rattle.mold_session.specs.Answer.{between};
 ghost use Rattle.mold_session.specs.Journal.{JournalState};
 ghost use Rattle.mold_session.specs.Server.{IsServer, ServerState};
 ghost use Rattle.mold_session.specs.Truthful.{MayAnswer, TellsTruth};
+ghost use Rattle.mold_wire.specs.Packer.{IsLimit};
 
 use mold_ports::Datagrams;
 use mold_receiver::laws::{honest_stays_law, honest_take_law, taken_law};
@@ -36,7 +37,7 @@ use mold_wire::laws::reading_law;
 /// What publishing lines offers is true of the journal that is left, also where a line is refused and where the
 /// loop ended in a fault; so is what was sent of it, and all that a port has sent that sent nothing else. Where no line
 /// is refused, that journal is closed and has the messages of the lines; where one is, it has those of the lines before
-/// it. A server may answer from it.
+/// it. A server may answer from it whose datagrams have room for its longest message.
 pub fn published_law<D: Datagrams>()
     ensures offered { (beats ends limit : ℕ) (journal : JournalState) (lines : List (List ℕ)) →
         IsOpening journal limit → AllByRecursion (TellsTruth (left_journal (lines_published journal lines)))
@@ -54,7 +55,8 @@ pub fn published_law<D: Datagrams>()
         IsOpening journal limit → (lines_published journal lines).refused ≡ Some why →
         HasLinesBefore lines why (lines_published journal lines).journal }
     ensures answers { (limit other : ℕ) (journal : JournalState) (lines : List (List ℕ)) → IsOpening journal limit →
-        limit ≤ other → other ≤ 65507 → MayAnswer (left_journal (lines_published journal lines)) other }
+        IsLimit other → journal.max_message + 22 ≤ other →
+        MayAnswer (left_journal (lines_published journal lines)) other }
 {
     publisher_law();
     sending_law();
@@ -146,11 +148,11 @@ pub fn session_law<D: Datagrams>()
 }
 
 /// From the lines that are published to the lines that are printed, by a loop in one process. Lines are published into
-/// a session that begins; the server may have messages as long as the journal's; the listener is a new one that begins
-/// at a message that will be published or is next. Nothing is supposed of the ports but that they give what was sent in
-/// the loop (`OwnPorts`). Where no line is refused, the loop prints the published lines behind their numbers, from that
-/// one on, and with status 0 they are all of them. Where a line is refused, it prints lines before that one, and then
-/// the refusal. After a fault it printed a beginning of such a text.
+/// a session that begins; the listener is a new one that begins at a message that will be published or is next. Nothing
+/// is supposed of the ports but that they give what was sent in the loop (`OwnPorts`). Where no line is refused, and the
+/// server may have messages as long as the journal's, the loop prints the published lines behind their numbers, from
+/// that one on, and with status 0 they are all of them. Where a line is refused, no server is asked: it prints lines
+/// before that one, and then the refusal. After a fault it printed a beginning of such a text.
 pub fn loop_law<D: Datagrams>()
     ensures printed { (drops : Drops) (a b to : D.Peer) (turns limit first window : ℕ) (journal : JournalState)
         (lines : List (List ℕ)) (server : ServerState) (start start_left : LineState D.Peer)
@@ -165,7 +167,6 @@ pub fn loop_law<D: Datagrams>()
         (lines : List (List ℕ)) (why : LineRefusal) (server : ServerState) (start start_left : LineState D.Peer)
         (rounds rounds_left : RepairState D.Peer) (result : Result ℕ CommandFault) (old new : Option (List ℕ)) →
         IsOpening journal limit → (lines_published journal lines).refused ≡ Some why →
-        IsServer server → journal.max_message ≤ server.max_message →
         1 ≤ first → first ≤ length (lines_published journal lines).journal.messages + 1 →
         start.hearing.arbitration.view ≡ fresh journal.session first window →
         start.hearing.outgoing.text ≡ [] → OwnPorts start start_left rounds rounds_left →

@@ -1,5 +1,7 @@
+use Rattle.std.proofs.Common.{sym, ◌∙◌}
+use Rattle.std.proofs.lemmas.Option.{none-some}
 use Rattle.mold_feed.proofs.HeardTakingLemmas.{HearingLaws}
-use Rattle.mold_feed.proofs.LoopLawLemmas.{LoopLaws, loop_prints_lines, loop_prints_refused}
+use Rattle.mold_feed.proofs.LoopLawLemmas.{LoopLaws, loop_prints_lines, loop_prints_refused, server_may}
 use Rattle.mold_feed.proofs.OpeningLemmas.{OpeningLaws, lines_within, messages_within}
 use Rattle.mold_feed.proofs.laws.loop_law.Given.{Over}
 use Rattle.mold_feed.proofs.laws.loop_law.Goals.{After-reading_law}
@@ -34,13 +36,15 @@ returns-clause-printed g c =
     λ drops a b to turns limit first window journal lines server start start_left rounds rounds_left result old new opening
     unrefused serves longest least most anew blank own ran.
     let within = lines_within (opening_laws g c) limit journal lines opening unrefused first most in
+    let may = server_may (opening_laws g c) limit journal lines server opening serves longest in
     loop_prints_lines (laws g c) drops a b to turns limit journal lines server start start_left rounds rounds_left result
-    old new opening serves longest own ran first window least within anew blank unrefused
+    old new opening (λ _. may) own ran first window least within anew blank unrefused
 
 pub returns-clause-refused : goal.returns-clause-refused
 returns-clause-refused g c =
     λ drops a b to turns limit first window journal lines why server start start_left rounds rounds_left result old new
-    opening refused serves longest least most anew blank own ran.
+    opening refused least most anew blank own ran.
     let within = messages_within journal lines first most in
     loop_prints_refused (laws g c) drops a b to turns limit journal lines server start start_left rounds rounds_left result
-    old new opening serves longest own ran first window least within anew blank why refused
+    old new opening (λ unrefused. absurd (none-some why (sym unrefused ∙ refused))) own ran first window least within anew
+    blank why refused

@@ -7,7 +7,6 @@ use Rattle.mold_feed.proofs.laws.published_law.Goals as goal
 laws : (g : Over) → After-sending_law g → PublishedLaws
 laws g c = record {
   may = c.publisher_law.ensures.may;
-  stays = c.publisher_law.ensures.published;
   told = c.sending_law.ensures.planned;
 }
 
