@@ -1,17 +1,20 @@
 -- What a loop in one process works on, from one part of it to the next.
-use Rattle.std.proofs.Common.{◌≡◌, ◌∙◌, ℕ, Bool, List, Option, Result, refl, subst, sym}
+use Rattle.std.proofs.Common.{◌≡◌, ◌∙◌, ℕ, Bool, List, Option, Result, ap, refl, subst, sym}
 use Rattle.std.specs.Borrow.{Bor}
 use Rattle.std.specs.Prelude.{IfSome}
 use Rattle.mold_devices.specs.Lines.{lines_of}
 use Rattle.mold_ports.specs.Ports.{Port}
 use Rattle.mold_publish.specs.Publishing.{lines_published}
+use Rattle.mold_receiver.specs.Arbiter.{Arbitration}
 use Rattle.mold_session.specs.Publisher.{PublisherState}
 use Rattle.mold_session.specs.Server.{ServerState}
 use Rattle.mold_wire.specs.declared.request.Request.{Request}
 use Rattle.mold_feed.specs.LocalFeed.{IsSame, OnlyPasses, OnlyRepairs, Passes, lines}
-use Rattle.mold_feed.specs.Looping.{HasPassed, LineState, LoopRun, lines_at}
+use Rattle.mold_feed.specs.Looping.{HasPassed, LineState, LoopRun, line_state, lines_at}
+use Rattle.mold_feed.specs.Outgoing.{OutgoingState}
 use Rattle.mold_feed.specs.Passing.{routed}
-use Rattle.mold_feed.specs.Repairing.{HasRepaired, RepairState, answers_sent, repairing, requested, rounds_at, text_before}
+use Rattle.mold_feed.specs.Repairing.{HasRepaired, RepairState, answers_sent, repair_state, repairing, requested, rounds_at}
+use Rattle.mold_feed.specs.Repairing.{text_before}
 use Rattle.mold_feed.specs.Runs.{RestsOfTwo}
 use Rattle.mold_feed.specs.Serving.{Service}
 use Rattle.mold_feed.specs.declared.local_feed.LocalFeed.{LocalFeed}
@@ -101,27 +104,68 @@ rounds_from {D} {P} {T} {E} service {turns} {before} {result} {held} {now} {afte
 
 -- ---- what the loop's caller finds, where what it lent ends as the loop left it
 
-pub loop_so : {D A P E : Type 0} (port : D → Port P) (drops : Drops) (a b to : P) (turns : ℕ) (start : PublisherState)
-    (server : ServerState) (from : LineState P) (begun : RepairState P) (known : Option (List ℕ)) (result : Result ℕ E)
-    (old new : Option (List ℕ)) (ports ports_end : LoopPorts D A) (last : ServerState) (listener listener_end : Listener) →
-    ports_end ≡ ports → listener_end ≡ listener →
-    IfSome known (λ input. LoopRun drops a b to turns start.limit start.sent
-    (lines_published start.journal (lines_of input)) server from begun result old new
-    (lines_at port ports listener) (rounds_at port ports last listener)) →
-    IfSome known (λ input. LoopRun drops a b to turns start.limit start.sent
-    (lines_published start.journal (lines_of input)) server from begun result old new
-    (lines_at port ports_end listener_end) (rounds_at port ports_end last listener_end))
-loop_so {D} {A} {P} port drops a b to turns start server from begun known result old new ports ports_end last listener listener_end is_ports is_listener ran =
-    let leaves : LoopPorts D A → Listener → Type 0 =
-    λ p l. IfSome known (λ input. LoopRun drops a b to turns start.limit start.sent
-    (lines_published start.journal (lines_of input)) server from begun result old new
-    (lines_at port p l) (rounds_at port p last l)) in
-    subst (λ (p : LoopPorts D A). leaves p listener_end) (sym is_ports)
-    (subst (λ (l : Listener). leaves ports l) (sym is_listener) ran)
+pub ends_publisher : {D A : Type 0} {end left : LoopPorts D A} → end ≡ left → end.publisher ≡ left.publisher
+ends_publisher {D} {A} same = ap (λ (p : LoopPorts D A). p.publisher) same
 
--- one of the ports sent nothing
-pub sent_so : {D A P : Type 0} (port : D → Port P) (part : LoopPorts D A → D) (before ports ports_end : LoopPorts D A) →
-    ports_end ≡ ports → (port (part ports)).sent ≡ (port (part before)).sent →
-    (port (part ports_end)).sent ≡ (port (part before)).sent
-sent_so {D} {A} port part before ports ports_end is sent =
-    subst (λ (p : LoopPorts D A). (port (part p)).sent ≡ (port (part before)).sent) (sym is) sent
+pub ends_a : {D A : Type 0} {end left : LoopPorts D A} → end ≡ left → end.a ≡ left.a
+ends_a {D} {A} same = ap (λ (p : LoopPorts D A). p.a) same
+
+pub ends_b : {D A : Type 0} {end left : LoopPorts D A} → end ≡ left → end.b ≡ left.b
+ends_b {D} {A} same = ap (λ (p : LoopPorts D A). p.b) same
+
+pub ends_server : {D A : Type 0} {end left : LoopPorts D A} → end ≡ left → end.server ≡ left.server
+ends_server {D} {A} same = ap (λ (p : LoopPorts D A). p.server) same
+
+pub ends_requests : {D A : Type 0} {end left : LoopPorts D A} → end ≡ left → end.requests ≡ left.requests
+ends_requests {D} {A} same = ap (λ (p : LoopPorts D A). p.requests) same
+
+pub ends_arbiter : {end left : Listener} → end ≡ left → end.arbiter ≡ left.arbiter
+ends_arbiter same = ap (λ (l : Listener). l.arbiter) same
+
+pub ends_outgoing : {end left : Listener} → end ≡ left → end.report.outgoing ≡ left.report.outgoing
+ends_outgoing same = ap (λ (l : Listener). l.report.outgoing) same
+
+-- a port of a line sent nothing
+pub sent_so : {D P : Type 0} (port : D → Port P) (before left end : D) → end ≡ left →
+    (port left).sent ≡ (port before).sent → (port end).sent ≡ (port before).sent
+sent_so {D} port before left end is sent = subst (λ (d : D). (port d).sent ≡ (port before).sent) (sym is) sent
+
+-- the lines, and the rounds, stand as they were left
+pub lines_so : {D A P : Type 0} (port : D → Port P) (ports : LoopPorts D A) (listener : Listener) (publisher a b : D)
+    (arbitration : Arbitration) (outgoing : OutgoingState) → publisher ≡ ports.publisher → a ≡ ports.a →
+    b ≡ ports.b → arbitration ≡ listener.arbiter → outgoing ≡ listener.report.outgoing →
+    line_state (port publisher) (port a) (port b) arbitration outgoing ≡ lines_at port ports listener
+lines_so {D} {A} {P} port ports listener publisher a b arbitration outgoing is_publisher is_a is_b is_arbiter is_outgoing =
+    let of : D → D → D → Arbitration → OutgoingState → LineState P = λ p q r w o. line_state (port p) (port q) (port r) w o in
+    ap (λ (d : D). of d a b arbitration outgoing) is_publisher
+    ∙ ap (λ (d : D). of ports.publisher d b arbitration outgoing) is_a
+    ∙ ap (λ (d : D). of ports.publisher ports.a d arbitration outgoing) is_b
+    ∙ ap (λ (w : Arbitration). of ports.publisher ports.a ports.b w outgoing) is_arbiter
+    ∙ ap (λ (o : OutgoingState). of ports.publisher ports.a ports.b listener.arbiter o) is_outgoing
+
+pub rounds_so : {D A P : Type 0} (port : D → Port P) (ports : LoopPorts D A) (last : ServerState) (listener : Listener)
+    (server requests : D) (arbitration : Arbitration) (outgoing : OutgoingState) → server ≡ ports.server →
+    requests ≡ ports.requests → arbitration ≡ listener.arbiter → outgoing ≡ listener.report.outgoing →
+    repair_state (port server) (port requests) last arbitration outgoing ≡ rounds_at port ports last listener
+rounds_so {D} {A} {P} port ports last listener server requests arbitration outgoing is_server is_requests is_arbiter is_outgoing =
+    let of : D → D → Arbitration → OutgoingState → RepairState P = λ p q w o. repair_state (port p) (port q) last w o in
+    ap (λ (d : D). of d requests arbitration outgoing) is_server
+    ∙ ap (λ (d : D). of ports.server d arbitration outgoing) is_requests
+    ∙ ap (λ (w : Arbitration). of ports.server ports.requests w outgoing) is_arbiter
+    ∙ ap (λ (o : OutgoingState). of ports.server ports.requests listener.arbiter o) is_outgoing
+
+-- so what is said of those is said of these
+pub loop_so : {P E : Type 0} (drops : Drops) (a b to : P) (turns : ℕ) (start : PublisherState) (server : ServerState)
+    (from : LineState P) (begun : RepairState P) (known : Option (List ℕ)) (result : Result ℕ E)
+    (old new : Option (List ℕ)) (lines_left lines_end : LineState P) (rounds_left rounds_end : RepairState P) →
+    lines_end ≡ lines_left → rounds_end ≡ rounds_left →
+    IfSome known (λ input. LoopRun drops a b to turns start.limit start.sent
+    (lines_published start.journal (lines_of input)) server from begun result old new lines_left rounds_left) →
+    IfSome known (λ input. LoopRun drops a b to turns start.limit start.sent
+    (lines_published start.journal (lines_of input)) server from begun result old new lines_end rounds_end)
+loop_so {P} drops a b to turns start server from begun known result old new lines_left lines_end rounds_left rounds_end is_lines is_rounds ran =
+    let leaves : LineState P → RepairState P → Type 0 =
+    λ l r. IfSome known (λ input. LoopRun drops a b to turns start.limit start.sent
+    (lines_published start.journal (lines_of input)) server from begun result old new l r) in
+    subst (λ (l : LineState P). leaves l rounds_end) (sym is_lines)
+    (subst (λ (r : RepairState P). leaves lines_left r) (sym is_rounds) ran)

@@ -3,6 +3,7 @@
 use Rattle.std.specs.Prelude.{◌≡◌, ℕ, Bool, true, List, Result, length}
 use Rattle.mold_ports.specs.Ports.{Port}
 use Rattle.mold_session.specs.Server.{ServerState}
+use Rattle.mold_feed.specs.Listening.{Asking, asking}
 use Rattle.mold_feed.specs.Looping.{HasPassed, LineState, lines_at}
 use Rattle.mold_feed.specs.Repairing.{RepairState, rounds_at}
 use Rattle.mold_feed.specs.declared.local_feed.LocalFeed.{LocalFeed}
@@ -15,6 +16,11 @@ lines port feed = lines_at port feed.ports.now feed.listener.now
 -- how far its rounds with a server are
 abbrev pub rounds : {D A P : Type 0} → (D → Port P) → ServerState → LocalFeed D A → RepairState P
 rounds port server feed = rounds_at port feed.ports.now server feed.listener.now
+
+-- the part of it that takes answers
+abbrev pub asking_state : {D A P : Type 0} → (D → Port P) → LocalFeed D A → Asking P
+asking_state port feed =
+    asking (port feed.ports.now.requests) feed.listener.now.arbiter feed.listener.now.report.outgoing
 
 -- its place is as long as the longest datagram
 abbrev pub HasPlace : {D A : Type 0} → LocalFeed D A → Type 0

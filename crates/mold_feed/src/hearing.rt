@@ -4,6 +4,7 @@ ghost use Rattle.std.specs.Prelude.{◌≡◌, true, length, IfOk, OnOk};
 ghost use Rattle.mold_feed.specs.Listening.{hear, hearing, is_datagram};
 ghost use Rattle.mold_ports.specs.Ports.{next_of, received};
 
+use crate::loop_parts::Listener;
 use crate::report::Report;
 use mold_ports::Datagrams;
 use mold_receiver::{Arbiter, Line};
@@ -39,4 +40,21 @@ pub fn hear_port<D: Datagrams>(
             Ok(false)
         }
     }
+}
+
+/// The same for a listener, whose arbiter and report take what comes.
+pub(crate) fn hear_once<D: Datagrams>(
+    port: &mut D,
+    line: Option<Line>,
+    place: &mut [u8],
+    listener: &mut Listener,
+) -> Result<bool, AllocError>
+    requires { length place.old ≡ 65507 }
+    ensures port { D.tells ≡ true → D.port port.new ≡ received (D.port port.old) }
+    ensures heard { D.tells ≡ true →
+        OnOk result (hearing listener.new.arbiter listener.new.report.outgoing
+        ≡ hear line (D.port port.old) (hearing listener.old.arbiter listener.old.report.outgoing)) }
+{
+    let Listener { arbiter, report } = listener;
+    hear_port(port, line, place, arbiter, report)
 }

@@ -14,7 +14,6 @@ mod outgoing;
 mod passing;
 mod publication;
 mod publishing;
-mod repairing;
 mod report;
 mod responder;
 mod sending;

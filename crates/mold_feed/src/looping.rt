@@ -6,7 +6,6 @@ ghost use Rattle.mold_devices.specs.Devices.{AppendsFront};
 ghost use Rattle.mold_devices.specs.Faults.{CountsCommand, CountsSink};
 ghost use Rattle.mold_devices.specs.Lines.{lines_of};
 ghost use Rattle.mold_feed.specs.Listening.{hearing, hearing_line, hearing_status};
-ghost use Rattle.mold_feed.specs.LocalFeed.{HasPlace, IsSame, lines, rounds};
 ghost use Rattle.mold_feed.specs.Looping.{LoopRun, lines_at};
 ghost use Rattle.mold_feed.specs.Outgoing.{written_out};
 ghost use Rattle.mold_feed.specs.Passing.{LoopSends};
@@ -19,7 +18,6 @@ use crate::listening::push_last;
 use crate::local_feed::LocalFeed;
 use crate::loop_parts::{Drops, Listener, LoopPeers, LoopPorts};
 use crate::outgoing::Outgoing;
-use crate::sending::publisher_holds;
 use mold_devices::{CommandFault, Sink, Source};
 use mold_ports::Datagrams;
 use mold_publish::LineRefusal;
@@ -27,7 +25,7 @@ use mold_session::{Publisher, Server};
 use std::alloc::Global;
 
 // Prints why the line with the message of this number is refused, after what was handed on, and answers the status.
-fn print_refused<K: Sink>(
+pub(crate) fn print_refused<K: Sink>(
     outgoing: &mut Outgoing,
     number: u64,
     why: LineRefusal,
@@ -46,7 +44,7 @@ fn print_refused<K: Sink>(
 }
 
 // Prints how far the listener came, and answers the status.
-fn print_last<K: Sink>(listener: &mut Listener, sink: &mut K) -> Result<u8, CommandFault>
+pub(crate) fn print_last<K: Sink>(listener: &mut Listener, sink: &mut K) -> Result<u8, CommandFault>
     ensures whole { IfOk result (λ status. Appends (K.held sink.old) (K.held sink.new)
         (listener.old.report.outgoing.text ++ hearing_line (hearing listener.old.arbiter listener.old.report.outgoing))
         × (status ≡ hearing_status (hearing listener.old.arbiter listener.old.report.outgoing))) }
@@ -61,49 +59,6 @@ fn print_last<K: Sink>(listener: &mut Listener, sink: &mut K) -> Result<u8, Comm
     let status = push_last(arbiter, &mut report.outgoing)?;
     report.outgoing.send(sink)?;
     Ok(status)
-}
-
-impl<'a, 'p, D: Datagrams + Drop> LocalFeed<'a, 'p, D> {
-    // Passes what is published, repairs what is missing then, prints the last line, and answers the status.
-    fn run<S: Source, K: Sink>(
-        &mut self,
-        alloc: Global,
-        publisher: &mut Publisher,
-        server: &mut Server,
-        turns: u32,
-        source: &mut S,
-        sink: &mut K,
-    ) -> Result<u8, CommandFault>
-        requires place { HasPlace self.old }
-        requires room { HasRoom publisher.old }
-        requires longest { publisher.old.journal.max_message ≤ server.old.max_message }
-        ensures run { D.tells ≡ true → IfSome (S.left source.old) (λ input.
-            LoopRun self.old.drops self.old.peers.now.a self.old.peers.now.b self.old.peers.now.server turns
-            publisher.old.limit publisher.old.sent (lines_published publisher.old.journal (lines_of input)) server.old
-            (lines D.port self.old) (rounds D.port server.old self.old) result (K.held sink.old) (K.held sink.new)
-            (lines D.port self.new) (rounds D.port server.new self.new)) }
-        ensures a { D.tells ≡ true → (D.port self.new.ports.now.a).sent ≡ (D.port self.old.ports.now.a).sent }
-        ensures b { D.tells ≡ true → (D.port self.new.ports.now.b).sent ≡ (D.port self.old.ports.now.b).sent }
-        ensures journal { D.tells ≡ true → OnOk result (IfSome (S.left source.old) (λ input.
-            publisher.new.journal ≡ left_journal (lines_published publisher.old.journal (lines_of input)))) }
-        ensures limit { OnOk result (publisher.new.limit ≡ publisher.old.limit) }
-        ensures server { server.new ≡ record server.old { answered = server.new.answered } }
-        ensures same { IsSame self.old self.new }
-        ensures failures { CountsCommand (S.failed source.old) (S.failed source.new)
-            (K.failed sink.old) (K.failed sink.new) result }
-    {
-        publisher_holds(publisher);
-        let refused = self.pass_lines(alloc, publisher, source, sink)?;
-        if let Some(why) = refused {
-            let number = publisher.journal().next();
-            return print_refused(&mut self.listener.report.outgoing, number, why, sink);
-        }
-        self.pass_end(publisher)?;
-        publisher_holds(publisher);
-        let journal = publisher.journal();
-        self.repair_all(alloc, server, journal, turns, sink)?;
-        print_last(self.listener, sink)
-    }
 }
 
 /// Publishes the lines of the source as messages, and listens to them: each datagram goes on both lines but

@@ -1,8 +1,8 @@
 use Rattle.std.proofs.Common.{rules, sym}
 use Rattle.mold_feed.specs.Looping.{lines_at}
 use Rattle.mold_feed.specs.Repairing.{rounds_at}
-use Rattle.mold_feed.specs.declared.loop_parts.LoopPorts.{LoopPorts}
-use Rattle.mold_feed.proofs.LocalFeedLemmas.{loop_so, sent_so}
+use Rattle.mold_feed.proofs.LocalFeedLemmas.{ends_a, ends_arbiter, ends_b, ends_outgoing, ends_publisher, ends_requests, ends_server, lines_so}
+use Rattle.mold_feed.proofs.LocalFeedLemmas.{loop_so, rounds_so, sent_so}
 use Rattle.mold_feed.proofs.LoopEndLemmas.{loop_unbegun}
 use Rattle.mold_feed.proofs.PassingLemmas.{loop_sends}
 use Rattle.mold_feed.proofs.looping.session_loop.Goals as goal
@@ -18,23 +18,29 @@ returns-in_err-place-clause-run g c tells =
 pub returns-clause-run : goal.returns-clause-run
 returns-clause-run g c tells =
     let port = g.D.Datagrams.port in
-    loop_so port c.args.drops c.args.peers.now.a c.args.peers.now.b c.args.peers.now.server c.args.turns
+    let feed = c.run.new.self in
+    let ports = sym c.run.ensures.same.ports in
+    let listener = sym c.run.ensures.same.listener in
+    loop_so c.args.drops c.args.peers.now.a c.args.peers.now.b c.args.peers.now.server c.args.turns
     c.args.publisher.now c.args.server.now (lines_at port c.args.ports.now c.args.listener.now)
     (rounds_at port c.args.ports.now c.args.server.now c.args.listener.now) _ c.run.result _ _
-    c.run.new.self.ports.now c.ports-1.given.0 c.run.new.server c.run.new.self.listener.now c.listener-1.given.0
-    (let same = sym c.run.ensures.same.ports in search rules)
-    (let same = sym c.run.ensures.same.listener in search rules)
+    (lines_at port feed.ports.now feed.listener.now) _
+    (rounds_at port feed.ports.now c.run.new.server feed.listener.now) _
+    (lines_so port feed.ports.now feed.listener.now _ _ _ _ _ (search (rules, ends_publisher)) (search (rules, ends_a))
+    (search (rules, ends_b)) (search (rules, ends_arbiter)) (search (rules, ends_outgoing)))
+    (rounds_so port feed.ports.now c.run.new.server feed.listener.now _ _ _ _ (search (rules, ends_server))
+    (search (rules, ends_requests)) (search (rules, ends_arbiter)) (search (rules, ends_outgoing)))
     (c.run.ensures.run tells)
 
 pub returns-clause-a : goal.returns-clause-a
 returns-clause-a g c tells =
-    sent_so g.D.Datagrams.port (λ (p : LoopPorts _ _). p.a) c.args.ports.now c.run.new.self.ports.now c.ports-1.given.0
-    (let same = sym c.run.ensures.same.ports in search rules) (c.run.ensures.a tells)
+    sent_so g.D.Datagrams.port c.args.ports.now.a c.run.new.self.ports.now.a _
+    (let same = sym c.run.ensures.same.ports in search (rules, ends_a)) (c.run.ensures.a tells)
 
 pub returns-clause-b : goal.returns-clause-b
 returns-clause-b g c tells =
-    sent_so g.D.Datagrams.port (λ (p : LoopPorts _ _). p.b) c.args.ports.now c.run.new.self.ports.now c.ports-1.given.0
-    (let same = sym c.run.ensures.same.ports in search rules) (c.run.ensures.b tells)
+    sent_so g.D.Datagrams.port c.args.ports.now.b c.run.new.self.ports.now.b _
+    (let same = sym c.run.ensures.same.ports in search (rules, ends_b)) (c.run.ensures.b tells)
 
 pub returns-in_err-place-clause-sends : goal.returns-in_err-place-clause-sends
 returns-in_err-place-clause-sends g c tells =

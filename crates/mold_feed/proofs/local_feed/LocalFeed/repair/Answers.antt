@@ -2,7 +2,6 @@ use Rattle.std.proofs.Common.{◌∙◌, ℕ, ap, refl, rules, sym}
 use Rattle.mold_feed.specs.Listening.{hearing}
 use Rattle.mold_feed.specs.LocalFeed.{rounds}
 use Rattle.mold_feed.specs.Outgoing.{failed_often}
-use Rattle.mold_feed.specs.Repairing.{repair_state}
 use Rattle.mold_feed.specs.Serving.{service_of, state}
 use Rattle.mold_feed.proofs.RepairLemmas.{has_repaired, repair_cut, repaired_so, turn_from}
 use Rattle.mold_feed.proofs.local_feed.LocalFeed.repair.Goals as goal
@@ -27,8 +26,7 @@ returns-clause-repaired g c = λ t.
     turned.1 in
     let responder = state known c.take_turn.new.self in
     let mid = hearing feed.listener.now.arbiter c.count_failures.new.self in
-    let end = repair_state (known c.take_turn.new.self.port.now) (known c.take_answers.new.requests)
-    c.take_turn.new.self.server.now c.take_answers.new.listener.arbiter c.take_answers.new.listener.report.outgoing in (
+    let end = rounds known c.take_turn.new.self.server.now c.take_answers.new.self in (
       turned.0,
       repaired_so c.take_answers.result _ _ c.take_turn.new.self.server.now.answered _ _ _
           (let same = sym c.in_ok-take_turn.ensures.same.server in search rules)
@@ -39,6 +37,6 @@ returns-clause-repaired g c = λ t.
           (ap (hearing feed.listener.now.arbiter)
           (c.count_failures.ensures ∙ ap (λ (n : ℕ). failed_often n feed.listener.now.report.outgoing)
           c.failures-failures.ensures))
-          refl refl refl (c.take_answers.ensures.sent t)
+          refl (ap known c.take_answers.ensures.server) refl (c.take_answers.ensures.sent t)
           (c.take_answers.ensures.heard t)),
     )
