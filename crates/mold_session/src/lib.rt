@@ -12,6 +12,7 @@ mod packing;
 mod piece;
 mod plan;
 mod publisher;
+mod reader;
 mod saving;
 mod server;
 mod upgrading;
@@ -22,7 +23,9 @@ pub use error::{
 };
 pub use journal::{Journal, MAX_MESSAGES};
 pub use mold_devices::{DeviceFault, FromRead, IntoWrite, MemorySink, MemorySource, Sink, Source};
+pub use loading::FileHead;
 pub use plan::Plan;
 pub use publisher::Publisher;
+pub use reader::JournalReader;
 pub use server::{MAX_BURST, Server};
 pub use upgrading::{Upgraded, upgrade};

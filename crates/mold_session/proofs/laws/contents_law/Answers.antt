@@ -1,0 +1,5 @@
+use Rattle.mold_session.proofs.ContentsLemmas.{one_contents}
+use Rattle.mold_session.proofs.laws.contents_law.Goals as goal
+
+pub returns : goal.returns
+returns c = one_contents
