@@ -16,4 +16,5 @@ pub mod ReaderLemmas
 pub mod ServingLemmas
 pub mod TruthLemmas
 pub mod SendingLemmas
+pub mod SomeContentsLemmas
 pub mod StateLemmas

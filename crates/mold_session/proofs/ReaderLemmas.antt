@@ -106,7 +106,7 @@ module _ (xs ys : List ℕ) (reader : ReaderState) (messages : List (List ℕ))
     parts = refl;
   }
 
-  whole : EndsWith (Some ys) reader → Gives xs messages None
+  pub whole : EndsWith (Some ys) reader → Gives xs messages None
   whole ends = (
     reader.head,
     file_spelled (Some xs) (Some (blocks messages ++ ys)) reader.head messages
@@ -128,7 +128,7 @@ module _ (xs ys : List ℕ) (reader : ReaderState) (messages : List (List ℕ))
         record { rest = ys; front = has_blocks; fault = here },
       )
 
-  refused : (error : FileError) → RestFault reader.head.stated reader.count ys error → Gives xs messages (Some error)
+  pub refused : (error : FileError) → RestFault reader.head.stated reader.count ys error → Gives xs messages (Some error)
   refused (CountDiffers count found) fault =
       let all = all_read fault.0 in (
         count_refused (Some xs) (Some (blocks messages ++ ys)) reader.head 65535 messages count found read_head all

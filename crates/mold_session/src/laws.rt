@@ -5,6 +5,7 @@ ghost use Rattle.std.specs.Prelude.{◌≡◌, ◌+◌, ◌<◌, ◌≤◌, ◌+
 ghost use Rattle.std.specs.Prelude.{Option, IfSome};
 ghost use Rattle.std.specs.Prelude.{slice_get};
 ghost use Rattle.std.specs.List.{AllByRecursion};
+ghost use Rattle.mold_wire.specs.Block.{IsBytes};
 ghost use Rattle.mold_wire.specs.Packet.{Spells, spelling_of};
 ghost use Rattle.mold_wire.specs.Packing.{front};
 ghost use Rattle.mold_wire.specs.declared.packet.Packet.{Packet};
@@ -159,9 +160,10 @@ pub fn one_fault_law()
         JournalFault most bytes one → JournalFault most bytes other → one ≡ other }
 {}
 
-/// Bytes give one list of messages as a file, and one fault or none.
+/// Bytes give something as a file, whatever they are, and always the same: one list of messages, and one fault or none.
 pub fn contents_law()
-    ensures { (bytes : List ℕ) (one other : FileContents bytes) →
+    ensures some { (bytes : List ℕ) → IsBytes bytes → FileContents bytes }
+    ensures one { (bytes : List ℕ) (one other : FileContents bytes) →
         (one.messages ≡ other.messages) × (one.fault ≡ other.fault) }
 {}
 

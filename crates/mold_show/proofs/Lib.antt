@@ -1,2 +1,3 @@
+pub mod DumpLemmas
 pub mod PackLemmas
 pub mod ShowLemmas

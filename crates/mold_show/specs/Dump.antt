@@ -1,10 +1,13 @@
 -- What `mold dump` prints of a file.
 use Rattle.std.specs.Prelude.{ℕ, ◌-◌, List, [], ◌∷◌, ◌++◌, take, drop, Bool, ◌&&◌, nat_le, nat_lt, Option, None, Some}
+use Rattle.std.specs.Prelude.{◌≡◌, if◌then◌else◌, ⊤}
 use Rattle.std.specs.List.{flat_map}
 use Rattle.hex.specs.Hex.{encode_lower}
 use Rattle.mold_refusals.specs.Words.{file_fault_words}
 use Rattle.mold_session.specs.Contents.{FileContents}
+use Rattle.mold_session.specs.Loading.{CountsLoadFault}
 use Rattle.mold_session.specs.declared.error.FileError.{FileError}
+use Rattle.mold_session.specs.declared.error.FileError.TheVariants.{Memory, Read}
 use Rattle.mold_text.specs.Line.{line_of}
 use Rattle.mold_text.specs.Text.{refused_line}
 
@@ -23,6 +26,10 @@ dumped from count messages = take count (drop (from - 1) messages)
 abbrev pub is_dumped : ℕ → ℕ → ℕ → Bool
 is_dumped from count before = nat_le (from - 1) before && nat_lt (before - (from - 1)) count
 
+-- the line of that message, where it is one of them
+abbrev pub next_line : ℕ → ℕ → ℕ → List ℕ → List ℕ
+next_line from count before message = if is_dumped from count before then message_line message else []
+
 -- the line of why the file is none
 abbrev pub fault_line : Option FileError → List ℕ
 fault_line None = []
@@ -39,3 +46,19 @@ fault_status (Some error) = 2
 
 abbrev pub dump_status : {bytes : List ℕ} → FileContents bytes → ℕ
 dump_status contents = fault_status contents.fault
+
+-- how reading ends is told in the text, but for a failed read and want of memory
+abbrev pub IsTold : Option FileError → Type 0
+IsTold (Some Read) = ⊥
+IsTold (Some Memory) = ⊥
+IsTold ended = ⊤
+
+abbrev pub ended_line : Option FileError → List ℕ
+ended_line (Some Read) = []
+ended_line (Some Memory) = []
+ended_line ended = fault_line ended
+
+-- the source failed once more where reading ended with a failed read, and else it didn't
+abbrev pub CountsEnd : ℕ → ℕ → Option FileError → Type 0
+CountsEnd old new None = new ≡ old
+CountsEnd old new (Some error) = CountsLoadFault old new error
