@@ -13,7 +13,7 @@ use Rattle.std.proofs.lemmas.List.{drop-append-le, take-append-le, take_all, dro
 use Rattle.std.proofs.lemmas.List.Concat.{flat_map-append}
 use Rattle.mold_devices.specs.Devices.{AppendsFront}
 use Rattle.mold_session.specs.Contents.{FileContents, Gives, IsFront}
-use Rattle.mold_session.specs.Loading.{Refuses}
+use Rattle.mold_session.specs.Loading.{CountsLoadFault, Refuses}
 use Rattle.mold_session.specs.Reader.{ReaderState, HasRead, ReadsNext, EndsWith, RestFault}
 use Rattle.mold_session.specs.declared.error.FileError.{FileError}
 use Rattle.mold_session.specs.declared.error.FileError.TheVariants.{TooLong, Memory, BadMagic, Short, BlockCut, Read, Write, Full, CountDiffers, BadFlag}
@@ -190,6 +190,12 @@ pub dumping_none : (from count : ℕ) (known left old : Option (List ℕ)) (read
 dumping_none from count known left old reader text read none =
     record { messages = []; read = read; gathered = gathered_none from count known old text none }
 
+-- the same text stands there
+pub gathered_same : (from count : ℕ) (known old now : Option (List ℕ)) (messages : List (List ℕ)) (text same : List ℕ) →
+    Gathered from count known old now messages text → same ≡ text → Gathered from count known old now messages same
+gathered_same from count known old now messages text same gathered is =
+    subst (Gathered from count known old now messages) (sym is) gathered
+
 -- one message more was read
 pub dumping_more : ReaderLaws → (from count : ℕ) (known left after old now : Option (List ℕ)) (reader next : ReaderState)
     (text more : List ℕ) → Dumping from count known left old now reader text → ReadsNext left after reader next →
@@ -312,6 +318,25 @@ line_told (Some Full) told = refl
 line_told (Some (TooLong len)) told = refl
 line_told (Some (BlockCut number)) told = refl
 line_told (Some (CountDiffers count found)) told = refl
+
+-- a refusal that is no fault of a device or of memory
+pub record IsRefusal (error : FileError) : Type 0 where
+  pub told : IsTold (Some error)
+  pub line : ended_line (Some error) ≡ fault_line (Some error)
+  pub counts : (old new : ℕ) → CountsLoadFault old new error → new ≡ old
+
+pub other_refusal : (error : FileError) → (error ≡ Read → ⊥) → (error ≡ Memory → ⊥) → IsRefusal error
+other_refusal Read no_read no_memory = absurd (no_read refl)
+other_refusal Memory no_read no_memory = absurd (no_memory refl)
+other_refusal Write no_read no_memory = record { told = tt; line = refl; counts = λ old new counts. counts }
+other_refusal (Short len) no_read no_memory = record { told = tt; line = refl; counts = λ old new counts. counts }
+other_refusal BadMagic no_read no_memory = record { told = tt; line = refl; counts = λ old new counts. counts }
+other_refusal (BadFlag byte) no_read no_memory = record { told = tt; line = refl; counts = λ old new counts. counts }
+other_refusal Full no_read no_memory = record { told = tt; line = refl; counts = λ old new counts. counts }
+other_refusal (TooLong len) no_read no_memory = record { told = tt; line = refl; counts = λ old new counts. counts }
+other_refusal (BlockCut number) no_read no_memory = record { told = tt; line = refl; counts = λ old new counts. counts }
+other_refusal (CountDiffers count found) no_read no_memory =
+    record { told = tt; line = refl; counts = λ old new counts. counts }
 
 -- or nothing is told of it
 is_told : (ended : Option FileError) → IsTold ended ⊎ (ended_line ended ≡ [])

@@ -1,3 +1,4 @@
+pub mod DumpLawLemmas
 pub mod DumpLemmas
 pub mod PackLemmas
 pub mod ShowLemmas

@@ -1,12 +1,12 @@
 //! `mold dump`: the messages of a journal's file, printed as lines of hexadecimal digits.
 
-ghost use Rattle.std.specs.Prelude.{◌≡◌, ◌<◌, ◌++◌, ℕ, IfErr, IfOk, IfSome, IsErr, OnErr, OnOk};
+ghost use Rattle.std.specs.Prelude.{◌≡◌, ◌<◌, ◌++◌, ℕ, IfErr, IfOk, IfSome, IsErr, OnErr, OnOk, Some};
 ghost use Rattle.std.specs.Bool.{OnFalse, OnTrue};
 ghost use Rattle.std.specs.Io.KnownBytes.{Appends, prepend_known};
 ghost use Rattle.mold_devices.specs.Devices.{AppendsFront};
 ghost use Rattle.mold_devices.specs.Faults.{CountsCommand, CountsFault};
 ghost use Rattle.mold_session.specs.Contents.{FileContents};
-ghost use Rattle.mold_session.specs.Loading.{CountsLoad, Refuses, work_left};
+ghost use Rattle.mold_session.specs.Loading.{CountsLoad, CountsLoadFault, Refuses, work_left};
 ghost use Rattle.mold_session.specs.Reader.{EndsWith, ReadsNext, RestFault};
 ghost use Rattle.mold_session.specs.declared.error.FileError.{FileError};
 ghost use Rattle.mold_show.specs.Dump.{CountsEnd, IsTold, dump_status, dump_text, ended_line, fault_status};
@@ -112,6 +112,27 @@ fn tell_refusal<K: Sink>(
     Ok(2)
 }
 
+// Sends the text and behind it why the file is none; or the text alone, where reading ended with a fault of the source
+// or of memory, which is answered.
+fn end_refused<K: Sink>(
+    text: &mut Vec<u8>,
+    error: FileError,
+    sink: &mut K,
+) -> Result<u8, CommandFault>
+    ensures whole { IfOk result (λ status. Appends (K.held sink.old) (K.held sink.new)
+        (text.old.items ++ ended_line (Some error)) × (status ≡ 2)) }
+    ensures told { OnOk result (IsTold (Some error)) }
+    ensures front { AppendsFront (K.held sink.old) (K.held sink.new) (text.old.items ++ ended_line (Some error)) }
+    ensures failures { (old new : ℕ) → CountsLoadFault old new error →
+        CountsCommand old new (K.failed sink.old) (K.failed sink.new) result }
+{
+    match error {
+        FileError::Read => end_with(text, CommandFault::Read, sink),
+        FileError::Memory => end_with(text, CommandFault::Memory, sink),
+        _ => tell_refusal(text, error, sink),
+    }
+}
+
 // Sends the text, and behind it how reading ended, and answers the status or the fault that it ended with.
 fn end_dump<K: Sink>(
     text: &mut Vec<u8>,
@@ -130,9 +151,7 @@ fn end_dump<K: Sink>(
             send(sink, text)?;
             Ok(0)
         }
-        Some(FileError::Read) => end_with(text, CommandFault::Read, sink),
-        Some(FileError::Memory) => end_with(text, CommandFault::Memory, sink),
-        Some(error) => tell_refusal(text, error, sink),
+        Some(error) => end_refused(text, error, sink),
     }
 }
 

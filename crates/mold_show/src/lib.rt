@@ -3,6 +3,7 @@
 #![tactic(auto)]
 
 mod dump;
+pub mod laws;
 mod pack;
 mod show;
 
