@@ -339,7 +339,8 @@ def upgrade(chance):
 
 
 def dump(chance):
-    drawn = {"from": chance.choice([1, 2, 9, max(1, number(chance))]), "count": chance.choice([0, 1, 5, number(chance)])}
+    first, count = chance.choice([1, 2, 9, max(1, number(chance))]), chance.choice([0, 1, 5, number(chance)])
+    drawn = {"from": first, "count": count}
     options = {name: value for name, value in drawn.items() if has(chance, 0.6)}
     given = {name: options.get(name, apart.DEFAULTS[name]) for name in drawn}
     return Case(given, [(file(chance),)], option_words(chance, options))

@@ -60,7 +60,7 @@ read_more known left after reader next messages read more =
     let within : length next.message ≤ 65535 = more.within in
     let head : FileHead → List ℕ = λ h. head_spelling h.session.0 h.closed h.stated in
     let joined : (head reader.head ++ blocks messages) ++ block next.message
-        ≡ head reader.head ++ blocks (messages ++ next.message ∷ []) =
+    ≡ head reader.head ++ blocks (messages ++ next.message ∷ []) =
     append_assoc (head reader.head) (blocks messages) (block next.message)
     ∙ ap (λ (t : List ℕ). head reader.head ++ t)
     (ap (λ (t : List ℕ). blocks messages ++ t) (sym (append-nil (block next.message)))

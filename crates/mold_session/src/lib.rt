@@ -22,8 +22,8 @@ pub use error::{
     AnswerError, AppendError, FileError, PublisherError, ServerError, SessionError, Unsent,
 };
 pub use journal::{Journal, MAX_MESSAGES};
-pub use mold_devices::{DeviceFault, FromRead, IntoWrite, MemorySink, MemorySource, Sink, Source};
 pub use loading::FileHead;
+pub use mold_devices::{DeviceFault, FromRead, IntoWrite, MemorySink, MemorySource, Sink, Source};
 pub use plan::Plan;
 pub use publisher::Publisher;
 pub use reader::JournalReader;

@@ -101,7 +101,13 @@ impl JournalReader {
         ensures failures { CountsLoad (S.failed source.old) (S.failed source.new) result }
     {
         self.last.clear();
-        if !next_block(&mut self.last, &mut self.piece, source, u16::MAX, self.count)? {
+        if !next_block(
+            &mut self.last,
+            &mut self.piece,
+            source,
+            u16::MAX,
+            self.count,
+        )? {
             check_count(self.head.stated, self.count)?;
             return Ok(false);
         }

@@ -1,6 +1,6 @@
 -- What `mold dump` prints of a file.
-use Rattle.std.specs.Prelude.{ℕ, ◌-◌, List, [], ◌∷◌, ◌++◌, take, drop, Bool, false, ◌&&◌, nat_le, nat_lt, Option, None, Some}
-use Rattle.std.specs.Prelude.{◌≡◌, if◌then◌else◌, ⊤}
+use Rattle.std.specs.Prelude.{◌≡◌, ℕ, ◌-◌, List, [], ◌∷◌, ◌++◌, take, drop, Bool, false, ◌&&◌, nat_le, nat_lt}
+use Rattle.std.specs.Prelude.{if◌then◌else◌, Option, None, Some, ⊤}
 use Rattle.std.specs.List.{flat_map}
 use Rattle.hex.specs.Hex.{encode_lower}
 use Rattle.mold_wire.specs.declared.session.Session.{Session}
