@@ -338,6 +338,23 @@ def upgrade(close, some_bytes):
     return text_of([text]), 0, journal_file(journal.session, journal.messages, is_closed)
 
 
+def messages_before(some_bytes):
+    """The messages of the whole blocks behind a head that is itself in order."""
+    size = {b"MOLDJNL1": 18, b"MOLDJNL2": 27}.get(some_bytes[:8])
+    if size is None or len(some_bytes) < size or (size == 27 and some_bytes[18] > 1):
+        return []
+    return whole_blocks(some_bytes[size:])[0]
+
+
+def dump(first, count, some_bytes):
+    lines = [it.hex() for it in messages_before(some_bytes)[first - 1 : first - 1 + count]]
+    try:
+        journal_of(some_bytes)
+    except Refused as why:
+        return text_of([*lines, f"refused {why}"]), 2
+    return text_of(lines), 0
+
+
 # The server.
 
 

@@ -338,6 +338,14 @@ def upgrade(chance):
     return Case(others, [(file(chance),)], ["--close"] if others["close"] else [])
 
 
+def dump(chance):
+    first, count = chance.choice([1, 2, 9, max(1, number(chance))]), chance.choice([0, 1, 5, number(chance)])
+    drawn = {"from": first, "count": count}
+    options = {name: value for name, value in drawn.items() if has(chance, 0.6)}
+    given = {name: options.get(name, apart.DEFAULTS[name]) for name in drawn}
+    return Case(given, [(file(chance),)], option_words(chance, options))
+
+
 def maybe_live(chance, case):
     """The case, in which what is printed may be written at once: its text is the same."""
     if has(chance, 0.3):

@@ -123,6 +123,8 @@ def calls_of_files():
         Call("upgrade", upgrade, files={"old": OLD}, made=("new",)),
         Call("upgrade over a file", upgrade, files={"old": OLD, "new": b"what was there"}, made=("new",)),
         Call("upgrade, refused", upgrade, files={"old": OLD[:-1]}, made=("new",), status=2),
+        Call("dump", ["dump", "--journal", "@old"], files={"old": OLD}),
+        Call("dump, refused", ["dump", "--journal", "@old"], files={"old": OLD[:-1]}, status=2),
     ]
 
 

@@ -3,11 +3,11 @@
 
 ghost use Rattle.mold_commands.specs.Command.{IsStreamed};
 
-use mold_commands::{check_folder, run_command, run_upgrade};
+use mold_commands::{check_folder, dump_file, run_command, run_upgrade};
 use mold_devices::{CommandFault, FromRead, IntoWrite, NewFile};
 use mold_sockets::{run_listen, run_loop, run_publish, run_serve};
 use mold_wiring::{ProgramFault, exit_code, flushed, tell_fault};
-use mold_words::{Order, UpgradeOrder, UsageFault, read_words};
+use mold_words::{DumpOrder, Order, UpgradeOrder, UsageFault, read_words};
 use std::fs::File;
 use std::io::{ErrorKind, Write};
 use std::process::ExitCode;
@@ -86,6 +86,17 @@ fn run_files(rt: &HostRuntime, order: &UpgradeOrder) -> Result<u8, CommandFault>
     flushed(outcome, sink.into_inner().flush())
 }
 
+// Dumps a journal's file to standard output, which is flushed once.
+fn run_dump(rt: &HostRuntime, order: &DumpOrder) -> Result<u8, CommandFault> {
+    let Ok(file) = File::open(rt, order.journal.as_str()) else {
+        return Err(CommandFault::Read);
+    };
+    let mut source = FromRead::new(file);
+    let mut sink = IntoWrite::new(rt.stdout());
+    let outcome = dump_file(rt.alloc(), &mut source, order.from, order.count, &mut sink);
+    flushed(outcome, sink.into_inner().flush())
+}
+
 fn run(rt: &HostRuntime, order: &Order) -> Result<u8, ProgramFault> {
     match order {
         Order::Show { request: _ } => Ok(run_streamed(rt, order)?),
@@ -97,7 +108,8 @@ fn run(rt: &HostRuntime, order: &Order) -> Result<u8, ProgramFault> {
         Order::Listen(order) => run_listen(rt, order),
         Order::Loop(order) => run_loop(rt, order),
         Order::Upgrade(files) => Ok(run_files(rt, files)?),
-        Order::CheckLines | Order::Dump(_) => Err(ProgramFault::Command(CommandFault::Read)),
+        Order::Dump(order) => Ok(run_dump(rt, order)?),
+        Order::CheckLines => Err(ProgramFault::Command(CommandFault::Read)),
     }
 }
 

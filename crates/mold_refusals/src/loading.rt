@@ -1,6 +1,6 @@
 //! Why a file is no journal.
 
-ghost use Rattle.std.specs.Prelude.{◌≡◌, ◌++◌, OnOk};
+ghost use Rattle.std.specs.Prelude.{◌≡◌, ◌++◌, length, take, OnErr, OnOk};
 ghost use Rattle.mold_refusals.specs.Words.{file_fault_words};
 ghost use Rattle.mold_text.specs.Text.{refused_line};
 
@@ -12,6 +12,7 @@ use std::alloc::AllocError;
 /// behind what was there.
 pub fn push_file_refusal(out: &mut Vec<u8>, error: FileError) -> Result<(), AllocError>
     ensures text { OnOk result (out.new.items ≡ out.old.items ++ refused_line (file_fault_words error)) }
+    ensures kept { OnErr result (take (length out.old.items) out.new.items ≡ out.old.items) }
 {
     match error {
         FileError::Short { len } => {

@@ -39,7 +39,7 @@ block_here one other more rest fits also same =
       behind = append_cancel_left one more rest (joined ∙ ap (λ (t : List ℕ). t ++ rest) (sym message));
     }
 
-no_block : (message more : List ℕ) → block message ++ more ≡ [] → ⊥
+pub no_block : (message more : List ℕ) → block message ++ more ≡ [] → ⊥
 no_block message more same = absurd (omega (arith, ap (λ (t : List ℕ). length t) same))
 
 -- blocks and a rest behind them, where all is blocks: the rest is the further blocks

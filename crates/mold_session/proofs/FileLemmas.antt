@@ -8,6 +8,7 @@ use Rattle.mold_session.specs.File.{AppendsFileFront, head_2}
 use Rattle.mold_session.specs.FileFault.{IsBehind1, IsBehind2, BlocksFault, IsMiscounted, JournalFault}
 use Rattle.mold_session.specs.Journal.{AreMessages}
 use Rattle.mold_session.specs.Loading.{head_spelling, IsStated, ReadsHead, SpellsFile, Refuses}
+use Rattle.mold_session.specs.Reader.{CountFault}
 use Rattle.mold_session.specs.Upgrading.{version_of, SpellsVersion, BeginsUpgrade}
 use Rattle.mold_session.specs.declared.error.FileError.{FileError}
 use Rattle.mold_session.specs.declared.error.FileError.TheVariants.{TooLong, Memory, BadMagic, Short, BlockCut, Read, Write, Full, CountDiffers, BadFlag}
@@ -15,13 +16,13 @@ use Rattle.mold_session.specs.declared.loading.FileHead.{FileHead}
 use Rattle.mold_session.proofs.HeadLemmas.{behind_1, behind_2, count_at, refused_behind}
 
 -- the blocks follow a head of either version
-behind_head : (session : List ℕ) (closed : Bool) (stated : Option ℕ) (bytes behind : List ℕ) → length session ≡ 10 →
+pub behind_head : (session : List ℕ) (closed : Bool) (stated : Option ℕ) (bytes behind : List ℕ) → length session ≡ 10 →
     bytes ≡ head_spelling session closed stated ++ behind → IsBehind1 bytes behind ⊎ IsBehind2 bytes behind
 behind_head session closed None bytes behind ten parts = inl (behind_1 session bytes behind ten parts)
 behind_head session closed (Some count) bytes behind ten parts =
     inr (behind_2 session bytes behind closed count ten parts)
 
-in_file : (head : FileHead) (most : ℕ) → length head.session.0 ≡ 10 → (bytes rest : List ℕ) →
+pub in_file : (head : FileHead) (most : ℕ) → length head.session.0 ≡ 10 → (bytes rest : List ℕ) →
     bytes ≡ head_spelling head.session.0 head.closed head.stated ++ rest → (error : FileError) →
     BlocksFault most rest error → JournalFault most bytes error
 in_file head most ten bytes rest parts Full fault =
@@ -88,6 +89,23 @@ pub count_refused : (known left : Option (List ℕ)) (head : FileHead) (most : �
 count_refused known left head most messages count found read whole are is differs counted =
     miscounted known left head head.stated most messages count found read.named read.said read.consumed whole are is
     differs counted
+
+pub count_off : (known left : Option (List ℕ)) (head : FileHead) (most : ℕ) (messages : List (List ℕ)) (found : ℕ)
+    (error : FileError) → ReadsHead known left head → IfSome left (λ behind. behind ≡ blocks messages) →
+    AreMessages most messages → found ≡ length messages → CountFault head.stated found error →
+    Refuses (JournalFault most) known error
+count_off known left head most messages found (CountDiffers count number) read whole are counted fault =
+    count_refused known left head most messages count number read whole are
+    (fault.states ∙ ap (unwrap_or head.stated) (sym fault.reads)) fault.differs (fault.reads ∙ counted)
+count_off known left head most messages found (Short len) read whole are counted fault = absurd fault
+count_off known left head most messages found BadMagic read whole are counted fault = absurd fault
+count_off known left head most messages found (BadFlag byte) read whole are counted fault = absurd fault
+count_off known left head most messages found Full read whole are counted fault = absurd fault
+count_off known left head most messages found (TooLong len) read whole are counted fault = absurd fault
+count_off known left head most messages found (BlockCut number) read whole are counted fault = absurd fault
+count_off known left head most messages found Read read whole are counted fault = absurd fault
+count_off known left head most messages found Memory read whole are counted fault = absurd fault
+count_off known left head most messages found Write read whole are counted fault = absurd fault
 
 -- the number that is stated, or no number
 spells : (known left : Option (List ℕ)) (head : FileHead) (stated : Option ℕ) (messages : List (List ℕ))

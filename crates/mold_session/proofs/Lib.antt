@@ -1,5 +1,6 @@
 pub mod AnswerLemmas
 pub mod AskingLemmas
+pub mod ContentsLemmas
 pub mod DatagramLemmas
 pub mod FileLawLemmas
 pub mod FileLemmas
@@ -11,7 +12,9 @@ pub mod OneFaultLemmas
 pub mod PackingLemmas
 pub mod PublisherLemmas
 pub mod SavingLemmas
+pub mod ReaderLemmas
 pub mod ServingLemmas
 pub mod TruthLemmas
 pub mod SendingLemmas
+pub mod SomeContentsLemmas
 pub mod StateLemmas

@@ -13,22 +13,22 @@ use Rattle.mold_session.proofs.FileLawLemmas.{length_read, block_here, each_file
 use Rattle.mold_session.proofs.HeadLemmas.{one_magic}
 
 -- a fault behind so many blocks: no number is left, or the block is too long, or cut
-abbrev IsFullAt : ℕ → FileError → Type 0
+abbrev pub IsFullAt : ℕ → FileError → Type 0
 IsFullAt count error = (error ≡ Full) × (18446744073709551614 ≤ count)
 
-abbrev IsLongAt : ℕ → ℕ → List ℕ → FileError → Type 0
+abbrev pub IsLongAt : ℕ → ℕ → List ℕ → FileError → Type 0
 IsLongAt most count rest error =
     (error ≡ TooLong (big_number 2 rest)) × (count < 18446744073709551614) × (2 ≤ length rest)
     × (most < big_number 2 rest)
 
-abbrev IsCutAt : ℕ → ℕ → List ℕ → FileError → Type 0
+abbrev pub IsCutAt : ℕ → ℕ → List ℕ → FileError → Type 0
 IsCutAt most count rest error = (error ≡ BlockCut (count + 1)) × (count < 18446744073709551614) × IsCut most rest
 
-abbrev IsFaultAt : ℕ → ℕ → List ℕ → FileError → Type 0
+abbrev pub IsFaultAt : ℕ → ℕ → List ℕ → FileError → Type 0
 IsFaultAt most count rest error =
     IsFullAt count error ⊎ (IsLongAt most count rest error ⊎ IsCutAt most count rest error)
 
-fault_at : (most count : ℕ) (rest : List ℕ) (error : FileError) → BlockFault most count rest error →
+pub fault_at : (most count : ℕ) (rest : List ℕ) (error : FileError) → BlockFault most count rest error →
     IsFaultAt most count rest error
 fault_at most count rest Full fault = inl (refl, fault.1)
 fault_at most count rest (TooLong len) fault =
@@ -64,7 +64,7 @@ same_at most count rest one other (inr (inr cut)) (inr (inl long)) = absurd (lon
 same_at most count rest one other (inr (inr cut)) (inr (inr also)) = cut.0 ∙ sym also.0
 
 -- a whole block within the bound is a fault only where no number is left
-full_at_block : (most count : ℕ) (message more rest : List ℕ) (error : FileError) → most ≤ 65535 →
+pub full_at_block : (most count : ℕ) (message more rest : List ℕ) (error : FileError) → most ≤ 65535 →
     length message ≤ most → rest ≡ block message ++ more → IsFaultAt most count rest error → IsFullAt count error
 full_at_block most count message more rest error bound within starts (inl full) = full
 full_at_block most count message more rest error bound within starts (inr (inl long)) =
@@ -135,10 +135,10 @@ one_blocks_fault most behind one other bound first second =
     (fault_at most (length second.messages) second.rest other second.fault)
 
 -- what stands behind the head is one
-abbrev IsBehind : List ℕ → List ℕ → Type 0
+abbrev pub IsBehind : List ℕ → List ℕ → Type 0
 IsBehind bytes behind = IsBehind1 bytes behind ⊎ IsBehind2 bytes behind
 
-same_behind : (bytes one other : List ℕ) → IsBehind bytes one → IsBehind bytes other → one ≡ other
+pub same_behind : (bytes one other : List ℕ) → IsBehind bytes one → IsBehind bytes other → one ≡ other
 same_behind bytes one other (inl first) (inl second) = first.from ∙ sym second.from
 same_behind bytes one other (inl first) (inr second) = absurd (one_magic (sym first.magic ∙ second.magic))
 same_behind bytes one other (inr first) (inl second) = absurd (one_magic (sym second.magic ∙ first.magic))
@@ -181,15 +181,15 @@ one_blocks most bytes one other bound first second =
     (subst (λ (t : List ℕ). BlocksFault most t other) behind second.2)
 
 -- the places of a fault: too few bytes, neither magic, a bad flag, the blocks, their number
-abbrev IsShort : List ℕ → FileError → Type 0
+abbrev pub IsShort : List ℕ → FileError → Type 0
 IsShort bytes error =
     (error ≡ Short (length bytes)) × ((length bytes < 18) ⊎ (IsVersion2 bytes × (length bytes < 27)))
 
-abbrev IsForeign : List ℕ → FileError → Type 0
+abbrev pub IsForeign : List ℕ → FileError → Type 0
 IsForeign bytes error =
     (error ≡ BadMagic) × (18 ≤ length bytes) × (take 8 bytes ≡ magic_1 → ⊥) × (take 8 bytes ≡ magic_2 → ⊥)
 
-abbrev IsFlagged : List ℕ → FileError → Type 0
+abbrev pub IsFlagged : List ℕ → FileError → Type 0
 IsFlagged bytes error =
     (error ≡ BadFlag (get_or bytes 18 0)) × IsVersion2 bytes × (27 ≤ length bytes) × (1 < get_or bytes 18 0)
 
@@ -228,7 +228,7 @@ short_or_flagged bytes one other first second =
       | inr short ↦ absurd (omega (arith, short.1, second.2))
     ]
 
-short_or_headed : (bytes behind : List ℕ) (one : FileError) → IsShort bytes one → IsBehind bytes behind → ⊥
+pub short_or_headed : (bytes behind : List ℕ) (one : FileError) → IsShort bytes one → IsBehind bytes behind → ⊥
 short_or_headed bytes behind one first (inl head) =
     elim first.1 [
       | inl short ↦ absurd (omega (arith, short, head.whole))
@@ -240,11 +240,11 @@ short_or_headed bytes behind one first (inr head) =
       | inr short ↦ absurd (omega (arith, short.1, head.whole))
     ]
 
-foreign_or_headed : (bytes behind : List ℕ) (one : FileError) → IsForeign bytes one → IsBehind bytes behind → ⊥
+pub foreign_or_headed : (bytes behind : List ℕ) (one : FileError) → IsForeign bytes one → IsBehind bytes behind → ⊥
 foreign_or_headed bytes behind one first (inl head) = first.2 head.magic
 foreign_or_headed bytes behind one first (inr head) = first.3 head.magic
 
-flagged_or_headed : (bytes behind : List ℕ) (one : FileError) → IsFlagged bytes one → IsBehind bytes behind → ⊥
+pub flagged_or_headed : (bytes behind : List ℕ) (one : FileError) → IsFlagged bytes one → IsBehind bytes behind → ⊥
 flagged_or_headed bytes behind one first (inl head) = one_magic (sym head.magic ∙ first.1)
 flagged_or_headed bytes behind one first (inr head) = absurd (omega (arith, first.3, head.flag))
 

@@ -1,4 +1,5 @@
 pub mod Answer
+pub mod Contents
 pub mod Datagrams
 pub mod File
 pub mod FileFault
@@ -7,6 +8,7 @@ pub mod Loading
 pub mod Moving
 pub mod Packing
 pub mod Publisher
+pub mod Reader
 pub mod Server
 pub mod Serving
 pub mod Truthful

@@ -9,7 +9,7 @@ use Rattle.mold_session.specs.File.{closed_byte, head_1, head_2, SpellsJournal, 
 use Rattle.mold_session.specs.FileFault.{IsBadFlag}
 use Rattle.mold_session.specs.Journal.{IsWithin}
 use Rattle.mold_session.specs.declared.error.FileError.{FileError}
-use Rattle.mold_session.specs.declared.error.FileError.TheVariants.{Short, BadFlag, Read, Write, Memory}
+use Rattle.mold_session.specs.declared.error.FileError.TheVariants.{Short, BadMagic, BadFlag, Read, Write, Memory}
 use Rattle.mold_session.specs.declared.loading.FileHead.{FileHead}
 
 -- an end of every loop over the file: the source's bound, for as many bytes as are read at once, and the bytes that
@@ -40,6 +40,16 @@ abbrev pub NumbersFault : List ℕ → FileError → Type 0
 NumbersFault rest (Short len) = (len ≡ 18 + length rest) × (length rest < 9)
 NumbersFault rest (BadFlag byte) = (9 ≤ length rest) × (slice_index rest 0 ≡ byte) × IsBadFlag byte
 NumbersFault rest error = ⊥
+
+-- the refusals for what stands before the blocks; the others that reading it may end with are a failed read and want
+-- of memory
+abbrev pub IsOfHead : FileError → Type 0
+IsOfHead (Short len) = ⊤
+IsOfHead BadMagic = ⊤
+IsOfHead (BadFlag byte) = ⊤
+IsOfHead Read = ⊤
+IsOfHead Memory = ⊤
+IsOfHead error = ⊥
 
 -- the head was read
 pub record ReadsHead (known left : Option (List ℕ)) (head : FileHead) : Type 0 where

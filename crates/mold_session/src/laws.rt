@@ -2,8 +2,10 @@
 //! law.
 
 ghost use Rattle.std.specs.Prelude.{◌≡◌, ◌+◌, ◌<◌, ◌≤◌, ◌++◌, ◌∷◌, [], List, ℕ, Bool, length, take, None, Ok, Some};
+ghost use Rattle.std.specs.Prelude.{Option, IfSome};
 ghost use Rattle.std.specs.Prelude.{slice_get};
 ghost use Rattle.std.specs.List.{AllByRecursion};
+ghost use Rattle.mold_wire.specs.Block.{IsBytes};
 ghost use Rattle.mold_wire.specs.Packet.{Spells, spelling_of};
 ghost use Rattle.mold_wire.specs.Packing.{front};
 ghost use Rattle.mold_wire.specs.declared.packet.Packet.{Packet};
@@ -14,12 +16,15 @@ ghost use Rattle.mold_session.specs.Answer.{answer, PlanState, IsPlan, plan_for,
 ghost use Rattle.mold_session.specs.Answer.{HasFirst, SendsNext};
 ghost use Rattle.mold_session.specs.Datagrams.{data_packet, first_part, packing};
 ghost use Rattle.mold_session.specs.Journal.{IsJournal, IsWithin, JournalState, append_refusal};
+ghost use Rattle.mold_session.specs.Contents.{FileContents, Gives, IsFront};
 ghost use Rattle.mold_session.specs.File.{SpellsJournal, SpellsJournal2};
 ghost use Rattle.mold_session.specs.FileFault.{JournalFault};
 ghost use Rattle.mold_session.specs.declared.error.FileError.{FileError};
 ghost use Rattle.mold_session.specs.Publisher.{IsPublisher, MayPublish, PublisherState, after_datagram, closed};
 ghost use Rattle.mold_session.specs.Publisher.{next_datagram, next_end, next_heartbeat, published};
 ghost use Rattle.mold_session.specs.Truthful.{MayAnswer, TellsTruth};
+ghost use Rattle.mold_session.specs.Loading.{Refuses};
+ghost use Rattle.mold_session.specs.Reader.{EndsWith, HasRead, ReaderState, ReadsNext, RestFault};
 ghost use Rattle.mold_session.specs.Server.{ServerState, IsServer, IsAnswerable, asking, planning};
 
 use mold_wire::laws::{
@@ -153,6 +158,31 @@ pub fn one_file_law()
 pub fn one_fault_law()
     ensures { (most : ℕ) (bytes : List ℕ) (one other : FileError) → most ≤ 65535 →
         JournalFault most bytes one → JournalFault most bytes other → one ≡ other }
+{}
+
+/// Bytes give something as a file, whatever they are, and always the same: one list of messages, and one fault or none.
+pub fn contents_law()
+    ensures some { (bytes : List ℕ) → IsBytes bytes → FileContents bytes }
+    ensures one { (bytes : List ℕ) (one other : FileContents bytes) →
+        (one.messages ≡ other.messages) × (one.fault ≡ other.fault) }
+{}
+
+/// What a reader of a file has read is all that the file gives, once it is at the end or refused; and before that
+/// it is the first of it. Where nothing is known of the file nothing is said.
+pub fn reader_law()
+    ensures next { (known left after : Option (List ℕ)) (reader next : ReaderState) (messages : List (List ℕ)) →
+        HasRead known left reader messages → ReadsNext left after reader next →
+        HasRead known after next (messages ++ next.message ∷ []) }
+    ensures end { (known left : Option (List ℕ)) (reader : ReaderState) (messages : List (List ℕ)) →
+        HasRead known left reader messages → EndsWith left reader →
+        IfSome known (λ bytes. Gives bytes messages None) }
+    ensures refused { (known left : Option (List ℕ)) (reader : ReaderState) (messages : List (List ℕ))
+        (error : FileError) → HasRead known left reader messages →
+        Refuses (RestFault reader.head.stated reader.count) left error →
+        Refuses (λ bytes why. Gives bytes messages (Some why)) known error }
+    ensures front { (known left : Option (List ℕ)) (reader : ReaderState) (messages : List (List ℕ)) →
+        HasRead known left reader messages →
+        IfSome known (λ bytes. (contents : FileContents bytes) → IsFront messages contents.messages) }
 {}
 
 /// A publisher stays one while messages are published that nothing refuses, and sent, and when it is closed

@@ -12,6 +12,7 @@ mod packing;
 mod piece;
 mod plan;
 mod publisher;
+mod reader;
 mod saving;
 mod server;
 mod upgrading;
@@ -21,8 +22,10 @@ pub use error::{
     AnswerError, AppendError, FileError, PublisherError, ServerError, SessionError, Unsent,
 };
 pub use journal::{Journal, MAX_MESSAGES};
+pub use loading::FileHead;
 pub use mold_devices::{DeviceFault, FromRead, IntoWrite, MemorySink, MemorySource, Sink, Source};
 pub use plan::Plan;
 pub use publisher::Publisher;
+pub use reader::JournalReader;
 pub use server::{MAX_BURST, Server};
 pub use upgrading::{Upgraded, upgrade};

@@ -1,6 +1,6 @@
 //! The file of a journal, read.
 
-ghost use Rattle.std.specs.Prelude.{◌≡◌, ◌<◌, ◌≤◌, ◌^◌, ◌∷◌, ℕ, length, take, IfOk, IfErr, IfSome};
+ghost use Rattle.std.specs.Prelude.{◌≡◌, ◌<◌, ◌≤◌, ◌^◌, ◌∷◌, ℕ, length, take, unwrap_or, IfOk, IfErr, IfSome, OnOk};
 ghost use Rattle.std.specs.Bool.{OnTrue, OnFalse};
 ghost use Rattle.std.specs.Io.KnownBytes.{Consumes, IsAtEnd, prepend_known};
 ghost use Rattle.mold_wire.specs.Block.{be64, blocks};
@@ -8,7 +8,8 @@ ghost use Rattle.mold_devices.specs.Faults.{CountsRead};
 ghost use Rattle.mold_session.specs.FileFault.{BlockFault, BlocksFault, JournalFault};
 ghost use Rattle.mold_session.specs.Journal.{AreMessages};
 ghost use Rattle.mold_session.specs.Loading.{work_left, ReadsNumbers, NumbersFault, ReadsHead, SpellsFile};
-ghost use Rattle.mold_session.specs.Loading.{TakesMessage, TakesBlock, Refuses, CountsLoad};
+ghost use Rattle.mold_session.specs.Loading.{TakesMessage, TakesBlock, Refuses, CountsLoad, IsOfHead};
+ghost use Rattle.mold_session.specs.Reader.{CountFault};
 
 use crate::error::FileError;
 use crate::journal::MAX_MESSAGES;
@@ -69,6 +70,7 @@ fn read_numbers<S: Source>(
         (prepend_known piece.new (S.left source.new)) session head) }
     ensures refused { IfErr result (λ error. Refuses NumbersFault
         (prepend_known piece.old (S.left source.old)) error) }
+    ensures headed { IfErr result IsOfHead }
     ensures failures { CountsLoad (S.failed source.old) (S.failed source.new) result }
 {
     let mut numbers = [0; 9];
@@ -87,12 +89,13 @@ fn read_numbers<S: Source>(
     })
 }
 
-// What stands before the blocks.
-fn read_head<S: Source>(piece: &mut Piece, source: &mut S) -> Result<FileHead, FileError>
+/// What stands before the blocks.
+pub fn read_head<S: Source>(piece: &mut Piece, source: &mut S) -> Result<FileHead, FileError>
     ensures read { IfOk result (λ head. ReadsHead (prepend_known piece.old (S.left source.old))
         (prepend_known piece.new (S.left source.new)) head) }
     ensures refused { IfErr result (λ error. (most : ℕ) → Refuses (JournalFault most)
         (prepend_known piece.old (S.left source.old)) error) }
+    ensures headed { IfErr result IsOfHead }
     ensures failures { CountsLoad (S.failed source.old) (S.failed source.new) result }
 {
     let mut front = [0; 18];
@@ -146,22 +149,23 @@ fn take_message<S: Source>(
     Ok(true)
 }
 
-// Takes the next block, where one is left.
-fn next_block<S: Source>(
+/// Takes the next block behind so many others as one message more of the list; false where none is left.
+pub fn next_block<S: Source>(
     list: &mut MessageList,
     piece: &mut Piece,
     source: &mut S,
     most: u16,
+    count: u64,
 ) -> Result<bool, FileError>
-    requires { length list.old.messages < 18446744073709551615 }
+    requires { count < 18446744073709551615 }
     ensures taken { IfOk result (λ more. OnTrue more (TakesBlock most
         (prepend_known piece.old (S.left source.old)) (prepend_known piece.new (S.left source.new))
         list.old.messages list.new.messages)) }
-    ensures few { IfOk result (λ more. OnTrue more (length list.old.messages < 18446744073709551614)) }
+    ensures few { IfOk result (λ more. OnTrue more (count < 18446744073709551614)) }
     ensures end { IfOk result (λ more. OnFalse more (IsAtEnd (prepend_known piece.old (S.left source.old)))) }
     ensures spent { IfOk result (λ more. OnFalse more (IsAtEnd (prepend_known piece.new (S.left source.new)))) }
     ensures same { IfOk result (λ more. OnFalse more (list.new ≡ list.old)) }
-    ensures refused { IfErr result (λ error. Refuses (BlockFault most (length list.old.messages))
+    ensures refused { IfErr result (λ error. Refuses (BlockFault most count)
         (prepend_known piece.old (S.left source.old)) error) }
     ensures work { IfOk result (λ more. OnTrue more
         (work_left (S.bound source.new) piece.new < work_left (S.bound source.old) piece.old)) }
@@ -170,7 +174,6 @@ fn next_block<S: Source>(
     let Some(high) = next_byte(piece, source)? else {
         return Ok(false);
     };
-    let count = list.len() as u64;
     if count == MAX_MESSAGES {
         return Err(FileError::Full);
     }
@@ -207,10 +210,23 @@ fn read_blocks<S: Source>(
 {
     let mut list = MessageList::new(alloc);
     'messages: loop {
-        if !next_block(&mut list, piece, source, most)? {
+        let count = list.len() as u64;
+        if !next_block(&mut list, piece, source, most, count)? {
             return Ok(list);
         }
     }
+}
+
+/// Refuses a file that states another number of messages than were found.
+pub fn check_count(stated: Option<u64>, found: u64) -> Result<(), FileError>
+    ensures same { OnOk result (unwrap_or stated found ≡ found) }
+    ensures refused { IfErr result (CountFault stated found) }
+{
+    let count = stated.unwrap_or(found);
+    if count != found {
+        return Err(FileError::CountDiffers { count, found });
+    }
+    Ok(())
 }
 
 /// Reads the file of a journal, of either version, whose messages have at most so many bytes.
@@ -229,10 +245,6 @@ pub fn load_file<S: Source>(
     let mut piece = Piece::new();
     let head = read_head(&mut piece, source)?;
     let list = read_blocks(alloc, most, &mut piece, source)?;
-    let found = list.len() as u64;
-    let count = head.stated.unwrap_or(found);
-    if count != found {
-        return Err(FileError::CountDiffers { count, found });
-    }
+    check_count(head.stated, list.len() as u64)?;
     Ok((head, list))
 }

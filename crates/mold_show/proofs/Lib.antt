@@ -1,2 +1,5 @@
+pub mod DumpLawLemmas
+pub mod DumpLemmas
+pub mod DumpedLemmas
 pub mod PackLemmas
 pub mod ShowLemmas

@@ -1,3 +1,4 @@
+pub mod Dump
 pub mod Pack
 pub mod Packets
 pub mod Show

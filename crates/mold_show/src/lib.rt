@@ -1,8 +1,12 @@
-//! Packets as text, and lines as packets: the commands `show` and `pack`, line by line.
+//! Packets as text, lines as packets, and a journal's messages as lines: the commands `show` and `pack`, line by line,
+//! and `dump`.
 #![tactic(auto)]
 
+mod dump;
+pub mod laws;
 mod pack;
 mod show;
 
+pub use dump::dump_file;
 pub use pack::Pack;
 pub use show::Show;

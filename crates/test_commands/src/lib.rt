@@ -4,6 +4,8 @@
 #[cfg(test)]
 mod comparisons;
 #[cfg(test)]
+mod dump;
+#[cfg(test)]
 mod folder;
 #[cfg(test)]
 mod pack;

@@ -133,8 +133,8 @@ pub fn expect_again(
     Ok(())
 }
 
-// The fault that a refused growth is: of the sink, where that failed.
-fn want_of_memory(sink: &MemorySink) -> CommandFault {
+/// The fault that a refused growth is: of the sink, where that failed.
+pub fn want_of_memory(sink: &MemorySink) -> CommandFault {
     if sink.failures() > 0 {
         CommandFault::Write
     } else {

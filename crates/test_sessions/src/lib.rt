@@ -10,6 +10,8 @@ mod comparisons;
 #[cfg(test)]
 mod journal_file;
 #[cfg(test)]
+mod journal_reader;
+#[cfg(test)]
 mod receiver;
 #[cfg(test)]
 mod reception;

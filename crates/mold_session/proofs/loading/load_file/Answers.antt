@@ -1,8 +1,10 @@
+use Rattle.std.proofs.Common.{refl}
+use Rattle.std.specs.Prelude.{unwrap_or}
 use Rattle.std.proofs.lemmas.Result.{err_from_is_err_and}
 use Rattle.std.specs.Io.KnownBytes.{prepend_known}
 use Rattle.mold_session.specs.FileFault.{JournalFault}
 use Rattle.mold_session.specs.Loading.{Refuses}
-use Rattle.mold_session.proofs.FileLemmas.{passed_on, blocks_refused, from_start, head_from_start, count_refused, file_spelled}
+use Rattle.mold_session.proofs.FileLemmas.{passed_on, blocks_refused, from_start, head_from_start, count_off, file_spelled}
 use Rattle.mold_session.proofs.SavingLemmas.{are_file_messages}
 use Rattle.mold_session.proofs.loading.load_file.Goals as goal
 
@@ -24,26 +26,26 @@ returns-in_err-list-clause-refused g c =
     (head_from_start known left c.new-piece.result c.in_ok-head.head c.new-piece.ensures c.in_ok-head.ensures.read)
     c.in_err-list.field-0.0 c.in_err-list.ensures.refused)
 
-pub returns-then-count-found-clause-refused : goal.returns-then-count-found-clause-refused
-returns-then-count-found-clause-refused g c =
-    let messages = c.in_ok-list.list.messages in
-    count_refused (g.S.Source.left c.args.source.now)
-    (prepend_known c.read_head.new.piece (g.S.Source.left c.read_head.new.source)) c.in_ok-head.head c.args.most messages
-    c.unwrap_or-count.result c.len-found.result
-    (head_from_start (g.S.Source.left c.args.source.now)
-    (prepend_known c.read_head.new.piece (g.S.Source.left c.read_head.new.source)) c.new-piece.result c.in_ok-head.head
-    c.new-piece.ensures c.in_ok-head.ensures.read)
-    c.in_ok-list.ensures.whole c.in_ok-list.ensures.listed c.unwrap_or-count.ensures c.if-count-found.true
-    c.len-found.ensures
+pub returns-in_err-check_count-clause-refused : goal.returns-in_err-check_count-clause-refused
+returns-in_err-check_count-clause-refused g c =
+    let known = g.S.Source.left c.args.source.now in
+    let left = prepend_known c.read_head.new.piece (g.S.Source.left c.read_head.new.source) in
+    passed_on c.from_residual-in_err-check_count.result c.in_err-check_count.field-0.0
+    (Refuses (JournalFault c.args.most) known)
+    (err_from_is_err_and c.from_residual-in_err-check_count.result c.from_residual-in_err-check_count.ensures.1)
+    (count_off known left c.in_ok-head.head c.args.most c.in_ok-list.list.messages c.len.result
+    c.in_err-check_count.field-0.0
+    (head_from_start known left c.new-piece.result c.in_ok-head.head c.new-piece.ensures c.in_ok-head.ensures.read)
+    c.in_ok-list.ensures.whole c.in_ok-list.ensures.listed c.len.ensures c.in_err-check_count.ensures.refused)
 
 pub returns-clause-whole : goal.returns-clause-whole
 returns-clause-whole g c =
     let messages = c.in_ok-list.list.messages in
     file_spelled (g.S.Source.left c.args.source.now)
     (prepend_known c.read_head.new.piece (g.S.Source.left c.read_head.new.source)) c.in_ok-head.head messages
-    c.unwrap_or-count.result c.len-found.result
+    (unwrap_or c.in_ok-head.head.stated c.len.result) c.len.result
     (head_from_start (g.S.Source.left c.args.source.now)
     (prepend_known c.read_head.new.piece (g.S.Source.left c.read_head.new.source)) c.new-piece.result c.in_ok-head.head
     c.new-piece.ensures c.in_ok-head.ensures.read)
     c.in_ok-list.ensures.whole (are_file_messages c.args.most messages c.ranges.most.fits c.in_ok-list.ensures.listed)
-    c.unwrap_or-count.ensures c.if-count-found.false c.len-found.ensures
+    refl c.in_ok-check_count.ensures.same c.len.ensures

@@ -1,0 +1,5 @@
+use Rattle.mold_session.proofs.ReaderLemmas.{read_front, read_more, read_refused, read_whole}
+use Rattle.mold_session.proofs.laws.reader_law.Goals as goal
+
+pub returns : goal.returns
+returns c = record { next = read_more; end = read_whole; refused = read_refused; front = read_front }

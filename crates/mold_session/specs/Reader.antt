@@ -1,0 +1,55 @@
+-- A file that is read message by message.
+use Rattle.std.specs.Prelude.{◌≡◌, ℕ, ◌+◌, ◌<◌, List, [], ◌++◌, length, Option, unwrap_or}
+use Rattle.std.specs.Io.KnownBytes.{Consumes, IsAtEnd}
+use Rattle.mold_wire.specs.Block.{block, blocks}
+use Rattle.mold_session.specs.FileFault.{BlockFault}
+use Rattle.mold_session.specs.Journal.{AreMessages, IsWithin}
+use Rattle.mold_session.specs.Loading.{head_spelling, IsStated}
+use Rattle.mold_session.specs.declared.error.FileError.{FileError}
+use Rattle.mold_session.specs.declared.error.FileError.TheVariants.{CountDiffers}
+use Rattle.mold_session.specs.declared.loading.FileHead.{FileHead}
+
+-- a reader of a file: its head, how many messages were read, the last of them, and the bytes that are read and not
+-- used
+pub record ReaderState : Type 0 where
+  pub head : FileHead
+  pub count : ℕ
+  pub message : List ℕ
+  pub rest : List ℕ
+
+-- head and the blocks of these messages were read
+pub record HasRead (known left : Option (List ℕ)) (reader : ReaderState) (messages : List (List ℕ)) : Type 0 where
+  pub named : length reader.head.session.0 ≡ 10
+  pub said : IsStated reader.head.closed reader.head.stated
+  pub listed : AreMessages 65535 messages
+  pub counted : reader.count ≡ length messages
+  pub consumed : Consumes known left
+      (head_spelling reader.head.session.0 reader.head.closed reader.head.stated ++ blocks messages)
+
+-- one message more was read
+pub record ReadsNext (known left : Option (List ℕ)) (old new : ReaderState) : Type 0 where
+  pub same : new.head ≡ old.head
+  pub few : old.count < 18446744073709551614
+  pub counted : new.count ≡ old.count + 1
+  pub within : IsWithin 65535 new.message
+  pub consumed : Consumes known left (block new.message)
+
+-- no message is left, and the file states no number of them or this one
+pub record EndsWith (known : Option (List ℕ)) (reader : ReaderState) : Type 0 where
+  pub over : IsAtEnd known
+  pub stated : unwrap_or reader.head.stated reader.count ≡ reader.count
+
+-- another number of messages is stated than were read
+pub record Misstates (stated : Option ℕ) (read count found : ℕ) : Type 0 where
+  pub states : count ≡ unwrap_or stated read
+  pub reads : found ≡ read
+  pub differs : count ≡ found → ⊥
+
+abbrev pub CountFault : Option ℕ → ℕ → FileError → Type 0
+CountFault stated read (CountDiffers count found) = Misstates stated read count found
+CountFault stated read error = ⊥
+
+-- why what follows the messages that were read is refused: its first block, or their number where nothing follows
+abbrev pub RestFault : Option ℕ → ℕ → List ℕ → FileError → Type 0
+RestFault stated read rest (CountDiffers count found) = (rest ≡ []) × Misstates stated read count found
+RestFault stated read rest error = BlockFault 65535 read rest error

@@ -1,0 +1,117 @@
+//! The file of a journal, read message by message.
+
+ghost use Rattle.std.specs.Prelude.{◌≡◌, ◌<◌, [], IfErr, IfOk, Some};
+ghost use Rattle.std.specs.Bool.{OnFalse, OnTrue};
+ghost use Rattle.std.specs.Io.KnownBytes.{prepend_known};
+ghost use Rattle.mold_session.specs.Contents.{Gives};
+ghost use Rattle.mold_session.specs.Loading.{CountsLoad, Refuses, work_left};
+ghost use Rattle.mold_session.specs.Reader.{EndsWith, HasRead, ReadsNext, RestFault};
+
+use crate::error::FileError;
+use crate::loading::{FileHead, check_count, next_block, read_head};
+use crate::piece::Piece;
+use mold_devices::Source;
+use mold_messages::MessageList;
+use std::alloc::Global;
+use std::marker::Model;
+
+/// Reads the file of a journal, of either version, message by message. It holds no more than the longest message so
+/// far and what was read at once, at most 4,096 bytes. Bytes are refused as `Journal::load` refuses them where a
+/// message may have any length, once it comes to what is wrong with them.
+#[derive(Drop)]
+pub struct JournalReader {
+    head: FileHead,
+    piece: Piece,
+    // The last message, once one was read.
+    last: MessageList,
+    count: u64,
+}
+
+impl Model for JournalReader {
+    ghost use Rattle.std.specs.Prelude.{◌<◌, [], slice_index_or};
+    ghost use Rattle.mold_session.specs.Reader.{ReaderState};
+
+    ghost Value = { ReaderState };
+
+    ghost view = { λ r. record {
+      head = r.head;
+      count = r.count;
+      message = slice_index_or r.last.messages 0 [];
+      rest = r.piece;
+    } };
+
+    ghost invariant = { λ r. r.count < 18446744073709551615 };
+}
+
+impl JournalReader {
+    /// Reads what stands before the messages. It is refused where that is at fault, and takes no memory yet.
+    pub fn new<S: Source>(alloc: Global, source: &mut S) -> Result<JournalReader, FileError>
+        ensures begun { IfOk result (λ reader. HasRead (S.left source.old)
+            (prepend_known reader.rest (S.left source.new)) reader []) }
+        ensures refused { IfErr result (λ error.
+            Refuses (λ bytes why. Gives bytes [] (Some why)) (S.left source.old) error) }
+        ensures failures { CountsLoad (S.failed source.old) (S.failed source.new) result }
+    {
+        let mut piece = Piece::new();
+        let head = read_head(&mut piece, source)?;
+        Ok(JournalReader {
+            head,
+            piece,
+            last: MessageList::new(alloc),
+            count: 0,
+        })
+    }
+
+    /// What stands before the messages.
+    pub fn head(&self) -> FileHead
+        ensures { result ≡ self.now.head }
+    {
+        self.head
+    }
+
+    /// How many messages were read, which is the number of the last of them.
+    pub fn count(&self) -> u64
+        ensures { result ≡ self.now.count }
+    {
+        self.count
+    }
+
+    /// The message that `advance` read last; no bytes before the first one.
+    pub fn message(&self) -> &[u8]
+        ensures { result.now ≡ self.now.message }
+    {
+        match self.last.get(0) {
+            Some(message) => message,
+            None => &[],
+        }
+    }
+
+    /// Reads the next message, and answers whether there is one. Where none is left the file is a journal. Memory is
+    /// taken only for a message that is longer than those before. After an error the reader is good for nothing more.
+    pub fn advance<S: Source>(&mut self, source: &mut S) -> Result<bool, FileError>
+        ensures next { IfOk result (λ more. OnTrue more (ReadsNext
+            (prepend_known self.old.rest (S.left source.old))
+            (prepend_known self.new.rest (S.left source.new)) self.old self.new)) }
+        ensures end { IfOk result (λ more. OnFalse more (EndsWith
+            (prepend_known self.old.rest (S.left source.old)) self.old)) }
+        ensures refused { IfErr result (λ error. Refuses (RestFault self.old.head.stated self.old.count)
+            (prepend_known self.old.rest (S.left source.old)) error) }
+        ensures work { IfOk result (λ more. OnTrue more
+            (work_left (S.bound source.new) self.new.rest < work_left (S.bound source.old) self.old.rest)) }
+        ensures failures { CountsLoad (S.failed source.old) (S.failed source.new) result }
+    {
+        self.last.clear();
+        if !next_block(
+            &mut self.last,
+            &mut self.piece,
+            source,
+            u16::MAX,
+            self.count,
+        )? {
+            check_count(self.head.stated, self.count)?;
+            return Ok(false);
+        }
+        self.count += 1;
+        Ok(true)
+    }
+}

@@ -1,0 +1,196 @@
+//! `mold dump`: the messages of a journal's file, printed as lines of hexadecimal digits.
+
+ghost use Rattle.std.specs.Prelude.{◌≡◌, ◌<◌, ◌++◌, ℕ, IfErr, IfOk, IfSome, IsErr, OnErr, OnOk, Some};
+ghost use Rattle.std.specs.Bool.{OnFalse, OnTrue};
+ghost use Rattle.std.specs.Io.KnownBytes.{Appends, prepend_known};
+ghost use Rattle.mold_devices.specs.Devices.{AppendsFront};
+ghost use Rattle.mold_devices.specs.Faults.{CountsCommand, CountsFault};
+ghost use Rattle.mold_session.specs.Contents.{FileContents};
+ghost use Rattle.mold_session.specs.Loading.{CountsLoad, CountsLoadFault, Refuses, work_left};
+ghost use Rattle.mold_session.specs.Reader.{EndsWith, ReadsNext, RestFault};
+ghost use Rattle.mold_session.specs.declared.error.FileError.{FileError};
+ghost use Rattle.mold_show.specs.Dump.{CountsEnd, IsTold, dump_status, dump_text, ended_line, fault_status};
+ghost use Rattle.mold_show.specs.Dump.{is_dumped, message_line, next_line};
+ghost use Rattle.mold_text.specs.Text.{refused_line};
+ghost use Rattle.mold_refusals.specs.Words.{file_fault_words};
+
+use mold_devices::{CommandFault, LARGE, Sink, Source, send};
+use mold_refusals::push_file_refusal;
+use mold_session::laws::{contents_law, reader_law};
+use mold_session::{FileError, JournalReader};
+use mold_text::{Word, push_line};
+use std::alloc::Global;
+
+// Whether the message behind so many others is printed.
+fn is_dumped(from: u64, count: u64, before: u64) -> bool
+    ensures { result ≡ is_dumped from count before }
+{
+    let skipped = from.saturating_sub(1);
+    skipped <= before && before - skipped < count
+}
+
+// Writes the line of a message. After an error, which is want of memory, the text is as it was.
+fn push_message(text: &mut Vec<u8>, message: &[u8]) -> Result<(), FileError>
+    ensures line { OnOk result (text.new.items ≡ text.old.items ++ message_line message.now) }
+    ensures kept { OnErr result (text.new.items ≡ text.old.items) }
+    ensures fault { IfErr result (λ error. error ≡ FileError.Memory) }
+{
+    let told = text.len();
+    let Ok(()) = push_line(text, &[Word::Digits(message)]) else {
+        text.truncate(told);
+        return Err(FileError::Memory);
+    };
+    Ok(())
+}
+
+// Reads the next message, and writes its line where it is asked for; false where none is left.
+fn dump_next<S: Source>(
+    reader: &mut JournalReader,
+    source: &mut S,
+    from: u64,
+    count: u64,
+    text: &mut Vec<u8>,
+) -> Result<bool, FileError>
+    ensures next { IfOk result (λ more. OnTrue more (ReadsNext
+        (prepend_known reader.old.rest (S.left source.old))
+        (prepend_known reader.new.rest (S.left source.new)) reader.old reader.new)) }
+    ensures line { IfOk result (λ more. OnTrue more
+        (text.new.items ≡ text.old.items ++ next_line from count reader.old.count reader.new.message)) }
+    ensures end { IfOk result (λ more. OnFalse more (EndsWith
+        (prepend_known reader.old.rest (S.left source.old)) reader.old)) }
+    ensures same { IfOk result (λ more. OnFalse more (text.new.items ≡ text.old.items)) }
+    ensures refused { IfErr result (λ error. Refuses (RestFault reader.old.head.stated reader.old.count)
+        (prepend_known reader.old.rest (S.left source.old)) error) }
+    ensures kept { OnErr result (text.new.items ≡ text.old.items) }
+    ensures work { IfOk result (λ more. OnTrue more
+        (work_left (S.bound source.new) reader.new.rest < work_left (S.bound source.old) reader.old.rest)) }
+    ensures failures { CountsLoad (S.failed source.old) (S.failed source.new) result }
+{
+    let before = reader.count();
+    if !reader.advance(source)? {
+        return Ok(false);
+    }
+    if is_dumped(from, count, before) {
+        push_message(text, reader.message())?;
+    }
+    Ok(true)
+}
+
+// Sends the text, and answers the fault that ended the command.
+fn end_with<K: Sink>(
+    text: &mut Vec<u8>,
+    fault: CommandFault,
+    sink: &mut K,
+) -> Result<u8, CommandFault>
+    ensures fails { IsErr result }
+    ensures front { AppendsFront (K.held sink.old) (K.held sink.new) text.old.items }
+    ensures failures { (old new : ℕ) → CountsFault old new (K.failed sink.old) (K.failed sink.old) fault →
+        CountsCommand old new (K.failed sink.old) (K.failed sink.new) result }
+{
+    send(sink, text)?;
+    Err(fault)
+}
+
+// Writes why the file is none behind the text, sends both, and answers the status.
+fn tell_refusal<K: Sink>(
+    text: &mut Vec<u8>,
+    error: FileError,
+    sink: &mut K,
+) -> Result<u8, CommandFault>
+    ensures whole { IfOk result (λ status. Appends (K.held sink.old) (K.held sink.new)
+        (text.old.items ++ refused_line (file_fault_words error)) × (status ≡ 2)) }
+    ensures front { AppendsFront (K.held sink.old) (K.held sink.new)
+        (text.old.items ++ refused_line (file_fault_words error)) }
+    ensures failures { (count : ℕ) → CountsCommand count count (K.failed sink.old) (K.failed sink.new) result }
+{
+    let told = text.len();
+    let Ok(()) = push_file_refusal(text, error) else {
+        text.truncate(told);
+        return end_with(text, CommandFault::Memory, sink);
+    };
+    send(sink, text)?;
+    Ok(2)
+}
+
+// Sends the text and behind it why the file is none; or the text alone, where reading ended with a fault of the source
+// or of memory, which is answered.
+fn end_refused<K: Sink>(
+    text: &mut Vec<u8>,
+    error: FileError,
+    sink: &mut K,
+) -> Result<u8, CommandFault>
+    ensures whole { IfOk result (λ status. Appends (K.held sink.old) (K.held sink.new)
+        (text.old.items ++ ended_line (Some error)) × (status ≡ 2)) }
+    ensures told { OnOk result (IsTold (Some error)) }
+    ensures front { AppendsFront (K.held sink.old) (K.held sink.new) (text.old.items ++ ended_line (Some error)) }
+    ensures failures { (old new : ℕ) → CountsLoadFault old new error →
+        CountsCommand old new (K.failed sink.old) (K.failed sink.new) result }
+{
+    match error {
+        FileError::Read => end_with(text, CommandFault::Read, sink),
+        FileError::Memory => end_with(text, CommandFault::Memory, sink),
+        _ => tell_refusal(text, error, sink),
+    }
+}
+
+// Sends the text, and behind it how reading ended, and answers the status or the fault that it ended with.
+fn end_dump<K: Sink>(
+    text: &mut Vec<u8>,
+    ended: Option<FileError>,
+    sink: &mut K,
+) -> Result<u8, CommandFault>
+    ensures whole { IfOk result (λ status. Appends (K.held sink.old) (K.held sink.new)
+        (text.old.items ++ ended_line ended) × (status ≡ fault_status ended)) }
+    ensures told { OnOk result (IsTold ended) }
+    ensures front { AppendsFront (K.held sink.old) (K.held sink.new) (text.old.items ++ ended_line ended) }
+    ensures failures { (old new : ℕ) → CountsEnd old new ended →
+        CountsCommand old new (K.failed sink.old) (K.failed sink.new) result }
+{
+    match ended {
+        None => {
+            send(sink, text)?;
+            Ok(0)
+        }
+        Some(error) => end_refused(text, error, sink),
+    }
+}
+
+/// Reads the file of a journal, of either version, and writes a line for each of its messages from the number `from`
+/// on, at most `count` of them: the message's bytes as lower-case hexadecimal digits. Where the file is none, the
+/// messages before the fault are written, and then why. The status is 0, or 2 where the file is none. It holds no more
+/// than the longest message, what was read at once, and text that goes out in pieces of 65,536 bytes or more. After a
+/// fault a beginning of the text is written. `Read` and `Write` come only where the source or the sink failed, `Memory`
+/// only where a growth was refused.
+pub fn dump_file<S: Source, K: Sink>(
+    alloc: Global,
+    source: &mut S,
+    from: u64,
+    count: u64,
+    sink: &mut K,
+) -> Result<u8, CommandFault>
+    ensures whole { IfOk result (λ status. IfSome (S.left source.old) (λ bytes. (contents : FileContents bytes)
+        × (Appends (K.held sink.old) (K.held sink.new) (dump_text from count contents)
+        × (status ≡ dump_status contents)))) }
+    ensures front { IfSome (S.left source.old) (λ bytes. (contents : FileContents bytes) →
+        AppendsFront (K.held sink.old) (K.held sink.new) (dump_text from count contents)) }
+    ensures failures { CountsCommand (S.failed source.old) (S.failed source.new)
+        (K.failed sink.old) (K.failed sink.new) result }
+{
+    contents_law();
+    reader_law();
+    let mut text = Vec::new(alloc);
+    let mut reader = match JournalReader::new(alloc, source) {
+        Ok(reader) => reader,
+        Err(error) => return end_dump(&mut text, Some(error), sink),
+    };
+    'messages: loop {
+        match dump_next(&mut reader, source, from, count, &mut text) {
+            Ok(true) => {}
+            Ok(false) => return end_dump(&mut text, None, sink),
+            Err(error) => return end_dump(&mut text, Some(error), sink),
+        }
+        if text.len() >= LARGE {
+            send(sink, &mut text)?;
+        }
+    }
+}
