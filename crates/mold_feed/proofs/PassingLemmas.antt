@@ -67,11 +67,11 @@ first_sends a b {front} {passes} all begins are = record {
       ∙ sends_more a b (map routed_by front) (map routed_by begins.rest);
 }
 
-module _ {P E : Type 0} (drops : Drops) (a b to : P) (turns limit sent : ℕ) (published : PublishedLines)
+module _ {P E : Type 0} {reporting : Bool} (drops : Drops) (a b to : P) (turns limit sent : ℕ) (published : PublishedLines)
     (server : ServerState) (lines : LineState P) (rounds : RepairState P) (old new : Option (List ℕ))
     (lines_left : LineState P) (rounds_left : RepairState P) where
   run_sends : (result : Result ℕ E) →
-      LoopRun drops a b to turns limit sent published server lines rounds result old new lines_left rounds_left →
+      LoopRun reporting drops a b to turns limit sent published server lines rounds result old new lines_left rounds_left →
       LoopSends drops a b limit sent published result lines.publisher lines_left.publisher
   run_sends (Ok status) ran = record {
     front = all_sends a b (map routed_by ran.passes);
@@ -91,10 +91,10 @@ module _ {P E : Type 0} (drops : Drops) (a b to : P) (turns limit sent : ℕ) (p
   }
 
 -- so what its run says of a loop's port says which datagrams are sent
-pub loop_sends : {P E : Type 0} (drops : Drops) (a b to : P) (turns : ℕ) (start : PublisherState) (server : ServerState)
+pub loop_sends : {P E : Type 0} {reporting : Bool} (drops : Drops) (a b to : P) (turns : ℕ) (start : PublisherState) (server : ServerState)
     (lines : LineState P) (rounds : RepairState P) (known : Option (List ℕ)) (result : Result ℕ E)
     (old new : Option (List ℕ)) (lines_left : LineState P) (rounds_left : RepairState P) →
-    IfSome known (λ input. LoopRun drops a b to turns start.limit start.sent
+    IfSome known (λ input. LoopRun reporting drops a b to turns start.limit start.sent
     (lines_published start.journal (lines_of input)) server lines rounds result old new lines_left rounds_left) →
     IfSome known (λ input. LoopSends drops a b start.limit start.sent
     (lines_published start.journal (lines_of input)) result lines.publisher lines_left.publisher)
