@@ -40,7 +40,8 @@ pub fn listen_over<D: Datagrams, K: Sink>(
     ensures run { D.tells ≡ true → Ran (listening server order.now.burst) order.now.turns
         (beginning (D.port a.old) (D.port b.old) (D.port requests.old) (arbiter_of order.now))
         (listened_lines order.now.report) status
-        (Agrees (D.port a.new) (D.port b.new) (D.port requests.new) arbiter.new) result (K.held sink.old) (K.held sink.new) (D.port requests.new).sent }
+        (Agrees (D.port a.new) (D.port b.new) (D.port requests.new) arbiter.new)
+        result (K.held sink.old) (K.held sink.new) (D.port requests.new).sent }
     ensures sink { CountsSink (K.failed sink.old) (K.failed sink.new) result }
 {
     listen_loop(
