@@ -62,13 +62,13 @@ begins_routed drops limit sent published front begins =
     (begins_more (routed drops 1 (data_behind limit sent published)) (routed_end published.journal published.refused))
 
 -- before anything was passed
-pub loop_unbegun : {P E : Type 0} {reporting : Bool} (drops : Drops) (a b to : P) (turns : ℕ) (start : PublisherState) (server : ServerState)
+pub loop_unbegun : {P E : Type 0} (reporting : Bool) (drops : Drops) (a b to : P) (turns : ℕ) (start : PublisherState) (server : ServerState)
     (lines : LineState P) (rounds : RepairState P) (known : Option (List ℕ)) (result : Result ℕ E)
     (held : Option (List ℕ)) → IsErr result →
     IfSome known (λ input. LoopRun reporting drops a b to turns start.limit start.sent
     (lines_published start.journal (lines_of input)) server lines rounds result held held lines rounds)
 unfolding run
-loop_unbegun drops a b to turns start server lines rounds known result held failed =
+loop_unbegun reporting drops a b to turns start server lines rounds known result held failed =
     any_known known _
     (λ input.
     run_cut drops a b to turns start.limit start.sent (lines_published start.journal (lines_of input)) server lines
@@ -84,15 +84,15 @@ loop_unbegun drops a b to turns start server lines rounds known result held fail
     (record { rest = _; parts = refl }) failed refl refl)
 
 -- a fault while lines were read
-pub loop_unheard : {P E F : Type 0} {reporting : Bool} (drops : Drops) (a b to : P) (turns : ℕ) (start last : PublisherState)
+pub loop_unheard : {P E F : Type 0} (reporting : Bool) (drops : Drops) (a b to : P) (turns : ℕ) (start last : PublisherState)
     (server : ServerState) (lines : LineState P) (rounds : RepairState P) (known : Option (List ℕ))
     (found : Result (Option LineRefusal) F) (result : Result ℕ E) (old new : Option (List ℕ)) (lines_left : LineState P)
     (rounds_left : RepairState P) → IsErr result → rounds_left.server ≡ rounds.server →
     rounds_left.requests ≡ rounds.requests → HearsLines drops a b start last known found lines lines_left old new →
     IfSome known (λ input. LoopRun reporting drops a b to turns start.limit start.sent
     (lines_published start.journal (lines_of input)) server lines rounds result old new lines_left rounds_left)
-loop_unheard drops a b to turns start last server lines rounds None found result old new lines_left rounds_left failed kept same hears = tt
-loop_unheard drops a b to turns start last server lines rounds (Some input) found result old new lines_left rounds_left failed kept same hears =
+loop_unheard reporting drops a b to turns start last server lines rounds None found result old new lines_left rounds_left failed kept same hears = tt
+loop_unheard reporting drops a b to turns start last server lines rounds (Some input) found result old new lines_left rounds_left failed kept same hears =
     let published : PublishedLines = lines_published start.journal (lines_of input) in
     run_cut drops a b to turns start.limit start.sent published server lines rounds result lines_left rounds_left old new
     (record {
@@ -118,7 +118,7 @@ heard_of drops a b start now known refused first here old new hears = record {
 }
 
 -- a line is refused
-pub loop_stopped : {P E F : Type 0} {reporting : Bool} (drops : Drops) (a b to : P) (turns : ℕ) (start now : PublisherState)
+pub loop_stopped : {P E F : Type 0} (reporting : Bool) (drops : Drops) (a b to : P) (turns : ℕ) (start now : PublisherState)
     (server : ServerState) (lines : LineState P) (rounds : RepairState P) (known : Option (List ℕ))
     (why : LineRefusal) (number : ℕ) (result : Result ℕ E) (old mid new : Option (List ℕ)) (here lines_left : LineState P)
     (rounds_left : RepairState P) →
@@ -130,7 +130,7 @@ pub loop_stopped : {P E F : Type 0} {reporting : Bool} (drops : Drops) (a b to :
     OnOk result (rounds_left.hearing.outgoing ≡ written_out here.hearing.outgoing) →
     IfSome known (λ input. LoopRun reporting drops a b to turns start.limit start.sent
     (lines_published start.journal (lines_of input)) server lines rounds result old new lines_left rounds_left)
-loop_stopped {P} drops a b to turns start now server lines rounds known why number result old mid new here left asked hears numbered cut done agrees out =
+loop_stopped {P} reporting drops a b to turns start now server lines rounds known why number result old mid new here left asked hears numbered cut done agrees out =
     let published : PublishedLines = record { journal = now.journal; refused = Some why } in
     let text : List ℕ = here.hearing.outgoing.text in
     let choice : Bool × List Bool = (false, []) in
@@ -156,7 +156,7 @@ all_are drops start journal front whole =
     ap (λ (ds : List (List ℕ)). routed drops 1 ds ++ routed_end journal None) whole
 
 -- a fault while the end was passed
-pub loop_unended : {P T E F G : Type 0} {reporting : Bool} (drops : Drops) (a b to : P) (turns : ℕ) (start now : PublisherState)
+pub loop_unended : {P T E F G : Type 0} (reporting : Bool) (drops : Drops) (a b to : P) (turns : ℕ) (start now : PublisherState)
     (server : ServerState) (lines : LineState P) (rounds : RepairState P) (known : Option (List ℕ))
     (ended : Result T G) (result : Result ℕ E) (old new : Option (List ℕ)) (here lines_left : LineState P)
     (rounds_left : RepairState P) →
@@ -165,7 +165,7 @@ pub loop_unended : {P T E F G : Type 0} {reporting : Bool} (drops : Drops) (a b 
     rounds_left.server ≡ rounds.server → rounds_left.requests ≡ rounds.requests →
     IfSome known (λ input. LoopRun reporting drops a b to turns start.limit start.sent
     (lines_published start.journal (lines_of input)) server lines rounds result old new lines_left rounds_left)
-loop_unended {P} drops a b to turns start now server lines rounds known ended result old new here left asked hears has failed kept same =
+loop_unended {P} reporting drops a b to turns start now server lines rounds known ended result old new here left asked hears has failed kept same =
     let published : PublishedLines = record { journal = now.journal; refused = None } in
     run_from drops a b to turns start server lines rounds known now.journal None hears.front result old new
     left asked hears.all
@@ -212,7 +212,7 @@ heard_all {P} drops a b start now known lines here there old new value hears has
     (heard_more a b value (heard_of drops a b start now known None lines here old new hears) has)
 
 -- a fault in a round
-pub loop_unrepaired : {P T U E F G H : Type 0} {reporting : Bool} (drops : Drops) (a b to : P) (turns : ℕ) (start now : PublisherState)
+pub loop_unrepaired : {P T U E F G H : Type 0} (reporting : Bool) (drops : Drops) (a b to : P) (turns : ℕ) (start now : PublisherState)
     (server : ServerState) (lines : LineState P) (rounds : RepairState P) (known : Option (List ℕ)) (value : T)
     (asked : Result U H) (result : Result ℕ E) (old mid new : Option (List ℕ)) (here there lines_left : LineState P)
     (rounds_left : RepairState P) →
@@ -223,7 +223,7 @@ pub loop_unrepaired : {P T U E F G H : Type 0} {reporting : Bool} (drops : Drops
     IsErr result → lines_left.publisher ≡ there.publisher →
     IfSome known (λ input. LoopRun reporting drops a b to turns start.limit start.sent
     (lines_published start.journal (lines_of input)) server lines rounds result old new lines_left rounds_left)
-loop_unrepaired drops a b to turns start now server lines rounds known value asked result old mid new here there left made hears has rests failed same =
+loop_unrepaired reporting drops a b to turns start now server lines rounds known value asked result old mid new here there left made hears has rests failed same =
     run_from drops a b to turns start server lines rounds known now.journal None hears.front result old new
     left made hears.all
     (λ whole.
@@ -232,7 +232,7 @@ loop_unrepaired drops a b to turns start now server lines rounds known value ask
     (heard_all drops a b start now known lines here there old mid value hears has whole) rests failed same)
 
 -- the last line was printed, or a beginning of what was left to print
-pub loop_done : {P T U E F G H : Type 0} {reporting : Bool} (drops : Drops) (a b to : P) (turns : ℕ) (start now : PublisherState)
+pub loop_done : {P T U E F G H : Type 0} (reporting : Bool) (drops : Drops) (a b to : P) (turns : ℕ) (start now : PublisherState)
     (server : ServerState) (lines : LineState P) (rounds : RepairState P) (known : Option (List ℕ)) (value : T)
     (done : U) (result : Result ℕ E) (old mid second new : Option (List ℕ)) (here there lines_left : LineState P)
     (behind rounds_left : RepairState P) →
@@ -247,7 +247,7 @@ pub loop_done : {P T U E F G H : Type 0} {reporting : Bool} (drops : Drops) (a b
     OnOk result (rounds_left.hearing.outgoing ≡ written_out behind.hearing.outgoing) →
     IfSome known (λ input. LoopRun reporting drops a b to turns start.limit start.sent
     (lines_published start.journal (lines_of input)) server lines rounds result old new lines_left rounds_left)
-loop_done drops a b to turns start now server lines rounds known v done result old mid next new here there left made rest hears has rests cut printed is out =
+loop_done reporting drops a b to turns start now server lines rounds known v done result old mid next new here there left made rest hears has rests cut printed is out =
     run_from drops a b to turns start server lines rounds known now.journal None hears.front result old new
     left rest hears.all
     (λ whole.
