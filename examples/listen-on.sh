@@ -6,7 +6,8 @@
 #     sh examples/listen-on.sh NEXT WORD..
 #
 # NEXT is the number of the first message, and the words are those of `mold listen` but for --next. Run it at the top
-# of the repository. What comes while no one listens is requested from the server.
+# of the repository. What comes while no one listens is requested from the server. With --report each of them tells at
+# its end what came on its lines.
 set -u
 next=$1
 shift

@@ -481,13 +481,48 @@ def hear(view, datagram, said):
     return view
 
 
-def listen(view, heard):
-    """What is printed of datagrams, in the order in which they are taken."""
-    said = []
-    for datagram in heard:
-        view = hear(view, datagram, said)
-    line, status = last_line(view)
-    return text_of([*said, line]), status
+def reported(report, view, datagram):
+    """A line's report after a datagram that came on it."""
+    datagrams, refused, front = report
+    try:
+        receive(view, datagram)
+        return datagrams + 1, refused, max(front, packet_of(datagram).top())
+    except Refused:
+        return datagrams, refused + 1, front
+
+
+class Listener:
+    """What listens on lines `a` and `b`, and asks for what it lacks."""
+
+    def __init__(self, view):
+        self.view, self.said = view, []
+        # How many datagrams were taken on each line and how many refused, and how far it goes.
+        self.reports = {b"a": (0, 0, view.known), b"b": (0, 0, view.known)}
+
+    def hear(self, way, datagram):
+        """Takes a datagram that came on a line, or as an answer."""
+        if way in self.reports:
+            self.reports[way] = reported(self.reports[way], self.view, datagram)
+        self.view = hear(self.view, datagram, self.said)
+
+    def report_lines(self):
+        return [
+            f"line {way.decode()} datagrams {datagrams} refused {refused} front {front} lag {self.view.known - front}"
+            for way, (datagrams, refused, front) in self.reports.items()
+        ]
+
+    def text(self, is_reported):
+        """All that is printed, and the status."""
+        line, status = last_line(self.view)
+        return text_of([*self.said, *(self.report_lines() if is_reported else []), line]), status
+
+
+def listen(view, heard, is_reported):
+    """What is printed of datagrams with the ways on which they came, in the order in which they are taken."""
+    listener = Listener(view)
+    for way, datagram in heard:
+        listener.hear(way, datagram)
+    return listener.text(is_reported)
 
 
 # loop
@@ -498,27 +533,27 @@ def is_sent(drop, number):
     return drop == 0 or number % drop != 0
 
 
-def loop(session, limits, window, burst, drops, turns, some_bytes):
+def loop(session, limits, window, burst, drops, turns, is_reported, some_bytes):
     """Over ports that lose nothing. The limits are of publisher and server, the drops of A and B."""
     limit, server_limit = limits
     messages, refusal = messages_of(limit, lines_of(some_bytes))
     packets = packing(limit, session, 1, messages)
-    view, said = fresh(session, 1, window), []
+    listener = Listener(fresh(session, 1, window))
     for number, packet in enumerate(packets[:-1] if refusal else packets, 1):
-        for drop in drops:
+        for way, drop in zip(listener.reports, drops):
             if is_sent(drop, number):
-                view = hear(view, spelling(packet), said)
+                listener.hear(way, spelling(packet))
     if refusal:
-        return text_of([*said, refusal]), 2
-    for _ in drops:
-        view = hear(view, spelling(Packet("end", session, len(messages) + 1)), said)
+        return text_of([*listener.said, refusal]), 2
+    for way in listener.reports:
+        listener.hear(way, spelling(Packet("end", session, len(messages) + 1)))
     for _ in range(turns):
-        if view.wanted() is None:
+        wanted = listener.view.wanted()
+        if wanted is None:
             break
-        for packet in answer(session, messages, server_limit, burst, view.wanted().spelling()):
-            view = hear(view, spelling(packet), said)
-    line, status = last_line(view)
-    return text_of([*said, line]), status
+        for packet in answer(session, messages, server_limit, burst, wanted.spelling()):
+            listener.hear(b"answer", spelling(packet))
+    return listener.text(is_reported)
 
 
 # sim

@@ -191,7 +191,8 @@ def loop(chance):
     options |= {"window": chance.choice(WINDOWS), "burst": chance.choice(BURSTS)}
     options |= {name: chance.choice([0, 1, 2, 2, 3, 1000]) for name in ("drop-a", "drop-b")}
     options["turns"] = chance.choice([1, 2, 1000, 1000])
-    return case_of(chance, options, some_lines(chance, options["limit"], chance.choice([3, 12, 40])))
+    lines = some_lines(chance, options["limit"], chance.choice([3, 12, 40]))
+    return maybe_reporting(chance, case_of(chance, options, lines))
 
 
 def numbered(chance, value):
@@ -353,6 +354,13 @@ def maybe_live(chance, case):
     return case
 
 
+def maybe_reporting(chance, case):
+    """The case, in which the lines may be reported."""
+    if has(chance, 0.5):
+        case.words.append("--report")
+    return case
+
+
 def serve(chance):
     options = {"limit": chance.choice([64, 65, 100, 1400, 65507]), "burst": chance.choice(BURSTS)}
     drawn = file(chance)
@@ -388,8 +396,7 @@ def text_of_value(chance, name):
 
 
 def words(chance):
-    """Words of a command's options. One that has to be there may be left out, and one of another command be there. A
-    report is asked for where a port can't be opened, so that none is printed."""
+    """Words of a command's options. One that has to be there may be left out, and one of another command be there."""
     command = chance.choice(sorted(apart.COMMANDS))
     names = [it for it in apart.COMMANDS[command].split() if it not in apart.DEFAULTS or has(chance, 0.6)]
     if has(chance, 0.05):
@@ -401,7 +408,7 @@ def words(chance):
     for name, text in values.items():
         joined = text[:1] in ("-", "") or has(chance, 0.4)
         drawn += [f"--{name}={text}"] if joined else [f"--{name}", text]
-    if command == "listen" and has(chance, 0.3):
+    if command in ("listen", "loop") and has(chance, 0.3):
         drawn.append("--report")
     return Case({"command": command, "values": values}, [], drawn)
 
@@ -421,4 +428,4 @@ def listen(chance):
         drawn = damaged(chance, drawn) if has(chance, 0.1) else drawn
         items.append((chance.choice([b"a", b"a", b"b", b"b", b"answer"]), drawn))
         view = told(view, *items[-1]) or view
-    return maybe_live(chance, case_of(chance, options, items))
+    return maybe_reporting(chance, maybe_live(chance, case_of(chance, options, items)))

@@ -127,13 +127,16 @@ class Listening:
         self.view = view
         # The view at the last look.
         self.before = view
+        # With the ways on which they came.
         self.heard = []
+        # How many heartbeats were sent on line A.
+        self.beats = 0
         self.asking = None
         # What was asked that nobody wanted then.
         self.unwanted = []
 
-    def hear(self, datagram):
-        self.heard.append(datagram)
+    def hear(self, way, datagram):
+        self.heard.append((way, datagram))
         self.view = apart.hear(self.view, datagram, [])
 
     def look(self):
@@ -147,6 +150,7 @@ class Listening:
 
     def wake(self):
         """A heartbeat of number 1 changes nothing and prints nothing, and ends the wait of both lines."""
+        self.beats += 1
         self.feed.own.sendto(self.beat(), (own_host(), LINE_A))
 
     def beat(self):
@@ -155,12 +159,13 @@ class Listening:
     def tell(self, way, datagram):
         """Tells a datagram."""
         if way != b"answer":
-            self.hear(datagram)
+            self.hear(way, datagram)
             self.feed.send(datagram, LINE_A if way == b"a" else LINE_B)
         elif self.is_asked():
-            self.hear(datagram)
+            self.hear(way, datagram)
             self.feed.send(datagram, self.asking, self.wake, "0.0.0.0")
             # What woke it is taken before the next datagram is sent.
+            self.beats += 1
             self.feed.send(self.beat(), LINE_A)
         self.look()
 

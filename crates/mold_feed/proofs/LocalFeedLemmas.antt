@@ -155,17 +155,17 @@ rounds_so {D} {A} {P} port ports last listener server requests arbitration outgo
     ∙ ap (λ (o : OutgoingState). of ports.server ports.requests listener.arbiter o) is_outgoing
 
 -- so what is said of those is said of these
-pub loop_so : {P E : Type 0} (drops : Drops) (a b to : P) (turns : ℕ) (start : PublisherState) (server : ServerState)
+pub loop_so : {P E : Type 0} (reporting : Bool) (drops : Drops) (a b to : P) (turns : ℕ) (start : PublisherState) (server : ServerState)
     (from : LineState P) (begun : RepairState P) (known : Option (List ℕ)) (result : Result ℕ E)
     (old new : Option (List ℕ)) (lines_left lines_end : LineState P) (rounds_left rounds_end : RepairState P) →
     lines_end ≡ lines_left → rounds_end ≡ rounds_left →
-    IfSome known (λ input. LoopRun drops a b to turns start.limit start.sent
+    IfSome known (λ input. LoopRun reporting drops a b to turns start.limit start.sent
     (lines_published start.journal (lines_of input)) server from begun result old new lines_left rounds_left) →
-    IfSome known (λ input. LoopRun drops a b to turns start.limit start.sent
+    IfSome known (λ input. LoopRun reporting drops a b to turns start.limit start.sent
     (lines_published start.journal (lines_of input)) server from begun result old new lines_end rounds_end)
-loop_so {P} drops a b to turns start server from begun known result old new lines_left lines_end rounds_left rounds_end is_lines is_rounds ran =
+loop_so {P} reporting drops a b to turns start server from begun known result old new lines_left lines_end rounds_left rounds_end is_lines is_rounds ran =
     let leaves : LineState P → RepairState P → Type 0 =
-    λ l r. IfSome known (λ input. LoopRun drops a b to turns start.limit start.sent
+    λ l r. IfSome known (λ input. LoopRun reporting drops a b to turns start.limit start.sent
     (lines_published start.journal (lines_of input)) server from begun result old new l r) in
     subst (λ (l : LineState P). leaves l rounds_end) (sym is_lines)
     (subst (λ (r : RepairState P). leaves lines_left r) (sym is_rounds) ran)

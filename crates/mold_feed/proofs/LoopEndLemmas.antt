@@ -18,7 +18,7 @@ use Rattle.mold_feed.proofs.HeardLemmas.{Heard, heard_more, heard_failed, routed
 use Rattle.mold_feed.proofs.SendingLemmas.{any_known}
 use Rattle.mold_feed.proofs.RunLemmas.{begins_more, begins_none, begins_trans, begins_whole}
 use Rattle.mold_feed.specs.Outgoing.{OutgoingState, written_out}
-use Rattle.mold_feed.specs.Listening.{hearing, hearing_line, hearing_status}
+use Rattle.mold_feed.specs.Listening.{hearing, hearing_lines, hearing_status}
 use Rattle.mold_feed.specs.Looping.{HasPassed, HearsLines, IsData, LineState, LoopRun}
 use Rattle.mold_feed.specs.Looping.{with_heard}
 use Rattle.mold_feed.specs.Passing.{all_routed, routed, routed_end}
@@ -31,19 +31,19 @@ use Rattle.mold_feed.specs.declared.loop_parts.Routes.{Routes}
 use Rattle.mold_feed.proofs.LoopLemmas.{LoopStands, run_cut, run_end, run_unrepaired}
 
 -- the run of what was published is what is to be shown
-run_from : {P E : Type 0} (drops : Drops) (a b to : P) (turns : ℕ) (start : PublisherState) (server : ServerState)
+run_from : {P E : Type 0} {reporting : Bool} (drops : Drops) (a b to : P) (turns : ℕ) (start : PublisherState) (server : ServerState)
     (lines : LineState P) (rounds : RepairState P) (known : Option (List ℕ)) (journal : JournalState)
     (refused : Option LineRefusal) (front : List (List ℕ)) (result : Result ℕ E) (old new : Option (List ℕ))
     (lines_left : LineState P) (rounds_left : RepairState P) → IfSome known (IsData start front journal refused) →
     (data_behind start.limit start.sent (record { journal = journal; refused = refused }) ≡ front →
-    LoopRun drops a b to turns start.limit start.sent (record { journal = journal; refused = refused }) server lines
+    LoopRun reporting drops a b to turns start.limit start.sent (record { journal = journal; refused = refused }) server lines
     rounds result old new lines_left rounds_left) →
-    IfSome known (λ input. LoopRun drops a b to turns start.limit start.sent
+    IfSome known (λ input. LoopRun reporting drops a b to turns start.limit start.sent
     (lines_published start.journal (lines_of input)) server lines rounds result old new lines_left rounds_left)
-run_from drops a b to turns start server lines rounds None journal refused front result old new lines_left rounds_left all ran = tt
-run_from drops a b to turns start server lines rounds (Some input) journal refused front result old new lines_left rounds_left all ran =
+run_from {P} {E} {reporting} drops a b to turns start server lines rounds None journal refused front result old new lines_left rounds_left all ran = tt
+run_from {P} {E} {reporting} drops a b to turns start server lines rounds (Some input) journal refused front result old new lines_left rounds_left all ran =
     subst
-    (λ (p : PublishedLines). LoopRun drops a b to turns start.limit start.sent p server lines rounds result old new
+    (λ (p : PublishedLines). LoopRun reporting drops a b to turns start.limit start.sent p server lines rounds result old new
     lines_left rounds_left)
     (sym all.1)
     (ran (ap (λ (p : PublishedLines). data_behind start.limit start.sent p) (sym all.1) ∙ all.0))
@@ -62,13 +62,13 @@ begins_routed drops limit sent published front begins =
     (begins_more (routed drops 1 (data_behind limit sent published)) (routed_end published.journal published.refused))
 
 -- before anything was passed
-pub loop_unbegun : {P E : Type 0} (drops : Drops) (a b to : P) (turns : ℕ) (start : PublisherState) (server : ServerState)
+pub loop_unbegun : {P E : Type 0} (reporting : Bool) (drops : Drops) (a b to : P) (turns : ℕ) (start : PublisherState) (server : ServerState)
     (lines : LineState P) (rounds : RepairState P) (known : Option (List ℕ)) (result : Result ℕ E)
     (held : Option (List ℕ)) → IsErr result →
-    IfSome known (λ input. LoopRun drops a b to turns start.limit start.sent
+    IfSome known (λ input. LoopRun reporting drops a b to turns start.limit start.sent
     (lines_published start.journal (lines_of input)) server lines rounds result held held lines rounds)
 unfolding run
-loop_unbegun drops a b to turns start server lines rounds known result held failed =
+loop_unbegun reporting drops a b to turns start server lines rounds known result held failed =
     any_known known _
     (λ input.
     run_cut drops a b to turns start.limit start.sent (lines_published start.journal (lines_of input)) server lines
@@ -84,15 +84,15 @@ loop_unbegun drops a b to turns start server lines rounds known result held fail
     (record { rest = _; parts = refl }) failed refl refl)
 
 -- a fault while lines were read
-pub loop_unheard : {P E F : Type 0} (drops : Drops) (a b to : P) (turns : ℕ) (start last : PublisherState)
+pub loop_unheard : {P E F : Type 0} (reporting : Bool) (drops : Drops) (a b to : P) (turns : ℕ) (start last : PublisherState)
     (server : ServerState) (lines : LineState P) (rounds : RepairState P) (known : Option (List ℕ))
     (found : Result (Option LineRefusal) F) (result : Result ℕ E) (old new : Option (List ℕ)) (lines_left : LineState P)
     (rounds_left : RepairState P) → IsErr result → rounds_left.server ≡ rounds.server →
     rounds_left.requests ≡ rounds.requests → HearsLines drops a b start last known found lines lines_left old new →
-    IfSome known (λ input. LoopRun drops a b to turns start.limit start.sent
+    IfSome known (λ input. LoopRun reporting drops a b to turns start.limit start.sent
     (lines_published start.journal (lines_of input)) server lines rounds result old new lines_left rounds_left)
-loop_unheard drops a b to turns start last server lines rounds None found result old new lines_left rounds_left failed kept same hears = tt
-loop_unheard drops a b to turns start last server lines rounds (Some input) found result old new lines_left rounds_left failed kept same hears =
+loop_unheard reporting drops a b to turns start last server lines rounds None found result old new lines_left rounds_left failed kept same hears = tt
+loop_unheard reporting drops a b to turns start last server lines rounds (Some input) found result old new lines_left rounds_left failed kept same hears =
     let published : PublishedLines = lines_published start.journal (lines_of input) in
     run_cut drops a b to turns start.limit start.sent published server lines rounds result lines_left rounds_left old new
     (record {
@@ -118,7 +118,7 @@ heard_of drops a b start now known refused first here old new hears = record {
 }
 
 -- a line is refused
-pub loop_stopped : {P E F : Type 0} (drops : Drops) (a b to : P) (turns : ℕ) (start now : PublisherState)
+pub loop_stopped : {P E F : Type 0} (reporting : Bool) (drops : Drops) (a b to : P) (turns : ℕ) (start now : PublisherState)
     (server : ServerState) (lines : LineState P) (rounds : RepairState P) (known : Option (List ℕ))
     (why : LineRefusal) (number : ℕ) (result : Result ℕ E) (old mid new : Option (List ℕ)) (here lines_left : LineState P)
     (rounds_left : RepairState P) →
@@ -128,9 +128,9 @@ pub loop_stopped : {P E F : Type 0} (drops : Drops) (a b to : P) (turns : ℕ) (
     IfOk result (λ status. Appends mid new (here.hearing.outgoing.text ++ refused_text number why) × (status ≡ 2)) →
     LoopStands lines_left here rounds_left (with_heard here.hearing rounds) →
     OnOk result (rounds_left.hearing.outgoing ≡ written_out here.hearing.outgoing) →
-    IfSome known (λ input. LoopRun drops a b to turns start.limit start.sent
+    IfSome known (λ input. LoopRun reporting drops a b to turns start.limit start.sent
     (lines_published start.journal (lines_of input)) server lines rounds result old new lines_left rounds_left)
-loop_stopped {P} drops a b to turns start now server lines rounds known why number result old mid new here left asked hears numbered cut done agrees out =
+loop_stopped {P} reporting drops a b to turns start now server lines rounds known why number result old mid new here left asked hears numbered cut done agrees out =
     let published : PublishedLines = record { journal = now.journal; refused = Some why } in
     let text : List ℕ = here.hearing.outgoing.text in
     let choice : Bool × List Bool = (false, []) in
@@ -156,16 +156,16 @@ all_are drops start journal front whole =
     ap (λ (ds : List (List ℕ)). routed drops 1 ds ++ routed_end journal None) whole
 
 -- a fault while the end was passed
-pub loop_unended : {P T E F G : Type 0} (drops : Drops) (a b to : P) (turns : ℕ) (start now : PublisherState)
+pub loop_unended : {P T E F G : Type 0} (reporting : Bool) (drops : Drops) (a b to : P) (turns : ℕ) (start now : PublisherState)
     (server : ServerState) (lines : LineState P) (rounds : RepairState P) (known : Option (List ℕ))
     (ended : Result T G) (result : Result ℕ E) (old new : Option (List ℕ)) (here lines_left : LineState P)
     (rounds_left : RepairState P) →
     HearsLines {E = F} drops a b start now known (Ok None) lines here old new →
     HasPassed a b (routed_end now.journal None) ended here lines_left → IsErr result →
     rounds_left.server ≡ rounds.server → rounds_left.requests ≡ rounds.requests →
-    IfSome known (λ input. LoopRun drops a b to turns start.limit start.sent
+    IfSome known (λ input. LoopRun reporting drops a b to turns start.limit start.sent
     (lines_published start.journal (lines_of input)) server lines rounds result old new lines_left rounds_left)
-loop_unended {P} drops a b to turns start now server lines rounds known ended result old new here left asked hears has failed kept same =
+loop_unended {P} reporting drops a b to turns start now server lines rounds known ended result old new here left asked hears has failed kept same =
     let published : PublishedLines = record { journal = now.journal; refused = None } in
     run_from drops a b to turns start server lines rounds known now.journal None hears.front result old new
     left asked hears.all
@@ -212,7 +212,7 @@ heard_all {P} drops a b start now known lines here there old new value hears has
     (heard_more a b value (heard_of drops a b start now known None lines here old new hears) has)
 
 -- a fault in a round
-pub loop_unrepaired : {P T U E F G H : Type 0} (drops : Drops) (a b to : P) (turns : ℕ) (start now : PublisherState)
+pub loop_unrepaired : {P T U E F G H : Type 0} (reporting : Bool) (drops : Drops) (a b to : P) (turns : ℕ) (start now : PublisherState)
     (server : ServerState) (lines : LineState P) (rounds : RepairState P) (known : Option (List ℕ)) (value : T)
     (asked : Result U H) (result : Result ℕ E) (old mid new : Option (List ℕ)) (here there lines_left : LineState P)
     (rounds_left : RepairState P) →
@@ -221,9 +221,9 @@ pub loop_unrepaired : {P T U E F G H : Type 0} (drops : Drops) (a b to : P) (tur
     RestsOfTwo (repairing to (service_of (record now.journal { closed = true }) server)) answers_sent text_before turns
     (with_heard there.hearing rounds) asked mid new rounds_left →
     IsErr result → lines_left.publisher ≡ there.publisher →
-    IfSome known (λ input. LoopRun drops a b to turns start.limit start.sent
+    IfSome known (λ input. LoopRun reporting drops a b to turns start.limit start.sent
     (lines_published start.journal (lines_of input)) server lines rounds result old new lines_left rounds_left)
-loop_unrepaired drops a b to turns start now server lines rounds known value asked result old mid new here there left made hears has rests failed same =
+loop_unrepaired reporting drops a b to turns start now server lines rounds known value asked result old mid new here there left made hears has rests failed same =
     run_from drops a b to turns start server lines rounds known now.journal None hears.front result old new
     left made hears.all
     (λ whole.
@@ -232,7 +232,7 @@ loop_unrepaired drops a b to turns start now server lines rounds known value ask
     (heard_all drops a b start now known lines here there old mid value hears has whole) rests failed same)
 
 -- the last line was printed, or a beginning of what was left to print
-pub loop_done : {P T U E F G H : Type 0} (drops : Drops) (a b to : P) (turns : ℕ) (start now : PublisherState)
+pub loop_done : {P T U E F G H : Type 0} (reporting : Bool) (drops : Drops) (a b to : P) (turns : ℕ) (start now : PublisherState)
     (server : ServerState) (lines : LineState P) (rounds : RepairState P) (known : Option (List ℕ)) (value : T)
     (done : U) (result : Result ℕ E) (old mid second new : Option (List ℕ)) (here there lines_left : LineState P)
     (behind rounds_left : RepairState P) →
@@ -240,14 +240,14 @@ pub loop_done : {P T U E F G H : Type 0} (drops : Drops) (a b to : P) (turns : �
     HasPassed {T = T} {E = G} a b (routed_end now.journal None) (Ok value) here there →
     RestsOfTwo {E = H} (repairing to (service_of (record now.journal { closed = true }) server)) answers_sent text_before
     turns (with_heard there.hearing rounds) (Ok done) mid second behind →
-    AppendsFront second new (behind.hearing.outgoing.text ++ hearing_line behind.hearing) →
-    IfOk result (λ status. Appends second new (behind.hearing.outgoing.text ++ hearing_line behind.hearing)
+    AppendsFront second new (behind.hearing.outgoing.text ++ hearing_lines reporting behind.hearing) →
+    IfOk result (λ status. Appends second new (behind.hearing.outgoing.text ++ hearing_lines reporting behind.hearing)
     × (status ≡ hearing_status behind.hearing)) →
     LoopStands lines_left there rounds_left behind →
     OnOk result (rounds_left.hearing.outgoing ≡ written_out behind.hearing.outgoing) →
-    IfSome known (λ input. LoopRun drops a b to turns start.limit start.sent
+    IfSome known (λ input. LoopRun reporting drops a b to turns start.limit start.sent
     (lines_published start.journal (lines_of input)) server lines rounds result old new lines_left rounds_left)
-loop_done drops a b to turns start now server lines rounds known v done result old mid next new here there left made rest hears has rests cut printed is out =
+loop_done reporting drops a b to turns start now server lines rounds known v done result old mid next new here there left made rest hears has rests cut printed is out =
     run_from drops a b to turns start server lines rounds known now.journal None hears.front result old new
     left rest hears.all
     (λ whole.

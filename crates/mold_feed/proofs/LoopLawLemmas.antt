@@ -7,9 +7,9 @@ use Rattle.std.specs.List.{AllByRecursion}
 use Rattle.std.proofs.lemmas.Result.{IfOk-weaker}
 use Rattle.mold_devices.specs.Devices.{AppendsFront}
 use Rattle.mold_feed.specs.Heard.{GivesOnly, PrintsLines, PrintsRefused, Saying, lines_text, sayings_text}
-use Rattle.mold_feed.specs.Listening.{Asking, Hearing, ListenerState, hearing_line, hearing_status, missed}
+use Rattle.mold_feed.specs.Listening.{Asking, Hearing, ListenerState, hearing_lines, hearing_status, missed}
 use Rattle.mold_feed.specs.Looping.{Failed, LeftOut, LineState, LoopRun, Outcome, Pass, Sent, StandsBehind}
-use Rattle.mold_feed.specs.Looping.{heard_if, heard_on, lines_behind, loop_end, loop_line, loop_status, loop_text, offered_by}
+use Rattle.mold_feed.specs.Looping.{heard_if, heard_on, lines_behind, loop_end, loop_lines, loop_status, loop_text, offered_by}
 use Rattle.mold_feed.specs.Looping.{outgoing_after, passed, port_after, received_if, rounds_made}
 use Rattle.mold_feed.specs.Looping.{routed_by, sent_by, with_heard}
 use Rattle.mold_feed.specs.Outgoing.{OutgoingState}
@@ -294,12 +294,12 @@ gives_true : {P : Type 0} (Good : List ℕ → Type 0) (sent : List (P × List �
 gives_true Good sent port all gives =
     port_weaker (WasSent sent) Good (λ bytes was. sent_one Good sent was.to bytes all was.among) port gives
 
-module _ {P : Type 0} (laws : LoopLaws P) (drops : Drops) (a b to : P) (turns limit : ℕ) (journal : JournalState)
-    (lines : List (List ℕ)) (server : ServerState) (start start_left : LineState P) (rounds rounds_left : RepairState P)
+module _ {P : Type 0} (laws : LoopLaws P) (reporting : Bool) (drops : Drops) (a b to : P) (turns limit : ℕ)
+    (journal : JournalState) (lines : List (List ℕ)) (server : ServerState) (start start_left : LineState P) (rounds rounds_left : RepairState P)
     {E : Type 0} (result : Result ℕ E) (old new : Option (List ℕ)) (opening : IsOpening journal limit)
     (may : (lines_published journal lines).refused ≡ None → MayAnswer (left_by journal lines) server.limit)
     (own : OwnPorts start start_left rounds rounds_left)
-    (ran : LoopRun drops a b to turns limit 0 (lines_published journal lines) server start rounds result old new
+    (ran : LoopRun reporting drops a b to turns limit 0 (lines_published journal lines) server start rounds result old new
     start_left rounds_left) where
   abbrev published : PublishedLines
   published = lines_published journal lines
@@ -405,13 +405,13 @@ module _ {P : Type 0} (laws : LoopLaws P) (drops : Drops) (a b to : P) (turns li
           ∙ ap (lines_text first) (between_front lines count first next least from
           (let most_of = ap (λ (messages : List Message). length messages) same in omega (arith, most_of, within)))
 
-      -- the last line and the status are those of the refusal
-      all_is : loop_text published end
+      -- the last lines and the status are those of the refusal
+      all_is : loop_text reporting published end
           ≡ lines_text first (between lines first end.arbitration.view.next) ++ refused_text (count + 1) why
       all_is =
-          ap (λ (text : List ℕ). text ++ loop_line published.journal published.refused end) refused_is
+          ap (λ (text : List ℕ). text ++ loop_lines reporting published.journal published.refused end) refused_is
           ∙ ap (λ (r : Option LineRefusal).
-          lines_text first (between lines first end.arbitration.view.next) ++ loop_line published.journal r end) refused
+          lines_text first (between lines first end.arbitration.view.next) ++ loop_lines reporting published.journal r end) refused
 
       two_is : loop_status published.refused end ≡ 2
       two_is = ap (λ (r : Option LineRefusal). loop_status r end) refused
@@ -435,9 +435,9 @@ module _ {P : Type 0} (laws : LoopLaws P) (drops : Drops) (a b to : P) (turns li
       spelled : HasLines lines left
       spelled = laws.opening.lines limit journal lines opening unrefused
 
-      -- the last line and the status are a listener's
-      line_is : loop_line published.journal published.refused end ≡ hearing_line end
-      line_is = ap (λ (refused : Option LineRefusal). loop_line published.journal refused end) unrefused
+      -- the last lines and the status are a listener's
+      line_is : loop_lines reporting published.journal published.refused end ≡ hearing_lines reporting end
+      line_is = ap (λ (refused : Option LineRefusal). loop_lines reporting published.journal refused end) unrefused
 
       status_is : loop_status published.refused end ≡ hearing_status end
       status_is = ap (λ (refused : Option LineRefusal). loop_status refused end) unrefused
@@ -445,7 +445,7 @@ module _ {P : Type 0} (laws : LoopLaws P) (drops : Drops) (a b to : P) (turns li
       abbrev ending : ListenerState P
       ending = record { a = start.a; b = start.b; requests = rounds.requests; hearing = end }
 
-      comes : HasCome lines first ending result old new
+      comes : HasCome reporting lines first ending result old new
       comes =
           let many : length lines ≡ length left.messages = spelled_length lines left.messages spelled.spelled in
           record {
@@ -467,7 +467,7 @@ module _ {P : Type 0} (laws : LoopLaws P) (drops : Drops) (a b to : P) (turns li
                 omega (arith, many, is);
           }
 
-      pub loop_prints_lines : PrintsLines lines first result old new
+      pub loop_prints_lines : PrintsLines reporting lines first result old new
       loop_prints_lines =
           prints_lines comes
           (text_is ∙ text_between lines left.messages first end.arbitration.view.next spelled.spelled)

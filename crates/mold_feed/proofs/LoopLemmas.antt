@@ -19,7 +19,7 @@ use Rattle.mold_feed.proofs.RunLemmas.{begins_behind, begins_more, begins_trans,
 use Rattle.mold_feed.proofs.TurnLemmas.{hearing_before}
 use Rattle.mold_feed.specs.Listening.{Hearing}
 use Rattle.mold_feed.specs.Looping.{LineState, LoopRun, Outcome, LeftOut, Sent, Pass}
-use Rattle.mold_feed.specs.Looping.{goes_out, lines_behind, loop_line, loop_status, loop_text, passing}
+use Rattle.mold_feed.specs.Looping.{goes_out, lines_behind, loop_lines, loop_status, loop_text, passing}
 use Rattle.mold_feed.specs.Looping.{rounds_behind, rounds_made, routed_by, text_front, with_heard}
 use Rattle.mold_feed.specs.Outgoing.{written_out}
 use Rattle.mold_feed.specs.Passing.{all_routed}
@@ -87,10 +87,10 @@ rounds_answer None to service choices s =
     grows_in (repairing to service) answers_sent (round_answers to service) choices s
 rounds_answer (Some why) to service choices s = begins_whole s.server.sent
 
-line_front : (journal : JournalState) (refused : Option LineRefusal) (front : List ℕ) (e : Hearing) →
-    loop_line journal refused (hearing_before front e) ≡ loop_line journal refused e
-line_front journal None front e = refl
-line_front journal (Some why) front e = refl
+line_front : (reporting : Bool) (journal : JournalState) (refused : Option LineRefusal) (front : List ℕ) (e : Hearing) →
+    loop_lines reporting journal refused (hearing_before front e) ≡ loop_lines reporting journal refused e
+line_front reporting journal None front e = refl
+line_front reporting journal (Some why) front e = refl
 
 status_front : (refused : Option LineRefusal) (front : List ℕ) (e : Hearing) →
     loop_status refused (hearing_before front e) ≡ loop_status refused e
@@ -113,11 +113,11 @@ end_is {P} a b to published server passes choices lines mid rounds now front bac
     ∙ ap (text_before front) made
     ∙ (rounds_are to service).twice front back now
 
-text_is : (published : PublishedLines) (front : List ℕ) (e : Hearing) →
-    loop_text published (hearing_before front e) ≡ front ++ loop_text published e
-text_is published front e =
-    ap (λ (l : List ℕ). (front ++ e.outgoing.text) ++ l) (line_front published.journal published.refused front e)
-    ∙ append_assoc front e.outgoing.text (loop_line published.journal published.refused e)
+text_is : (reporting : Bool) (published : PublishedLines) (front : List ℕ) (e : Hearing) →
+    loop_text reporting published (hearing_before front e) ≡ front ++ loop_text reporting published e
+text_is reporting published front e =
+    ap (λ (l : List ℕ). (front ++ e.outgoing.text) ++ l) (line_front reporting published.journal published.refused front e)
+    ∙ append_assoc front e.outgoing.text (loop_lines reporting published.journal published.refused e)
 
 behind_ok : {E : Type 0} (result : Result ℕ E) (old mid new : Option (List ℕ)) (front text whole : List ℕ)
     (status other : ℕ) → Appends old mid front → whole ≡ front ++ text → other ≡ status →
@@ -139,14 +139,14 @@ pub record LoopStands {P : Type 0} (lines line_end : LineState P) (rounds round_
   pub answered_left : rounds.answered ≡ round_end.answered
   pub arbiter_left : rounds.hearing.arbitration ≡ round_end.hearing.arbitration
 
-module _ {P : Type 0} (drops : Drops) (a b to : P) (turns limit sent : ℕ) (published : PublishedLines)
-    (server : ServerState) (lines : LineState P) (rounds : RepairState P) where
+module _ {P : Type 0} {reporting : Bool} (drops : Drops) (a b to : P) (turns limit sent : ℕ)
+    (published : PublishedLines) (server : ServerState) (lines : LineState P) (rounds : RepairState P) where
   -- a fault while the data or the end were passed
   pub run_cut : {E : Type 0} (result : Result ℕ E) {xs : List (Routes × List ℕ)} (lines_left : LineState P)
       (rounds_left : RepairState P) (old new : Option (List ℕ)) → HeardFront a b xs lines lines_left old new →
       Begins xs (all_routed drops limit sent published) → IsErr result →
       rounds_left.server ≡ rounds.server → rounds_left.requests ≡ rounds.requests →
-      LoopRun drops a b to turns limit sent published server lines rounds result old new lines_left rounds_left
+      LoopRun reporting drops a b to turns limit sent published server lines rounds result old new lines_left rounds_left
   run_cut result {xs} lines_left rounds_left old new heard begins failed kept same =
       let rest : List Pass = all_sent begins.rest in
       let passes : List Pass = heard.passes ++ rest in
@@ -155,12 +155,12 @@ module _ {P : Type 0} (drops : Drops) (a b to : P) (turns limit sent : ℕ) (pub
       let service : Service = service_of (left_journal published) server in
       let heard_there : Hearing = (lines_behind a b passes lines).hearing in
       let end : RepairState P = rounds_behind to published server choices heard_there rounds in
-      let text : Begins heard.written (loop_text published end.hearing) =
+      let text : Begins heard.written (loop_text reporting published end.hearing) =
       begins_trans heard.text
       (begins_trans
       (lines_grow a b (passing a b).text (passes_are a b).prints heard.passes rest lines)
       (begins_trans (rounds_print published.refused to service choices (with_heard heard_there rounds))
-      (begins_more end.hearing.outgoing.text (loop_line published.journal published.refused end.hearing)))) in
+      (begins_more end.hearing.outgoing.text (loop_lines reporting published.journal published.refused end.hearing)))) in
       record {
         passes = passes;
         are =
@@ -187,12 +187,12 @@ module _ {P : Type 0} (drops : Drops) (a b to : P) (turns limit sent : ℕ) (pub
       (old first second new : Option (List ℕ)) (choices : List (Bool × List Bool)) (written : List ℕ) →
       Heard a b (all_routed drops limit sent published) lines mid old first → length choices ≡ turns →
       Appends first second written → rounds_behind to published server choices mid.hearing rounds ≡ text_before written now →
-      AppendsFront second new (loop_text published now.hearing) →
-      IfOk result (λ status. Appends second new (loop_text published now.hearing)
+      AppendsFront second new (loop_text reporting published now.hearing) →
+      IfOk result (λ status. Appends second new (loop_text reporting published now.hearing)
       × (status ≡ loop_status published.refused now.hearing)) →
       LoopStands lines_left mid rounds_left now →
       OnOk result (rounds_left.hearing.outgoing ≡ written_out now.hearing.outgoing) →
-      LoopRun drops a b to turns limit sent published server lines rounds result old new lines_left rounds_left
+      LoopRun reporting drops a b to turns limit sent published server lines rounds result old new lines_left rounds_left
   run_end result mid lines_left now rounds_left old first second new choices written heard counted appended made cut done agrees out =
       let before : List ℕ = heard.written ++ written in
       let end : RepairState P =
@@ -201,8 +201,8 @@ module _ {P : Type 0} (drops : Drops) (a b to : P) (turns limit sent : ℕ) (pub
       end_is a b to published server heard.passes choices lines mid rounds now heard.written written heard.whole made in
       let start : Appends old second before =
       Appends-trans old first second heard.written written heard.appended appended in
-      let text : loop_text published end.hearing ≡ before ++ loop_text published now.hearing =
-      ap (λ (s : RepairState P). loop_text published s.hearing) is ∙ text_is published before now.hearing in
+      let text : loop_text reporting published end.hearing ≡ before ++ loop_text reporting published now.hearing =
+      ap (λ (s : RepairState P). loop_text reporting published s.hearing) is ∙ text_is reporting published before now.hearing in
       let status : loop_status published.refused end.hearing ≡ loop_status published.refused now.hearing =
       ap (λ (s : RepairState P). loop_status published.refused s.hearing) is
       ∙ status_front published.refused before now.hearing in
@@ -212,7 +212,7 @@ module _ {P : Type 0} (drops : Drops) (a b to : P) (turns limit sent : ℕ) (pub
         choices = choices;
         counted = counted;
         whole =
-            behind_ok result old second new before (loop_text published now.hearing) (loop_text published end.hearing)
+            behind_ok result old second new before (loop_text reporting published now.hearing) (loop_text reporting published end.hearing)
             (loop_status published.refused now.hearing) (loop_status published.refused end.hearing) start text status
             done;
         left =
@@ -251,16 +251,16 @@ module _ {P : Type 0} (drops : Drops) (a b to : P) (turns limit sent : ℕ) (pub
       }
 
 -- a fault in a round
-pub run_unrepaired : {P T E F : Type 0} (drops : Drops) (a b to : P) (turns limit sent : ℕ) (journal : JournalState)
+pub run_unrepaired : {P T E F : Type 0} {reporting : Bool} (drops : Drops) (a b to : P) (turns limit sent : ℕ) (journal : JournalState)
     (server : ServerState) (lines : LineState P) (rounds : RepairState P) (asked : Result T F) (result : Result ℕ E)
     (mid lines_left : LineState P) (now : RepairState P) (old first new : Option (List ℕ)) →
     Heard a b (all_routed drops limit sent (record { journal = journal; refused = None })) lines mid old first →
     RestsOfTwo (repairing to (service_of (left_journal (record { journal = journal; refused = None })) server)) answers_sent
     text_before turns (with_heard mid.hearing rounds) asked first new now →
     IsErr result → lines_left.publisher ≡ mid.publisher →
-    LoopRun drops a b to turns limit sent (record { journal = journal; refused = None }) server lines rounds result old
+    LoopRun reporting drops a b to turns limit sent (record { journal = journal; refused = None }) server lines rounds result old
     new lines_left now
-run_unrepaired {P} drops a b to turns limit sent journal server lines rounds asked result mid lines_left now old first new heard two failed same =
+run_unrepaired {P} {T} {E} {F} {reporting} drops a b to turns limit sent journal server lines rounds asked result mid lines_left now old first new heard two failed same =
     let published : PublishedLines = record { journal = journal; refused = None } in
     let service : Service = service_of (left_journal published) server in
     let rests = two.rests in
@@ -270,11 +270,11 @@ run_unrepaired {P} drops a b to turns limit sent journal server lines rounds ask
     let is : end ≡ text_before heard.written made =
     ap (λ (s : LineState P). rounds_behind to published server rests.choices s.hearing rounds) heard.whole
     ∙ rounds_front None to service rests.choices heard.written (with_heard mid.hearing rounds) in
-    let text : Begins (heard.written ++ rests.written) (loop_text published end.hearing) =
+    let text : Begins (heard.written ++ rests.written) (loop_text reporting published end.hearing) =
     begins_trans
     (subst (λ (s : RepairState P). Begins (heard.written ++ rests.written) s.hearing.outgoing.text) (sym is)
     (begins_behind heard.written rests.front))
-    (begins_more end.hearing.outgoing.text (loop_line journal None end.hearing)) in
+    (begins_more end.hearing.outgoing.text (loop_lines reporting journal None end.hearing)) in
     record {
       passes = heard.passes;
       are = heard.are;

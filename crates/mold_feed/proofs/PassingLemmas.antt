@@ -1,5 +1,5 @@
 -- What a loop's publisher sends, by the datagrams that it passes.
-use Rattle.std.proofs.Common.{◌≡◌, ◌∙◌, ℕ, List, [], ◌∷◌, ◌++◌, true, false, map}
+use Rattle.std.proofs.Common.{◌≡◌, ◌∙◌, ℕ, Bool, List, [], ◌∷◌, ◌++◌, true, false, map}
 use Rattle.std.proofs.Common.{Option, None, Some, Result, Ok, Err, ap, refl, sym, subst, append_assoc}
 use Rattle.std.proofs.lemmas.List.{map-append}
 use Rattle.std.specs.Prelude.{IfSome}
@@ -67,11 +67,11 @@ first_sends a b {front} {passes} all begins are = record {
       ∙ sends_more a b (map routed_by front) (map routed_by begins.rest);
 }
 
-module _ {P E : Type 0} (drops : Drops) (a b to : P) (turns limit sent : ℕ) (published : PublishedLines)
+module _ {P E : Type 0} {reporting : Bool} (drops : Drops) (a b to : P) (turns limit sent : ℕ) (published : PublishedLines)
     (server : ServerState) (lines : LineState P) (rounds : RepairState P) (old new : Option (List ℕ))
     (lines_left : LineState P) (rounds_left : RepairState P) where
   run_sends : (result : Result ℕ E) →
-      LoopRun drops a b to turns limit sent published server lines rounds result old new lines_left rounds_left →
+      LoopRun reporting drops a b to turns limit sent published server lines rounds result old new lines_left rounds_left →
       LoopSends drops a b limit sent published result lines.publisher lines_left.publisher
   run_sends (Ok status) ran = record {
     front = all_sends a b (map routed_by ran.passes);
@@ -91,14 +91,14 @@ module _ {P E : Type 0} (drops : Drops) (a b to : P) (turns limit sent : ℕ) (p
   }
 
 -- so what its run says of a loop's port says which datagrams are sent
-pub loop_sends : {P E : Type 0} (drops : Drops) (a b to : P) (turns : ℕ) (start : PublisherState) (server : ServerState)
+pub loop_sends : {P E : Type 0} (reporting : Bool) (drops : Drops) (a b to : P) (turns : ℕ) (start : PublisherState) (server : ServerState)
     (lines : LineState P) (rounds : RepairState P) (known : Option (List ℕ)) (result : Result ℕ E)
     (old new : Option (List ℕ)) (lines_left : LineState P) (rounds_left : RepairState P) →
-    IfSome known (λ input. LoopRun drops a b to turns start.limit start.sent
+    IfSome known (λ input. LoopRun reporting drops a b to turns start.limit start.sent
     (lines_published start.journal (lines_of input)) server lines rounds result old new lines_left rounds_left) →
     IfSome known (λ input. LoopSends drops a b start.limit start.sent
     (lines_published start.journal (lines_of input)) result lines.publisher lines_left.publisher)
-loop_sends drops a b to turns start server lines rounds None result old new lines_left rounds_left ran = tt
-loop_sends drops a b to turns start server lines rounds (Some input) result old new lines_left rounds_left ran =
+loop_sends reporting drops a b to turns start server lines rounds None result old new lines_left rounds_left ran = tt
+loop_sends reporting drops a b to turns start server lines rounds (Some input) result old new lines_left rounds_left ran =
     run_sends drops a b to turns start.limit start.sent (lines_published start.journal (lines_of input)) server lines rounds
     old new lines_left rounds_left result ran

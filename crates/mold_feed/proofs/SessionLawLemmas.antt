@@ -9,13 +9,13 @@ use Rattle.std.proofs.lemmas.Result.{IfOk-weaker}
 use Rattle.mold_devices.specs.Devices.{AppendsFront}
 use Rattle.mold_devices.specs.declared.fault.CommandFault.{CommandFault}
 use Rattle.mold_feed.specs.Heard.{Gives, GivesOnly, HasFinished, HasListened, Hears, HearsOnly, IsFed, IsHarmless, IsStrange, PrintsAmong}
-use Rattle.mold_feed.specs.Heard.{PrintsLines, PrintsOpen, lines_text, closing_line, closing_status}
-use Rattle.mold_feed.specs.Listening.{ListenerState, beginning, is_finished, listened_line, listening, status}
+use Rattle.mold_feed.specs.Heard.{PrintsLines, PrintsOpen, lines_text, closing_lines, closing_status}
+use Rattle.mold_feed.specs.Listening.{ListenerState, beginning, is_finished, listened_lines, listening, status}
 use Rattle.mold_feed.specs.PublishLoop.{PublishRun, closed_unless}
 use Rattle.mold_feed.specs.Runs.{Ran, run}
 use Rattle.mold_feed.specs.Sent.{AllSent, HasLines, HasLinesBefore, IsCopy, IsOpening, IsPublished, IsSent, IsServed}
 use Rattle.mold_feed.specs.Serving.{ResponderState, Service, serving}
-use Rattle.mold_feed.specs.Text.{handed_text, open_line}
+use Rattle.mold_feed.specs.Text.{handed_text}
 use Rattle.mold_feed.proofs.HeardSayingLemmas.{between_front}
 use Rattle.mold_feed.proofs.LinesPrintedLemmas.{HasCome, has_come, listened_among, prints_lines}
 use Rattle.mold_feed.proofs.LinesTextLemmas.{text_between}
@@ -150,10 +150,10 @@ module _ {P : Type 0} (laws : FeedLaws P) (limit : ℕ) (journal : JournalState)
     at_first : arbitration.view.next ≡ first
     at_first = begins_at laws.opening limit journal lines opening first window least within arbitration anew
 
-    module _ (burst turns : ℕ) (server : P) (a b requests : Port P) {E : Type 0} (agrees : ListenerState P → Type 0)
+    module _ (reporting : Bool) (burst turns : ℕ) (server : P) (a b requests : Port P) {E : Type 0} (agrees : ListenerState P → Type 0)
         (result : Result ℕ E) (old new : Option (List ℕ)) (sent : List (P × List ℕ))
-        (ran : Ran (listening server burst) turns (beginning a b requests arbitration) listened_line status agrees result old
-        new sent) where
+        (ran : Ran (listening server burst) turns (beginning a b requests arbitration)
+        (listened_lines reporting) status agrees result old new sent) where
       abbrev start : ListenerState P
       start = beginning a b requests arbitration
 
@@ -197,21 +197,21 @@ module _ {P : Type 0} (laws : FeedLaws P) (limit : ℕ) (journal : JournalState)
         has_lines : HasLines lines (left_by journal lines)
         has_lines = laws.opening.lines limit journal lines opening unrefused
 
-        comes_to : HearsOnly (IsHarmless (left_by journal lines)) start → HasCome lines first ending result old new
+        comes_to : HearsOnly (IsHarmless (left_by journal lines)) start → HasCome reporting lines first ending result old new
         comes_to hears =
             has_come (left_by journal lines) (Hears start) has_lines.spelled (has_heard hears) (has_finished hears)
             ran.whole ran.front
 
         pub session_prints_among : HearsOnly (IsFed P journal limit lines) start →
-            PrintsAmong journal.session (Hears start) lines first result old new
+            PrintsAmong reporting journal.session (Hears start) lines first result old new
         session_prints_among fed =
             let hears = hears_weaker (IsFed P journal limit lines) (IsHarmless (left_by journal lines)) fed_harmless start
             fed in
-            subst (λ (s : Session). PrintsAmong s (Hears start) lines first result old new) (left_session journal lines)
+            subst (λ (s : Session). PrintsAmong reporting s (Hears start) lines first result old new) (left_session journal lines)
             (listened_among (left_by journal lines) (Hears start) has_lines.spelled (has_heard hears) (comes_to hears))
 
         pub session_prints_lines : HearsOnly (IsSent P journal limit lines) start →
-            PrintsLines lines first result old new
+            PrintsLines reporting lines first result old new
         session_prints_lines sent =
             let hears = all_true sent in
             prints_lines (comes_to (all_harmless hears))
@@ -262,17 +262,19 @@ module _ {P : Type 0} (laws : FeedLaws P) (limit : ℕ) (journal : JournalState)
             (between_front lines count first next least (has_heard (all_harmless hears)).from (up_to (all_harmless hears)))
 
         all_printed : HearsOnly (TellsTruth (left_by journal lines)) start →
-            ending.hearing.outgoing.text ++ listened_line ending
+            ending.hearing.outgoing.text ++ listened_lines reporting ending
             ≡ lines_text first (between lines first next)
-            ++ open_line next ending.hearing.arbitration.view.known ending.hearing.outgoing.failures
+            ++ closing_lines reporting ending.hearing.arbitration.reports false next
+            ending.hearing.arbitration.view.known ending.hearing.outgoing.failures
         all_printed hears =
-            ap (λ (text : List ℕ). text ++ listened_line ending) (lines_printed hears)
+            ap (λ (text : List ℕ). text ++ listened_lines reporting ending) (lines_printed hears)
             ∙ ap (λ (finished : Bool). lines_text first (between lines first next)
-            ++ closing_line finished next ending.hearing.arbitration.view.known ending.hearing.outgoing.failures)
+            ++ closing_lines reporting ending.hearing.arbitration.reports finished next
+            ending.hearing.arbitration.view.known ending.hearing.outgoing.failures)
             (unfinished (all_harmless hears))
 
         pub session_prints_open : HearsOnly (IsSent P journal limit lines) start →
-            PrintsOpen lines (count + 1) first result old new
+            PrintsOpen reporting lines (count + 1) first result old new
         session_prints_open sent =
             let hears = all_true sent in
             let harmless = all_harmless hears in
@@ -280,6 +282,7 @@ module _ {P : Type 0} (laws : FeedLaws P) (limit : ℕ) (journal : JournalState)
               next = next;
               known = ending.hearing.arbitration.view.known;
               failures = ending.hearing.outgoing.failures;
+              reports = ending.hearing.arbitration.reports;
               from = (has_heard harmless).from;
               to = up_to harmless;
               ahead = ahead harmless;

@@ -18,7 +18,7 @@ use Rattle.mold_wire.specs.declared.request.Request.{Request}
 use Rattle.mold_feed.specs.Text.{finished_line, open_line, taking_text}
 use Rattle.mold_feed.specs.Listening.{Asking, Hearing, HasAsked, HasTurned, ListenerState, asked, hearing, hearing_line, hearing_status}
 use Rattle.mold_feed.specs.Outgoing.{OutgoingState, with_front, with_more}
-use Rattle.mold_feed.specs.Listening.{Agrees, IsSame, ends_at, hear, hear_answers, heard, is_finished, listened_line}
+use Rattle.mold_feed.specs.Listening.{Agrees, IsSame, ends_at, hear, hear_answers, heard, is_finished, listened_lines}
 use Rattle.mold_feed.specs.Listening.{lines_heard, listening, longest, listener, put_before, receives, status, turn, turn_asked}
 use Rattle.mold_feed.proofs.ListenLemmas.{hearing_sends, stepped}
 use Rattle.mold_feed.proofs.OutgoingLemmas.{front_twice, more_after, written_front}
@@ -254,22 +254,23 @@ open_last a old new v next known over same is_next is_known is =
 -- ---- at its end
 
 -- a run of which the ports and the arbiter are left so
-abbrev pub Listened : {D P E : Type 0} → (D → Port P) → P → ℕ → ℕ → ListenerState P → Result ℕ E → Option (List ℕ) →
+abbrev pub Listened : {D P E : Type 0} → Bool → (D → Port P) → P → ℕ → ℕ → ListenerState P → Result ℕ E → Option (List ℕ) →
     Option (List ℕ) → D → D → D → Arbitration → Type 0
-Listened known server burst turns start result old new a b requests arbitration =
-    Ran (listening server burst) turns start listened_line status (Agrees (known a) (known b) (known requests) arbitration)
-    result old new (known requests).sent
+Listened reporting known server burst turns start result old new a b requests arbitration =
+    Ran (listening server burst) turns start (listened_lines reporting) status
+    (Agrees (known a) (known b) (known requests) arbitration) result old new (known requests).sent
 
 -- they end as they were left
-pub listened_so : {D P E : Type 0} (known : D → Port P) (server : P) (burst turns : ℕ) (start : ListenerState P)
+pub listened_so : {D P E : Type 0} (reporting : Bool) (known : D → Port P) (server : P) (burst turns : ℕ) (start : ListenerState P)
     (result : Result ℕ E) (old new : Option (List ℕ)) (a a_end b b_end requests requests_end : D)
     (arbitration arbitration_end : Arbitration) → a_end ≡ a → b_end ≡ b → requests_end ≡ requests →
     arbitration_end ≡ arbitration →
-    Listened known server burst turns start result old new a b requests arbitration →
-    Listened known server burst turns start result old new a_end b_end requests_end arbitration_end
-listened_so {D} known server burst turns start result old new a a_end b b_end requests requests_end arbitration
+    Listened reporting known server burst turns start result old new a b requests arbitration →
+    Listened reporting known server burst turns start result old new a_end b_end requests_end arbitration_end
+listened_so {D} reporting known server burst turns start result old new a a_end b b_end requests requests_end arbitration
     arbitration_end is_a is_b is_requests is_arbiter listened =
-    let leaves : D → D → D → Arbitration → Type 0 = Listened known server burst turns start result old new in
+    let leaves : D → D → D → Arbitration → Type 0 =
+    Listened reporting known server burst turns start result old new in
     subst (λ (d : D). leaves d b_end requests_end arbitration_end) (sym is_a)
     (subst (λ (d : D). leaves a d requests_end arbitration_end) (sym is_b)
     (subst (λ (d : D). leaves a b d arbitration_end) (sym is_requests)

@@ -1,6 +1,6 @@
 -- From datagrams to lines: what a listener may be given, and what it prints of it.
-use Rattle.std.specs.Prelude.{◌≡◌, ◌⊎◌, ⊤, ℕ, ◌+◌, ◌≤◌, Bool, true, nat_le, ◌&&◌, if◌then◌else◌, List, [], ◌∷◌, ◌++◌}
-use Rattle.std.specs.Prelude.{codes, decimal, length, map, take, Option, Result, IfOk}
+use Rattle.std.specs.Prelude.{◌≡◌, ◌⊎◌, ⊤, ℕ, ◌+◌, ◌≤◌, Bool, true, false, nat_le, ◌&&◌, if◌then◌else◌}
+use Rattle.std.specs.Prelude.{List, [], ◌∷◌, ◌++◌, codes, decimal, length, map, take, Option, Result, IfOk}
 use Rattle.std.specs.Io.KnownBytes.{Appends}
 use Rattle.std.specs.List.{AllByRecursion, Contains, flat_map}
 use Rattle.mold_devices.specs.Devices.{AppendsFront}
@@ -9,6 +9,7 @@ use Rattle.mold_publish.specs.Publishing.{refused_text}
 use Rattle.mold_publish.specs.declared.line_refusal.LineRefusal.{LineRefusal}
 use Rattle.mold_receiver.specs.Honest.{IsHonest}
 use Rattle.mold_receiver.specs.Store.{Message, numbered}
+use Rattle.mold_receiver.specs.declared.line.LineReports.{LineReports}
 use Rattle.mold_rule.specs.declared.refusal.Refusal.{Refusal as Refused}
 use Rattle.mold_rule.specs.declared.refusal.Refusal.TheVariants.{Malformed, WrongSession}
 use Rattle.mold_session.specs.Answer.{between}
@@ -25,7 +26,7 @@ use Rattle.mold_wire.specs.declared.packet.Packet.{Packet}
 use Rattle.mold_wire.specs.declared.session.Session.{Session}
 use Rattle.mold_feed.specs.Listening.{Hearing, ListenerState, longest}
 use Rattle.mold_feed.specs.Sent.{IsSent}
-use Rattle.mold_feed.specs.Text.{finished_line, handed_line, open_line}
+use Rattle.mold_feed.specs.Text.{finished_line, handed_line, open_line, reports_text}
 
 -- bytes that spell no packet of the session
 abbrev pub IsStrange : Session → List ℕ → Type 0
@@ -138,41 +139,50 @@ closing_line finished next known failures =
 abbrev pub closing_status : Bool → ℕ
 closing_status finished = if finished then 0 else 1
 
+-- the reports of the lines, where they are asked for, and then the last line
+abbrev pub closing_lines : Bool → LineReports → Bool → ℕ → ℕ → ℕ → List ℕ
+closing_lines reporting reports finished next known failures =
+    reports_text reporting reports known ++ closing_line finished next known failures
+
 -- What a listener printed that began at the line `first`: the published lines behind their numbers, from that one to
--- below some line, and then its last line, whose numbers are those of lines or the one behind. Where it is finished,
--- which status 0 says, they are all from the first one on. After a fault a beginning of such a text is written.
-pub record PrintsLines {E : Type 0} (lines : List (List ℕ)) (first : ℕ) (result : Result ℕ E)
+-- below some line; where they are asked for, reports of its two lines, whose lag is from the known number of its last
+-- line; and then that line, whose numbers are those of lines or the one behind. Where it is finished, which status 0
+-- says, they are all from the first one on. After a fault a beginning of such a text is written.
+pub record PrintsLines {E : Type 0} (reporting : Bool) (lines : List (List ℕ)) (first : ℕ) (result : Result ℕ E)
     (old new : Option (List ℕ)) : Type 0 where
   pub next : ℕ
   pub finished : Bool
   pub known : ℕ
   pub failures : ℕ
+  pub reports : LineReports
   pub from : first ≤ next
   pub to : next ≤ length lines + 1
   pub ahead : next ≤ known
   pub heard : known ≤ length lines + 1
   pub all : finished ≡ true → next ≡ length lines + 1
   pub text : IfOk result (λ status. (status ≡ closing_status finished) × Appends old new
-      (lines_text first (between lines first next) ++ closing_line finished next known failures))
+      (lines_text first (between lines first next) ++ closing_lines reporting reports finished next known failures))
   pub front : AppendsFront old new
-      (lines_text first (between lines first next) ++ closing_line finished next known failures)
+      (lines_text first (between lines first next) ++ closing_lines reporting reports finished next known failures)
 
 -- What a listener printed that began at the line `first`, where the line `place` is refused: published lines behind
--- their numbers, from the first one on, each of them before the refused one; and then its last line, which tells no
--- number behind that one, with status 1, since the session has no end. After a fault a beginning of such a text is
--- written.
-pub record PrintsOpen {E : Type 0} (lines : List (List ℕ)) (place first : ℕ) (result : Result ℕ E)
+-- their numbers, from the first one on, each of them before the refused one; and then the same reports and its last
+-- line, which tells no number behind that one, with status 1, since the session has no end. After a fault a beginning
+-- of such a text is written.
+pub record PrintsOpen {E : Type 0} (reporting : Bool) (lines : List (List ℕ)) (place first : ℕ) (result : Result ℕ E)
     (old new : Option (List ℕ)) : Type 0 where
   pub next : ℕ
   pub known : ℕ
   pub failures : ℕ
+  pub reports : LineReports
   pub from : first ≤ next
   pub to : next ≤ place
   pub ahead : next ≤ known
   pub heard : known ≤ place
   pub text : IfOk result (λ status. (status ≡ 1) × Appends old new
-      (lines_text first (between lines first next) ++ open_line next known failures))
-  pub front : AppendsFront old new (lines_text first (between lines first next) ++ open_line next known failures)
+      (lines_text first (between lines first next) ++ closing_lines reporting reports false next known failures))
+  pub front : AppendsFront old new
+      (lines_text first (between lines first next) ++ closing_lines reporting reports false next known failures)
 
 -- What a loop printed whose listener began at the line `first`, where the line `place` is refused: published lines
 -- behind their numbers, from the first one on, each of them before the refused one; then the refusal, with status 2.
@@ -194,12 +204,13 @@ messages_text (Refuses bytes why ∷ sayings) = messages_text sayings
 
 -- The same where also bytes came that are none of the session's packets: what is printed between the lines of messages
 -- are refusals of these.
-pub record PrintsAmong {E : Type 0} (session : Session) (Came : List ℕ → Type 0) (lines : List (List ℕ)) (first : ℕ)
-    (result : Result ℕ E) (old new : Option (List ℕ)) : Type 0 where
+pub record PrintsAmong {E : Type 0} (reporting : Bool) (session : Session) (Came : List ℕ → Type 0)
+    (lines : List (List ℕ)) (first : ℕ) (result : Result ℕ E) (old new : Option (List ℕ)) : Type 0 where
   pub next : ℕ
   pub finished : Bool
   pub known : ℕ
   pub failures : ℕ
+  pub reports : LineReports
   pub sayings : List Saying
   pub refused : AllByRecursion (RefusesStrange Came session) sayings
   pub messages : messages_text sayings ≡ lines_text first (between lines first next)
@@ -209,5 +220,6 @@ pub record PrintsAmong {E : Type 0} (session : Session) (Came : List ℕ → Typ
   pub heard : known ≤ length lines + 1
   pub all : finished ≡ true → next ≡ length lines + 1
   pub text : IfOk result (λ status. (status ≡ closing_status finished) × Appends old new
-      (sayings_text sayings ++ closing_line finished next known failures))
-  pub front : AppendsFront old new (sayings_text sayings ++ closing_line finished next known failures)
+      (sayings_text sayings ++ closing_lines reporting reports finished next known failures))
+  pub front : AppendsFront old new
+      (sayings_text sayings ++ closing_lines reporting reports finished next known failures)

@@ -1,6 +1,6 @@
 -- Listening on two lines and asking for what is lacking: what a turn makes of the ports and of what was heard, and
 -- what is printed. The whole run is `run` of `listening`.
-use Rattle.std.specs.Prelude.{◌≡◌, ℕ, zero, suc, Bool, true, false, ◌==◌, if◌then◌else◌, List, [], ◌∷◌}
+use Rattle.std.specs.Prelude.{◌≡◌, ℕ, zero, suc, Bool, true, false, ◌==◌, if◌then◌else◌, List, [], ◌∷◌, ◌++◌}
 use Rattle.std.specs.Prelude.{Option, None, Some, Result, OnOk}
 use Rattle.mold_ports.specs.Ports.{Port, Receipt, Datagram, Quiet, Failure, cut, next_of, offered, received}
 use Rattle.mold_receiver.specs.Arbiter.{Arbitration, arbitrates}
@@ -13,7 +13,7 @@ use Rattle.mold_feed.specs.Runs.{Begins, Loop}
 use Rattle.mold_feed.specs.declared.feed_listener.FeedListener.{FeedListener}
 use Rattle.mold_wire.specs.Request.{request_spelling}
 use Rattle.mold_wire.specs.declared.request.Request.{Request}
-use Rattle.mold_feed.specs.Text.{finished_line, open_line, taking_text}
+use Rattle.mold_feed.specs.Text.{finished_line, open_line, reports_text, taking_text}
 
 -- an arbiter, and what goes out of what it took
 pub record Hearing : Type 0 where
@@ -182,8 +182,13 @@ hearing_line e =
 abbrev pub hearing_status : Hearing → ℕ
 hearing_status e = if is_finished e then 0 else 1
 
-abbrev pub listened_line : {P : Type 0} → ListenerState P → List ℕ
-listened_line s = hearing_line s.hearing
+-- and in front of it the reports of the lines, where they are asked for
+abbrev pub hearing_lines : Bool → Hearing → List ℕ
+hearing_lines reporting e =
+    reports_text reporting e.arbitration.reports e.arbitration.view.known ++ hearing_line e
+
+abbrev pub listened_lines : {P : Type 0} → Bool → ListenerState P → List ℕ
+listened_lines reporting s = hearing_lines reporting s.hearing
 
 abbrev pub status : {P : Type 0} → ListenerState P → ℕ
 status s = hearing_status s.hearing

@@ -14,7 +14,7 @@ use Rattle.mold_receiver.specs.declared.line.Line.TheVariants.{A, B}
 use Rattle.mold_session.specs.Journal.{JournalState}
 use Rattle.mold_session.specs.Publisher.{PublisherState}
 use Rattle.mold_session.specs.Server.{ServerState}
-use Rattle.mold_feed.specs.Listening.{Hearing, hear, hearing, hearing_line, hearing_status}
+use Rattle.mold_feed.specs.Listening.{Hearing, hear, hearing, hearing_lines, hearing_status}
 use Rattle.mold_feed.specs.Outgoing.{OutgoingState, failed_once, with_front, written_out}
 use Rattle.mold_feed.specs.Passing.{all_routed, routed}
 use Rattle.mold_feed.specs.PublishLoop.{data_behind, left_journal}
@@ -190,18 +190,18 @@ abbrev pub rounds_made : {P : Type 0} → Option LineRefusal → P → Service �
 rounds_made None to service choices s = run (repairing to service) choices s
 rounds_made (Some why) to service choices s = s
 
--- the last line and the status: a listener's, or those of the refused line
-abbrev pub loop_line : JournalState → Option LineRefusal → Hearing → List ℕ
-loop_line journal None e = hearing_line e
-loop_line journal (Some why) e = refused_text (length journal.messages + 1) why
+-- the last lines and the status: a listener's, or where a line is refused the line of that, without reports
+abbrev pub loop_lines : Bool → JournalState → Option LineRefusal → Hearing → List ℕ
+loop_lines reporting journal None e = hearing_lines reporting e
+loop_lines reporting journal (Some why) e = refused_text (length journal.messages + 1) why
 
 abbrev pub loop_status : Option LineRefusal → Hearing → ℕ
 loop_status None e = hearing_status e
 loop_status (Some why) e = 2
 
 -- what a loop prints of what it heard
-abbrev pub loop_text : PublishedLines → Hearing → List ℕ
-loop_text published e = e.outgoing.text ++ loop_line published.journal published.refused e
+abbrev pub loop_text : Bool → PublishedLines → Hearing → List ℕ
+loop_text reporting published e = e.outgoing.text ++ loop_lines reporting published.journal published.refused e
 
 -- the ports, the arbiter and the failures stand as at the end of the passes and of the rounds, and nothing is left to
 -- write
@@ -238,24 +238,26 @@ pub record StandsBehind {P : Type 0} (a b : P) (passes : List Pass) (lines : Lin
   pub port : left ≡ (lines_behind a b front lines).publisher
 
 -- What a loop in one process leaves, whose publisher published these lines. All its datagrams are passed, and then
--- rounds are made. At an answer the text of what was heard and the last line are written, the answer is its status, and
--- the ports, the arbiter and the failures stand as at the end. After a fault the publisher's port stands as behind the
--- first of these passes, and what was written and what the server and the port of requests sent are beginnings.
-pub record LoopRun {P E : Type 0} (drops : Drops) (a b to : P) (turns limit sent : ℕ) (published : PublishedLines)
-    (server : ServerState) (lines : LineState P) (rounds : RepairState P) (result : Result ℕ E)
-    (old new : Option (List ℕ)) (lines_left : LineState P) (rounds_left : RepairState P) : Type 0 where
+-- rounds are made. At an answer the text of what was heard and the last lines are written, the answer is their status,
+-- and the ports, the arbiter and the failures stand as at the end. After a fault the publisher's port stands as behind
+-- the first of these passes, and what was written and what the server and the port of requests sent are beginnings.
+pub record LoopRun {P E : Type 0} (reporting : Bool) (drops : Drops) (a b to : P) (turns limit sent : ℕ)
+    (published : PublishedLines) (server : ServerState) (lines : LineState P) (rounds : RepairState P)
+    (result : Result ℕ E) (old new : Option (List ℕ)) (lines_left : LineState P) (rounds_left : RepairState P) :
+    Type 0 where
   pub passes : List Pass
   pub are : map routed_by passes ≡ all_routed drops limit sent published
   pub choices : List (Bool × List Bool)
   pub counted : length choices ≡ turns
   pub whole : IfOk result (λ status.
-      Appends old new (loop_text published (loop_end a b to published server passes choices lines rounds).hearing)
+      Appends old new (loop_text reporting published
+      (loop_end a b to published server passes choices lines rounds).hearing)
       × (status ≡ loop_status published.refused
       (loop_end a b to published server passes choices lines rounds).hearing))
   pub left : OnOk result (LoopAgrees lines_left (lines_behind a b passes lines) rounds_left
       (loop_end a b to published server passes choices lines rounds))
   pub front : AppendsFront old new
-      (loop_text published (loop_end a b to published server passes choices lines rounds).hearing)
+      (loop_text reporting published (loop_end a b to published server passes choices lines rounds).hearing)
   pub offers : StandsBehind a b passes lines lines_left.publisher
   pub requests : Begins rounds_left.requests.sent
       (loop_end a b to published server passes choices lines rounds).requests.sent

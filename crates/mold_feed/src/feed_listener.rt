@@ -3,12 +3,12 @@
 ghost use Rattle.std.specs.Prelude.{◌≡◌, true, length, OnOk};
 ghost use Rattle.mold_devices.specs.Faults.{CountsSink};
 ghost use Rattle.mold_feed.specs.Listening.{Agrees, HasAsked, HasTurned, IsSame, asking_state, hear_answers};
-ghost use Rattle.mold_feed.specs.Listening.{listened_line, listening, put_before, receives, state, status};
+ghost use Rattle.mold_feed.specs.Listening.{listened_lines, listening, put_before, receives, state, status};
 ghost use Rattle.mold_feed.specs.Runs.{Ran, Rests};
 ghost use Rattle.mold_receiver.specs.Wanted.{wanted};
 
+use crate::ending::push_end;
 use crate::hearing::hear_port;
-use crate::listening::push_last;
 use crate::report::Report;
 use mold_devices::{CommandFault, Sink};
 use mold_ports::Datagrams;
@@ -103,24 +103,27 @@ impl<'a, D: Datagrams> FeedListener<'a, D> {
         Ok(())
     }
 
-    /// Makes the turns, prints the last line, and answers the status: 0 finished, 1 open. `place` has `LONGEST` bytes.
+    /// Makes the turns, prints the last line, behind the reports of the lines where they are asked for, and answers
+    /// the status: 0 finished, 1 open. `place` has `LONGEST` bytes.
     pub(crate) fn listen<K: Sink>(
         &mut self,
         server: D::Peer,
         burst: u16,
         turns: u64,
+        reporting: bool,
         place: &mut [u8],
         sink: &mut K,
     ) -> Result<u8, CommandFault>
         requires { length place.old ≡ 65507 }
-        ensures run { D.tells ≡ true → Ran (listening server burst) turns (state D.port self.old) listened_line status
+        ensures run { D.tells ≡ true → Ran (listening server burst) turns (state D.port self.old)
+            (listened_lines reporting) status
             (Agrees (D.port self.new.a.now) (D.port self.new.b.now) (D.port self.new.requests.now) self.new.arbiter.now)
             result (K.held sink.old) (K.held sink.new) (D.port self.new.requests.now).sent }
         ensures same { IsSame self.old self.new }
         ensures sink { CountsSink (K.failed sink.old) (K.failed sink.new) result }
     {
         self.take_turns(server, burst, turns, place, sink)?;
-        let status = push_last(self.arbiter, &mut self.report.outgoing)?;
+        let status = push_end(self.arbiter, reporting, &mut self.report.outgoing)?;
         self.report.outgoing.send(sink)?;
         Ok(status)
     }

@@ -6,7 +6,7 @@ ghost use Rattle.std.specs.List.{AllByRecursion};
 ghost use Rattle.mold_devices.specs.declared.fault.CommandFault.{CommandFault};
 ghost use Rattle.mold_feed.specs.Heard.{HasFinished, HasListened, Hears, HearsOnly, IsFed, IsHarmless, PrintsAmong};
 ghost use Rattle.mold_feed.specs.Heard.{PrintsLines, PrintsOpen, PrintsRefused};
-ghost use Rattle.mold_feed.specs.Listening.{Agrees, ListenerState, beginning, is_finished, listened_line, listening};
+ghost use Rattle.mold_feed.specs.Listening.{Agrees, ListenerState, beginning, is_finished, listened_lines, listening};
 ghost use Rattle.mold_feed.specs.Listening.{status};
 ghost use Rattle.mold_feed.specs.Looping.{LineState, LoopRun};
 ghost use Rattle.mold_feed.specs.Own.{OwnPorts};
@@ -108,38 +108,39 @@ pub fn listened_law<D: Datagrams>()
 /// in any order, or never. Where no line is refused, it prints the published lines behind their numbers, from that
 /// one on, and with status 0 they are all of them. The same holds of the lines of messages that it prints where
 /// also bytes come that are no packets of the session. Where a line is refused, it prints lines before that one, and
-/// its status is 1.
+/// its status is 1. Reports of the two lines stand only where they are asked for, and only before the last line.
 pub fn session_law<D: Datagrams>()
-    ensures printed { (limit first window turns burst : ℕ) (journal : JournalState) (lines : List (List ℕ))
-        (server : D.Peer) (a b requests : Port D.Peer) (arbitration : Arbitration)
+    ensures printed { (reporting : Bool) (limit first window turns burst : ℕ) (journal : JournalState)
+        (lines : List (List ℕ)) (server : D.Peer) (a b requests : Port D.Peer) (arbitration : Arbitration)
         (a_left b_left requests_left : Port D.Peer) (left : Arbitration) (result : Result ℕ CommandFault)
         (old new : Option (List ℕ)) (sent : List (D.Peer × List ℕ)) → IsOpening journal limit →
         (lines_published journal lines).refused ≡ None →
         1 ≤ first → first ≤ length lines + 1 → arbitration.view ≡ fresh journal.session first window →
         HearsOnly (IsSent D.Peer journal limit lines) (beginning a b requests arbitration) →
-        Ran (listening server burst) turns (beginning a b requests arbitration) listened_line status
-        (Agrees a_left b_left requests_left left) result old new sent → PrintsLines lines first result old new }
-    ensures among { (limit first window turns burst : ℕ) (journal : JournalState) (lines : List (List ℕ))
-        (server : D.Peer) (a b requests : Port D.Peer) (arbitration : Arbitration)
+        Ran (listening server burst) turns (beginning a b requests arbitration) (listened_lines reporting) status
+        (Agrees a_left b_left requests_left left) result old new sent →
+        PrintsLines reporting lines first result old new }
+    ensures among { (reporting : Bool) (limit first window turns burst : ℕ) (journal : JournalState)
+        (lines : List (List ℕ)) (server : D.Peer) (a b requests : Port D.Peer) (arbitration : Arbitration)
         (a_left b_left requests_left : Port D.Peer) (left : Arbitration) (result : Result ℕ CommandFault)
         (old new : Option (List ℕ)) (sent : List (D.Peer × List ℕ)) → IsOpening journal limit →
         (lines_published journal lines).refused ≡ None →
         1 ≤ first → first ≤ length lines + 1 → arbitration.view ≡ fresh journal.session first window →
         HearsOnly (IsFed D.Peer journal limit lines) (beginning a b requests arbitration) →
-        Ran (listening server burst) turns (beginning a b requests arbitration) listened_line status
+        Ran (listening server burst) turns (beginning a b requests arbitration) (listened_lines reporting) status
         (Agrees a_left b_left requests_left left) result old new sent →
-        PrintsAmong journal.session (Hears (beginning a b requests arbitration)) lines first result old new }
-    ensures refused { (limit first window turns burst : ℕ) (journal : JournalState) (lines : List (List ℕ))
-        (why : LineRefusal) (server : D.Peer) (a b requests : Port D.Peer) (arbitration : Arbitration)
+        PrintsAmong reporting journal.session (Hears (beginning a b requests arbitration)) lines first result old new }
+    ensures refused { (reporting : Bool) (limit first window turns burst : ℕ) (journal : JournalState)
+        (lines : List (List ℕ)) (why : LineRefusal) (server : D.Peer) (a b requests : Port D.Peer) (arbitration : Arbitration)
         (a_left b_left requests_left : Port D.Peer) (left : Arbitration) (result : Result ℕ CommandFault)
         (old new : Option (List ℕ)) (sent : List (D.Peer × List ℕ)) → IsOpening journal limit →
         (lines_published journal lines).refused ≡ Some why →
         1 ≤ first → first ≤ length (lines_published journal lines).journal.messages + 1 →
         arbitration.view ≡ fresh journal.session first window →
         HearsOnly (IsSent D.Peer journal limit lines) (beginning a b requests arbitration) →
-        Ran (listening server burst) turns (beginning a b requests arbitration) listened_line status
+        Ran (listening server burst) turns (beginning a b requests arbitration) (listened_lines reporting) status
         (Agrees a_left b_left requests_left left) result old new sent →
-        PrintsOpen lines (length (lines_published journal lines).journal.messages + 1) first result old new }
+        PrintsOpen reporting lines (length (lines_published journal lines).journal.messages + 1) first result old new }
 {
     published_law::<D>();
     served_law::<D>();
@@ -154,23 +155,23 @@ pub fn session_law<D: Datagrams>()
 /// that one on, and with status 0 they are all of them. Where a line is refused, no server is asked: it prints lines
 /// before that one, and then the refusal. After a fault it printed a beginning of such a text.
 pub fn loop_law<D: Datagrams>()
-    ensures printed { (drops : Drops) (a b to : D.Peer) (turns limit first window : ℕ) (journal : JournalState)
-        (lines : List (List ℕ)) (server : ServerState) (start start_left : LineState D.Peer)
+    ensures printed { (reporting : Bool) (drops : Drops) (a b to : D.Peer) (turns limit first window : ℕ)
+        (journal : JournalState) (lines : List (List ℕ)) (server : ServerState) (start start_left : LineState D.Peer)
         (rounds rounds_left : RepairState D.Peer) (result : Result ℕ CommandFault) (old new : Option (List ℕ)) →
         IsOpening journal limit → (lines_published journal lines).refused ≡ None →
         IsServer server → journal.max_message ≤ server.max_message →
         1 ≤ first → first ≤ length lines + 1 → start.hearing.arbitration.view ≡ fresh journal.session first window →
         start.hearing.outgoing.text ≡ [] → OwnPorts start start_left rounds rounds_left →
-        LoopRun drops a b to turns limit 0 (lines_published journal lines) server start rounds result old new
-        start_left rounds_left → PrintsLines lines first result old new }
-    ensures refused { (drops : Drops) (a b to : D.Peer) (turns limit first window : ℕ) (journal : JournalState)
-        (lines : List (List ℕ)) (why : LineRefusal) (server : ServerState) (start start_left : LineState D.Peer)
-        (rounds rounds_left : RepairState D.Peer) (result : Result ℕ CommandFault) (old new : Option (List ℕ)) →
+        LoopRun reporting drops a b to turns limit 0 (lines_published journal lines) server start rounds result old new
+        start_left rounds_left → PrintsLines reporting lines first result old new }
+    ensures refused { (reporting : Bool) (drops : Drops) (a b to : D.Peer) (turns limit first window : ℕ)
+        (journal : JournalState) (lines : List (List ℕ)) (why : LineRefusal) (server : ServerState)
+        (start start_left : LineState D.Peer) (rounds rounds_left : RepairState D.Peer) (result : Result ℕ CommandFault) (old new : Option (List ℕ)) →
         IsOpening journal limit → (lines_published journal lines).refused ≡ Some why →
         1 ≤ first → first ≤ length (lines_published journal lines).journal.messages + 1 →
         start.hearing.arbitration.view ≡ fresh journal.session first window →
         start.hearing.outgoing.text ≡ [] → OwnPorts start start_left rounds rounds_left →
-        LoopRun drops a b to turns limit 0 (lines_published journal lines) server start rounds result old new
+        LoopRun reporting drops a b to turns limit 0 (lines_published journal lines) server start rounds result old new
         start_left rounds_left →
         PrintsRefused lines (length (lines_published journal lines).journal.messages + 1) why first result old new }
 {

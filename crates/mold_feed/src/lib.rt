@@ -2,6 +2,7 @@
 //! in one process. A loop goes by turns over devices that may fail.
 #![tactic(auto)]
 
+mod ending;
 mod feed_listener;
 mod handed;
 mod hearing;

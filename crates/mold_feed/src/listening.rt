@@ -2,8 +2,8 @@
 
 ghost use Rattle.std.specs.Prelude.{◌≡◌, true, IfOk, OnOk};
 ghost use Rattle.mold_devices.specs.Faults.{CountsSink};
-ghost use Rattle.mold_feed.specs.Listening.{Agrees, beginning, hearing, hearing_line, hearing_status, listened_line};
-ghost use Rattle.mold_feed.specs.Listening.{listening, status};
+ghost use Rattle.mold_feed.specs.Listening.{Agrees, beginning, hearing, hearing_line, hearing_status};
+ghost use Rattle.mold_feed.specs.Listening.{listened_lines, listening, status};
 ghost use Rattle.mold_feed.specs.Outgoing.{with_more};
 ghost use Rattle.mold_feed.specs.Runs.{Ran};
 ghost use Rattle.mold_feed.specs.Text.{finished_line, open_line};
@@ -69,8 +69,9 @@ pub fn push_last(arbiter: &Arbiter, outgoing: &mut Outgoing) -> Result<u8, Alloc
 /// and its bytes, and each refusal. In each turn it receives once on each line and, where something is
 /// wanted, sends the request from `requests` to the server and receives at most `burst` answers. It ends
 /// after the first turn at whose end the receiver is finished, or after `turns` turns, with a last line and
-/// the status: 0 finished, 1 open. A failed send or receive is counted and the loop goes on. After a fault
-/// a beginning of the text is written; `Write` comes only where the sink failed.
+/// the status: 0 finished, 1 open. Where `reporting`, a line for each of `a` and `b` stands before the last one:
+/// what came on it, and how far it is behind what is known. A failed send or receive is counted and the loop
+/// goes on. After a fault a beginning of the text is written; `Write` comes only where the sink failed.
 pub fn listen_loop<D: Datagrams, K: Sink>(
     alloc: Global,
     a: &mut D,
@@ -80,11 +81,12 @@ pub fn listen_loop<D: Datagrams, K: Sink>(
     arbiter: &mut Arbiter,
     burst: u16,
     turns: u64,
+    reporting: bool,
     sink: &mut K,
 ) -> Result<u8, CommandFault>
     ensures run { D.tells ≡ true → Ran (listening server burst) turns
         (beginning (D.port a.old) (D.port b.old) (D.port requests.old) arbiter.old)
-        listened_line status (Agrees (D.port a.new) (D.port b.new) (D.port requests.new) arbiter.new)
+        (listened_lines reporting) status (Agrees (D.port a.new) (D.port b.new) (D.port requests.new) arbiter.new)
         result (K.held sink.old) (K.held sink.new) (D.port requests.new).sent }
     ensures sink { CountsSink (K.failed sink.old) (K.failed sink.new) result }
 {
@@ -97,5 +99,6 @@ pub fn listen_loop<D: Datagrams, K: Sink>(
         arbiter,
         report: &mut report,
     };
-    listener.listen(server, burst, turns, place.as_mut_slice(), sink)
+    let place = place.as_mut_slice();
+    listener.listen(server, burst, turns, reporting, place, sink)
 }

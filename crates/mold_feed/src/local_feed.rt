@@ -255,13 +255,15 @@ impl<'a, 'p, D: Datagrams + Drop> LocalFeed<'a, 'p, D> {
         Ok(())
     }
 
-    /// Passes what is published, repairs what is missing then, prints the last line, and answers the status.
+    /// Passes what is published, repairs what is missing then, prints the last line, behind the reports of the lines
+    /// where they are asked for, and answers the status.
     pub(crate) fn run<S: Source, K: Sink>(
         &mut self,
         alloc: Global,
         publisher: &mut Publisher,
         server: &mut Server,
         turns: u32,
+        reporting: bool,
         source: &mut S,
         sink: &mut K,
     ) -> Result<u8, CommandFault>
@@ -269,8 +271,8 @@ impl<'a, 'p, D: Datagrams + Drop> LocalFeed<'a, 'p, D> {
         requires room { HasRoom publisher.old }
         requires longest { publisher.old.journal.max_message ≤ server.old.max_message }
         ensures run { D.tells ≡ true → IfSome (S.left source.old) (λ input.
-            LoopRun self.old.drops self.old.peers.now.a self.old.peers.now.b self.old.peers.now.server turns
-            publisher.old.limit publisher.old.sent (lines_published publisher.old.journal (lines_of input)) server.old
+            LoopRun reporting self.old.drops self.old.peers.now.a self.old.peers.now.b self.old.peers.now.server
+            turns publisher.old.limit publisher.old.sent (lines_published publisher.old.journal (lines_of input)) server.old
             (lines D.port self.old) (rounds D.port server.old self.old) result (K.held sink.old) (K.held sink.new)
             (lines D.port self.new) (rounds D.port server.new self.new)) }
         ensures a { D.tells ≡ true → (D.port self.new.ports.now.a).sent ≡ (D.port self.old.ports.now.a).sent }
@@ -293,6 +295,6 @@ impl<'a, 'p, D: Datagrams + Drop> LocalFeed<'a, 'p, D> {
         publisher_holds(publisher);
         let journal = publisher.journal();
         self.repair_all(alloc, server, journal, turns, sink)?;
-        print_last(self.listener, sink)
+        print_last(self.listener, reporting, sink)
     }
 }

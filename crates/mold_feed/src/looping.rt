@@ -5,7 +5,7 @@ ghost use Rattle.std.specs.Io.KnownBytes.{Appends};
 ghost use Rattle.mold_devices.specs.Devices.{AppendsFront};
 ghost use Rattle.mold_devices.specs.Faults.{CountsCommand, CountsSink};
 ghost use Rattle.mold_devices.specs.Lines.{lines_of};
-ghost use Rattle.mold_feed.specs.Listening.{hearing, hearing_line, hearing_status};
+ghost use Rattle.mold_feed.specs.Listening.{hearing, hearing_lines, hearing_status};
 ghost use Rattle.mold_feed.specs.Looping.{LoopRun, lines_at};
 ghost use Rattle.mold_feed.specs.Outgoing.{written_out};
 ghost use Rattle.mold_feed.specs.Passing.{LoopSends};
@@ -13,8 +13,8 @@ ghost use Rattle.mold_feed.specs.PublishLoop.{left_journal};
 ghost use Rattle.mold_feed.specs.Repairing.{rounds_at};
 ghost use Rattle.mold_publish.specs.Publishing.{HasRoom, lines_published, refused_text};
 
+use crate::ending::push_end;
 use crate::hearing::LONGEST;
-use crate::listening::push_last;
 use crate::local_feed::LocalFeed;
 use crate::loop_parts::{Drops, Listener, LoopPeers, LoopPorts};
 use crate::outgoing::Outgoing;
@@ -43,20 +43,25 @@ pub(crate) fn print_refused<K: Sink>(
     Ok(2)
 }
 
-// Prints how far the listener came, and answers the status.
-pub(crate) fn print_last<K: Sink>(listener: &mut Listener, sink: &mut K) -> Result<u8, CommandFault>
+// Prints how far the listener came, behind the reports of its lines where they are asked for, and answers the status.
+pub(crate) fn print_last<K: Sink>(
+    listener: &mut Listener,
+    reporting: bool,
+    sink: &mut K,
+) -> Result<u8, CommandFault>
     ensures whole { IfOk result (λ status. Appends (K.held sink.old) (K.held sink.new)
-        (listener.old.report.outgoing.text ++ hearing_line (hearing listener.old.arbiter listener.old.report.outgoing))
+        (listener.old.report.outgoing.text
+        ++ hearing_lines reporting (hearing listener.old.arbiter listener.old.report.outgoing))
         × (status ≡ hearing_status (hearing listener.old.arbiter listener.old.report.outgoing))) }
     ensures front { AppendsFront (K.held sink.old) (K.held sink.new)
         (listener.old.report.outgoing.text
-        ++ hearing_line (hearing listener.old.arbiter listener.old.report.outgoing)) }
+        ++ hearing_lines reporting (hearing listener.old.arbiter listener.old.report.outgoing)) }
     ensures left { OnOk result (listener.new.report.outgoing ≡ written_out listener.old.report.outgoing) }
     ensures arbiter { listener.new.arbiter ≡ listener.old.arbiter }
     ensures sink { CountsSink (K.failed sink.old) (K.failed sink.new) result }
 {
     let Listener { arbiter, report } = listener;
-    let status = push_last(arbiter, &mut report.outgoing)?;
+    let status = push_end(arbiter, reporting, &mut report.outgoing)?;
     report.outgoing.send(sink)?;
     Ok(status)
 }
@@ -64,8 +69,8 @@ pub(crate) fn print_last<K: Sink>(listener: &mut Listener, sink: &mut K) -> Resu
 /// Publishes the lines of the source as messages, and listens to them: each datagram goes on both lines but
 /// where it is left out; after the last one the session is closed and its end is sent, and what is missing
 /// is requested in at most `turns` rounds. What is handed on is printed as a listener prints it, with its last
-/// line and its status. A refused line ends it: what was handed on stays printed, then comes the refusal,
-/// and the status is 2. A failed send or receive is counted, and nothing is received on a line where the send
+/// line and its status, and where `reporting` with its reports of the lines. A refused line ends it: what was
+/// handed on stays printed, then comes the refusal, without reports and last line, and the status is 2. A failed send or receive is counted, and nothing is received on a line where the send
 /// failed. The publisher may have messages, of which those that it didn't put in a packet yet have to fit one; they
 /// are sent before the lines' or with them. The number of a refused line counts them too: it is the number that
 /// the line's message would have. The publisher's messages may have at most as many bytes as the server's, so that
@@ -80,6 +85,7 @@ pub fn session_loop<D: Datagrams + Drop, S: Source, K: Sink>(
     server: &mut Server,
     drops: Drops,
     turns: u32,
+    reporting: bool,
     listener: &mut Listener,
     source: &mut S,
     sink: &mut K,
@@ -91,7 +97,7 @@ pub fn session_loop<D: Datagrams + Drop, S: Source, K: Sink>(
         (lines_published publisher.old.journal (lines_of input)) result
         (D.port ports.old.publisher) (D.port ports.new.publisher)) }
     ensures run { D.tells ≡ true → IfSome (S.left source.old) (λ input.
-        LoopRun drops peers.now.a peers.now.b peers.now.server turns publisher.old.limit publisher.old.sent
+        LoopRun reporting drops peers.now.a peers.now.b peers.now.server turns publisher.old.limit publisher.old.sent
         (lines_published publisher.old.journal (lines_of input)) server.old
         (lines_at D.port ports.old listener.old) (rounds_at D.port ports.old server.old listener.old)
         result (K.held sink.old) (K.held sink.new)
@@ -113,5 +119,5 @@ pub fn session_loop<D: Datagrams + Drop, S: Source, K: Sink>(
         place: place.as_mut_slice(),
         listener,
     };
-    feed.run(alloc, publisher, server, turns, source, sink)
+    feed.run(alloc, publisher, server, turns, reporting, source, sink)
 }

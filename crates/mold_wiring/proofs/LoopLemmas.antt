@@ -53,7 +53,7 @@ pub order_ran : {P : Type 0} (order : LoopOrder) (a b to : P) (known : Option (L
     (drops : Drops) (arbitration : Arbitration) (report : OutgoingState) (heard : Hearing) (answered : ℕ) →
     publisher ≡ loop_publisher_of order → server ≡ loop_server_of order → drops ≡ drops_of order →
     arbitration ≡ loop_arbiter_of order → report ≡ nothing_out →
-    IfSome known (λ input. LoopRun drops a b to order.turns publisher.limit publisher.sent
+    IfSome known (λ input. LoopRun order.report drops a b to order.turns publisher.limit publisher.sent
     (lines_published publisher.journal (lines_of input)) server (lines_at old (hearing arbitration report))
     (rounds_at old server.answered (hearing arbitration report)) result held_old held_new (lines_at new heard)
     (rounds_at new answered heard)) →
@@ -66,25 +66,25 @@ order_ran order a b to (Some input) result from till old new publisher server dr
       answered = answered;
       run =
           subst
-          (λ (e : Hearing). LoopRun (drops_of order) a b to order.turns order.limits.limit 0
+          (λ (e : Hearing). LoopRun order.report (drops_of order) a b to order.turns order.limits.limit 0
           (lines_published (loop_publisher_of order).journal (lines_of input)) (loop_server_of order) (lines_at old e)
           (rounds_at old 0 e) result from till (lines_at new heard) (rounds_at new answered heard))
           (ap (λ (x : Arbitration). hearing x report) same_a
           ∙ ap (λ (r : OutgoingState). hearing (loop_arbiter_of order) r) same_r)
           (subst
-          (λ (d : Drops). LoopRun d a b to order.turns order.limits.limit 0
+          (λ (d : Drops). LoopRun order.report d a b to order.turns order.limits.limit 0
           (lines_published (loop_publisher_of order).journal (lines_of input)) (loop_server_of order)
           (lines_at old (hearing arbitration report)) (rounds_at old 0 (hearing arbitration report)) result from
           till (lines_at new heard) (rounds_at new answered heard))
           same_d
           (subst
-          (λ (s : ServerState). LoopRun drops a b to order.turns order.limits.limit 0
+          (λ (s : ServerState). LoopRun order.report drops a b to order.turns order.limits.limit 0
           (lines_published (loop_publisher_of order).journal (lines_of input)) s
           (lines_at old (hearing arbitration report)) (rounds_at old s.answered (hearing arbitration report)) result
           from till (lines_at new heard) (rounds_at new answered heard))
           same_s
           (subst
-          (λ (p : PublisherState). LoopRun drops a b to order.turns p.limit p.sent
+          (λ (p : PublisherState). LoopRun order.report drops a b to order.turns p.limit p.sent
           (lines_published p.journal (lines_of input)) server (lines_at old (hearing arbitration report))
           (rounds_at old server.answered (hearing arbitration report)) result from till (lines_at new heard)
           (rounds_at new answered heard))

@@ -49,7 +49,7 @@ pub record OrderRun {P E : Type 0} (order : LoopOrder) (a b to : P) (result : Re
     (held_old held_new : Option (List ℕ)) (old new : FivePorts P) (input : List ℕ) : Type 0 where
   pub heard : Hearing
   pub answered : ℕ
-  pub run : LoopRun (drops_of order) a b to order.turns order.limits.limit 0
+  pub run : LoopRun order.report (drops_of order) a b to order.turns order.limits.limit 0
       (lines_published (loop_publisher_of order).journal (lines_of input)) (loop_server_of order)
       (lines_at old (unheard order)) (rounds_at old 0 (unheard order)) result held_old held_new
       (lines_at new heard) (rounds_at new answered heard)

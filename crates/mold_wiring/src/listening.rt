@@ -1,7 +1,7 @@
 //! What `listen` is made of.
 
 ghost use Rattle.std.specs.Prelude.{◌≡◌, true, IfOk};
-ghost use Rattle.mold_feed.specs.Listening.{Agrees, beginning, listened_line, listening, status};
+ghost use Rattle.mold_feed.specs.Listening.{Agrees, beginning, listened_lines, listening, status};
 ghost use Rattle.mold_devices.specs.Faults.{CountsSink};
 ghost use Rattle.mold_feed.specs.Runs.{Ran};
 ghost use Rattle.mold_wiring.specs.Wiring.{arbiter_of};
@@ -24,7 +24,8 @@ pub fn make_arbiter(alloc: Global, order: &ListenOrder) -> Result<Arbiter, Alloc
     }
 }
 
-/// Listens on two lines, as `listen_loop` does, with the order's arbiter, and as many answers and turns as it says.
+/// Listens on two lines, as `listen_loop` does, with the order's arbiter, as many answers and turns as it says, and
+/// reports of the lines where it asks for them.
 pub fn listen_over<D: Datagrams, K: Sink>(
     alloc: Global,
     order: &ListenOrder,
@@ -38,7 +39,8 @@ pub fn listen_over<D: Datagrams, K: Sink>(
     requires { arbiter.old ≡ arbiter_of order.now }
     ensures run { D.tells ≡ true → Ran (listening server order.now.burst) order.now.turns
         (beginning (D.port a.old) (D.port b.old) (D.port requests.old) (arbiter_of order.now))
-        listened_line status (Agrees (D.port a.new) (D.port b.new) (D.port requests.new) arbiter.new)
+        (listened_lines order.now.report) status
+        (Agrees (D.port a.new) (D.port b.new) (D.port requests.new) arbiter.new)
         result (K.held sink.old) (K.held sink.new) (D.port requests.new).sent }
     ensures sink { CountsSink (K.failed sink.old) (K.failed sink.new) result }
 {
@@ -51,6 +53,7 @@ pub fn listen_over<D: Datagrams, K: Sink>(
         arbiter,
         order.burst,
         u64::from(order.turns),
+        order.report,
         sink,
     )
 }

@@ -96,6 +96,7 @@ fn run_made<D: Datagrams + Drop, S: Source, K: Sink>(
         server,
         make_drops(order),
         order.turns,
+        order.report,
         &mut listener,
         source,
         sink,
@@ -103,8 +104,8 @@ fn run_made<D: Datagrams + Drop, S: Source, K: Sink>(
 }
 
 /// Publishes the lines of the source, and serves and listens to them, in one process, as the order says: each line's
-/// packets but those that the order leaves out of it. The ports of the lines send nothing. `Read` and `Write` come only
-/// where the source or the sink failed.
+/// packets but those that the order leaves out of it, and with reports of the lines where it asks for them. The ports
+/// of the lines send nothing. `Read` and `Write` come only where the source or the sink failed.
 pub fn loop_over<D: Datagrams + Drop, S: Source, K: Sink>(
     alloc: Global,
     order: &LoopOrder,

@@ -12,6 +12,8 @@ mod listen;
 #[cfg(test)]
 mod publish;
 #[cfg(test)]
+mod reports;
+#[cfg(test)]
 mod serve;
 #[cfg(test)]
 mod session;

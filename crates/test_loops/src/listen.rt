@@ -23,13 +23,13 @@ pub(crate) const DATA_1: &[u8] = b"SESSION001\0\0\0\0\0\0\0\x01\0\x01\0\x01A";
 
 pub(crate) const DATA_2: &[u8] = b"SESSION001\0\0\0\0\0\0\0\x02\0\x01\0\x01B";
 
-const DATA_3: &[u8] = b"SESSION001\0\0\0\0\0\0\0\x03\0\x01\0\x01C";
+pub(crate) const DATA_3: &[u8] = b"SESSION001\0\0\0\0\0\0\0\x03\0\x01\0\x01C";
 
 const DATA_4: &[u8] = b"SESSION001\0\0\0\0\0\0\0\x04\0\x01\0\x01D";
 
 const END_3: &[u8] = b"SESSION001\0\0\0\0\0\0\0\x03\xff\xff";
 
-const END_4: &[u8] = b"SESSION001\0\0\0\0\0\0\0\x04\xff\xff";
+pub(crate) const END_4: &[u8] = b"SESSION001\0\0\0\0\0\0\0\x04\xff\xff";
 
 /// The request for message 2.
 const REQUEST: &[u8] = b"SESSION001\0\0\0\0\0\0\0\x02\0\x01";
@@ -38,7 +38,7 @@ const REQUEST: &[u8] = b"SESSION001\0\0\0\0\0\0\0\x02\0\x01";
 pub(crate) const QUIET: &[u8] = b"";
 
 /// The receive fails.
-const FAILS: &[u8] = b"fails";
+pub(crate) const FAILS: &[u8] = b"fails";
 
 fn step(alloc: Global, bytes: &[u8]) -> Result<Step, AllocError> {
     if bytes.is_empty() {
@@ -74,7 +74,7 @@ pub fn port(
 
 /// A listener at message 1 with a window of 4, and where it prints.
 #[derive(Drop)]
-struct Listener {
+pub(crate) struct Listener {
     alloc: Global,
     a: MemoryPort,
     b: MemoryPort,
@@ -84,7 +84,7 @@ struct Listener {
 }
 
 impl Listener {
-    fn new(
+    pub(crate) fn new(
         alloc: Global,
         a: MemoryPort,
         b: MemoryPort,
@@ -100,7 +100,7 @@ impl Listener {
         })
     }
 
-    fn listen(&mut self, burst: u16, turns: u64) -> Result<u8, CommandFault> {
+    fn listen(&mut self, burst: u16, turns: u64, reporting: bool) -> Result<u8, CommandFault> {
         listen_loop(
             self.alloc,
             &mut self.a,
@@ -110,6 +110,7 @@ impl Listener {
             &mut self.arbiter,
             burst,
             turns,
+            reporting,
             &mut self.sink,
         )
     }
@@ -123,8 +124,22 @@ impl Listener {
         answer: Result<u8, CommandFault>,
         text: &[u8],
     ) {
-        let found = self.listen(burst, turns);
+        let found = self.listen(burst, turns, false);
         same_outcome(rt, found, answer);
+        same_bytes(rt, self.sink.bytes(), text);
+    }
+
+    /// Listens and reports the lines, with this status and this text.
+    pub(crate) fn expect_reports(
+        &mut self,
+        rt: &impl Abort,
+        burst: u16,
+        turns: u64,
+        status: u8,
+        text: &[u8],
+    ) {
+        let found = self.listen(burst, turns, true);
+        same_outcome(rt, found, Ok(status));
         same_bytes(rt, self.sink.bytes(), text);
     }
 
@@ -177,7 +192,7 @@ fn on_line_a(
 }
 
 /// The listener of messages 1 and 2, a failure and an end on line A.
-fn over_memory(alloc: Global, a: Option<usize>, b: Option<usize>) -> Result<Listener, Fail> {
+pub(crate) fn over_memory(alloc: Global, a: Option<usize>, b: Option<usize>) -> Result<Listener, Fail> {
     let line = port(alloc, &[DATA_1, DATA_2, FAILS, END_3], a)?;
     let quiet = port(alloc, &[QUIET; 5], b)?;
     Listener::new(alloc, line, quiet, MemoryPort::new(alloc, Vec::new(alloc)))
@@ -295,7 +310,7 @@ fn failure_at_each_receive_of_an_answer(rt: HostRuntime) -> Result<(), Fail> {
 #[test]
 fn a_refused_growth_leaves_a_beginning(rt: HostRuntime) -> Result<(), Fail> {
     let mut listener = with_gap(rt.alloc(), None)?;
-    let outcome = listener.listen(1, 4);
+    let outcome = listener.listen(1, 4, false);
     listener.expect_beginning(&rt, outcome);
     Ok(())
 }

@@ -97,12 +97,13 @@ fn make_fixture(alloc: Global, a: &[&[u8]]) -> Result<Fixture, Fail> {
     })
 }
 
-// Publishes the lines with these drops, and asks in at most so many rounds.
+// Publishes the lines with these drops, asks in at most so many rounds, and reports the lines or not.
 fn run(
     alloc: Global,
     fixture: &mut Fixture,
     drops: Drops,
     turns: u32,
+    reporting: bool,
     lines: &[u8],
 ) -> Result<Result<u8, CommandFault>, Fail> {
     let mut publisher = new_publisher(alloc)?;
@@ -116,6 +117,7 @@ fn run(
         &mut server,
         drops,
         turns,
+        reporting,
         &mut fixture.listener,
         &mut source,
         &mut fixture.sink,
@@ -130,7 +132,7 @@ fn expect(
     status: u8,
     text: &[u8],
 ) -> Result<(), Fail> {
-    let outcome = run(rt.alloc(), fixture, DROPS, turns, LINES)?;
+    let outcome = run(rt.alloc(), fixture, DROPS, turns, false, LINES)?;
     same_outcome(rt, outcome, Ok(status));
     same_bytes(rt, fixture.sink.bytes(), text);
     Ok(())
@@ -170,6 +172,16 @@ const ALL_BUT_A_SEND: &[u8] = b"1 0101010101010101010101010101010101010101\n\
     5 0505050505050505050505050505050505050505\n\
     finished next 6 failed 1\n";
 
+/// Of line A nothing came behind messages 1 and 2. Messages 3 and 4 came on no line.
+const ALL_REPORTED: &[u8] = b"1 0101010101010101010101010101010101010101\n\
+    2 0202020202020202020202020202020202020202\n\
+    3 0303030303030303030303030303030303030303\n\
+    4 0404040404040404040404040404040404040404\n\
+    5 0505050505050505050505050505050505050505\n\
+    line a datagrams 1 refused 0 front 3 lag 3\n\
+    line b datagrams 3 refused 0 front 6 lag 0\n\
+    finished next 6 failed 0\n";
+
 const TWO: &[u8] = b"1 0101010101010101010101010101010101010101\n\
     2 0202020202020202020202020202020202020202\n\
     open next 3 known 6 failed 1\n";
@@ -188,10 +200,19 @@ fn what_both_lines_lost_is_requested(rt: HostRuntime) -> Result<(), Fail> {
 fn each_line_leaves_out_its_own_packets(rt: HostRuntime) -> Result<(), Fail> {
     let mut fixture = make_fixture(rt.alloc(), &[ONE_AND_TWO, FIVE, END])?;
     let drops = Drops { a: 2, b: 3 };
-    let outcome = run(rt.alloc(), &mut fixture, drops, 9, LINES)?;
+    let outcome = run(rt.alloc(), &mut fixture, drops, 9, false, LINES)?;
     same_outcome(&rt, outcome, Ok(0));
     same_bytes(&rt, fixture.sink.bytes(), ALL);
     expect_sent(&rt, &fixture.ports.publisher, &ON_THEIR_LINES, 0);
+    Ok(())
+}
+
+#[test]
+fn a_line_that_lost_is_reported(rt: HostRuntime) -> Result<(), Fail> {
+    let mut fixture = make_fixture(rt.alloc(), &[ONE_AND_TWO])?;
+    let outcome = run(rt.alloc(), &mut fixture, DROPS, 9, true, LINES)?;
+    same_outcome(&rt, outcome, Ok(0));
+    same_bytes(&rt, fixture.sink.bytes(), ALL_REPORTED);
     Ok(())
 }
 
@@ -230,7 +251,7 @@ fn an_answer_that_fails_is_not_waited_for(rt: HostRuntime) -> Result<(), Fail> {
 #[test]
 fn a_refused_line_ends_a_session(rt: HostRuntime) -> Result<(), Fail> {
     let mut fixture = make_fixture(rt.alloc(), &[])?;
-    let outcome = run(rt.alloc(), &mut fixture, DROPS, 9, b"4142\nx\n")?;
+    let outcome = run(rt.alloc(), &mut fixture, DROPS, 9, true, b"4142\nx\n")?;
     same_outcome(&rt, outcome, Ok(2));
     same_bytes(&rt, fixture.sink.bytes(), b"refused line 2 NotHex\n");
     same_size(&rt, fixture.ports.publisher.sent().len(), 0);

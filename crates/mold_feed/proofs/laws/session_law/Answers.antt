@@ -24,24 +24,24 @@ laws g c = record {
 
 pub returns-clause-printed : goal.returns-clause-printed
 returns-clause-printed g c =
-    λ limit first window turns burst journal lines server a b requests arbitration a_left b_left requests_left left result
+    λ reporting limit first window turns burst journal lines server a b requests arbitration a_left b_left requests_left left result
     old new sent opening unrefused least most anew hears ran.
     let within = lines_within (opening_laws g c) limit journal lines opening unrefused first most in
-    session_prints_lines (laws g c) limit journal lines opening first window least within arbitration anew burst turns
+    session_prints_lines (laws g c) limit journal lines opening first window least within arbitration anew reporting burst turns
     server a b requests _ result old new sent ran unrefused hears
 
 pub returns-clause-among : goal.returns-clause-among
 returns-clause-among g c =
-    λ limit first window turns burst journal lines server a b requests arbitration a_left b_left requests_left left result
+    λ reporting limit first window turns burst journal lines server a b requests arbitration a_left b_left requests_left left result
     old new sent opening unrefused least most anew hears ran.
     let within = lines_within (opening_laws g c) limit journal lines opening unrefused first most in
-    session_prints_among (laws g c) limit journal lines opening first window least within arbitration anew burst turns
+    session_prints_among (laws g c) limit journal lines opening first window least within arbitration anew reporting burst turns
     server a b requests _ result old new sent ran unrefused hears
 
 pub returns-clause-refused : goal.returns-clause-refused
 returns-clause-refused g c =
-    λ limit first window turns burst journal lines why server a b requests arbitration a_left b_left requests_left left
+    λ reporting limit first window turns burst journal lines why server a b requests arbitration a_left b_left requests_left left
     result old new sent opening refused least most anew hears ran.
     let within = messages_within journal lines first most in
-    session_prints_open (laws g c) limit journal lines opening first window least within arbitration anew burst turns
+    session_prints_open (laws g c) limit journal lines opening first window least within arbitration anew reporting burst turns
     server a b requests _ result old new sent ran why refused hears

@@ -1,7 +1,7 @@
 use Rattle.std.proofs.Common.{false, refl, rules, sym}
 use Rattle.mold_feed.proofs.FaultLemmas.{counts_memory}
 use Rattle.mold_feed.proofs.RunLemmas.{ran_none}
-use Rattle.mold_feed.specs.Listening.{beginning, listened_line, status}
+use Rattle.mold_feed.specs.Listening.{beginning, listened_lines, status}
 use Rattle.mold_feed.proofs.TurnLemmas.{is_loop, listened_so}
 use Rattle.mold_feed.proofs.listening.listen_loop.Goals as goal
 
@@ -10,14 +10,14 @@ returns-in_err-place-clause-run g c = λ t.
     ran_none (is_loop c.args.server c.args.burst) c.args.turns
     (beginning (g.D.Datagrams.port c.args.a.now) (g.D.Datagrams.port c.args.b.now)
     (g.D.Datagrams.port c.args.requests.now) c.args.arbiter.now)
-    listened_line status _ c.from_residual.result false (g.K.Sink.held c.args.sink.now) c.from_residual.ensures.0
+    (listened_lines c.args.reporting) status _ c.from_residual.result false (g.K.Sink.held c.args.sink.now) c.from_residual.ensures.0
 
 pub returns-in_err-place-clause-sink : goal.returns-in_err-place-clause-sink
 returns-in_err-place-clause-sink g c = counts_memory c.from_residual.result _ _ c.from_residual.ensures.1 refl
 
 pub returns-clause-run : goal.returns-clause-run
 returns-clause-run g c = λ t.
-    listened_so g.D.Datagrams.port c.args.server c.args.burst c.args.turns
+    listened_so c.args.reporting g.D.Datagrams.port c.args.server c.args.burst c.args.turns
     (beginning (g.D.Datagrams.port c.args.a.now) (g.D.Datagrams.port c.args.b.now)
     (g.D.Datagrams.port c.args.requests.now) c.args.arbiter.now)
     c.listen.result _ _ c.listen.new.self.a.now _ c.listen.new.self.b.now _ c.listen.new.self.requests.now _

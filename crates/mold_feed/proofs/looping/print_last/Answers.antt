@@ -12,21 +12,21 @@ returns-in_err-status-clause-front g c = front_none (g.K.Sink.held c.args.sink.n
 pub returns-in_err-send-clause-front : goal.returns-in_err-send-clause-front
 returns-in_err-send-clause-front g c =
     subst (λ (t : List ℕ). AppendsFront (g.K.Sink.held c.args.sink.now) (g.K.Sink.held c.send.new.sink) t)
-    (ap (λ (r : OutgoingState). r.text) c.in_ok-status.ensures.line) c.send.ensures.front
+    (ap (λ (r : OutgoingState). r.text) c.in_ok-status.ensures.lines) c.send.ensures.front
 
 pub returns-clause-front : goal.returns-clause-front
 returns-clause-front g c =
     subst (λ (t : List ℕ). AppendsFront (g.K.Sink.held c.args.sink.now) (g.K.Sink.held c.send.new.sink) t)
-    (ap (λ (r : OutgoingState). r.text) c.in_ok-status.ensures.line) c.send.ensures.front
+    (ap (λ (r : OutgoingState). r.text) c.in_ok-status.ensures.lines) c.send.ensures.front
 
 pub returns-clause-whole : goal.returns-clause-whole
 returns-clause-whole g c = (
   subst (λ (t : List ℕ). Appends (g.K.Sink.held c.args.sink.now) (g.K.Sink.held c.send.new.sink) t)
-      (ap (λ (r : OutgoingState). r.text) c.in_ok-status.ensures.line) c.in_ok-send.ensures.whole,
+      (ap (λ (r : OutgoingState). r.text) c.in_ok-status.ensures.lines) c.in_ok-send.ensures.whole,
   c.in_ok-status.ensures.status,
 )
 
 pub returns-clause-left : goal.returns-clause-left
 returns-clause-left g c =
     all_written c.args.listener.now.report.outgoing c.send.new.self c.in_ok-send.ensures.empty
-    (c.send.ensures.failures ∙ ap (λ (o : OutgoingState). o.failures) c.in_ok-status.ensures.line)
+    (c.send.ensures.failures ∙ ap (λ (o : OutgoingState). o.failures) c.in_ok-status.ensures.lines)

@@ -10,7 +10,7 @@ use Rattle.mold_feed.proofs.looping.session_loop.Goals as goal
 pub returns-in_err-place-clause-run : goal.returns-in_err-place-clause-run
 returns-in_err-place-clause-run g c tells =
     let port = g.D.Datagrams.port in
-    loop_unbegun c.args.drops c.args.peers.now.a c.args.peers.now.b c.args.peers.now.server c.args.turns c.args.publisher.now
+    loop_unbegun c.args.reporting c.args.drops c.args.peers.now.a c.args.peers.now.b c.args.peers.now.server c.args.turns c.args.publisher.now
     c.args.server.now (lines_at port c.args.ports.now c.args.listener.now)
     (rounds_at port c.args.ports.now c.args.server.now c.args.listener.now) _ c.from_residual.result _
     c.from_residual.ensures.0
@@ -21,7 +21,7 @@ returns-clause-run g c tells =
     let feed = c.run.new.self in
     let ports = sym c.run.ensures.same.ports in
     let listener = sym c.run.ensures.same.listener in
-    loop_so c.args.drops c.args.peers.now.a c.args.peers.now.b c.args.peers.now.server c.args.turns
+    loop_so c.args.reporting c.args.drops c.args.peers.now.a c.args.peers.now.b c.args.peers.now.server c.args.turns
     c.args.publisher.now c.args.server.now (lines_at port c.args.ports.now c.args.listener.now)
     (rounds_at port c.args.ports.now c.args.server.now c.args.listener.now) _ c.run.result _ _
     (lines_at port feed.ports.now feed.listener.now) _
@@ -44,12 +44,12 @@ returns-clause-b g c tells =
 
 pub returns-in_err-place-clause-sends : goal.returns-in_err-place-clause-sends
 returns-in_err-place-clause-sends g c tells =
-    loop_sends c.args.drops c.args.peers.now.a c.args.peers.now.b c.args.peers.now.server c.args.turns
+    loop_sends c.args.reporting c.args.drops c.args.peers.now.a c.args.peers.now.b c.args.peers.now.server c.args.turns
     c.args.publisher.now c.args.server.now _ _ _ c.from_residual.result _ _ _ _
     (returns-in_err-place-clause-run g c tells)
 
 pub returns-clause-sends : goal.returns-clause-sends
 returns-clause-sends g c tells =
-    loop_sends c.args.drops c.args.peers.now.a c.args.peers.now.b c.args.peers.now.server c.args.turns
+    loop_sends c.args.reporting c.args.drops c.args.peers.now.a c.args.peers.now.b c.args.peers.now.server c.args.turns
     c.args.publisher.now c.args.server.now _ _ _ c.run.result _ _ _ _
     (returns-clause-run g c tells)

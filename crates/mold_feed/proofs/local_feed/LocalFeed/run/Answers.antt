@@ -23,7 +23,7 @@ returns-in_err-refused-clause-run g c tells =
     let port = g.D.Datagrams.port in
     let feed = c.args.self.now in
     let peers = feed.peers.now in
-    loop_unheard feed.drops peers.a peers.b peers.server c.args.turns c.args.publisher.now
+    loop_unheard c.args.reporting feed.drops peers.a peers.b peers.server c.args.turns c.args.publisher.now
     c.pass_lines.new.publisher c.args.server.now (lines port feed) (rounds port c.args.server.now feed) _
     c.pass_lines.result c.from_residual.result _ _ (lines port c.pass_lines.new.self)
     (rounds port c.args.server.now c.pass_lines.new.self) c.from_residual.ensures.0
@@ -40,7 +40,7 @@ returns-in-Some-clause-run g c tells =
     let behind = rounds port c.args.server.now c.pass_lines.new.self in
     let left = repair_state behind.server behind.requests c.args.server.now here.hearing.arbitration
     c.print_refused.new.outgoing in
-    loop_stopped feed.drops peers.a peers.b peers.server c.args.turns c.args.publisher.now
+    loop_stopped c.args.reporting feed.drops peers.a peers.b peers.server c.args.turns c.args.publisher.now
     c.pass_lines.new.publisher c.args.server.now (lines port feed) (rounds port c.args.server.now feed) _
     c.in-Some.why c.next-number.result c.print_refused.result
     _ _ _ here here_left left
@@ -63,7 +63,7 @@ returns-in_err-pass_end-clause-run g c tells =
     let port = g.D.Datagrams.port in
     let feed = c.args.self.now in
     let peers = feed.peers.now in
-    loop_unended feed.drops peers.a peers.b peers.server c.args.turns c.args.publisher.now
+    loop_unended c.args.reporting feed.drops peers.a peers.b peers.server c.args.turns c.args.publisher.now
     c.pass_lines.new.publisher c.args.server.now (lines port feed) (rounds port c.args.server.now feed) _
     c.pass_end.result c.from_residual-in_err-pass_end.result _ _ (lines port c.pass_lines.new.self)
     (lines port c.pass_end.new.self) (rounds port c.args.server.now c.pass_end.new.self)
@@ -81,7 +81,7 @@ returns-in_err-repair_all-clause-run g c tells =
     let peers = feed.peers.now in
     let there = lines port c.pass_end.new.self in
     let left = rounds port c.repair_all.new.server c.repair_all.new.self in
-    loop_unrepaired feed.drops peers.a peers.b peers.server c.args.turns c.args.publisher.now
+    loop_unrepaired c.args.reporting feed.drops peers.a peers.b peers.server c.args.turns c.args.publisher.now
     c.pass_lines.new.publisher c.args.server.now (lines port feed) (rounds port c.args.server.now feed) _
     c.in_ok-pass_end.field-0 c.repair_all.result c.from_residual-in_err-repair_all.result _ _ _
     (lines port c.pass_lines.new.self) there (lines port c.repair_all.new.self) left
@@ -111,7 +111,7 @@ returns-clause-run g c tells =
     c.print_last.new.listener.report.outgoing in
     let left = repair_state behind.server behind.requests c.repair_all.new.server c.print_last.new.listener.arbiter
     c.print_last.new.listener.report.outgoing in
-    loop_done feed.drops peers.a peers.b peers.server c.args.turns c.args.publisher.now
+    loop_done c.args.reporting feed.drops peers.a peers.b peers.server c.args.turns c.args.publisher.now
     c.pass_lines.new.publisher c.args.server.now (lines port feed) (rounds port c.args.server.now feed) _
     c.in_ok-pass_end.field-0 c.in_ok-repair_all.field-0 c.print_last.result _ _ _ _
     (lines port c.pass_lines.new.self) there there_left behind left

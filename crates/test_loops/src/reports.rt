@@ -1,0 +1,35 @@
+//! Listening with reports of the lines.
+
+use crate::listen::{DATA_1, DATA_2, DATA_3, END_4, FAILS, Listener, over_memory, port};
+use std::test::Fail;
+
+#[test]
+fn lines_are_reported(rt: HostRuntime) -> Result<(), Fail> {
+    // Line B loses message 3 and the end. Message 2 comes as an answer, behind one that is refused.
+    let a = port(rt.alloc(), &[DATA_1, DATA_3, FAILS, END_4], None)?;
+    let b = port(rt.alloc(), &[DATA_1, b"\0"], None)?;
+    let answers = port(rt.alloc(), &[b"\0", DATA_2], None)?;
+    let text = b"1 41
+refused Malformed Short 1
+refused Malformed Short 1
+2 42
+3 43
+line a datagrams 3 refused 0 front 4 lag 0
+line b datagrams 1 refused 1 front 2 lag 2
+finished next 4 failed 1
+";
+    let mut listener = Listener::new(rt.alloc(), a, b, answers)?;
+    listener.expect_reports(&rt, 2, 5, 0, text);
+    Ok(())
+}
+
+#[test]
+fn lines_are_reported_before_anything_came(rt: HostRuntime) -> Result<(), Fail> {
+    let text = b"line a datagrams 0 refused 0 front 1 lag 0
+line b datagrams 0 refused 0 front 1 lag 0
+open next 1 known 1 failed 0
+";
+    let mut listener = over_memory(rt.alloc(), None, None)?;
+    listener.expect_reports(&rt, 1, 0, 1, text);
+    Ok(())
+}
