@@ -14,4 +14,6 @@ pub use decimal::{push_long_number, push_number};
 pub use decoding::decode;
 pub use encoding::push_bytes;
 pub use number::read_number;
-pub use writing::{MOST_DIGITS, write_bytes, write_number};
+pub use writing::{
+    MOST_DIGITS, MOST_LONG_DIGITS, write_bytes, write_long_number, write_number, write_text,
+};
