@@ -1,9 +1,11 @@
 //! A word of a line.
 
-ghost use Rattle.std.specs.Prelude.{◌≡◌, ◌++◌, length, take, OnErr, OnOk};
-ghost use Rattle.mold_text.specs.Line.{word_text};
+ghost use Rattle.std.specs.Prelude.{◌≡◌, ◌++◌, ◌+◌, ◌*◌, ◌≤◌, length, take, min, OnErr, OnOk};
+ghost use Rattle.mold_digits.specs.Writing.{IsWritten};
+ghost use Rattle.mold_text.specs.Line.{message_digits, word_room, word_text};
 
-use mold_digits::{push_bytes, push_long_number, push_number};
+use mold_digits::{MOST_DIGITS, MOST_LONG_DIGITS, push_bytes, push_long_number, push_number};
+use mold_digits::{write_bytes, write_long_number, write_number, write_text};
 use std::alloc::AllocError;
 
 /// A word of a line, by how it is printed.
@@ -38,5 +40,49 @@ pub(crate) fn push_word(out: &mut Vec<u8>, word: &Word<'_>) -> Result<(), AllocE
             }
             push_bytes(out, message)
         }
+    }
+}
+
+/// How many bytes the word has at most, or the greatest number where that is greater.
+#[inline(always)]
+pub(crate) fn word_room(word: &Word<'_>) -> usize
+    ensures { result ≡ min (word_room word.now) 18446744073709551615 }
+{
+    match word {
+        Word::Text(text) => text.len(),
+        Word::Number(_) => MOST_DIGITS,
+        Word::LongNumber(_) => MOST_LONG_DIGITS,
+        Word::Digits(bytes) => bytes.len().saturating_mul(2),
+        Word::Message(message) => message.len().saturating_mul(2).saturating_add(1),
+    }
+}
+
+// Writes a message's digits, `-` for none, and answers the place behind them.
+#[inline(always)]
+fn write_message(out: &mut [u8], at: usize, message: &[u8]) -> usize
+    requires { at + (2 * length message.now + 1) ≤ length out.old }
+    ensures written { IsWritten out.old out.new at result (message_digits message.now) }
+    ensures most { result ≤ at + (2 * length message.now + 1) }
+{
+    if message.is_empty() {
+        out[at] = b'-';
+        return at + 1;
+    }
+    write_bytes(out, at, message)
+}
+
+/// Writes the word, without a space, from the place `at` on, and answers the place behind it.
+#[inline(always)]
+pub(crate) fn write_word(out: &mut [u8], at: usize, word: &Word<'_>) -> usize
+    requires { at + word_room word.now ≤ length out.old }
+    ensures written { IsWritten out.old out.new at result (word_text word.now) }
+    ensures most { result ≤ at + word_room word.now }
+{
+    match word {
+        Word::Text(text) => write_text(out, at, text),
+        Word::Number(number) => write_number(out, at, *number),
+        Word::LongNumber(number) => write_long_number(out, at, *number),
+        Word::Digits(bytes) => write_bytes(out, at, bytes),
+        Word::Message(message) => write_message(out, at, message),
     }
 }
