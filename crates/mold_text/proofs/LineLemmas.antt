@@ -1,29 +1,23 @@
--- A line of some words and others.
-use Rattle.std.proofs.Common.{◌≡◌, ◌∙◌, ℕ, ◌+◌, ◌<◌, List, [], ◌∷◌, ◌++◌, ap, append-nil, append_assoc, codes, get_or}
-use Rattle.std.proofs.Common.{length, map, set, subst, sym, take}
+-- Words that are written with spaces between them.
+use Rattle.std.proofs.Common.{◌≡◌, ◌∙◌, ℕ, ◌+◌, ◌<◌, List, [], ◌∷◌, ◌++◌, ap, append-nil, append_assoc, get_or}
+use Rattle.std.proofs.Common.{false, length, map, set, subst, sym, take}
+use Rattle.std.specs.Bool.{◌==◌}
 use Rattle.std.specs.List.{flat_map}
 use Rattle.std.proofs.lemmas.Grind.{flat_map-append}
 use Rattle.std.proofs.lemmas.List.{map-append, take_more}
 use Rattle.mold_digits.specs.Writing.{IsWritten}
 use Rattle.mold_text.proofs.WritingLemmas.{written_one, written_twice}
-use Rattle.mold_text.specs.Line.{behind_space, joined, line_of, word_text}
+use Rattle.mold_text.specs.Line.{behind_space, joined, word_text}
 use Rattle.mold_text.specs.declared.word.Word.{Word}
 
--- a word, others behind it and others behind those were written, and the byte 0A
-pub line_with : (old word mid words_behind others_behind new : List ℕ) (words others : List (List ℕ)) →
-    mid ≡ old ++ word → words_behind ≡ mid ++ flat_map behind_space words →
-    others_behind ≡ words_behind ++ flat_map behind_space others → new ≡ others_behind ++ codes "\n" →
-    new ≡ old ++ line_of (word ∷ words ++ others)
+-- some words joined, and others behind them
+pub joined_more : (words : List Word) (others : List (List ℕ)) → (length words == 0) ≡ false →
+    joined (map word_text words) ++ flat_map behind_space others ≡ joined (map word_text words ++ others)
 unfolding joined
-line_with old word mid words_behind others_behind new words others first second third last =
-    let front = flat_map behind_space words in
-    let back = flat_map behind_space others in
-    last ∙ ap (λ (l : List ℕ). l ++ codes "\n")
-    (third ∙ ap (λ (l : List ℕ). l ++ back) (second ∙ ap (λ (l : List ℕ). l ++ front) first)
-    ∙ append_assoc (old ++ word) front back
-    ∙ ap (λ (l : List ℕ). (old ++ word) ++ l) (sym (flat_map-append behind_space words others))
-    ∙ append_assoc old word (flat_map behind_space (words ++ others)))
-    ∙ append_assoc old (word ++ flat_map behind_space (words ++ others)) (codes "\n")
+joined_more [] others some = let no : ⊥ = cc in absurd no
+joined_more (first ∷ words) others some =
+    append_assoc (word_text first) (flat_map behind_space (map word_text words)) (flat_map behind_space others)
+    ∙ ap (λ (t : List ℕ). word_text first ++ t) (sym (flat_map-append behind_space (map word_text words) others))
 
 -- of words behind spaces one more is written
 pub spaced_more : (old mid text new : List ℕ) (words : List Word) (i at end stop : ℕ) (d : Word) → i < length words →

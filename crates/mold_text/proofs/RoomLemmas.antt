@@ -1,7 +1,7 @@
 -- Room for words, one word at a time.
 use Rattle.std.proofs.Common.{◌≡◌, ℕ, ◌+◌, ◌<◌, ◌≤◌, List, drop, get_or, length, min, ap, arith, drop_of_length-le}
 use Rattle.std.proofs.lemmas.List.{at_drop_more}
-use Rattle.mold_text.specs.Line.{word_room, words_room}
+use Rattle.mold_text.specs.Room.{word_room, words_room}
 use Rattle.mold_text.specs.declared.word.Word.{Word}
 
 -- of the words left the first takes its room

@@ -4,7 +4,7 @@ ghost use Rattle.std.specs.Prelude.{◌≡◌, ◌++◌, ◌∷◌, [], decimal,
 ghost use Rattle.mold_text.specs.Line.{line_of, word_text};
 ghost use Rattle.mold_text.specs.Text.{fault_words, refusal_words, refused_line, request_fault_words};
 
-use crate::line::{push_line_behind, push_line_with};
+use crate::line::push_line_with;
 use crate::word::Word;
 use mold_rule::Refusal;
 use mold_wire::{DecodeError, RequestError};
@@ -40,7 +40,7 @@ pub fn push_refused(out: &mut Vec<u8>, why: &[Word<'_>]) -> Result<(), AllocErro
     ensures text { OnOk result (out.new.items ≡ out.old.items ++ refused_line (map word_text why.now)) }
     ensures kept { OnErr result (take (length out.old.items) out.new.items ≡ out.old.items) }
 {
-    push_line_behind(out, &Word::Text(b"refused"), why)
+    push_line_with(out, &[Word::Text(b"refused")], why)
 }
 
 // The line of a refusal that is a name.

@@ -1,12 +1,12 @@
 //! A word of a line.
 
-ghost use Rattle.std.specs.Prelude.{◌≡◌, ◌++◌, ◌+◌, ◌*◌, ◌≤◌, length, take, min, OnErr, OnOk};
+ghost use Rattle.std.specs.Prelude.{◌≡◌, ◌+◌, ◌*◌, ◌≤◌, length, min};
 ghost use Rattle.mold_digits.specs.Writing.{IsWritten};
-ghost use Rattle.mold_text.specs.Line.{message_digits, word_room, word_text};
+ghost use Rattle.mold_text.specs.Line.{message_digits, word_text};
+ghost use Rattle.mold_text.specs.Room.{word_room};
 
-use mold_digits::{MOST_DIGITS, MOST_LONG_DIGITS, push_bytes, push_long_number, push_number};
+use mold_digits::{MOST_DIGITS, MOST_LONG_DIGITS};
 use mold_digits::{write_bytes, write_long_number, write_number, write_text};
-use std::alloc::AllocError;
 
 /// A word of a line, by how it is printed.
 #[derive(Debug, Drop)]
@@ -21,26 +21,6 @@ pub enum Word<'a> {
     Digits(&'a [u8]),
     /// A message: its bytes as lower-case hexadecimal digits, and `-` where it has none.
     Message(&'a [u8]),
-}
-
-// Writes the word, without a space.
-#[inline(always)]
-pub(crate) fn push_word(out: &mut Vec<u8>, word: &Word<'_>) -> Result<(), AllocError>
-    ensures text { OnOk result (out.new.items ≡ out.old.items ++ word_text word.now) }
-    ensures kept { OnErr result (take (length out.old.items) out.new.items ≡ out.old.items) }
-{
-    match word {
-        Word::Text(text) => out.extend_from_slice(text),
-        Word::Number(number) => push_number(out, *number),
-        Word::LongNumber(number) => push_long_number(out, *number),
-        Word::Digits(bytes) => push_bytes(out, bytes),
-        Word::Message(message) => {
-            if message.is_empty() {
-                return out.extend_from_slice(b"-");
-            }
-            push_bytes(out, message)
-        }
-    }
 }
 
 /// How many bytes the word has at most, or the greatest number where that is greater.

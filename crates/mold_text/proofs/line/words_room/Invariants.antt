@@ -1,5 +1,5 @@
 use Rattle.std.proofs.Common.{◌≡◌, ◌+◌, ◌≤◌, drop, min}
-use Rattle.mold_text.specs.Line.{words_room}
+use Rattle.mold_text.specs.Room.{words_room}
 use Rattle.mold_text.proofs.line.words_room.Given as goal
 
 -- the room so far, with that of the words left

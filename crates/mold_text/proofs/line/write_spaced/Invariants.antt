@@ -1,7 +1,8 @@
 use Rattle.std.proofs.Common.{◌≡◌, ◌+◌, ◌≤◌, drop, length, map, take}
 use Rattle.std.specs.List.{flat_map}
 use Rattle.mold_digits.specs.Writing.{IsWritten}
-use Rattle.mold_text.specs.Line.{behind_space, word_text, words_room}
+use Rattle.mold_text.specs.Line.{behind_space, word_text}
+use Rattle.mold_text.specs.Room.{words_room}
 use Rattle.mold_text.proofs.line.write_spaced.Given as goal
 
 -- the words before the place were written, and there is room for those left
