@@ -73,8 +73,9 @@ fn write_both(out: &mut [u8], at: usize, words: &[Word<'_>], others: &[Word<'_>]
 #[inline(always)]
 fn write_words(out: &mut [u8], at: usize, words: &[Word<'_>], others: &[Word<'_>]) -> usize
     requires { at + (words_room words.now + words_room others.now + 1) ≤ length out.old }
-    ensures { IsWritten out.old out.new at result
+    ensures written { IsWritten out.old out.new at result
         (line_of (map word_text words.now ++ map word_text others.now)) }
+    ensures most { result ≤ at + (words_room words.now + words_room others.now + 1) }
 {
     let end = write_both(out, at, words, others);
     out[end] = b'\n';
@@ -103,13 +104,22 @@ fn push_words(
     Ok(())
 }
 
+/// How many bytes a line of these words has at most, or the greatest number where that is greater.
+#[inline(always)]
+pub fn line_room(words: &[Word<'_>]) -> usize
+    ensures { result ≡ min (line_room words.now) 18446744073709551615 }
+{
+    words_room(words).saturating_add(1)
+}
+
 /// Writes the words as a line from the place `at` on, where there is room for what they have at most, and
 /// answers the place behind it: joined by single spaces, and ended by the byte 0A. What is behind that may
 /// change.
 #[inline(always)]
 pub fn write_line(out: &mut [u8], at: usize, words: &[Word<'_>]) -> usize
     requires { at + line_room words.now ≤ length out.old }
-    ensures { IsWritten out.old out.new at result (line_of (map word_text words.now)) }
+    ensures written { IsWritten out.old out.new at result (line_of (map word_text words.now)) }
+    ensures most { result ≤ at + line_room words.now }
 {
     write_words(out, at, words, &[])
 }
