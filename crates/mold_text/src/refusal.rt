@@ -35,7 +35,7 @@ pub fn request_fault_words(fault: RequestError) -> [Word<'static>; 2]
 }
 
 /// Writes the line of what is refused, by the words of why. After an error, which is want of memory, a
-/// part of it stands behind what was there.
+/// part of it may stand behind what was there.
 pub fn push_refused(out: &mut Vec<u8>, why: &[Word<'_>]) -> Result<(), AllocError>
     ensures text { OnOk result (out.new.items ≡ out.old.items ++ refused_line (map word_text why.now)) }
     ensures kept { OnErr result (take (length out.old.items) out.new.items ≡ out.old.items) }
@@ -67,7 +67,7 @@ fn push_numbered(
 }
 
 /// Writes a line of the words before, and why a receiver or a checker refuses a datagram. After an error,
-/// which is want of memory, a part of it stands behind what was there.
+/// which is want of memory, a part of it may stand behind what was there.
 pub fn push_refusal(out: &mut Vec<u8>, before: &[Word<'_>], why: Refusal) -> Result<(), AllocError>
     ensures text { OnOk result (out.new.items ≡
         out.old.items ++ line_of (map word_text before.now ++ refusal_words why)) }

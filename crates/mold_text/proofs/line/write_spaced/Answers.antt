@@ -1,4 +1,4 @@
-use Rattle.std.proofs.Common.{List, arith, length, map, refl, subst}
+use Rattle.std.proofs.Common.{List, arith, map, refl, subst}
 use Rattle.std.proofs.lemmas.List.{length-set, take_all}
 use Rattle.std.specs.List.{flat_map}
 use Rattle.mold_digits.specs.Writing.{IsWritten}

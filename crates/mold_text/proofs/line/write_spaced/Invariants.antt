@@ -1,4 +1,4 @@
-use Rattle.std.proofs.Common.{◌≡◌, ◌+◌, ◌≤◌, drop, length, map, take}
+use Rattle.std.proofs.Common.{◌+◌, ◌≤◌, drop, map, take}
 use Rattle.std.specs.List.{flat_map}
 use Rattle.mold_digits.specs.Writing.{IsWritten}
 use Rattle.mold_text.specs.Line.{behind_space, word_text}
