@@ -64,5 +64,11 @@ handed_init first ms old =
 pub written_within : (old new : List ℕ) (at end : ℕ) (text : List ℕ) → at ≤ length old →
     IsWritten old new at end text → end ≤ length new
 written_within old new at end text within written =
-    omega (arith, written.stops, ap (λ (t : List ℕ). length t) written.front, length-append (take at old) text,
-    length-take-le at old within, length-take end new)
+    omega (
+      arith,
+      written.stops,
+      ap (λ (t : List ℕ). length t) written.front,
+      length-append (take at old) text,
+      length-take-le at old within,
+      length-take end new,
+    )

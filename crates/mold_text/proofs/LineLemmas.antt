@@ -26,7 +26,7 @@ pub spaced_more : (old mid text new : List ℕ) (words : List Word) (i at end st
     IsWritten old new at stop (flat_map behind_space (map word_text (take (i + 1) words)))
 spaced_more old mid text new words i at end stop d within told room space written =
     let more : flat_map behind_space (map word_text (take (i + 1) words))
-        ≡ flat_map behind_space (map word_text (take i words)) ++ behind_space (word_text (get_or words i d)) =
+    ≡ flat_map behind_space (map word_text (take i words)) ++ behind_space (word_text (get_or words i d)) =
     ap (λ (ws : List Word). flat_map behind_space (map word_text ws)) (take_more words i d within)
     ∙ ap (flat_map behind_space) (map-append word_text (take i words) (get_or words i d ∷ []))
     ∙ flat_map-append behind_space (map word_text (take i words)) (word_text (get_or words i d) ∷ [])

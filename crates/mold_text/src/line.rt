@@ -84,11 +84,7 @@ fn write_words(out: &mut [u8], at: usize, words: &[Word<'_>], others: &[Word<'_>
 
 // Appends a line of some words and others. Room for all of it is made at once.
 #[inline(always)]
-fn push_words(
-    out: &mut Vec<u8>,
-    words: &[Word<'_>],
-    others: &[Word<'_>],
-) -> Result<(), AllocError>
+fn push_words(out: &mut Vec<u8>, words: &[Word<'_>], others: &[Word<'_>]) -> Result<(), AllocError>
     ensures line { OnOk result (out.new.items ≡
         out.old.items ++ line_of (map word_text words.now ++ map word_text others.now)) }
     ensures kept { OnErr result (take (length out.old.items) out.new.items ≡ out.old.items) }

@@ -5,8 +5,9 @@ ghost use Rattle.mold_digits.specs.Writing.{IsWritten};
 ghost use Rattle.mold_text.specs.Line.{message_digits, word_text};
 ghost use Rattle.mold_text.specs.Room.{word_room};
 
-use mold_digits::{MOST_DIGITS, MOST_LONG_DIGITS};
-use mold_digits::{write_bytes, write_long_number, write_number, write_text};
+use mold_digits::{
+    MOST_DIGITS, MOST_LONG_DIGITS, write_bytes, write_long_number, write_number, write_text,
+};
 
 /// A word of a line, by how it is printed.
 #[derive(Debug, Drop)]

@@ -31,8 +31,11 @@ loop-number-preserved c =
           (omega (arith, line.size, ap (λ (t : List ℕ). length t) w.as_mut_slice.ensures.value)) in
           rw (w.out-is, w.at-is, whole)
           (record {
-            within = written_within _ _ _ _ _ (omega (arith, w.in_ok-make_room.ensures.room,
-                ap (λ (t : List ℕ). length t) w.as_mut_slice.ensures.value)) line;
+            within = written_within _ _ _ _ _ (omega (
+              arith,
+              w.in_ok-make_room.ensures.room,
+              ap (λ (t : List ℕ). length t) w.as_mut_slice.ensures.value,
+            )) line;
             printed = handed_more _ _ _ _ _ _ _ c.loop-number.auto.number w.in-Some.ensures c.loop-number.invariant.printed
                 (line.front ∙ ap (λ (t : List ℕ). t ++ handed_line c.loop-number.number w.in-Some.message.now) before);
           })

@@ -11,5 +11,9 @@ loop-word-preserved c = record {
 
 pub returns : goal.returns
 returns c =
-    omega (arith, c.loop-word.invariant.fits, c.loop-word.invariant.counted,
-    room_all c.args.words.now c.loop-word.word-index c.loop-word-test.false)
+    omega (
+      arith,
+      c.loop-word.invariant.fits,
+      c.loop-word.invariant.counted,
+      room_all c.args.words.now c.loop-word.word-index c.loop-word-test.false,
+    )

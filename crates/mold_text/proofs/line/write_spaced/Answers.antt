@@ -11,20 +11,33 @@ use Rattle.mold_text.proofs.line.write_spaced.Goals as goal
 
 pub bounds-out-end : goal.bounds-out-end
 bounds-out-end c =
-    omega (arith, c.requires, c.loop-word.invariant.told.size,
-    room_here c.args.words.now _ _ _ (Number 0) c.loop-word-test.true c.loop-word.invariant.room)
+    omega (
+      arith,
+      c.requires,
+      c.loop-word.invariant.told.size,
+      room_here c.args.words.now _ _ _ (Number 0) c.loop-word-test.true c.loop-word.invariant.room,
+    )
 
 pub write_word-end-requires : goal.write_word-end-requires
 write_word-end-requires c =
     room_here c.args.words.now _ _ _ _ c.loop-word-test.true
-    (omega (arith, c.requires, c.loop-word.invariant.room, c.loop-word.invariant.told.size,
-    length-set c.loop-word.out c.loop-word.end 32))
+    (omega (
+      arith,
+      c.requires,
+      c.loop-word.invariant.room,
+      c.loop-word.invariant.told.size,
+      length-set c.loop-word.out c.loop-word.end 32,
+    ))
 
 pub loop-word-preserved : goal.loop-word-preserved
 loop-word-preserved c = record {
   told = spaced_more _ _ _ _ c.args.words.now _ _ _ _ _ c.loop-word-test.true c.loop-word.invariant.told
-      (omega (arith, c.requires, c.loop-word.invariant.told.size,
-      room_here c.args.words.now _ _ _ (Number 0) c.loop-word-test.true c.loop-word.invariant.room))
+      (omega (
+        arith,
+        c.requires,
+        c.loop-word.invariant.told.size,
+        room_here c.args.words.now _ _ _ (Number 0) c.loop-word-test.true c.loop-word.invariant.room,
+      ))
       refl c.write_word-end.ensures.written;
   room = room_next c.args.words.now _ _ _ _ _ c.loop-word-test.true c.loop-word.invariant.room c.write_word-end.ensures.most;
 }
