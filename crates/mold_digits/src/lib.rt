@@ -2,7 +2,6 @@
 //! crate `hex` and the standard library define.
 #![tactic(auto)]
 
-mod decimal;
 mod decoding;
 mod encoding;
 mod lanes;
@@ -10,8 +9,8 @@ mod number;
 mod table;
 mod writing;
 
-pub use decimal::{push_long_number, push_number};
 pub use decoding::decode;
-pub use encoding::push_bytes;
 pub use number::read_number;
-pub use writing::{MOST_DIGITS, write_bytes, write_number};
+pub use writing::{
+    MOST_DIGITS, MOST_LONG_DIGITS, write_bytes, write_long_number, write_number, write_text,
+};

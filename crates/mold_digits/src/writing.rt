@@ -11,6 +11,9 @@ use itoa::Buffer;
 /// The most decimal digits of a number of 64 bits, and of a number that is read.
 pub const MOST_DIGITS: usize = 20;
 
+/// The most decimal digits of a number of 128 bits.
+pub const MOST_LONG_DIGITS: usize = 39;
+
 fn digit(value: u64) -> u8
     requires { value < 10 }
     ensures { result ≡ 48 + value }
@@ -30,14 +33,15 @@ fn last_four_digits(number: u64) -> [u8; 4]
     ]
 }
 
-// Writes digits from `at` on, and answers the place behind them.
+/// Writes the bytes as they are from the place `at` on, for which there is room, and answers the place
+/// behind them.
 #[inline(always)]
-fn put(out: &mut [u8], at: usize, digits: &[u8]) -> usize
-    requires { at + length digits.now ≤ length out.old }
-    ensures { IsWritten out.old out.new at result digits.now }
+pub fn write_text(out: &mut [u8], at: usize, text: &[u8]) -> usize
+    requires { at + length text.now ≤ length out.old }
+    ensures { IsWritten out.old out.new at result text.now }
 {
-    let end = at + digits.len();
-    out[at..end].copy_from_slice(digits);
+    let end = at + text.len();
+    out[at..end].copy_from_slice(text);
     end
 }
 
@@ -65,13 +69,13 @@ fn write_few_digits(out: &mut [u8], at: usize, number: u64) -> usize
     ensures { IsWritten out.old out.new at result (decimal number) }
 {
     if number < 10 {
-        return put(out, at, &[digit(number)]);
+        return write_text(out, at, &[digit(number)]);
     }
     if number < 100 {
-        return put(out, at, &[digit(number / 10), digit(number % 10)]);
+        return write_text(out, at, &[digit(number / 10), digit(number % 10)]);
     }
     if number < 1000 {
-        return put(
+        return write_text(
             out,
             at,
             &[
@@ -81,7 +85,7 @@ fn write_few_digits(out: &mut [u8], at: usize, number: u64) -> usize
             ],
         );
     }
-    put(out, at, &last_four_digits(number))
+    write_text(out, at, &last_four_digits(number))
 }
 
 // Five to eight digits.
@@ -94,13 +98,13 @@ fn write_more_digits(out: &mut [u8], at: usize, number: u64) -> usize
     let front = number / 10_000;
     let [e, f, g, h] = last_four_digits(number);
     if front < 10 {
-        return put(out, at, &[digit(front), e, f, g, h]);
+        return write_text(out, at, &[digit(front), e, f, g, h]);
     }
     if front < 100 {
-        return put(out, at, &[digit(front / 10), digit(front % 10), e, f, g, h]);
+        return write_text(out, at, &[digit(front / 10), digit(front % 10), e, f, g, h]);
     }
     if front < 1000 {
-        return put(
+        return write_text(
             out,
             at,
             &[
@@ -115,7 +119,7 @@ fn write_more_digits(out: &mut [u8], at: usize, number: u64) -> usize
         );
     }
     let [a, b, c, d] = last_four_digits(front);
-    put(out, at, &[a, b, c, d, e, f, g, h])
+    write_text(out, at, &[a, b, c, d, e, f, g, h])
 }
 
 #[inline(never)]
@@ -124,7 +128,32 @@ fn write_any_number(out: &mut [u8], at: usize, number: u64) -> usize
     ensures { IsWritten out.old out.new at result (decimal number) }
 {
     let mut buffer = Buffer::new();
-    put(out, at, buffer.format(number).as_bytes())
+    write_text(out, at, buffer.format(number).as_bytes())
+}
+
+/// Writes the number in decimal from the place `at` on, for which and behind which there are 39 bytes, and
+/// answers the place behind its last digit. What is behind that may change.
+#[inline(always)]
+pub fn write_long_number(out: &mut [u8], at: usize, number: u128) -> usize
+    requires { at + 39 ≤ length out.old }
+    ensures written { IsWritten out.old out.new at result (decimal number) }
+    ensures most { result ≤ at + 39 }
+{
+    if let Ok(short) = u64::try_from(number) {
+        write_number(out, at, short)
+    } else {
+        write_very_long_number(out, at, number)
+    }
+}
+
+#[inline(never)]
+fn write_very_long_number(out: &mut [u8], at: usize, number: u128) -> usize
+    requires { at + 39 ≤ length out.old }
+    ensures written { IsWritten out.old out.new at result (decimal number) }
+    ensures most { result ≤ at + 39 }
+{
+    let mut buffer = Buffer::new();
+    write_text(out, at, buffer.format(number).as_bytes())
 }
 
 /// Writes two lower-case hexadecimal digits for each byte from the place `at` on, for which there is room,

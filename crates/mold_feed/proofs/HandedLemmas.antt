@@ -1,11 +1,12 @@
 -- The lines of a batch's messages, one more at a time.
 use Rattle.std.proofs.Common.{arith, ◌≡◌, ℕ, ◌+◌, ◌-◌, ◌<◌, ◌≤◌, List, [], ◌∷◌, ◌++◌, length, drop, None, Some}
-use Rattle.std.proofs.Common.{ap, sym, ◌∙◌, append_assoc, append-nil, drop_of_length-le}
-use Rattle.std.proofs.lemmas.List.{drop_more}
+use Rattle.std.proofs.Common.{ap, sym, take, ◌∙◌, append_assoc, append-nil, drop_of_length-le, length-append}
+use Rattle.std.proofs.lemmas.List.{drop_more, length-take, length-take-le}
 use Rattle.std.proofs.lemmas.Option.{slice_get_within, get_or_from_slice_get, slice_get-get_or}
 use Rattle.std.specs.Prelude.{slice_get}
 use Rattle.mold_receiver.specs.Batch.{first_in, after_in}
 use Rattle.mold_receiver.specs.Store.{Message}
+use Rattle.mold_digits.specs.Writing.{IsWritten}
 use Rattle.mold_feed.specs.Text.{handed_line, handed_text}
 
 -- a batch that has a first number has that one
@@ -58,3 +59,16 @@ pub handed_init : (first : ℕ) (ms : List Message) (old : List ℕ) →
     old ++ handed_text first (drop (first - first) ms) ≡ old ++ handed_text first ms
 handed_init first ms old =
     ap (λ (k : ℕ). old ++ handed_text first (drop k ms)) (let e : first - first ≡ 0 = omega arith in e)
+
+-- text that was written ends within its bytes
+pub written_within : (old new : List ℕ) (at end : ℕ) (text : List ℕ) → at ≤ length old →
+    IsWritten old new at end text → end ≤ length new
+written_within old new at end text within written =
+    omega (
+      arith,
+      written.stops,
+      ap (λ (t : List ℕ). length t) written.front,
+      length-append (take at old) text,
+      length-take-le at old within,
+      length-take end new,
+    )

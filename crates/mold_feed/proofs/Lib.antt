@@ -27,4 +27,3 @@ pub mod ServedLemmas
 pub mod ServingLemmas
 pub mod SessionLawLemmas
 pub mod TurnLemmas
-pub mod WritingLemmas

@@ -1,2 +1,4 @@
 pub mod KeptLemmas
 pub mod LineLemmas
+pub mod RoomLemmas
+pub mod WritingLemmas

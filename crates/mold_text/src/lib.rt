@@ -8,7 +8,7 @@ mod refusal;
 mod request;
 mod word;
 
-pub use line::{push_line, push_line_behind, push_line_with};
+pub use line::{line_room, push_line, push_line_with, write_line};
 pub use packet::push_packet;
 pub use refusal::{packet_fault_words, push_refusal, push_refused, request_fault_words};
 pub use request::push_request;

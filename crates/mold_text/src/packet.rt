@@ -82,7 +82,7 @@ fn push_data(
 }
 
 /// Writes the packet's line, and a line for each of its messages. After an error, which is want of
-/// memory, a part of them stands behind what was there.
+/// memory, a part of them may stand behind what was there.
 pub fn push_packet(out: &mut Vec<u8>, packet: &Packet<'_>) -> Result<(), AllocError>
     ensures text { OnOk result (out.new.items ≡ out.old.items ++ packet_text packet.now) }
     ensures kept { OnErr result (take (length out.old.items) out.new.items ≡ out.old.items) }

@@ -4,7 +4,7 @@ ghost use Rattle.std.specs.Prelude.{◌≡◌, ◌++◌, ◌∷◌, [], decimal,
 ghost use Rattle.mold_text.specs.Line.{line_of, word_text};
 ghost use Rattle.mold_text.specs.Text.{fault_words, refusal_words, refused_line, request_fault_words};
 
-use crate::line::{push_line_behind, push_line_with};
+use crate::line::push_line_with;
 use crate::word::Word;
 use mold_rule::Refusal;
 use mold_wire::{DecodeError, RequestError};
@@ -35,12 +35,12 @@ pub fn request_fault_words(fault: RequestError) -> [Word<'static>; 2]
 }
 
 /// Writes the line of what is refused, by the words of why. After an error, which is want of memory, a
-/// part of it stands behind what was there.
+/// part of it may stand behind what was there.
 pub fn push_refused(out: &mut Vec<u8>, why: &[Word<'_>]) -> Result<(), AllocError>
     ensures text { OnOk result (out.new.items ≡ out.old.items ++ refused_line (map word_text why.now)) }
     ensures kept { OnErr result (take (length out.old.items) out.new.items ≡ out.old.items) }
 {
-    push_line_behind(out, &Word::Text(b"refused"), why)
+    push_line_with(out, &[Word::Text(b"refused")], why)
 }
 
 // The line of a refusal that is a name.
@@ -67,7 +67,7 @@ fn push_numbered(
 }
 
 /// Writes a line of the words before, and why a receiver or a checker refuses a datagram. After an error,
-/// which is want of memory, a part of it stands behind what was there.
+/// which is want of memory, a part of it may stand behind what was there.
 pub fn push_refusal(out: &mut Vec<u8>, before: &[Word<'_>], why: Refusal) -> Result<(), AllocError>
     ensures text { OnOk result (out.new.items ≡
         out.old.items ++ line_of (map word_text before.now ++ refusal_words why)) }

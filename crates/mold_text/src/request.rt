@@ -8,7 +8,7 @@ use crate::word::Word;
 use mold_wire::Request;
 use std::alloc::AllocError;
 
-/// Writes the request's line. After an error, which is want of memory, a part of it stands behind what
+/// Writes the request's line. After an error, which is want of memory, a part of it may stand behind what
 /// was there.
 pub fn push_request(out: &mut Vec<u8>, request: &Request) -> Result<(), AllocError>
     ensures text { OnOk result (out.new.items ≡ out.old.items ++ request_text request.now) }

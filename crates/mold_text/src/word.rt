@@ -1,10 +1,13 @@
 //! A word of a line.
 
-ghost use Rattle.std.specs.Prelude.{◌≡◌, ◌++◌, length, take, OnErr, OnOk};
-ghost use Rattle.mold_text.specs.Line.{word_text};
+ghost use Rattle.std.specs.Prelude.{◌≡◌, ◌+◌, ◌*◌, ◌≤◌, length, min};
+ghost use Rattle.mold_digits.specs.Writing.{IsWritten};
+ghost use Rattle.mold_text.specs.Line.{message_digits, word_text};
+ghost use Rattle.mold_text.specs.Room.{word_room};
 
-use mold_digits::{push_bytes, push_long_number, push_number};
-use std::alloc::AllocError;
+use mold_digits::{
+    MOST_DIGITS, MOST_LONG_DIGITS, write_bytes, write_long_number, write_number, write_text,
+};
 
 /// A word of a line, by how it is printed.
 #[derive(Debug, Drop)]
@@ -21,22 +24,46 @@ pub enum Word<'a> {
     Message(&'a [u8]),
 }
 
-// Writes the word, without a space.
+/// How many bytes the word has at most, or the greatest number where that is greater.
 #[inline(always)]
-pub(crate) fn push_word(out: &mut Vec<u8>, word: &Word<'_>) -> Result<(), AllocError>
-    ensures text { OnOk result (out.new.items ≡ out.old.items ++ word_text word.now) }
-    ensures kept { OnErr result (take (length out.old.items) out.new.items ≡ out.old.items) }
+pub(crate) fn word_room(word: &Word<'_>) -> usize
+    ensures { result ≡ min (word_room word.now) 18446744073709551615 }
 {
     match word {
-        Word::Text(text) => out.extend_from_slice(text),
-        Word::Number(number) => push_number(out, *number),
-        Word::LongNumber(number) => push_long_number(out, *number),
-        Word::Digits(bytes) => push_bytes(out, bytes),
-        Word::Message(message) => {
-            if message.is_empty() {
-                return out.extend_from_slice(b"-");
-            }
-            push_bytes(out, message)
-        }
+        Word::Text(text) => text.len(),
+        Word::Number(_) => MOST_DIGITS,
+        Word::LongNumber(_) => MOST_LONG_DIGITS,
+        Word::Digits(bytes) => bytes.len().saturating_mul(2),
+        Word::Message(message) => message.len().saturating_mul(2).saturating_add(1),
+    }
+}
+
+// Writes a message's digits, `-` for none, and answers the place behind them.
+#[inline(always)]
+fn write_message(out: &mut [u8], at: usize, message: &[u8]) -> usize
+    requires { at + (2 * length message.now + 1) ≤ length out.old }
+    ensures written { IsWritten out.old out.new at result (message_digits message.now) }
+    ensures most { result ≤ at + (2 * length message.now + 1) }
+{
+    if message.is_empty() {
+        out[at] = b'-';
+        return at + 1;
+    }
+    write_bytes(out, at, message)
+}
+
+/// Writes the word, without a space, from the place `at` on, and answers the place behind it.
+#[inline(always)]
+pub(crate) fn write_word(out: &mut [u8], at: usize, word: &Word<'_>) -> usize
+    requires { at + word_room word.now ≤ length out.old }
+    ensures written { IsWritten out.old out.new at result (word_text word.now) }
+    ensures most { result ≤ at + word_room word.now }
+{
+    match word {
+        Word::Text(text) => write_text(out, at, text),
+        Word::Number(number) => write_number(out, at, *number),
+        Word::LongNumber(number) => write_long_number(out, at, *number),
+        Word::Digits(bytes) => write_bytes(out, at, bytes),
+        Word::Message(message) => write_message(out, at, message),
     }
 }

@@ -2,7 +2,7 @@
 //! length that fills whole vectors and leaves a rest, and with every byte at every place.
 
 use crate::comparisons::{same_bytes, same_size};
-use mold_digits::{decode, push_bytes, push_long_number, push_number, write_bytes, write_number};
+use mold_digits::{decode, write_bytes, write_long_number, write_number, write_text};
 use std::alloc::{AllocError, Global};
 use std::process::Abort;
 use std::test::Fail;
@@ -75,39 +75,38 @@ fn bytes_of_every_length_are_written(rt: HostRuntime) -> Result<(), Fail> {
     Ok(())
 }
 
-// Writes the digits of these bytes into `text`, which is emptied before.
+// Writes the digits of these bytes in the place of `text`.
 fn expect_written_as_hex(
     rt: &(impl Abort + AllocGlobal),
     bytes: &[u8],
     text: &mut Vec<u8>,
 ) -> Result<(), Fail> {
-    text.clear();
-    push_bytes(text, bytes)?;
+    text.resize(2 * bytes.len(), 0)?;
+    let end = write_bytes(text.as_mut_slice(), 0, bytes);
+    assert_eq!(rt; end, text.len());
     let expected = hex::encode(rt.alloc(), bytes)?;
     assert!(rt; text.as_slice() == expected.as_bytes(), "{bytes:?}");
     Ok(())
 }
 
 #[test]
-fn numbers_are_written(rt: HostRuntime) -> Result<(), Fail> {
+fn long_numbers_are_written_into_a_slice(rt: HostRuntime) -> Result<(), Fail> {
+    let mut place = [b'.'; 40];
     let mut text = Vec::new(rt.alloc());
-    write_numbers(&mut text)?;
+    write_long_numbers(&mut place, &mut text)?;
     same_bytes(
         &rt,
         text.as_slice(),
-        b"0 7 10 99 100 65507 18446744073709551615 8 42 18446744073709551616 \
-340282366920938463463374607431768211455 ",
+        b"8 42 18446744073709551616 340282366920938463463374607431768211455 ",
     );
     Ok(())
 }
 
-fn write_numbers(text: &mut Vec<u8>) -> Result<(), AllocError> {
-    for number in &[0, 7, 10, 99, 100, 65507, u64::MAX] {
-        push_number(text, *number)?;
-        text.push(b' ')?;
-    }
+// Each number behind the first byte of `place`, from where it is taken over.
+fn write_long_numbers(place: &mut [u8; 40], text: &mut Vec<u8>) -> Result<(), AllocError> {
     for number in &[8, 42, 18446744073709551616, u128::MAX] {
-        push_long_number(text, *number)?;
+        let end = write_long_number(place, 1, *number);
+        text.extend_from_slice(&place[1..end])?;
         text.push(b' ')?;
     }
     Ok(())
@@ -115,7 +114,7 @@ fn write_numbers(text: &mut Vec<u8>) -> Result<(), AllocError> {
 
 // Numbers of every count of digits up to nine, and the greatest one.
 #[test]
-fn numbers_and_bytes_are_written_into_a_slice(rt: HostRuntime) -> Result<(), Fail> {
+fn numbers_and_texts_are_written_into_a_slice(rt: HostRuntime) -> Result<(), Fail> {
     let mut place = [b'.'; 32];
     let mut text = Vec::new(rt.alloc());
     write_into(&mut place, &mut text)?;
@@ -125,7 +124,8 @@ fn numbers_and_bytes_are_written_into_a_slice(rt: HostRuntime) -> Result<(), Fai
         b"0 10 123 1234 12345 123456 1234567 12345678 123456789 18446744073709551615 ",
     );
     same_size(&rt, write_bytes(&mut place, 2, b"\x0a\xff"), 6);
-    same_bytes(&rt, &place[..6], b".10aff");
+    same_size(&rt, write_text(&mut place, 6, b"ab"), 8);
+    same_bytes(&rt, &place[..8], b".10affab");
     Ok(())
 }
 

@@ -1,9 +1,9 @@
 //! Each public call on its happy path, with the text that it writes.
 
-use crate::comparisons::same_bytes;
+use crate::comparisons::{same_bytes, same_size};
 use mold_text::{
-    Word, packet_fault_words, push_line, push_line_behind, push_line_with, push_packet,
-    push_refused, push_request, request_fault_words,
+    Word, line_room, packet_fault_words, push_line, push_line_with, push_packet, push_refused,
+    push_request, request_fault_words, write_line,
 };
 use mold_wire::{DecodeError, Request, RequestError, Session, decode};
 use std::test::Fail;
@@ -25,8 +25,8 @@ fn words_are_joined_by_single_spaces(rt: HostRuntime) -> Result<(), Fail> {
         ],
     )?;
     push_line(&mut out, &[])?;
-    push_line_behind(&mut out, &Word::Text(b"nothing"), &[])?;
-    push_line_behind(&mut out, &Word::Text(b"sent"), &[Word::Number(0)])?;
+    push_line_with(&mut out, &[], &[Word::Text(b"nothing")])?;
+    push_line_with(&mut out, &[Word::Text(b"sent"), Word::Number(0)], &[])?;
     push_line_with(
         &mut out,
         &[Word::Text(b"sent"), Word::Number(0)],
@@ -35,6 +35,15 @@ fn words_are_joined_by_single_spaces(rt: HostRuntime) -> Result<(), Fail> {
     let text = b"delivered 7 18446744073709551616 0aff - 41\n\nnothing\nsent 0\nsent 0 1\n";
     same_bytes(&rt, out.as_slice(), text);
     Ok(())
+}
+
+#[test]
+fn a_line_is_written_into_a_slice(rt: HostRuntime) {
+    let mut place = [b'.'; 32];
+    let words = [Word::Number(7), Word::Message(b"A")];
+    same_size(&rt, line_room(&words), 26);
+    let end = write_line(&mut place, 1, &words);
+    same_bytes(&rt, &place[..end], b".7 41\n");
 }
 
 #[test]

@@ -4,12 +4,12 @@ use Rattle.mold_digits.proofs.writing.write_few_digits.Goals as goal
 
 pub returns-then-number-lt10 : goal.returns-then-number-lt10
 returns-then-number-lt10 c =
-    rw (decimal_digit c.args.number c.if-number-lt10.true) (rw c.digit.ensures at c.put.ensures)
+    rw (decimal_digit c.args.number c.if-number-lt10.true) (rw c.digit.ensures at c.write_text.ensures)
 
 pub returns-then-number-lt100 : goal.returns-then-number-lt100
 returns-then-number-lt100 c =
     rw (two_digits c.args.number c.if-number-lt10.false c.if-number-lt100.true)
-    (rw (c.digit-then-number-lt100.ensures, c.digit-then-number-lt100-2.ensures) at c.put-then-number-lt100.ensures)
+    (rw (c.digit-then-number-lt100.ensures, c.digit-then-number-lt100-2.ensures) at c.write_text-then-number-lt100.ensures)
 
 pub returns-then-number-lt1000 : goal.returns-then-number-lt1000
 returns-then-number-lt1000 c =
@@ -18,9 +18,9 @@ returns-then-number-lt1000 c =
       c.digit-then-number-lt1000.ensures,
       c.digit-then-number-lt1000-2.ensures,
       c.digit-then-number-lt1000-3.ensures,
-    ) at c.put-then-number-lt1000.ensures)
+    ) at c.write_text-then-number-lt1000.ensures)
 
 pub returns : goal.returns
 returns c =
     rw (four_digits c.args.number c.if-number-lt1000.false c.requires.most)
-    (rw c.last_four_digits.ensures at c.put-2.ensures)
+    (rw c.last_four_digits.ensures at c.write_text-2.ensures)

@@ -4,13 +4,13 @@ use Rattle.mold_digits.proofs.writing.write_more_digits.Goals as goal
 pub returns-then-front-lt10 : goal.returns-then-front-lt10
 returns-then-front-lt10 c =
     rw (five_digits c.args.number c.requires.least c.requires.most c.if-front-lt10.true)
-    (rw (c.digit.ensures, c.last_four_digits.ensures) at c.put.ensures)
+    (rw (c.digit.ensures, c.last_four_digits.ensures) at c.write_text.ensures)
 
 pub returns-then-front-lt100 : goal.returns-then-front-lt100
 returns-then-front-lt100 c =
     rw (six_digits c.args.number c.requires.most c.if-front-lt10.false c.if-front-lt100.true)
     (rw (c.digit-then-front-lt100.ensures, c.digit-then-front-lt100-2.ensures, c.last_four_digits.ensures) at
-    c.put-then-front-lt100.ensures)
+    c.write_text-then-front-lt100.ensures)
 
 pub returns-then-front-lt1000 : goal.returns-then-front-lt1000
 returns-then-front-lt1000 c =
@@ -20,9 +20,9 @@ returns-then-front-lt1000 c =
       c.digit-then-front-lt1000-2.ensures,
       c.digit-then-front-lt1000-3.ensures,
       c.last_four_digits.ensures,
-    ) at c.put-then-front-lt1000.ensures)
+    ) at c.write_text-then-front-lt1000.ensures)
 
 pub returns : goal.returns
 returns c =
     rw (eight_digits c.args.number c.requires.most c.if-front-lt1000.false)
-    (rw (c.last_four_digits-2.ensures, c.last_four_digits.ensures) at c.put-2.ensures)
+    (rw (c.last_four_digits-2.ensures, c.last_four_digits.ensures) at c.write_text-2.ensures)

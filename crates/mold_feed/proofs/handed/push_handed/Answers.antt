@@ -1,7 +1,7 @@
 use Rattle.std.proofs.Common.{arith, ◌≡◌, sym, ◌∙◌, ap, ◌++◌, ◌<◌, ◌-◌, length, drop, ℕ, List, take}
 use Rattle.std.proofs.lemmas.List.{take_all, take_at}
 use Rattle.mold_feed.specs.Text.{handed_line, handed_text}
-use Rattle.mold_feed.proofs.HandedLemmas.{first_is, after_is, none_within, handed_more, handed_all, handed_init}
+use Rattle.mold_feed.proofs.HandedLemmas.{first_is, after_is, none_within, handed_more, handed_all, handed_init, written_within}
 use Rattle.mold_feed.proofs.handed.push_handed.Goals as goal
 use Rattle.mold_feed.proofs.handed.push_handed.Goals.{in-Some+in_ok-make_room, in_default-get}
 
@@ -31,7 +31,11 @@ loop-number-preserved c =
           (omega (arith, line.size, ap (λ (t : List ℕ). length t) w.as_mut_slice.ensures.value)) in
           rw (w.out-is, w.at-is, whole)
           (record {
-            within = w.write_line-at.ensures.within;
+            within = written_within _ _ _ _ _ (omega (
+              arith,
+              w.in_ok-make_room.ensures.room,
+              ap (λ (t : List ℕ). length t) w.as_mut_slice.ensures.value,
+            )) line;
             printed = handed_more _ _ _ _ _ _ _ c.loop-number.auto.number w.in-Some.ensures c.loop-number.invariant.printed
                 (line.front ∙ ap (λ (t : List ℕ). t ++ handed_line c.loop-number.number w.in-Some.message.now) before);
           })

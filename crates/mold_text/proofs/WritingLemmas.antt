@@ -1,11 +1,8 @@
 -- Text that is written in parts.
 use Rattle.std.proofs.Common.{◌≡◌, ℕ, ◌+◌, ◌<◌, List, [], ◌∷◌, ◌++◌, length, length-append, take, set}
-use Rattle.std.proofs.Common.{append_assoc, append-nil, decimal, refl, ap, ◌∙◌, arith}
+use Rattle.std.proofs.Common.{append_assoc, refl, ap, ◌∙◌, arith}
 use Rattle.std.proofs.lemmas.List.{length-set, take_more_set}
 use Rattle.mold_digits.specs.Writing.{IsWritten}
-use Rattle.mold_feed.specs.Text.{handed_line}
-use Rattle.mold_receiver.specs.Store.{Message}
-use Rattle.mold_text.specs.Line.{joined, message_digits}
 
 -- a byte at a place
 pub written_one :
@@ -27,11 +24,3 @@ written_twice old mid new at stop end text more first second = record {
       ∙ append_assoc (take at old) text more;
   size = second.size ∙ first.size;
 }
-
--- the parts of a line
-pub line_parts :
-    (number : ℕ) (message : Message) →
-    handed_line number message ≡ (decimal number ++ (32 ∷ message_digits message)) ++ (10 ∷ [])
-unfolding joined
-line_parts number message =
-    ap (λ (t : List ℕ). (decimal number ++ t) ++ (10 ∷ [])) (append-nil (32 ∷ message_digits message))
