@@ -7,7 +7,7 @@ use Rattle.std.specs.List.{AllByRecursion}
 use Rattle.std.proofs.lemmas.Result.{IfOk-weaker}
 use Rattle.mold_devices.specs.Devices.{AppendsFront}
 use Rattle.mold_feed.specs.Heard.{HasFinished, HasListened, PrintsAmong, PrintsLines, RefusesStrange, Saying, lines_text}
-use Rattle.mold_feed.specs.Heard.{closing_lines, messages_text, sayings_text}
+use Rattle.mold_feed.specs.Heard.{closing_lines, closing_status, messages_text, sayings_text}
 use Rattle.mold_feed.specs.Listening.{Hearing, ListenerState, is_finished, listened_lines, status}
 use Rattle.mold_feed.proofs.LinesTextLemmas.{AreSpelled, lines_said, spelled_length}
 use Rattle.mold_session.specs.Answer.{between}
@@ -55,17 +55,27 @@ has_come {P} {E} {reporting} {lines} {first} {end} {result} {old} {new} journal 
 abbrev printed : {P : Type 0} → List (List ℕ) → ℕ → ListenerState P → List ℕ
 printed lines first end = lines_text first (between lines first end.hearing.arbitration.view.next)
 
--- the text and the last lines
-text_is : {P : Type 0} (reporting : Bool) (end : ListenerState P) (text : List ℕ) → end.hearing.outgoing.text ≡ text →
-    end.hearing.outgoing.text ++ listened_lines reporting end ≡ text ++ end_lines reporting end.hearing
-text_is reporting end text is = ap (λ (t : List ℕ). t ++ listened_lines reporting end) is
+-- its text and the last lines are written, with the status of the end, or a beginning of them
+written_of : {P E : Type 0} {reporting : Bool} {lines : List (List ℕ)} {first : ℕ} {end : ListenerState P}
+    {result : Result ℕ E} {old new : Option (List ℕ)} → HasCome reporting lines first end result old new →
+    (text : List ℕ) → end.hearing.outgoing.text ≡ text →
+    IfOk result (λ answer. (answer ≡ closing_status (is_finished end.hearing))
+    × Appends old new (text ++ end_lines reporting end.hearing))
+    × AppendsFront old new (text ++ end_lines reporting end.hearing)
+written_of {P} {E} {reporting} {lines} {first} {end} {result} {old} {new} come text is =
+    let same : end.hearing.outgoing.text ++ listened_lines reporting end ≡ text ++ end_lines reporting end.hearing =
+    ap (λ (t : List ℕ). t ++ listened_lines reporting end) is
+    in
+    (IfOk-weaker result _ _
+    (λ answer written. (written.1, subst (λ (t : List ℕ). Appends old new t) same written.0)) come.whole,
+    subst (λ (t : List ℕ). AppendsFront old new t) same come.front)
 
 -- with the lines as its text, it printed the lines
 pub prints_lines : {P E : Type 0} {reporting : Bool} {lines : List (List ℕ)} {first : ℕ} {end : ListenerState P} {result : Result ℕ E}
     {old new : Option (List ℕ)} → HasCome reporting lines first end result old new →
     end.hearing.outgoing.text ≡ printed lines first end → PrintsLines reporting lines first result old new
 prints_lines {P} {E} {reporting} {lines} {first} {end} {result} {old} {new} come is =
-    let same = text_is reporting end (printed lines first end) is in
+    let written = written_of come (printed lines first end) is in
     record {
       next = end.hearing.arbitration.view.next;
       finished = is_finished end.hearing;
@@ -77,10 +87,8 @@ prints_lines {P} {E} {reporting} {lines} {first} {end} {result} {old} {new} come
       ahead = come.ahead;
       heard = come.heard;
       all = come.all;
-      text =
-          IfOk-weaker result _ _
-          (λ answer written. (written.1, subst (λ (t : List ℕ). Appends old new t) same written.0)) come.whole;
-      front = subst (λ (t : List ℕ). AppendsFront old new t) same come.front;
+      text = written.0;
+      front = written.1;
     }
 
 -- with sayings as its text whose messages are the lines, it printed the lines among refusals
@@ -89,7 +97,7 @@ pub prints_among : {P E : Type 0} {reporting : Bool} {lines : List (List ℕ)} {
     HasCome reporting lines first end result old new → AllByRecursion (RefusesStrange Came session) sayings → messages_text sayings ≡ printed lines first end →
     end.hearing.outgoing.text ≡ sayings_text sayings → PrintsAmong reporting session Came lines first result old new
 prints_among {P} {E} {reporting} {lines} {first} {end} {result} {old} {new} session Came sayings come refused messages is =
-    let same = text_is reporting end (sayings_text sayings) is in
+    let written = written_of come (sayings_text sayings) is in
     record {
       next = end.hearing.arbitration.view.next;
       finished = is_finished end.hearing;
@@ -104,10 +112,8 @@ prints_among {P} {E} {reporting} {lines} {first} {end} {result} {old} {new} sess
       ahead = come.ahead;
       heard = come.heard;
       all = come.all;
-      text =
-          IfOk-weaker result _ _
-          (λ answer written. (written.1, subst (λ (t : List ℕ). Appends old new t) same written.0)) come.whole;
-      front = subst (λ (t : List ℕ). AppendsFront old new t) same come.front;
+      text = written.0;
+      front = written.1;
     }
 
 -- what a listener heard of the session, as lines among refusals

@@ -31,18 +31,7 @@ loop-answer-preserved g c = record {
   server = c.loop-answer.invariant.server;
   only =
       let only = c.loop-answer.invariant.only in
-      record {
-        same = record {
-          ports = only.same.ports;
-          peers = only.same.peers;
-          drops = only.same.drops;
-          place = c.hear_once.auto.place ∙ only.same.place;
-          listener = only.same.listener;
-        };
-        publisher = only.publisher;
-        a = only.a;
-        b = only.b;
-      };
+      record only { same = record only.same { place = c.hear_once.auto.place ∙ only.same.place } };
 }
 
 pub returns-in_err-hear_once-clause-sent : goal.returns-in_err-hear_once-clause-sent
@@ -52,18 +41,7 @@ returns-in_err-hear_once-clause-sent g c = λ t.
 pub returns-in_err-hear_once-clause-only : goal.returns-in_err-hear_once-clause-only
 returns-in_err-hear_once-clause-only g c =
     let only = c.loop-answer.invariant.only in
-    record {
-      same = record {
-        ports = only.same.ports;
-        peers = only.same.peers;
-        drops = only.same.drops;
-        place = c.hear_once.auto.place ∙ only.same.place;
-        listener = only.same.listener;
-      };
-      publisher = only.publisher;
-      a = only.a;
-      b = only.b;
-    }
+    record only { same = record only.same { place = c.hear_once.auto.place ∙ only.same.place } }
 
 pub returns : goal.returns
 returns g c = record {
