@@ -1,12 +1,13 @@
 -- What hexadecimal digits spell are bytes.
 use Rattle.std.proofs.Common.{◌≡◌, ℕ, zero, suc, ◌+◌, ◌*◌, ◌-◌, ◌%◌, ◌<◌, Bool, true, false, cond, ◌&&◌, List, [], ◌∷◌, length, get_or}
-use Rattle.std.proofs.Common.{refl, sym, ap, subst, ◌∙◌, arith, inl, inr, ◌⊎◌}
+use Rattle.std.proofs.Common.{refl, subst, arith, inl, inr, ◌⊎◌}
 use Rattle.std.specs.Prelude.{Option, None, Some, Result, Ok, Err, ◌==◌, nat_le}
 use Rattle.std.specs.List.{All}
 use Rattle.std.proofs.lemmas.Bool.{and_parts, leb-true}
 use Rattle.std.proofs.lemmas.List.Elements.{All-cons, All-nil}
 use Rattle.hex.specs.Hex.{decode_of, decode_pairs, digit_or_error, hex_digit_value, pair_value, value_at, ◌>>=◌}
 use Rattle.hex.specs.declared.error.FromHexError.{FromHexError}
+use Rattle.hex.specs.declared.error.FromHexError.TheVariants.{OddLength}
 use Rattle.mold_wire.specs.Block.{IsBytes}
 use Rattle.mold_check.specs.CheckLines.{datagrams_of, spelled_before}
 
@@ -58,9 +59,9 @@ two_steps (Err e) two join found is = err_ok _ _ is
 pair_byte : (high low i byte : ℕ) → pair_value high low i ≡ Ok byte → byte < 256
 pair_byte high low i byte is =
     let steps = two_steps (value_at high i) (value_at low (i + 1)) (λ h l. h * 16 + l) byte is in
-    let first = value_small high i steps.0 steps.1.1.0 in
-    let second = value_small low (i + 1) steps.1.0 steps.1.1.1.0 in
-    omega (arith, first, second, steps.1.1.1.1)
+    let first = value_small high i steps.0 steps.2 in
+    let second = value_small low (i + 1) steps.1 steps.3 in
+    omega (arith, first, second, steps.4)
 
 bytes_more : (byte : ℕ) (bytes : List ℕ) → byte < 256 → IsBytes bytes → IsBytes (byte ∷ bytes)
 bytes_more byte bytes small are = λ i. at i
@@ -75,23 +76,23 @@ pairs_bytes i [] bytes is = subst IsBytes (same_ok [] bytes is) (λ k. omega ari
 pairs_bytes i (digit ∷ []) bytes is = err_ok _ _ is
 pairs_bytes i (high ∷ low ∷ rest) bytes is =
     let steps = two_steps (pair_value high low i) (decode_pairs (i + 2) rest) (λ byte more. byte ∷ more) bytes is in
-    subst IsBytes steps.1.1.1.1
-    (bytes_more steps.0 steps.1.0 (pair_byte high low i steps.0 steps.1.1.0)
-    (pairs_bytes (i + 2) rest steps.1.0 steps.1.1.1.0))
+    subst IsBytes steps.4
+    (bytes_more steps.0 steps.1 (pair_byte high low i steps.0 steps.2) (pairs_bytes (i + 2) rest steps.1 steps.3))
 
 decoded_bytes : (digits bytes : List ℕ) → decode_of digits ≡ Ok bytes → IsBytes bytes
 decoded_bytes digits bytes is = by_length (length digits % 2 == 1) is
   where
-    by_length : (odd : Bool) → cond odd (Err _) (decode_pairs 0 digits) ≡ Ok bytes → IsBytes bytes
+    by_length : (odd : Bool) → cond odd (Err OddLength) (decode_pairs 0 digits) ≡ Ok bytes → IsBytes bytes
     by_length true so = err_ok _ _ so
     by_length false so = pairs_bytes 0 digits bytes so
+
+bytes_before : (r : Result (List ℕ) FromHexError) (list : List (List ℕ)) → ((bytes : List ℕ) → r ≡ Ok bytes → IsBytes bytes) →
+    All IsBytes list → All IsBytes (spelled_before r list)
+bytes_before (Ok bytes) list first others = All-cons IsBytes bytes list (first bytes refl) others
+bytes_before (Err e) list first others = All-nil IsBytes
 
 pub spelled_bytes : (lines : List (ℕ × List ℕ)) → All IsBytes (datagrams_of lines)
 unfolding datagrams_of
 spelled_bytes [] = All-nil IsBytes
-spelled_bytes (line ∷ lines) = by_digits (decode_of line.1) refl
-  where
-    by_digits : (r : Result (List ℕ) FromHexError) → decode_of line.1 ≡ r →
-        All IsBytes (spelled_before r (datagrams_of lines))
-    by_digits (Ok bytes) is = All-cons IsBytes bytes (datagrams_of lines) (decoded_bytes line.1 bytes is) (spelled_bytes lines)
-    by_digits (Err e) is = All-nil IsBytes
+spelled_bytes (line ∷ lines) =
+    bytes_before (decode_of line.1) (datagrams_of lines) (decoded_bytes line.1) (spelled_bytes lines)

@@ -1,5 +1,5 @@
 -- The outcome that is computed of datagrams is one.
-use Rattle.std.proofs.Common.{◌≡◌, ℕ, zero, suc, ◌+◌, ◌<◌, Bool, true, false, cond, eqb, List, [], ◌∷◌, ◌++◌, length, take, get_or}
+use Rattle.std.proofs.Common.{◌≡◌, ℕ, zero, suc, ◌+◌, Bool, true, false, cond, eqb, List, [], ◌∷◌, ◌++◌, length, take, get_or}
 use Rattle.std.proofs.Common.{refl, sym, ap, subst, ◌∙◌, arith, append_assoc, append-nil, length-append, add-one, true≢false}
 use Rattle.std.specs.Prelude.{Option, None, Some}
 use Rattle.std.specs.List.{All}
@@ -113,6 +113,20 @@ refused_behind laws front rest bytes why consistent is count at =
       ap (λ (f : List (List ℕ)). reason f (get_or list count [])) before ∙ ap (reason front) this ∙ is,
     )
 
+-- the next datagram is refused, or those behind it go on
+next_behind : CaptureLaws → (front rest : List (List ℕ)) (bytes : List ℕ) (others : Outcome) (why : Option Reason) →
+    Consistent front → reason front bytes ≡ why
+    → (why ≡ None → IsOutcome ((front ++ bytes ∷ []) ++ rest) (behind (length (front ++ bytes ∷ [])) others))
+    → IsOutcome (front ++ bytes ∷ rest) (behind (length front) (outcome_or why others))
+next_behind laws front rest bytes others (Some why) consistent is goes =
+    refused_behind laws front rest bytes why consistent is (length front + 0) (omega arith)
+next_behind laws front rest bytes others None consistent is goes =
+    subst (λ (l : List (List ℕ)). IsOutcome l (behind (length front) (one_behind others)))
+    (append_assoc front (bytes ∷ []) rest)
+    (subst (IsOutcome ((front ++ bytes ∷ []) ++ rest))
+    (behind_one (length front) (length (front ++ bytes ∷ [])) others (length-append front (bytes ∷ [])))
+    (goes refl))
+
 outcome_behind : CaptureLaws → (front rest : List (List ℕ)) → Consistent front → All IsBytes rest →
     IsOutcome (front ++ rest) (behind (length front) (outcome_from (seen_of front) rest))
 unfolding outcome_from
@@ -121,23 +135,13 @@ outcome_behind laws front [] consistent are =
     (behind_end (length front) (seen_of front) (seen_of front).ended)
     (subst (λ (l : List (List ℕ)). IsOutcome l (outcome_at (seen_of front) (seen_of front).ended)) (sym (append-nil front))
     (end_outcome laws front consistent (seen_of front).ended refl))
-outcome_behind laws front (bytes ∷ rest) consistent are = by_reason (reason front bytes) refl
-  where
-    by_reason : (why : Option Reason) → reason front bytes ≡ why →
-        IsOutcome (front ++ bytes ∷ rest)
-        (behind (length front) (outcome_or why (outcome_from (after (seen_of front) bytes) rest)))
-    by_reason (Some why) is =
-        refused_behind laws front rest bytes why consistent is (length front + 0) (omega arith)
-    by_reason None is =
-        let more = laws.accepted front bytes consistent (All-head IsBytes bytes rest are) is in
-        let goes = outcome_behind laws (front ++ bytes ∷ []) rest more (All-tail IsBytes bytes rest are) in
-        let others = outcome_from (after (seen_of front) bytes) rest in
-        subst (λ (l : List (List ℕ)). IsOutcome l (behind (length front) (one_behind others)))
-        (append_assoc front (bytes ∷ []) rest)
-        (subst (IsOutcome ((front ++ bytes ∷ []) ++ rest))
-        (ap (λ (s : Seen). behind (length (front ++ bytes ∷ [])) (outcome_from s rest)) (laws.after front bytes more)
-        ∙ behind_one (length front) (length (front ++ bytes ∷ [])) others (length-append front (bytes ∷ [])))
-        goes)
+outcome_behind laws front (bytes ∷ rest) consistent are =
+    next_behind laws front rest bytes (outcome_from (after (seen_of front) bytes) rest) (reason front bytes) consistent refl
+    (λ none.
+    let more = laws.accepted front bytes consistent (All-head IsBytes bytes rest are) none in
+    subst (λ (s : Seen). IsOutcome ((front ++ bytes ∷ []) ++ rest) (behind (length (front ++ bytes ∷ [])) (outcome_from s rest)))
+    (laws.after front bytes more)
+    (outcome_behind laws (front ++ bytes ∷ []) rest more (All-tail IsBytes bytes rest are)))
 
 pub outcome_is : CaptureLaws → (list : List (List ℕ)) → All IsBytes list → IsOutcome list (outcome_of list)
 outcome_is laws list are =
@@ -146,4 +150,4 @@ outcome_is laws list are =
     none_in_front : (outcome : Outcome) → behind 0 outcome ≡ outcome
     none_in_front (whole messages) = refl
     none_in_front (incomplete missing end) = refl
-    none_in_front (refused index why) = refl
+    none_in_front (refused index why) = ap (λ (n : ℕ). refused n why) (let e : 0 + index ≡ index = omega arith in e)

@@ -1,24 +1,33 @@
 -- What a check of lines tells, line by line.
-use Rattle.std.proofs.Common.{◌≡◌, ℕ, zero, suc, ◌+◌, ◌<◌, ◌≤◌, Bool, true, false, cond, eqb, List, [], ◌∷◌, ◌++◌, length}
-use Rattle.std.proofs.Common.{refl, sym, ap, subst, ◌∙◌, arith}
-use Rattle.std.specs.Prelude.{Option, None, Some, Result, Ok, Err, IfSome, codes, decimal, ◌^◌, ◌-◌, min}
-use Rattle.std.specs.Io.KnownBytes.{prepend_known}
+use Rattle.std.proofs.Common.{◌≡◌, ℕ, zero, suc, ◌+◌, Bool, true, false, cond, List, [], ◌∷◌, ◌++◌, length}
+use Rattle.std.proofs.Common.{refl, sym, ap, subst, ◌∙◌, arith, append-nil}
+use Rattle.std.specs.Prelude.{Option, None, Some, Result, Ok, Err, IfSome, IfOk, codes, decimal, ◌==◌, ◌^◌, ◌-◌, min}
+use Rattle.std.specs.List.{flat_map}
+use Rattle.std.specs.Io.KnownBytes.{Appends, prepend_known}
 use Rattle.hex.specs.Hex.{decode_of}
 use Rattle.hex.specs.declared.error.FromHexError.{FromHexError}
-use Rattle.mold_capture.specs.Outcome.{Outcome, whole, incomplete, refused}
+use Rattle.mold_capture.specs.Outcome.{Outcome, whole, incomplete, refused, outcome_in}
 use Rattle.mold_capture.specs.Refusal.{refusal}
 use Rattle.mold_capture.specs.Seen.{Seen, after}
-use Rattle.mold_devices.specs.Devices.{one_more}
+use Rattle.mold_capture.specs.Verdict.{IsVerdict, lacks, missing_in}
+use Rattle.mold_capture.specs.declared.verdict.Verdict.{Verdict}
+use Rattle.mold_devices.specs.Devices.{AppendsFront, one_more}
+use Rattle.mold_devices.specs.declared.fault.CommandFault.{CommandFault}
 use Rattle.mold_devices.specs.Lines.{lines_of, GivesLine}
+use Rattle.mold_ranges.specs.Ranges as lacking
 use Rattle.mold_rule.specs.declared.refusal.Refusal.{Refusal as Reason}
-use Rattle.mold_text.specs.Line.{line_of}
+use Rattle.mold_text.specs.Line.{behind_space, joined, line_of}
 use Rattle.mold_text.specs.Text.{refused_line}
 use Rattle.mold_check.specs.CheckLines.{outcome_at, outcome_from, outcome_or, one_behind, numbered, spelled_before}
 use Rattle.mold_check.specs.CheckLines.{datagrams_of, not_hex_or, not_hex, line_name, names_of, count_line}
 use Rattle.mold_check.specs.CheckLines.{lines_told, lines_status, check_text, check_status}
-use Rattle.mold_check.specs.Checking.{Judged, Checking, beginning, judged_by, judged_digits, judged_behind, judged_next}
+use Rattle.mold_check.specs.Checking.{Judged, Checking, beginning, judged_by, judged_digits, judged_behind}
 use Rattle.mold_check.specs.Checking.{taken, all_taken, refused_line_text, judged_text, judged_status, checking_text, checking_status}
+use Rattle.mold_check.specs.Checking.{line_refusal_words}
+use Rattle.mold_check.specs.Report.{outcome_status, outcome_text}
+use Rattle.mold_check.specs.declared.line_check.LineRefusal.{LineRefusal}
 use Rattle.mold_check.specs.declared.line_check.RefusedLine.{RefusedLine}
+use Rattle.mold_check.proofs.VerdictLemmas.{verdict_at}
 
 -- ---- what is told of lines, and the status
 
@@ -48,11 +57,12 @@ told_not_hex : (names : List (List ℕ)) (seen : Seen) (end : Option ℕ) (numbe
     (refused_line (line_name number ∷ codes "NotHex" ∷ []), 2) ≡ told_of names (outcome_at seen end) (Some number)
 told_not_hex names seen None number = refl
 told_not_hex names seen (Some zero) number = refl
-told_not_hex names seen (Some (suc messages)) number = by_count _
+told_not_hex names seen (Some (suc messages)) number =
+    by_count (lacking.lacking (lacks seen.pairs) 1 messages == 0)
   where
     by_count : (b : Bool) →
         (refused_line (line_name number ∷ codes "NotHex" ∷ []), 2)
-        ≡ told_of names (cond b (whole messages) (incomplete _ (Some (suc messages)))) (Some number)
+        ≡ told_of names (cond b (whole messages) (incomplete (missing_in seen) (Some (suc messages)))) (Some number)
     by_count true = refl
     by_count false = refl
 
@@ -118,9 +128,10 @@ count_all s ((byte ∷ bytes) ∷ lines) =
     ∙ count_more s.datagrams (length (numbered (one_more s.next) lines)) (2 ^ 64 - 1)
 
 -- what a check of the whole input tells
-told_input : (input : List ℕ) →
-    (judged_text (all_taken beginning (lines_of input)).judged.seen (all_taken beginning (lines_of input)).judged.refused,
-    judged_status (all_taken beginning (lines_of input)).judged.seen (all_taken beginning (lines_of input)).judged.refused)
+told_input : (input : List ℕ) → (
+  judged_text (all_taken beginning (lines_of input)).judged.seen (all_taken beginning (lines_of input)).judged.refused,
+  judged_status (all_taken beginning (lines_of input)).judged.seen (all_taken beginning (lines_of input)).judged.refused,
+)
     ≡ told_next beginning.judged (numbered 1 (lines_of input))
 told_input input =
     let all = all_taken beginning (lines_of input) in
@@ -131,7 +142,9 @@ unfolding check_text
 input_text input =
     let all = all_taken beginning (lines_of input) in
     ap (λ (n : ℕ). line_of (codes "datagrams" ∷ decimal n ∷ []) ++ judged_text all.judged.seen all.judged.refused)
-    (count_all beginning (lines_of input))
+    (count_all beginning (lines_of input)
+    ∙ ap (λ (n : ℕ). min n (2 ^ 64 - 1))
+    (let e : 0 + length (numbered 1 (lines_of input)) ≡ length (numbered 1 (lines_of input)) = omega arith in e))
     ∙ ap (λ (p : List ℕ × ℕ). count_line (length (numbered 1 (lines_of input))) ++ p.0) (told_input input)
 
 input_status : (input : List ℕ) → checking_status (all_taken beginning (lines_of input)) ≡ check_status input
@@ -175,3 +188,61 @@ taken_all start now (Some input) None behind line so gives = absurd so
 taken_all start now (Some input) (Some xs) None line so gives = absurd gives
 taken_all start now (Some input) (Some xs) (Some ys) line so gives =
     sym (so ∙ ap (λ (bytes : List ℕ). all_taken now (lines_of bytes)) gives)
+
+-- ---- texts
+
+-- the line of what is refused, by words or by the line's name
+named_line : (number : ℕ) (words : List (List ℕ)) →
+    line_of (codes "refused" ∷ codes "line" ∷ decimal number ∷ words) ≡ refused_line (line_name number ∷ words)
+unfolding joined
+named_line number words =
+    ap (λ (d : List ℕ). codes "refused" ++ (codes " line " ++ (d ++ flat_map behind_space words)) ++ codes "\n")
+    (sym (append-nil (decimal number)))
+
+pub refused_named : (line : RefusedLine) (why : LineRefusal) → line.why ≡ why →
+    line_of (codes "refused" ∷ codes "line" ∷ decimal line.number ∷ line_refusal_words why) ≡ refused_line_text line
+refused_named line why is =
+    named_line line.number (line_refusal_words why)
+    ∙ ap (λ (w : LineRefusal). refused_line (line_name line.number ∷ line_refusal_words w)) (sym is)
+
+-- what is told of a check that refused nothing
+pub told_verdict : (s : Checking) (v : Verdict) → s.judged.refused ≡ None → IsVerdict v s.judged.seen →
+    (outcome_text [] (outcome_in v) ≡ judged_text s.judged.seen s.judged.refused)
+    × (outcome_status (outcome_in v) ≡ judged_status s.judged.seen s.judged.refused)
+told_verdict s v none is = (
+  ap (outcome_text []) (verdict_at s.judged.seen v is)
+      ∙ ap (judged_text s.judged.seen) (sym none),
+  ap outcome_status (verdict_at s.judged.seen v is) ∙ ap (judged_status s.judged.seen) (sym none),
+)
+
+-- the whole text, behind what stood there at first
+pub told_text : (start text : List ℕ) (count : ℕ) (told other : List ℕ) → start ≡ [] → text ≡ start ++ count_line count →
+    told ≡ other → text ++ told ≡ count_line count ++ other
+told_text start text count told other none is same =
+    ap (λ (t : List ℕ). t ++ told) (is ∙ ap (λ (t : List ℕ). t ++ count_line count) none)
+    ∙ ap (λ (t : List ℕ). count_line count ++ t) same
+
+pub told_whole : (old new : Option (List ℕ)) (r : Result ℕ CommandFault) (text other : List ℕ) (status so : ℕ) →
+    text ≡ other → status ≡ so → IfOk r (λ s. Appends old new text × (s ≡ status)) → IfOk r (λ s. Appends old new other × (s ≡ so))
+told_whole old new (Ok s) text other status so is ends told = (subst (Appends old new) is told.0, told.1 ∙ ends)
+told_whole old new (Err e) text other status so is ends told = tt
+
+-- ---- the whole input
+
+pub lines_whole : (old new known : Option (List ℕ)) (s : Checking) (r : Result ℕ CommandFault) →
+    IfSome known (λ input. s ≡ all_taken beginning (lines_of input))
+    → IfOk r (λ status. Appends old new (checking_text s) × (status ≡ checking_status s))
+    → IfOk r (λ status. IfSome known (λ input. Appends old new (check_text input) × (status ≡ check_status input)))
+lines_whole old new None s (Ok status) taken told = tt
+lines_whole old new (Some input) s (Ok status) taken told = (
+  subst (Appends old new) (ap checking_text taken ∙ input_text input) told.0,
+  told.1 ∙ ap checking_status taken ∙ input_status input,
+)
+lines_whole old new known s (Err e) taken told = tt
+
+pub lines_front : (old new known : Option (List ℕ)) (s : Checking) →
+    IfSome known (λ input. s ≡ all_taken beginning (lines_of input)) → AppendsFront old new (checking_text s)
+    → IfSome known (λ input. AppendsFront old new (check_text input))
+lines_front old new None s taken told = tt
+lines_front old new (Some input) s taken told =
+    subst (AppendsFront old new) (ap checking_text taken ∙ input_text input) told

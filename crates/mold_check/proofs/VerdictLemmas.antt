@@ -1,18 +1,25 @@
 -- What the verdict on datagrams is, by what they have said.
-use Rattle.std.proofs.Common.{◌≡◌, ℕ, zero, suc, ◌+◌, ◌<◌, ◌≤◌, Bool, true, false, cond, eqb, List, refl, sym, ap, subst, ◌∙◌, arith}
+use Rattle.std.proofs.Common.{◌≡◌, ℕ, zero, suc, ◌+◌, ◌<◌, ◌≤◌, Bool, true, false, cond, List, refl, sym, ap, subst, ◌∙◌, arith}
 use Rattle.std.proofs.Common.{add-one, inl, inr}
 use Rattle.std.specs.Prelude.{Option, None, Some, is_none}
 use Rattle.std.specs.FinMap as finite
 use Rattle.std.proofs.lemmas.Bool.{cases_eq, eq-eqb, ne_eqb, true≢false}
-use Rattle.std.proofs.lemmas.Option.{none-some, same_Some}
 use Rattle.mold_ranges.proofs.LackingLemmas.{none_lacking}
 use Rattle.mold_ranges.specs.Ranges as lacking
-use Rattle.mold_capture.specs.Outcome.{Outcome, whole, incomplete, outcome_in}
+use Rattle.mold_capture.specs.Outcome.{whole, incomplete, outcome_in}
 use Rattle.mold_capture.specs.Seen.{Seen, Pairs}
-use Rattle.mold_capture.specs.Verdict.{IsVerdict, IsWholeSeen, lacks, missing_in, ranges_of}
+use Rattle.mold_capture.specs.Verdict.{IsVerdict, IsWholeSeen, lacks, missing_in}
 use Rattle.mold_capture.specs.declared.verdict.Verdict.{Verdict}
 use Rattle.mold_capture.specs.declared.verdict.Verdict.TheVariants.{Whole as IsWhole, Incomplete}
 use Rattle.mold_check.specs.CheckLines.{outcome_at}
+
+first_is : (lacks : Bool) (others : ℕ) → cond lacks 1 0 + others ≡ 0 → lacks ≡ false
+first_is true others none = absurd (omega arith)
+first_is false others none = refl
+
+others_none : (lacks : Bool) (others : ℕ) → cond lacks 1 0 + others ≡ 0 → others ≡ 0
+others_none true others none = absurd (omega arith)
+others_none false others none = omega arith
 
 -- where none is lacking, each is there
 lacking_none : (test : ℕ → Bool) (low count : ℕ) → lacking.lacking test low count ≡ 0 →
@@ -20,19 +27,11 @@ lacking_none : (test : ℕ → Bool) (low count : ℕ) → lacking.lacking test 
 unfolding lacking.lacking
 lacking_none test low zero none number begins ends = absurd (omega arith)
 lacking_none test low (suc count) none number begins ends =
-    at_first (test low) refl
-  where
-    behind : (b : Bool) → cond b 1 0 + lacking.lacking test (suc low) count ≡ 0 →
-        lacking.lacking test (suc low) count ≡ 0
-    behind true is = absurd (omega arith)
-    behind false is = is
-    here : (b : Bool) → cond b 1 0 + lacking.lacking test (suc low) count ≡ 0 → b ≡ false
-    here true is = absurd (omega arith)
-    here false is = refl
-    at_first : (b : Bool) → test low ≡ b → test number ≡ false
-    at_first b is = elim (cases_eq number low) [
-      | inl same ↦ ap test same ∙ here (test low) none
-      | inr other ↦ lacking_none test (suc low) count (behind (test low) none) number (omega (arith, other)) (omega arith)
+    elim (cases_eq number low) [
+      | inl same ↦ ap test same ∙ first_is (test low) (lacking.lacking test (suc low) count) none
+      | inr other ↦
+          lacking_none test (suc low) count (others_none (test low) (lacking.lacking test (suc low) count) none) number
+          (omega (arith, other)) (omega arith)
     ]
 
 there : (pairs : Pairs) (number : ℕ) → lacks pairs number ≡ false →
@@ -82,5 +81,5 @@ verdict_at seen (IsWhole messages) is =
     whole_outcome seen messages (subst (IsWholeSeen seen) (add-one messages) is)
 verdict_at seen (Incomplete missing end) is =
     ap (λ (ranges : List lacking.Range). incomplete ranges end) is.0
-    ∙ ap (incomplete (missing_in seen)) is.1.0
-    ∙ incomplete_outcome seen is.1.1
+    ∙ ap (incomplete (missing_in seen)) is.1
+    ∙ incomplete_outcome seen is.2

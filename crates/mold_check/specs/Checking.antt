@@ -1,8 +1,7 @@
 -- A check of lines, between two of them.
-use Rattle.std.specs.Prelude.{ℕ, ◌+◌, List, [], ◌∷◌, ◌++◌, codes, decimal, Option, None, Some, Result, Ok, Err}
+use Rattle.std.specs.Prelude.{ℕ, List, [], ◌∷◌, ◌++◌, codes, Option, None, Some, Result, Ok, Err}
 use Rattle.hex.specs.Hex.{decode_of}
 use Rattle.hex.specs.declared.error.FromHexError.{FromHexError}
-use Rattle.mold_capture.specs.Outcome.{Outcome}
 use Rattle.mold_capture.specs.Refusal.{refusal}
 use Rattle.mold_capture.specs.Seen.{Seen, after, seen_of}
 use Rattle.mold_devices.specs.Devices.{one_more}

@@ -105,12 +105,18 @@ fn judge(
         record { seen = checker.new; refused = refused } ≡ judged_digits checker.old number (decode_of digits.now)) }
 {
     if !mold_digits::decode(digits, bytes)? {
-        return Ok(Some(RefusedLine { number, why: LineRefusal::NotHex }));
+        return Ok(Some(RefusedLine {
+            number,
+            why: LineRefusal::NotHex,
+        }));
     }
     match checker.add(bytes.as_slice()) {
         Ok(()) => Ok(None),
         Err(Reason::Memory) => Err(AllocError),
-        Err(why) => Ok(Some(RefusedLine { number, why: LineRefusal::NotAccepted(why) })),
+        Err(why) => Ok(Some(RefusedLine {
+            number,
+            why: LineRefusal::NotAccepted(why),
+        })),
     }
 }
 
