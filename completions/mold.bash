@@ -9,14 +9,15 @@ _mold_options() {
     sim) printf '%s ' --session --limit --server-limit --window --receivers --burst ;;
     publish) printf '%s ' --session --limit --a --b --journal --beats --ends ;;
     serve) printf '%s ' --journal --limit --burst --bind --turns --live ;;
-    listen) printf '%s ' --session --next --window --a --b --server --burst --turns --live ;;
-    loop) printf '%s ' --session --limit --server-limit --window --burst --drop-a --drop-b --turns ;;
+    listen) printf '%s ' --session --next --window --a --b --server --burst --turns --live --report ;;
+    loop) printf '%s ' --session --limit --server-limit --window --burst --drop-a --drop-b --turns --report ;;
     upgrade) printf '%s ' --journal --to --close ;;
+    dump) printf '%s ' --journal --from --count ;;
     esac
     printf '%s' --help
 }
 
-_mold_commands='show pack sim check publish serve listen loop upgrade help'
+_mold_commands='show pack sim check publish serve listen loop upgrade dump help'
 
 # Completes a word of files, or of folders alone with -d.
 _mold_files() {
@@ -50,7 +51,7 @@ _mold() {
         compopt -o nospace 2>/dev/null
         _mold_words '127.0.0.1: 0.0.0.0:' "$word"
         ;;
-    show:--request | upgrade:--close | *:--live) _mold_words "$(_mold_options "$command")" "$word" ;;
+    show:--request | upgrade:--close | *:--live | *:--report) _mold_words "$(_mold_options "$command")" "$word" ;;
     *:--help) ;;
     *:--*) ;;
     check:*) case $word in

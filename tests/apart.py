@@ -139,9 +139,9 @@ LIMIT, NAME, ADDRESS = (64, 65507), "name", "address"
 VALUES = {"session": "session", "limit": LIMIT, "server-limit": LIMIT, "window": (1, 65536), "receivers": (1, 8)}
 VALUES |= {"next": (1, (1 << 63) - 1), "turns": (1, 1000000), "beats": (0, 1000), "ends": (0, 1000), "burst": (1, 64)}
 VALUES |= {"drop-a": (0, 1000), "drop-b": (0, 1000), "a": ADDRESS, "b": ADDRESS, "server": ADDRESS, "bind": ADDRESS}
-VALUES |= {"journal": NAME, "to": NAME}
+VALUES |= {"journal": NAME, "to": NAME, "from": (1, (1 << 64) - 1), "count": (0, (1 << 64) - 1)}
 DEFAULTS = {"limit": 1400, "server-limit": 1400, "window": 1024, "receivers": 2, "burst": 1, "next": 1, "turns": 1000}
-DEFAULTS |= {"beats": 1, "ends": 1, "drop-a": 0, "drop-b": 0}
+DEFAULTS |= {"beats": 1, "ends": 1, "drop-a": 0, "drop-b": 0, "from": 1, "count": (1 << 64) - 1}
 # The options of each command that has values; those without a default have to be there.
 COMMANDS = {
     "pack": "session limit",
@@ -151,6 +151,7 @@ COMMANDS = {
     "listen": "session next window a b server burst turns",
     "loop": "session limit server-limit window burst drop-a drop-b turns",
     "upgrade": "journal to",
+    "dump": "journal from count",
 }
 
 

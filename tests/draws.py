@@ -380,7 +380,8 @@ def text_of_value(chance, name):
 
 
 def words(chance):
-    """Words of a command's options. One that has to be there may be left out, and one of another command be there."""
+    """Words of a command's options. One that has to be there may be left out, and one of another command be there. A
+    report is asked for where a port can't be opened, so that none is printed."""
     command = chance.choice(sorted(apart.COMMANDS))
     names = [it for it in apart.COMMANDS[command].split() if it not in apart.DEFAULTS or has(chance, 0.6)]
     if has(chance, 0.05):
@@ -392,6 +393,8 @@ def words(chance):
     for name, text in values.items():
         joined = text[:1] in ("-", "") or has(chance, 0.4)
         drawn += [f"--{name}={text}"] if joined else [f"--{name}", text]
+    if command == "listen" and has(chance, 0.3):
+        drawn.append("--report")
     return Case({"command": command, "values": values}, [], drawn)
 
 

@@ -97,6 +97,7 @@ fn run(rt: &HostRuntime, order: &Order) -> Result<u8, ProgramFault> {
         Order::Listen(order) => run_listen(rt, order),
         Order::Loop(order) => run_loop(rt, order),
         Order::Upgrade(files) => Ok(run_files(rt, files)?),
+        Order::CheckLines | Order::Dump(_) => Err(ProgramFault::Command(CommandFault::Read)),
     }
 }
 

@@ -38,11 +38,13 @@ pub fn run_command<S: Source, K: Sink>(
         Order::Pack(order) => run_lines(alloc, &mut Pack::new(alloc, order)?, source, sink),
         Order::Sim(order) => run_lines(alloc, &mut sim_of(alloc, order)?, source, sink),
         Order::Check { folder: _ }
+        | Order::CheckLines
         | Order::Publish(_)
         | Order::Serve(_)
         | Order::Listen(_)
         | Order::Loop(_)
-        | Order::Upgrade(_) => unreachable!(),
+        | Order::Upgrade(_)
+        | Order::Dump(_) => unreachable!(),
     }
 }
 

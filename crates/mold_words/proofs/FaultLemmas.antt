@@ -15,7 +15,8 @@ use Rattle.clap.specs.declared.error.kind.ErrorKind.{ErrorKind}
 use Rattle.clap.specs.declared.error.kind.ErrorKind.TheVariants.{OutOfMemory}
 use Rattle.mold_words.specs.Words.{mold_app}
 use Rattle.mold_words.specs.NoOrders.{is_address}
-use Rattle.mold_words.specs.Orders.{lacks_address, order_in, order_of, Say, Wanted}
+use Rattle.mold_words.specs.Orders.{lacks_address, order_in, order_of, Say}
+use Rattle.mold_words.specs.Wanted.{Wanted}
 use Rattle.mold_words.specs.Faults.{Tells, TellsOf, told, told_if_made, value_told}
 use Rattle.mold_words.specs.declared.no_order.NoOrder.{NoOrder}
 use Rattle.mold_words.specs.declared.no_order.NoOrder.TheVariants as no_order

@@ -4,4 +4,5 @@ pub mod NoOrders
 pub mod Orders
 pub mod Table
 pub mod Values
+pub mod Wanted
 pub mod Words

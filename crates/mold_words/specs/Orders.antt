@@ -1,148 +1,16 @@
 -- The order that the program's words say.
 use Rattle.std.specs.Prelude.{◌≡◌, ℕ, Bool, List, [], Option, Some, None, codes, false, if◌then◌else◌, is_some}
-use Rattle.std.specs.Prelude.{nat_lt, not, option_map, ◌∷◌, string_bytes}
+use Rattle.std.specs.Prelude.{nat_lt, not, option_map, ◌∷◌}
 use Rattle.std.specs.List.{list_any}
 use Rattle.std.specs.Option.{option_and_then, option_map_or}
 use Rattle.std.specs.Str.{bytes_eq}
 use Rattle.clap.specs.Words.{Row, Text, fault_of, first_of, subcommand_of}
 use Rattle.mold_words.specs.Addresses.{address_of}
 use Rattle.mold_words.specs.Values.{session_of, number_of}
+use Rattle.mold_words.specs.Wanted.{Place, Wanted, check_lines_wanted, check_wanted, dump_wanted, listen_wanted}
+use Rattle.mold_words.specs.Wanted.{loop_wanted, pack_wanted, publish_wanted, serve_wanted, show_wanted, sim_wanted}
+use Rattle.mold_words.specs.Wanted.{upgrade_wanted}
 use Rattle.mold_words.specs.Words.{mold_app}
-use Rattle.mold_words.specs.declared.address.Address.{Address}
-use Rattle.mold_words.specs.declared.types.Order.{Order}
-use Rattle.mold_words.specs.declared.types.Order.TheVariants.{Show, Pack, Sim, Check, Publish, Serve, Listen, Loop}
-use Rattle.mold_words.specs.declared.types.Order.TheVariants.{Upgrade}
-
--- a world that events happen to: its session, the limits of publisher and server, the window of each
--- receiver, how many receivers there are, and the most packets that answer a request
-pub record SimWanted : Type 0 where
-  pub session : List ℕ
-  pub limit : ℕ
-  pub server_limit : ℕ
-  pub window : ℕ
-  pub receivers : ℕ
-  pub burst : ℕ
-
--- an address: the numbers of its host, and its port
-abbrev pub Place : Type 0
-Place = List ℕ × ℕ
-
-abbrev pub address_view : Address → Place
-address_view address = (address.host, address.port)
-
--- a session that is sent on two lines: the limit of its packets, the lines, the journal's file, and how many
--- heartbeats and end packets are sent after it
-pub record PublishWanted : Type 0 where
-  pub session : List ℕ
-  pub limit : ℕ
-  pub a : Place
-  pub b : Place
-  pub journal : Text
-  pub beats : ℕ
-  pub ends : ℕ
-
--- a journal's file from which requests are answered: the limit of the packets and how many answer one, the
--- port, how many receives are made, and whether what is printed is written at once
-pub record ServeWanted : Type 0 where
-  pub journal : Text
-  pub limit : ℕ
-  pub burst : ℕ
-  pub bind : Place
-  pub turns : ℕ
-  pub live : Bool
-
--- a session that is heard on two lines: the number of its first message that is printed, the window, the
--- lines, the re-request server and how many packets answer a request, the most turns, and whether what is printed is
--- written at once
-pub record ListenWanted : Type 0 where
-  pub session : List ℕ
-  pub next : ℕ
-  pub window : ℕ
-  pub a : Place
-  pub b : Place
-  pub server : Place
-  pub burst : ℕ
-  pub turns : ℕ
-  pub live : Bool
-
--- a session that is sent to itself: the limits of publisher and server, the window, how many packets answer a
--- request, which packets are left out of the lines, and the most rounds
-pub record LoopWanted : Type 0 where
-  pub session : List ℕ
-  pub limit : ℕ
-  pub server_limit : ℕ
-  pub window : ℕ
-  pub burst : ℕ
-  pub drop_a : ℕ
-  pub drop_b : ℕ
-  pub turns : ℕ
-
--- what an order asks for: to show, requests or packets; to pack a session's messages into packets of
--- at most so many bytes; to run a script of events; to check a folder; to publish, serve, listen,
--- and all of it in one; to write the journal of a file in another one, and to close it
-pub data Wanted : Type 0 where
-  show_wanted : Bool → Wanted
-  pack_wanted : List ℕ → ℕ → Wanted
-  sim_wanted : SimWanted → Wanted
-  check_wanted : Text → Wanted
-  publish_wanted : PublishWanted → Wanted
-  serve_wanted : ServeWanted → Wanted
-  listen_wanted : ListenWanted → Wanted
-  loop_wanted : LoopWanted → Wanted
-  upgrade_wanted : Text → Text → Bool → Wanted
-
--- what an order of the program asks for
-abbrev pub view : Order → Wanted
-view (Show request) = show_wanted request
-view (Pack order) = pack_wanted order.session order.limit
-view (Sim order) = sim_wanted (record {
-  session = order.session;
-  limit = order.limits.limit;
-  server_limit = order.limits.server_limit;
-  window = order.window;
-  receivers = order.receivers;
-  burst = order.burst;
-})
-view (Check folder) = check_wanted (string_bytes folder)
-view (Publish order) = publish_wanted (record {
-  session = order.session;
-  limit = order.limit;
-  a = address_view order.a;
-  b = address_view order.b;
-  journal = string_bytes order.journal;
-  beats = order.beats;
-  ends = order.ends;
-})
-view (Serve order) = serve_wanted (record {
-  journal = string_bytes order.journal;
-  limit = order.limit;
-  burst = order.burst;
-  bind = address_view order.bind;
-  turns = order.turns;
-  live = order.live;
-})
-view (Listen order) = listen_wanted (record {
-  session = order.session;
-  next = order.next;
-  window = order.window;
-  a = address_view order.a;
-  b = address_view order.b;
-  server = address_view order.server;
-  burst = order.burst;
-  turns = order.turns;
-  live = order.live;
-})
-view (Loop order) = loop_wanted (record {
-  session = order.session;
-  limit = order.limits.limit;
-  server_limit = order.limits.server_limit;
-  window = order.window;
-  burst = order.burst;
-  drop_a = order.drop_a;
-  drop_b = order.drop_b;
-  turns = order.turns;
-})
-view (Upgrade order) = upgrade_wanted (string_bytes order.journal) (string_bytes order.to) order.close
 
 -- `clap` finds no fault in the words
 abbrev pub AreTaken : List Text → Type 0
@@ -182,6 +50,10 @@ turns_in rows = number_in (codes "turns") 1000 1 1000000 rows
 -- what is printed is written at once
 abbrev pub live_in : List Row → Bool
 live_in rows = flag_in (codes "live") rows
+
+-- what came on each line is reported
+abbrev pub report_in : List Row → Bool
+report_in rows = flag_in (codes "report") rows
 
 -- the limits of publisher and server, the latter not below the former
 unfoldable pub limits_in : List Row → Option (ℕ × ℕ)
@@ -238,9 +110,12 @@ sim_of rows =
     (limits_in rows))
     (session_in (codes "session") rows)
 
--- what `check` says with its word
+-- what `check` says with its word: just `-` is no folder, and says that lines come on standard input
 unfoldable pub check_of : List Row → Option Wanted
-check_of rows = option_and_then (λ folder. Some (check_wanted folder)) (first_of (codes "folder") rows)
+check_of rows =
+    option_and_then
+    (λ folder. Some (if bytes_eq folder (codes "-") then check_lines_wanted else check_wanted folder))
+    (first_of (codes "folder") rows)
 
 -- what `publish` says with the options found
 unfoldable pub publish_of : List Row → Option Wanted
@@ -312,6 +187,7 @@ listen_of rows =
       burst = burst;
       turns = turns;
       live = live_in rows;
+      report = report_in rows;
     })))
     (turns_in rows))
     (burst_in rows))
@@ -341,6 +217,7 @@ loop_of rows =
       drop_a = drop_a;
       drop_b = drop_b;
       turns = turns;
+      report = report_in rows;
     })))
     (turns_in rows))
     (number_in (codes "drop-b") 0 0 1000 rows))
@@ -359,6 +236,17 @@ upgrade_of rows =
     (first_of (codes "to") rows))
     (first_of (codes "journal") rows)
 
+-- what `dump` says with the options found: without a count all of the messages, which are never more
+unfoldable pub dump_of : List Row → Option Wanted
+dump_of rows =
+    option_and_then
+    (λ journal. option_and_then
+    (λ from. option_and_then
+    (λ count. Some (dump_wanted (record { journal = journal; from = from; count = count })))
+    (number_in (codes "count") 18446744073709551615 0 18446744073709551615 rows))
+    (number_in (codes "from") 1 1 18446744073709551615 rows))
+    (first_of (codes "journal") rows)
+
 -- what the command of this name says with the options found
 unfoldable pub order_at : Text → List Row → Option Wanted
 order_at name rows =
@@ -371,6 +259,7 @@ order_at name rows =
     else if bytes_eq name (codes "listen") then listen_of rows
     else if bytes_eq name (codes "loop") then loop_of rows
     else if bytes_eq name (codes "upgrade") then upgrade_of rows
+    else if bytes_eq name (codes "dump") then dump_of rows
     else None
 
 -- what a command says that was found with its options: nothing where an address is none; where no command was

@@ -33,15 +33,17 @@ commands =
       codes "listen",
       (codes "session", Required) ∷ (codes "next", Optional) ∷ (codes "window", Optional)
           ∷ (codes "a", Required) ∷ (codes "b", Required) ∷ (codes "server", Required)
-          ∷ (codes "burst", Optional) ∷ (codes "turns", Optional) ∷ (codes "live", Flag) ∷ [],
+          ∷ (codes "burst", Optional) ∷ (codes "turns", Optional) ∷ (codes "live", Flag)
+          ∷ (codes "report", Flag) ∷ [],
     )
     ∷ (
       codes "loop",
       (codes "session", Required) ∷ (codes "limit", Optional) ∷ (codes "server-limit", Optional)
           ∷ (codes "window", Optional) ∷ (codes "burst", Optional) ∷ (codes "drop-a", Optional)
-          ∷ (codes "drop-b", Optional) ∷ (codes "turns", Optional) ∷ [],
+          ∷ (codes "drop-b", Optional) ∷ (codes "turns", Optional) ∷ (codes "report", Flag) ∷ [],
     )
     ∷ (codes "upgrade", (codes "journal", Required) ∷ (codes "to", Required) ∷ (codes "close", Flag) ∷ [])
+    ∷ (codes "dump", (codes "journal", Required) ∷ (codes "from", Optional) ∷ (codes "count", Optional) ∷ [])
     ∷ []
 
 -- a command has this name

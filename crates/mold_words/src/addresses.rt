@@ -2,7 +2,7 @@
 
 ghost use Rattle.std.specs.Prelude.{◌≡◌, option_map};
 ghost use Rattle.mold_words.specs.Addresses.{address_of, cut_at, host_of, is_plain, plain_number};
-ghost use Rattle.mold_words.specs.Orders.{address_view};
+ghost use Rattle.mold_words.specs.Wanted.{address_view};
 
 use crate::address::Address;
 use crate::values::number_of;

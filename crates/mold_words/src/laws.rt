@@ -2,9 +2,10 @@
 ghost use Rattle.std.specs.Prelude.{◌≡◌, [], ◌∷◌, IfSome, IsTrue, List, None, codes, false, true};
 ghost use Rattle.clap.specs.Words.{Text, fault_of, subcommand_of};
 ghost use Rattle.clap.specs.declared.error.kind.ErrorKind.TheVariants.{DisplayHelp, DisplayVersion, UnknownArgument};
-ghost use Rattle.mold_words.specs.Orders.{AreTaken, Say, check_wanted, listen_wanted, loop_wanted, order_of};
-ghost use Rattle.mold_words.specs.Orders.{pack_wanted, publish_wanted, serve_wanted, show_wanted, sim_wanted};
-ghost use Rattle.mold_words.specs.Orders.{upgrade_wanted};
+ghost use Rattle.mold_words.specs.Orders.{AreTaken, Say, order_of};
+ghost use Rattle.mold_words.specs.Wanted.{check_lines_wanted, check_wanted, dump_wanted, listen_wanted, loop_wanted};
+ghost use Rattle.mold_words.specs.Wanted.{pack_wanted, publish_wanted, serve_wanted, show_wanted, sim_wanted};
+ghost use Rattle.mold_words.specs.Wanted.{upgrade_wanted};
 ghost use Rattle.mold_words.specs.Words.{is_command, mold_app};
 
 /// The words `show` and `show --request` are taken and say to show, and so is `--` alone, which
@@ -57,9 +58,12 @@ pub fn sim_taken_law()
         (codes "sim" ∷ codes "--session" ∷ codes "MKT" ∷ codes "--limit" ∷ codes "1401" ∷ []) ≡ None }
 {}
 
-/// The words `check DIR` are taken, and say to check the folder `DIR`.
+/// The words `check DIR` are taken, and say to check the folder `DIR`. `check -` says to check lines, and `check ./-`
+/// the folder of that name.
 pub fn check_taken_law()
-    ensures { Say (codes "check" ∷ codes "DIR" ∷ []) (check_wanted (codes "DIR")) }
+    ensures folder { Say (codes "check" ∷ codes "DIR" ∷ []) (check_wanted (codes "DIR")) }
+    ensures lines { Say (codes "check" ∷ codes "-" ∷ []) check_lines_wanted }
+    ensures dash { Say (codes "check" ∷ codes "./-" ∷ []) (check_wanted (codes "./-")) }
 {}
 
 /// The words `publish --session MKT --a .. --b .. --journal J` are taken, and say to send the session `MKT` to
@@ -111,7 +115,7 @@ pub fn serve_taken_law()
 
 /// The words `listen --session MKT --a .. --b .. --server ..` are taken, and say to print the session `MKT` from
 /// message 1 on with a window of 1,024 messages, one packet to a request, in 1,000 turns at most; `--live` says to
-/// write at once what is printed.
+/// write at once what is printed, and `--report` to tell what came on each line.
 pub fn listen_taken_law()
     ensures usual { Say
         (codes "listen" ∷ codes "--session" ∷ codes "MKT" ∷ codes "--a" ∷ codes "127.0.0.1:9000"
@@ -126,6 +130,7 @@ pub fn listen_taken_law()
           burst = 1;
           turns = 1000;
           live = false;
+          report = false;
         })) }
     ensures live { Say
         (codes "listen" ∷ codes "--session" ∷ codes "MKT" ∷ codes "--a" ∷ codes "0.0.0.0:0"
@@ -140,13 +145,30 @@ pub fn listen_taken_law()
           burst = 1;
           turns = 1000;
           live = true;
+          report = false;
+        })) }
+    ensures report { Say
+        (codes "listen" ∷ codes "--report" ∷ codes "--session" ∷ codes "MKT" ∷ codes "--a" ∷ codes "0.0.0.0:0"
+        ∷ codes "--b" ∷ codes "0.0.0.0:0" ∷ codes "--server" ∷ codes "0.0.0.0:0" ∷ [])
+        (listen_wanted (record {
+          session = codes "MKT       ";
+          next = 1;
+          window = 1024;
+          a = (0 ∷ 0 ∷ 0 ∷ 0 ∷ [], 0);
+          b = (0 ∷ 0 ∷ 0 ∷ 0 ∷ [], 0);
+          server = (0 ∷ 0 ∷ 0 ∷ 0 ∷ [], 0);
+          burst = 1;
+          turns = 1000;
+          live = false;
+          report = true;
         })) }
 {}
 
 /// The words `loop --session MKT` are taken, and say to send the session `MKT` to itself with limits of 1,400
-/// bytes, a window of 1,024 messages, one packet to a request, and 1,000 rounds at most, with nothing left out.
+/// bytes, a window of 1,024 messages, one packet to a request, and 1,000 rounds at most, with nothing left out;
+/// `--report` says to tell what came on each line.
 pub fn loop_taken_law()
-    ensures { Say (codes "loop" ∷ codes "--session" ∷ codes "MKT" ∷ [])
+    ensures usual { Say (codes "loop" ∷ codes "--session" ∷ codes "MKT" ∷ [])
         (loop_wanted (record {
           session = codes "MKT       ";
           limit = 1400;
@@ -156,6 +178,19 @@ pub fn loop_taken_law()
           drop_a = 0;
           drop_b = 0;
           turns = 1000;
+          report = false;
+        })) }
+    ensures report { Say (codes "loop" ∷ codes "--session" ∷ codes "MKT" ∷ codes "--report" ∷ [])
+        (loop_wanted (record {
+          session = codes "MKT       ";
+          limit = 1400;
+          server_limit = 1400;
+          window = 1024;
+          burst = 1;
+          drop_a = 0;
+          drop_b = 0;
+          turns = 1000;
+          report = true;
         })) }
 {}
 
@@ -169,6 +204,22 @@ pub fn upgrade_taken_law()
         (upgrade_wanted (codes "A") (codes "B") true) }
     ensures same { order_of
         (codes "upgrade" ∷ codes "--journal" ∷ codes "A" ∷ codes "--to" ∷ codes "A" ∷ []) ≡ None }
+{}
+
+/// The words `dump --journal J` are taken, and say to print all messages of the journal of `J` from message 1 on;
+/// `--from` says another first one, and `--count` how many at most. A first message 0, and a count of more than 64
+/// bits, say nothing, and are refused.
+pub fn dump_taken_law()
+    ensures usual { Say (codes "dump" ∷ codes "--journal" ∷ codes "J" ∷ [])
+        (dump_wanted (record { journal = codes "J"; from = 1; count = 18446744073709551615 })) }
+    ensures given { Say
+        (codes "dump" ∷ codes "--count" ∷ codes "0" ∷ codes "--journal" ∷ codes "J"
+        ∷ codes "--from" ∷ codes "18446744073709551615" ∷ [])
+        (dump_wanted (record { journal = codes "J"; from = 18446744073709551615; count = 0 })) }
+    ensures zero { order_of
+        (codes "dump" ∷ codes "--journal" ∷ codes "J" ∷ codes "--from" ∷ codes "0" ∷ []) ≡ None }
+    ensures above { order_of
+        (codes "dump" ∷ codes "--journal" ∷ codes "J" ∷ codes "--count" ∷ codes "18446744073709551616" ∷ []) ≡ None }
 {}
 
 /// Help and version are asked for by these words, and nothing else is told of them; other words

@@ -4,6 +4,7 @@
 mod address;
 mod addresses;
 mod command;
+mod dump_order;
 mod fault;
 pub mod laws;
 mod limits;
@@ -24,6 +25,7 @@ mod values;
 
 pub use address::Address;
 pub use command::VERSION;
+pub use dump_order::DumpOrder;
 pub use fault::UsageFault;
 pub use limits::Limits;
 pub use listen_order::ListenOrder;

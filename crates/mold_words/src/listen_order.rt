@@ -27,6 +27,8 @@ pub struct ListenOrder {
     pub turns: u32,
     /// Whether what a turn printed is written at its end, and not gathered.
     pub live: bool,
+    /// Whether what came on each line is told before the last line.
+    pub report: bool,
     ghost named: { list_all is_character session ≡ true },
     ghost first: { (1 ≤ next) × (next ≤ 9223372036854775807) },
     ghost windowed: { (1 ≤ window) × (window ≤ 65536) },

@@ -23,6 +23,8 @@ pub struct LoopOrder {
     pub drop_b: u32,
     /// The most rounds of requests that are made after the messages, 1 to 1,000,000.
     pub turns: u32,
+    /// Whether what came on each line is told before the last line.
+    pub report: bool,
     ghost named: { list_all is_character session ≡ true },
     ghost windowed: { (1 ≤ window) × (window ≤ 65536) },
     ghost bursting: { (1 ≤ burst) × (burst ≤ 64) },

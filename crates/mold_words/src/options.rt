@@ -4,10 +4,10 @@ ghost use Rattle.std.specs.Prelude.{◌≡◌, ◌≤◌, IfOk, MatchResult, Non
 ghost use Rattle.std.specs.List.{list_all};
 ghost use Rattle.clap.specs.Words.{first_of, found_of, rows_of};
 ghost use Rattle.mold_words.specs.NoOrders.{LacksOrder, LacksValue, is_address};
-ghost use Rattle.mold_words.specs.Orders.{address_in, address_view, flag_in, has_no_address, is_no_address};
-ghost use Rattle.mold_words.specs.Orders.{burst_in, limit_in, limits_in, live_in, number_in, session_in, turns_in};
-ghost use Rattle.mold_words.specs.Orders.{window_in};
+ghost use Rattle.mold_words.specs.Orders.{address_in, burst_in, flag_in, has_no_address, is_no_address, limit_in};
+ghost use Rattle.mold_words.specs.Orders.{limits_in, live_in, number_in, report_in, session_in, turns_in, window_in};
 ghost use Rattle.mold_words.specs.Values.{is_character};
+ghost use Rattle.mold_words.specs.Wanted.{address_view};
 
 use crate::address::Address;
 use crate::addresses::address_of;
@@ -153,6 +153,13 @@ pub(crate) fn live_in(options: &ArgMatches<'_>) -> bool
     ensures { result ≡ live_in (rows_of (found_of options.now)) }
 {
     flag_in(options, "live")
+}
+
+/// Whether what came on each line is reported.
+pub(crate) fn report_in(options: &ArgMatches<'_>) -> bool
+    ensures { result ≡ report_in (rows_of (found_of options.now)) }
+{
+    flag_in(options, "report")
 }
 
 /// The limits of the publisher and of its server, which has room for the publisher's messages.

@@ -3,15 +3,17 @@
 ghost use Rattle.std.specs.Prelude.{◌≡◌, ◌⊎◌, MatchResult, None, Some};
 ghost use Rattle.clap.specs.Words.{found_of, rows_of, subcommand_rows_of};
 ghost use Rattle.mold_words.specs.NoOrders.{LacksOrder, is_address};
-ghost use Rattle.mold_words.specs.Orders.{check_of, lacks_address, listen_of, loop_of, order_at, order_in, pack_of};
-ghost use Rattle.mold_words.specs.Orders.{publish_of, serve_of, show_of, sim_of, upgrade_of, view};
+ghost use Rattle.mold_words.specs.Orders.{check_of, dump_of, lacks_address, listen_of, loop_of, order_at, order_in};
+ghost use Rattle.mold_words.specs.Orders.{pack_of, publish_of, serve_of, show_of, sim_of, upgrade_of};
+ghost use Rattle.mold_words.specs.Wanted.{view};
 
+use crate::dump_order::DumpOrder;
 use crate::listen_order::ListenOrder;
 use crate::loop_order::LoopOrder;
 use crate::no_order::NoOrder;
 use crate::options::{
     address_in, burst_in, check_addresses, flag_in, limit_in, limits_in, live_in, number_in,
-    required_in, session_in, string_in, turns_in, window_in,
+    report_in, required_in, session_in, string_in, turns_in, window_in,
 };
 use crate::pack_order::PackOrder;
 use crate::publish_order::PublishOrder;
@@ -58,6 +60,7 @@ fn order_at(alloc: Global, name: &str, options: &ArgMatches<'_>) -> Result<Order
         "listen" => listen_order(options),
         "loop" => loop_order(options),
         "upgrade" => upgrade_order(alloc, options),
+        "dump" => dump_order(alloc, options),
         _ => Err(NoOrder::Command),
     }
 }
@@ -103,6 +106,23 @@ fn upgrade_order(alloc: Global, options: &ArgMatches<'_>) -> Result<Order, NoOrd
     }))
 }
 
+// The order of `dump`.
+#[tactic(auto, unfolding(crate::specs::Orders::dump_of))]
+fn dump_order(alloc: Global, options: &ArgMatches<'_>) -> Result<Order, NoOrder>
+    ensures { MatchResult result
+        (λ order. dump_of (rows_of (found_of options.now)) ≡ Some (view order))
+        (LacksOrder (dump_of (rows_of (found_of options.now)))) }
+{
+    let from = number_in(options, "from", 1, 1, u64::MAX)?;
+    let count = number_in(options, "count", u64::MAX, 0, u64::MAX)?;
+    let journal = string_in(alloc, options, "journal")?;
+    Ok(Order::Dump(DumpOrder {
+        journal,
+        from,
+        count,
+    }))
+}
+
 // The order of `sim`.
 #[tactic(auto, unfolding(crate::specs::Orders::sim_of))]
 fn sim_order(options: &ArgMatches<'_>) -> Result<Order, NoOrder>
@@ -131,8 +151,12 @@ fn check_order(alloc: Global, options: &ArgMatches<'_>) -> Result<Order, NoOrder
         (λ order. check_of (rows_of (found_of options.now)) ≡ Some (view order))
         (LacksOrder (check_of (rows_of (found_of options.now)))) }
 {
+    let folder = required_in(options, "folder")?;
+    if folder == "-" {
+        return Ok(Order::CheckLines);
+    }
     Ok(Order::Check {
-        folder: string_in(alloc, options, "folder")?,
+        folder: String::from_str(alloc, folder)?,
     })
 }
 
@@ -208,6 +232,7 @@ fn listen_order(options: &ArgMatches<'_>) -> Result<Order, NoOrder>
         burst,
         turns,
         live: live_in(options),
+        report: report_in(options),
     }))
 }
 
@@ -233,5 +258,6 @@ fn loop_order(options: &ArgMatches<'_>) -> Result<Order, NoOrder>
         drop_a: drop_a as u32,
         drop_b: drop_b as u32,
         turns,
+        report: report_in(options),
     }))
 }

@@ -1,7 +1,8 @@
 //! Words to an order.
 ghost use Rattle.std.specs.Prelude.{◌≡◌, [], IfErr, IfOk, Ok, Some, false, map, string_bytes};
 ghost use Rattle.mold_words.specs.Faults.{TellsOf};
-ghost use Rattle.mold_words.specs.Orders.{AreTaken, Say, Wanted, order_of, view};
+ghost use Rattle.mold_words.specs.Orders.{AreTaken, Say, order_of};
+ghost use Rattle.mold_words.specs.Wanted.{Wanted, view};
 
 use crate::command::mold_command;
 use crate::fault::{UsageFault, fault_for, value_fault};

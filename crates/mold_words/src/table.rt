@@ -40,7 +40,7 @@ pub(crate) fn value_name(option: &str) -> &'static str {
         "a" | "b" | "server" | "bind" => "ADDRESS",
         "journal" | "to" => "FILE",
         "folder" => "FOLDER",
-        "next" => "NUMBER",
+        "next" | "from" => "NUMBER",
         _ => "COUNT",
     }
 }
@@ -88,8 +88,15 @@ const LIVE: OptionRow = OptionRow {
     help: "Write at the end of each turn what it printed, and do not gather it",
 };
 
+// What came on the two lines.
+const REPORT: OptionRow = OptionRow {
+    name: "report",
+    kind: Kind::Flag,
+    help: "Print before the last line what came on each line, and how far it is behind",
+};
+
 /// The commands, in the order in which help lists them.
-pub static COMMANDS: [CommandRow; 9] = [
+pub static COMMANDS: [CommandRow; 10] = [
     CommandRow {
         name: "show",
         about: "Print packets given as lines of hexadecimal digits on standard input",
@@ -129,7 +136,8 @@ pub static COMMANDS: [CommandRow; 9] = [
         options: &[OptionRow {
             name: "folder",
             kind: Kind::Word,
-            help: "The folder; each of its files whose name ends in .pkt is a datagram",
+            help: "The folder; each of its files whose name ends in .pkt is a datagram\n\
+                - reads datagrams as lines of hexadecimal digits on standard input",
         }],
         example: "Example:\n  mold check captures",
     },
@@ -229,6 +237,7 @@ pub static COMMANDS: [CommandRow; 9] = [
                     is missing; a receive waits 100 ms at most",
             },
             LIVE,
+            REPORT,
         ],
         example: "Example:\n  mold listen --session SESSION001 --a 127.0.0.1:9001 --b 127.0.0.1:9002 \\\
             \n    --server 127.0.0.1:9003 --turns 1000000 > heard",
@@ -259,6 +268,7 @@ pub static COMMANDS: [CommandRow; 9] = [
                 kind: Kind::Optional,
                 help: "The most rounds of requests, 1 to 1000000 [default: 1000]",
             },
+            REPORT,
         ],
         example: "Example:\n  printf '4142\\n4344\\n' | mold loop --session SESSION001 --drop-a 1 --drop-b 1",
     },
@@ -283,5 +293,28 @@ pub static COMMANDS: [CommandRow; 9] = [
             },
         ],
         example: "Example:\n  mold upgrade --journal old.journal --to new.journal",
+    },
+    CommandRow {
+        name: "dump",
+        about: "Print the messages of a journal's file as lines of hexadecimal digits",
+        options: &[
+            OptionRow {
+                name: "journal",
+                kind: Kind::Required,
+                help: "The file of the journal",
+            },
+            OptionRow {
+                name: "from",
+                kind: Kind::Optional,
+                help: "The number of the first message, 1 to 18446744073709551615 [default: 1]",
+            },
+            OptionRow {
+                name: "count",
+                kind: Kind::Optional,
+                help: "The most messages, 0 to 18446744073709551615 [default: all]",
+            },
+        ],
+        example: "Example:\n  mold dump --journal day.journal | mold publish --session SESSION001 \\\
+            \n    --a 127.0.0.1:9001 --b 127.0.0.1:9002 --journal new.journal",
     },
 ];

@@ -1,5 +1,6 @@
 //! What the program can be told to do.
 
+use crate::dump_order::DumpOrder;
 use crate::listen_order::ListenOrder;
 use crate::loop_order::LoopOrder;
 use crate::pack_order::PackOrder;
@@ -8,7 +9,7 @@ use crate::serve_order::ServeOrder;
 use crate::sim_order::SimOrder;
 use crate::upgrade_order::UpgradeOrder;
 
-/// What the program is told to do, one variant for each command.
+/// What the program is told to do, one variant for each command, and two for `check`.
 #[derive(Debug, PartialEq, Eq, Drop)]
 pub enum Order {
     /// Print the packets that standard input gives, each as a line of hexadecimal digits.
@@ -26,6 +27,9 @@ pub enum Order {
         /// The folder's name.
         folder: String,
     },
+    /// Say whether the datagrams that standard input gives as lines of hexadecimal digits come from one whole
+    /// session.
+    CheckLines,
     /// Send a session, whose messages standard input gives, on two lines, and save its journal.
     Publish(PublishOrder),
     /// Answer requests from the journal of a file.
@@ -36,4 +40,6 @@ pub enum Order {
     Loop(LoopOrder),
     /// Write the journal of a file in another one, in the newest version.
     Upgrade(UpgradeOrder),
+    /// Print the messages of a journal's file, each as a line of hexadecimal digits.
+    Dump(DumpOrder),
 }

@@ -72,6 +72,8 @@ const NO_COMMANDS: &[&str] = &[
     "check",
     "check one two",
     "check --folder one",
+    "check - one",
+    "check --",
     "publish --session A --a 127.0.0.1:1 --b 127.0.0.1:2",
     "publish --session A --a 127.0.0.1:1 --b 127.0.0.1:2 --journal J --beats 1001",
     "publish --session A --a 127.0.0.1:1 --b 127.0.0.1:2 --journal J --ends 1001",
@@ -79,11 +81,18 @@ const NO_COMMANDS: &[&str] = &[
     "serve --journal J --bind 127.0.0.1:1 --turns 0",
     "serve --journal J --bind 127.0.0.1:1 --turns 1000001",
     "listen --session A --a 127.0.0.1:1 --b 127.0.0.1:2",
+    "serve --journal J --bind 127.0.0.1:1 --report",
     "listen --session A --a 127.0.0.1:1 --b 127.0.0.1:2 --server 127.0.0.1:3 --next 0",
     "loop --session A --server-limit 64",
     "loop --session A --drop-a 1001",
+    "loop --session A --report --report",
     "upgrade --journal A",
     "upgrade --journal A --to A",
+    "dump",
+    "dump J",
+    "dump --journal J --from 0",
+    "dump --journal J --from 18446744073709551616",
+    "dump --journal J --count 18446744073709551616",
 ];
 
 // The text is of an error, in whole lines.

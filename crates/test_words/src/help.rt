@@ -20,6 +20,7 @@ Commands:
   listen   Print the messages of a session that come on two lines, and request what is missing
   loop     Publish, serve and listen in one process over ports of 127.0.0.1
   upgrade  Write the journal of a file in another one, in the newest version
+  dump     Print the messages of a journal's file as lines of hexadecimal digits
   help     Print this message or the help of the given subcommand(s)
 
 Options:
@@ -78,6 +79,7 @@ Usage: mold check <FOLDER>
 
 Arguments:
   <FOLDER>  The folder; each of its files whose name ends in .pkt is a datagram
+            - reads datagrams as lines of hexadecimal digits on standard input
 
 Options:
   -h, --help  Print help
@@ -98,6 +100,21 @@ Options:
 
 Example:
   mold upgrade --journal old.journal --to new.journal
+";
+
+const DUMP_HELP: &str = "Print the messages of a journal's file as lines of hexadecimal digits
+
+Usage: mold dump [OPTIONS] --journal <FILE>
+
+Options:
+      --journal <FILE>  The file of the journal
+      --from <NUMBER>   The number of the first message, 1 to 18446744073709551615 [default: 1]
+      --count <COUNT>   The most messages, 0 to 18446744073709551615 [default: all]
+  -h, --help            Print help
+
+Example:
+  mold dump --journal day.journal | mold publish --session SESSION001 \\
+    --a 127.0.0.1:9001 --b 127.0.0.1:9002 --journal new.journal
 ";
 
 // The text of help.
@@ -126,6 +143,7 @@ fn words_that_ask_for_help(rt: HostRuntime) -> Result<(), Fail> {
         ("sim --help", SIM_HELP),
         ("check --help", CHECK_HELP),
         ("upgrade --help", UPGRADE_HELP),
+        ("dump --help", DUMP_HELP),
     ] {
         expect_help(&rt, line, wanted)?;
     }

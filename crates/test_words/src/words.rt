@@ -2,8 +2,8 @@
 
 use crate::reading::{read, same_address, same_answer, same_numbers, same_session, same_text};
 use mold_words::{
-    ListenOrder, LoopOrder, Order, PackOrder, PublishOrder, ServeOrder, SimOrder, UpgradeOrder,
-    UsageFault,
+    DumpOrder, ListenOrder, LoopOrder, Order, PackOrder, PublishOrder, ServeOrder, SimOrder,
+    UpgradeOrder, UsageFault,
 };
 use std::alloc::Global;
 use std::process::Abort;
@@ -102,9 +102,29 @@ fn check_of(alloc: Global, line: &str) -> Result<String, Fail> {
 
 #[test]
 fn words_of_check(rt: HostRuntime) -> Result<(), Fail> {
-    let line = "check captures/today";
-    let folder = check_of(rt.alloc(), line)?;
-    same_text(&rt, folder.as_str(), "captures/today", line);
+    for (line, wanted) in [
+        ("check captures/today", "captures/today"),
+        ("check ./-", "./-"),
+    ] {
+        let folder = check_of(rt.alloc(), line)?;
+        same_text(&rt, folder.as_str(), wanted, line);
+    }
+    Ok(())
+}
+
+// Whether the words are an order to check lines.
+fn checks_lines(alloc: Global, line: &str) -> bool {
+    let Ok(Order::CheckLines) = read(alloc, line) else {
+        return false;
+    };
+    true
+}
+
+#[test]
+fn words_of_check_without_a_folder(rt: HostRuntime) -> Result<(), Fail> {
+    for (line, wanted) in [("check -", true), ("check ./-", false)] {
+        same_answer(&rt, checks_lines(rt.alloc(), line), wanted, line);
+    }
     Ok(())
 }
 
@@ -176,7 +196,7 @@ fn listen_of(alloc: Global, line: &str) -> Result<ListenOrder, Fail> {
 #[test]
 fn words_of_listen(rt: HostRuntime) -> Result<(), Fail> {
     let line = "listen --session MKT --next 9223372036854775807 --window 4 --a 127.0.0.1:1 \
-        --b 127.0.0.1:2 --server 127.0.0.1:3 --burst 2 --turns 5 --live";
+        --b 127.0.0.1:2 --server 127.0.0.1:3 --burst 2 --turns 5 --live --report";
     let order = listen_of(rt.alloc(), line)?;
     let found = [
         order.next,
@@ -190,6 +210,7 @@ fn words_of_listen(rt: HostRuntime) -> Result<(), Fail> {
     same_address(&rt, order.b, [127, 0, 0, 1], 2, line);
     same_address(&rt, order.server, [127, 0, 0, 1], 3, line);
     same_answer(&rt, order.live, true, line);
+    same_answer(&rt, order.report, true, line);
     Ok(())
 }
 
@@ -202,8 +223,8 @@ fn loop_of(alloc: Global, line: &str) -> Result<LoopOrder, Fail> {
 
 #[test]
 fn words_of_loop(rt: HostRuntime) -> Result<(), Fail> {
-    let line =
-        "loop --session MKT --limit 64 --server-limit 65 --window 4 --burst 2 --drop-a 3 --drop-b 1000 --turns 5";
+    let line = "loop --session MKT --limit 64 --server-limit 65 --window 4 --burst 2 --drop-a 3 \
+        --drop-b 1000 --turns 5 --report";
     let order = loop_of(rt.alloc(), line)?;
     let found = [
         order.limits.limit as u64,
@@ -216,6 +237,7 @@ fn words_of_loop(rt: HostRuntime) -> Result<(), Fail> {
     ];
     same_session(&rt, order.session, *b"MKT       ", line);
     same_numbers(&rt, &found, &[64, 65, 4, 2, 3, 1000, 5], line);
+    same_answer(&rt, order.report, true, line);
     Ok(())
 }
 
@@ -281,6 +303,46 @@ fn words_of_upgrade(rt: HostRuntime) -> Result<(), Fail> {
         ("upgrade --to new --close --journal old", true),
     ] {
         expect_upgrade(&rt, line, close)?;
+    }
+    Ok(())
+}
+
+fn dump_of(alloc: Global, line: &str) -> Result<DumpOrder, Fail> {
+    let Ok(Order::Dump(order)) = read(alloc, line) else {
+        return Err(Fail::from("no order to dump"));
+    };
+    Ok(order)
+}
+
+// The words are an order to dump the journal `J` from this message on, and so many messages at most.
+fn expect_dump(
+    rt: &(impl Abort + AllocGlobal),
+    line: &str,
+    from: u64,
+    count: u64,
+) -> Result<(), Fail> {
+    let order = dump_of(rt.alloc(), line)?;
+    same_text(rt, order.journal.as_str(), "J", line);
+    same_numbers(rt, &[order.from, order.count], &[from, count], line);
+    Ok(())
+}
+
+#[test]
+fn words_of_dump(rt: HostRuntime) -> Result<(), Fail> {
+    for (line, from, count) in [
+        ("dump --journal J", 1, u64::MAX),
+        (
+            "dump --count 0 --journal J --from 18446744073709551615",
+            u64::MAX,
+            0,
+        ),
+        (
+            "dump --from=1 --journal=J --count=18446744073709551615",
+            1,
+            u64::MAX,
+        ),
+    ] {
+        expect_dump(&rt, line, from, count)?;
     }
     Ok(())
 }

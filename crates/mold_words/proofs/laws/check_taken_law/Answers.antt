@@ -6,4 +6,4 @@ use Rattle.mold_words.proofs.laws.check_taken_law.Goals as goal
 
 pub returns : goal.returns
 unfolding clap_on_literals mold_app order_of has_no_address order_at check_of
-returns c = (refl, refl)
+returns c = record { folder = (refl, refl); lines = (refl, refl); dash = (refl, refl) }
