@@ -1,3 +1,7 @@
 pub mod OrderLemmas
 pub mod ReportLemmas
 pub mod CheckedLemmas
+pub mod LineLemmas
+pub mod VerdictLemmas
+pub mod DigitLemmas
+pub mod LawLemmas

@@ -1,2 +1,4 @@
 pub mod Entries
 pub mod Report
+pub mod CheckLines
+pub mod Checking

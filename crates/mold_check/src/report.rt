@@ -116,8 +116,8 @@ fn tell_incomplete<K: Sink>(
     Ok(1)
 }
 
-// Writes the text, and behind it what the verdict tells; it answers the status.
-fn tell_verdict<K: Sink>(
+/// Writes the text, and behind it what the verdict tells; it answers the status.
+pub(crate) fn tell_verdict<K: Sink>(
     sink: &mut K,
     text: &mut Vec<u8>,
     verdict: &Verdict,

@@ -1,0 +1,109 @@
+-- What `mold check -` prints for its input, whose lines are datagrams in hexadecimal digits.
+use Rattle.std.specs.Prelude.{ℕ, suc, zero, ◌-◌, ◌^◌, ◌==◌, min, List, [], ◌∷◌, ◌++◌, length, map, codes, decimal}
+use Rattle.std.specs.Prelude.{Option, None, Some, Result, Ok, Err, if◌then◌else◌}
+use Rattle.hex.specs.Hex.{decode_of}
+use Rattle.hex.specs.declared.error.FromHexError.{FromHexError}
+use Rattle.mold_capture.specs.Outcome.{Outcome, whole, incomplete, refused}
+use Rattle.mold_capture.specs.Refusal.{refusal}
+use Rattle.mold_capture.specs.Seen.{Seen, after, seen_of}
+use Rattle.mold_capture.specs.Verdict.{lacks, missing_in}
+use Rattle.mold_devices.specs.Devices.{one_more}
+use Rattle.mold_devices.specs.Lines.{lines_of}
+use Rattle.mold_ranges.specs.Ranges as lacking
+use Rattle.mold_rule.specs.declared.refusal.Refusal.{Refusal as Reason}
+use Rattle.mold_text.specs.Line.{joined, line_of}
+use Rattle.mold_text.specs.Text.{refused_line}
+use Rattle.mold_check.specs.Report.{outcome_status, outcome_text}
+
+-- ---- the outcome of datagrams, as a function
+
+-- by what they have said, and the end: whole where an end was told and no number from 1 to below it is lacking
+abbrev pub outcome_at : Seen → Option ℕ → Outcome
+outcome_at seen None = incomplete (missing_in seen) None
+outcome_at seen (Some zero) = incomplete (missing_in seen) (Some zero)
+outcome_at seen (Some (suc messages)) =
+    if lacking.lacking (lacks seen.pairs) 1 messages == 0 then whole messages
+    else incomplete (missing_in seen) (Some (suc messages))
+
+-- the same outcome, with one datagram more in front
+abbrev pub one_behind : Outcome → Outcome
+one_behind (whole messages) = whole messages
+one_behind (incomplete missing end) = incomplete missing end
+one_behind (refused index why) = refused (suc index) why
+
+-- a datagram that is refused, or the outcome of those behind it
+abbrev pub outcome_or : Option Reason → Outcome → Outcome
+outcome_or (Some why) others = refused 0 why
+outcome_or None others = one_behind others
+
+-- the outcome of datagrams behind others that have said this
+unfoldable pub outcome_from : Seen → List (List ℕ) → Outcome
+outcome_from seen [] = outcome_at seen seen.ended
+outcome_from seen (bytes ∷ list) = outcome_or (refusal seen bytes) (outcome_from (after seen bytes) list)
+
+abbrev pub outcome_of : List (List ℕ) → Outcome
+outcome_of list = outcome_from (seen_of []) list
+
+-- ---- lines
+
+-- the lines that are not empty, with their numbers: the first line has this one. A number stands at its limit
+-- once it is there
+unfoldable pub numbered : ℕ → List (List ℕ) → List (ℕ × List ℕ)
+numbered number [] = []
+numbered number ([] ∷ lines) = numbered (one_more number) lines
+numbered number ((byte ∷ bytes) ∷ lines) = (number, byte ∷ bytes) ∷ numbered (one_more number) lines
+
+-- the datagrams that lines spell, up to the first line that is no hexadecimal
+abbrev pub spelled_before : Result (List ℕ) FromHexError → List (List ℕ) → List (List ℕ)
+spelled_before (Ok bytes) list = bytes ∷ list
+spelled_before (Err _) list = []
+
+unfoldable pub datagrams_of : List (ℕ × List ℕ) → List (List ℕ)
+datagrams_of [] = []
+datagrams_of (line ∷ lines) = spelled_before (decode_of line.1) (datagrams_of lines)
+
+-- the number of that line, if there is one
+abbrev pub not_hex_or : ℕ → Result (List ℕ) FromHexError → Option ℕ → Option ℕ
+not_hex_or number (Ok bytes) behind = behind
+not_hex_or number (Err _) behind = Some number
+
+unfoldable pub not_hex : List (ℕ × List ℕ) → Option ℕ
+not_hex [] = None
+not_hex (line ∷ lines) = not_hex_or line.0 (decode_of line.1) (not_hex lines)
+
+-- ---- text
+
+-- how a line is named
+abbrev pub line_name : ℕ → List ℕ
+line_name number = joined (codes "line" ∷ decimal number ∷ [])
+
+unfoldable pub names_of : List (ℕ × List ℕ) → List (List ℕ)
+names_of lines = map (λ line. line_name line.0) lines
+
+-- how many datagrams there are; a count stands at its limit once it is there
+abbrev pub count_line : ℕ → List ℕ
+count_line count = line_of (codes "datagrams" ∷ decimal (min count (2 ^ 64 - 1)) ∷ [])
+
+-- what is told of the lines with these names: the outcome of the datagrams in front of the first line that is no
+-- hexadecimal where it refuses one, and else that line, if there is one
+abbrev pub lines_told : List (List ℕ) → Outcome → Option ℕ → List ℕ
+lines_told names outcome None = outcome_text names outcome
+lines_told names (refused index why) (Some number) = outcome_text names (refused index why)
+lines_told names (whole messages) (Some number) = refused_line (line_name number ∷ codes "NotHex" ∷ [])
+lines_told names (incomplete missing end) (Some number) = refused_line (line_name number ∷ codes "NotHex" ∷ [])
+
+abbrev pub lines_status : Outcome → Option ℕ → ℕ
+lines_status outcome None = outcome_status outcome
+lines_status outcome (Some number) = 2
+
+-- what is printed for the whole input
+unfoldable pub check_text : List ℕ → List ℕ
+check_text input =
+    let lines = numbered 1 (lines_of input) in
+    count_line (length lines) ++ lines_told (names_of lines) (outcome_of (datagrams_of lines)) (not_hex lines)
+
+-- the status: 0 whole, 1 not whole, 2 a line was refused
+unfoldable pub check_status : List ℕ → ℕ
+check_status input =
+    let lines = numbered 1 (lines_of input) in
+    lines_status (outcome_of (datagrams_of lines)) (not_hex lines)

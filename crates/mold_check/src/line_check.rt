@@ -1,0 +1,161 @@
+//! Datagrams in hexadecimal digits, line by line.
+
+ghost use Rattle.std.specs.Prelude.{◌≡◌, ◌++◌, IfOk, OnOk};
+ghost use Rattle.std.specs.Io.KnownBytes.{Appends};
+ghost use Rattle.hex.specs.Hex.{decode_of};
+ghost use Rattle.mold_check.specs.CheckLines.{count_line};
+ghost use Rattle.mold_check.specs.Checking.{beginning, checking_of, checking_status, checking_text};
+ghost use Rattle.mold_check.specs.Checking.{judged_digits, refused_line_text, taken};
+ghost use Rattle.mold_devices.specs.Devices.{AppendsFront};
+ghost use Rattle.mold_devices.specs.Faults.{CountsSink};
+
+use crate::report::tell_verdict;
+use mold_capture::{Checker, Reason};
+use mold_devices::{CommandFault, Sink, send};
+use mold_text::{Word, push_line, push_refusal};
+use std::alloc::{AllocError, Global};
+
+/// Why a line is refused.
+#[derive(Clone, Copy, Debug, PartialEq, Eq)]
+pub(crate) enum LineRefusal {
+    /// It is no pairs of hexadecimal digits.
+    NotHex,
+    /// The datagram that its digits spell may not come after those before it.
+    NotAccepted(Reason),
+}
+
+/// A line that is refused. The first line has number 1; a number stands at `u64::MAX` once it is there.
+#[derive(Clone, Copy, Debug, PartialEq, Eq)]
+pub(crate) struct RefusedLine {
+    pub(crate) number: u64,
+    pub(crate) why: LineRefusal,
+}
+
+/// A check of lines, up to the first that is refused; those behind it are only counted. No line is kept, but for
+/// what the checker keeps of the messages.
+#[derive(Debug, Drop)]
+pub(crate) struct LineCheck {
+    checker: Checker,
+    bytes: Vec<u8>,
+    next: u64,
+    datagrams: u64,
+    refused: Option<RefusedLine>,
+}
+
+impl LineCheck {
+    /// A check before the first line. It takes no memory yet.
+    pub(crate) fn new(alloc: Global) -> LineCheck
+        ensures { checking_of result ≡ beginning }
+    {
+        LineCheck {
+            checker: Checker::new(alloc),
+            bytes: Vec::new(alloc),
+            next: 1,
+            datagrams: 0,
+            refused: None,
+        }
+    }
+
+    /// Takes the next line. An error comes where a growth is refused.
+    #[tactic(auto, unfolding(crate::specs::Checking::taken))]
+    pub(crate) fn take(&mut self, line: &[u8]) -> Result<(), AllocError>
+        ensures { OnOk result (checking_of self.new ≡ taken (checking_of self.old) line.now) }
+    {
+        let number = self.next;
+        self.next = number.saturating_add(1);
+        if line.is_empty() {
+            return Ok(());
+        }
+        self.datagrams = self.datagrams.saturating_add(1);
+        if self.refused.is_none() {
+            self.refused = judge(&mut self.checker, &mut self.bytes, number, line)?;
+        }
+        Ok(())
+    }
+
+    /// Tells the outcome of the lines that were taken; it answers the status. After a fault a beginning of the
+    /// text is written.
+    pub(crate) fn tell<K: Sink>(&self, alloc: Global, sink: &mut K) -> Result<u8, CommandFault>
+        ensures whole { IfOk result (λ status. Appends (K.held sink.old) (K.held sink.new)
+            (checking_text (checking_of self.now)) × (status ≡ checking_status (checking_of self.now))) }
+        ensures front { AppendsFront (K.held sink.old) (K.held sink.new) (checking_text (checking_of self.now)) }
+        ensures failures { CountsSink (K.failed sink.old) (K.failed sink.new) result }
+    {
+        let mut text = Vec::new(alloc);
+        push_count(&mut text, self.datagrams)?;
+        if let Some(line) = self.refused {
+            return tell_refused_line(sink, &mut text, line);
+        }
+        match self.checker.verdict() {
+            Ok(verdict) => tell_verdict(sink, &mut text, &verdict),
+            Err(_) => Err(CommandFault::Memory),
+        }
+    }
+}
+
+// Gives the datagram that the digits spell to the checker, and answers the refusal of their line, if it is refused.
+// Its bytes go into `bytes`, whatever that held.
+fn judge(
+    checker: &mut Checker,
+    bytes: &mut Vec<u8>,
+    number: u64,
+    digits: &[u8],
+) -> Result<Option<RefusedLine>, AllocError>
+    ensures { IfOk result (λ refused.
+        record { seen = checker.new; refused = refused } ≡ judged_digits checker.old number (decode_of digits.now)) }
+{
+    if !mold_digits::decode(digits, bytes)? {
+        return Ok(Some(RefusedLine {
+            number,
+            why: LineRefusal::NotHex,
+        }));
+    }
+    match checker.add(bytes.as_slice()) {
+        Ok(()) => Ok(None),
+        Err(Reason::Memory) => Err(AllocError),
+        Err(why) => Ok(Some(RefusedLine {
+            number,
+            why: LineRefusal::NotAccepted(why),
+        })),
+    }
+}
+
+fn push_count(text: &mut Vec<u8>, datagrams: u64) -> Result<(), AllocError>
+    ensures { OnOk result (text.new.items ≡ text.old.items ++ count_line datagrams) }
+{
+    push_line(text, &[Word::Text(b"datagrams"), Word::Number(datagrams)])
+}
+
+fn push_refused_line(text: &mut Vec<u8>, line: RefusedLine) -> Result<(), AllocError>
+    ensures { OnOk result (text.new.items ≡ text.old.items ++ refused_line_text line) }
+{
+    let before = [
+        Word::Text(b"refused"),
+        Word::Text(b"line"),
+        Word::Number(line.number),
+    ];
+    match line.why {
+        LineRefusal::NotHex => {
+            let [refused, name, number] = before;
+            push_line(text, &[refused, name, number, Word::Text(b"NotHex")])
+        }
+        LineRefusal::NotAccepted(why) => push_refusal(text, &before, why),
+    }
+}
+
+// Writes the text, and behind it why the line is refused; it answers the status.
+fn tell_refused_line<K: Sink>(
+    sink: &mut K,
+    text: &mut Vec<u8>,
+    line: RefusedLine,
+) -> Result<u8, CommandFault>
+    ensures whole { IfOk result (λ status. Appends (K.held sink.old) (K.held sink.new)
+        (text.old.items ++ refused_line_text line) × (status ≡ 2)) }
+    ensures front { AppendsFront (K.held sink.old) (K.held sink.new)
+        (text.old.items ++ refused_line_text line) }
+    ensures failures { CountsSink (K.failed sink.old) (K.failed sink.new) result }
+{
+    push_refused_line(text, line)?;
+    send(sink, text)?;
+    Ok(2)
+}

@@ -1,0 +1,50 @@
+//! `mold check -`: datagrams given as lines of hexadecimal digits.
+
+ghost use Rattle.std.specs.Prelude.{◌≡◌, IfOk, IfSome};
+ghost use Rattle.std.specs.Io.KnownBytes.{Appends};
+ghost use Rattle.mold_check.specs.CheckLines.{check_status, check_text};
+ghost use Rattle.mold_check.specs.Checking.{all_taken, beginning, checking_of};
+ghost use Rattle.mold_devices.specs.Devices.{AppendsFront};
+ghost use Rattle.mold_devices.specs.Faults.{CountsCommand, CountsRead};
+ghost use Rattle.mold_devices.specs.Lines.{lines_of};
+
+use crate::line_check::LineCheck;
+use mold_devices::{CommandFault, Lines, ReadFault, Sink, Source};
+use std::alloc::Global;
+
+// Reads the lines of the source, and checks them.
+fn read_lines<S: Source>(alloc: Global, source: &mut S) -> Result<LineCheck, ReadFault>
+    ensures taken { IfOk result (λ check. IfSome (S.left source.old) (λ input.
+        checking_of check ≡ all_taken beginning (lines_of input))) }
+    ensures failures { CountsRead (S.failed source.old) (S.failed source.new) result }
+{
+    let mut lines = Lines::new(alloc)?;
+    let mut check = LineCheck::new(alloc);
+    'lines: loop {
+        if !lines.advance(source)? {
+            return Ok(check);
+        }
+        check.take(lines.line())?;
+    }
+}
+
+/// Checks the datagrams that the lines of the source spell in hexadecimal digits, in their order, and tells the
+/// outcome in the sink; it answers the status: 0 whole, 1 not whole, 2 a line is refused. Nothing is written
+/// before the input is read to its end. No line is kept, but for what the checker keeps of the messages. After a
+/// fault a beginning of the text is written. `Read` and `Write` come only where the source or the sink failed,
+/// `Memory` only where a growth was refused.
+pub fn check_lines<S: Source, K: Sink>(
+    alloc: Global,
+    source: &mut S,
+    sink: &mut K,
+) -> Result<u8, CommandFault>
+    ensures whole { IfOk result (λ status. IfSome (S.left source.old) (λ input.
+        Appends (K.held sink.old) (K.held sink.new) (check_text input) × (status ≡ check_status input))) }
+    ensures front { IfSome (S.left source.old) (λ input.
+        AppendsFront (K.held sink.old) (K.held sink.new) (check_text input)) }
+    ensures failures { CountsCommand (S.failed source.old) (S.failed source.new)
+        (K.failed sink.old) (K.failed sink.new) result }
+{
+    let check = read_lines(alloc, source)?;
+    check.tell(alloc, sink)
+}
