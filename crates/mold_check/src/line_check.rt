@@ -12,7 +12,7 @@ ghost use Rattle.mold_devices.specs.Faults.{CountsSink};
 use crate::report::tell_verdict;
 use mold_capture::{Checker, Reason};
 use mold_devices::{CommandFault, Sink, send};
-use mold_text::{Word, push_line, push_refusal};
+use mold_text::{Word, push_line, push_line_with, push_refusal};
 use std::alloc::{AllocError, Global};
 
 /// Why a line is refused.
@@ -135,10 +135,7 @@ fn push_refused_line(text: &mut Vec<u8>, line: RefusedLine) -> Result<(), AllocE
         Word::Number(line.number),
     ];
     match line.why {
-        LineRefusal::NotHex => {
-            let [refused, name, number] = before;
-            push_line(text, &[refused, name, number, Word::Text(b"NotHex")])
-        }
+        LineRefusal::NotHex => push_line_with(text, &before, &[Word::Text(b"NotHex")]),
         LineRefusal::NotAccepted(why) => push_refusal(text, &before, why),
     }
 }

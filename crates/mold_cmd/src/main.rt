@@ -103,13 +103,13 @@ fn run(rt: &HostRuntime, order: &Order) -> Result<u8, ProgramFault> {
         Order::Pack(_) => Ok(run_streamed(rt, order)?),
         Order::Sim(_) => Ok(run_streamed(rt, order)?),
         Order::Check { folder } => Ok(run_check(rt, folder.as_str())?),
+        Order::CheckLines => Ok(run_streamed(rt, order)?),
         Order::Publish(order) => run_publish(rt, order),
         Order::Serve(order) => run_serve(rt, order),
         Order::Listen(order) => run_listen(rt, order),
         Order::Loop(order) => run_loop(rt, order),
         Order::Upgrade(files) => Ok(run_files(rt, files)?),
         Order::Dump(order) => Ok(run_dump(rt, order)?),
-        Order::CheckLines => Err(ProgramFault::Command(CommandFault::Read)),
     }
 }
 

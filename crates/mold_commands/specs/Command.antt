@@ -1,5 +1,6 @@
 -- What an order prints for its input, and the status that it ends with.
 use Rattle.std.specs.Prelude.{ℕ, List, [], ⊤}
+use Rattle.mold_check.specs.CheckLines.{check_status, check_text}
 use Rattle.mold_show.specs.Pack.{pack_text, pack_status}
 use Rattle.mold_show.specs.Show.{show_text, show_status}
 use Rattle.mold_sim.specs.Sim.{SimState, sim_beginning, sim_status, sim_text}
@@ -20,7 +21,7 @@ IsStreamed (Show requests) = ⊤
 IsStreamed (Pack order) = ⊤
 IsStreamed (Sim order) = ⊤
 IsStreamed (Check folder) = ⊥
-IsStreamed CheckLines = ⊥
+IsStreamed CheckLines = ⊤
 IsStreamed (Publish order) = ⊥
 IsStreamed (Serve order) = ⊥
 IsStreamed (Listen order) = ⊥
@@ -34,7 +35,7 @@ text (Show requests) input = show_text requests input
 text (Pack order) input = pack_text order input
 text (Sim order) input = sim_text (sim_start order) input
 text (Check folder) input = []
-text CheckLines input = []
+text CheckLines input = check_text input
 text (Publish order) input = []
 text (Serve order) input = []
 text (Listen order) input = []
@@ -48,7 +49,7 @@ status (Show requests) input = show_status requests input
 status (Pack order) input = pack_status order input
 status (Sim order) input = sim_status (sim_start order) input
 status (Check folder) input = 0
-status CheckLines input = 0
+status CheckLines input = check_status input
 status (Publish order) input = 0
 status (Serve order) input = 0
 status (Listen order) input = 0

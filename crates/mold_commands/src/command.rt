@@ -6,6 +6,7 @@ ghost use Rattle.mold_commands.specs.Command.{IsStreamed, sim_start, text, statu
 ghost use Rattle.mold_devices.specs.Devices.{AppendsFront};
 ghost use Rattle.mold_devices.specs.Faults.{CountsCommand};
 
+use mold_check::check_lines;
 use mold_devices::{CommandFault, Sink, Source, run_lines};
 use mold_show::{Pack, Show};
 use mold_sim::Sim;
@@ -37,8 +38,8 @@ pub fn run_command<S: Source, K: Sink>(
         }
         Order::Pack(order) => run_lines(alloc, &mut Pack::new(alloc, order)?, source, sink),
         Order::Sim(order) => run_lines(alloc, &mut sim_of(alloc, order)?, source, sink),
+        Order::CheckLines => check_lines(alloc, source, sink),
         Order::Check { folder: _ }
-        | Order::CheckLines
         | Order::Publish(_)
         | Order::Serve(_)
         | Order::Listen(_)

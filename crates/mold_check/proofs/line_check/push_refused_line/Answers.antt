@@ -6,9 +6,9 @@ use Rattle.mold_check.proofs.line_check.push_refused_line.Goals as goal
 
 pub returns-in-NotHex : goal.returns-in-NotHex
 returns-in-NotHex c =
-    on_ok_weaker c.push_line.result
+    on_ok_weaker c.push_line_with.result
     (λ written. written ∙ ap (λ t. c.args.text.now.items ++ t) (refused_named c.args.line NotHex c.in-NotHex.is))
-    c.push_line.ensures.line
+    c.push_line_with.ensures.line
 
 pub returns-in-NotAccepted : goal.returns-in-NotAccepted
 returns-in-NotAccepted c =
