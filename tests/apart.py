@@ -745,17 +745,29 @@ class Capture:
         return [(a + 1, b - 1) for a, b in zip(marks, marks[1:]) if a + 1 < b]
 
 
+def check_named(said, captured):
+    """What is said, and then of datagrams with their names, each of which a function answers or refuses."""
+    capture = Capture()
+    for name, datagram in captured:
+        try:
+            capture.add(datagram())
+        except Refused as why:
+            return text_of([said, f"refused {name} {why}"]), 2
+    missing = capture.missing()
+    if capture.end is not None and not missing:
+        return text_of([said, f"whole {capture.end - 1}"]), 0
+    incomplete = f"incomplete end {'none' if capture.end is None else capture.end}"
+    return text_of([said, incomplete] + [f"missing {first} {last}" for first, last in missing]), 1
+
+
 def check(entries):
     """The entries of a folder: names and bytes, none of these where an entry is no file that is read."""
     captured = sorted((name.encode(), some_bytes) for name, some_bytes in entries if name.endswith(".pkt"))
-    said, capture = [f"files {len(captured)} skipped {len(entries) - len(captured)}"], Capture()
-    for name, datagram in captured:
-        try:
-            capture.add(datagram)
-        except Refused as why:
-            return text_of([*said, f"refused {name.decode()} {why}"]), 2
-    missing = capture.missing()
-    if capture.end is not None and not missing:
-        return text_of([*said, f"whole {capture.end - 1}"]), 0
-    said.append(f"incomplete end {'none' if capture.end is None else capture.end}")
-    return text_of(said + [f"missing {first} {last}" for first, last in missing]), 1
+    said = f"files {len(captured)} skipped {len(entries) - len(captured)}"
+    return check_named(said, [(name.decode(), lambda it=it: it) for name, it in captured])
+
+
+def check_lines(some_bytes):
+    lines = [(number, line) for number, line in enumerate(lines_of(some_bytes), 1) if line]
+    said = f"datagrams {len(lines)}"
+    return check_named(said, [(f"line {number}", lambda it=it: bytes_of(it)) for number, it in lines])

@@ -303,7 +303,8 @@ def entry_name(chance):
     return stem + chance.choice([".pkt"] * 12 + [".PKT", ".pkt ", "pkt", ".pkt.txt", ""])
 
 
-def check(chance):
+def capture(chance):
+    """Some datagrams that may come from one session."""
     session = chance.choice([NAME.encode(), chance.randbytes(10)])
     messages = [message(chance) for _ in range(chance.choice([0, 1, 3, 12]))]
     datagrams = [captured(chance, session, messages) for _ in range(chance.choice([0, 1, 3, 8]))]
@@ -311,9 +312,19 @@ def check(chance):
         datagrams.append(apart.spelling(apart.Packet("end", session, len(messages) + 1)))
     if messages and has(chance, 0.5):
         datagrams += [apart.spelling(it) for it in apart.packing(chance.choice([64, 100, 1400]), session, 1, messages)]
-    entries = {entry_name(chance).encode(): it for it in datagrams}
+    return datagrams
+
+
+def check(chance):
+    entries = {entry_name(chance).encode(): it for it in capture(chance)}
     entries = {name: it for name, it in entries.items() if name not in (b"", b".", b"..")}
     return Case({"folders": ["sub"] if has(chance, 0.1) else []}, list(entries.items()), [])
+
+
+def check_lines(chance):
+    lines = [digits(chance, it) for it in capture(chance)]
+    lines = [spoiled_line(chance, it) if has(chance, 0.03) else b"" if has(chance, 0.05) else it for it in lines]
+    return case_of(chance, {}, [(it,) for it in lines])
 
 
 def file(chance):

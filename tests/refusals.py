@@ -155,6 +155,7 @@ def all_calls():
     packets, script = (calls.content_of(os.path.join(examples, it)) for it in ("packets.hex", "two-receivers.sim"))
     pack = ["pack", "--session", "SESSION001", "--limit", "64"]
     sim = ["sim", "--session", "SESSION001", "--limit", "64", "--server-limit", "64", "--window", "4"]
+    captured = HEX + b"0000000000000001000100024142\n\n" + HEX + b"0000000000000005ffff\n"
     return [
         Call("show", ["show"], packets, status=2),
         Call("show, two-messages", ["show"], HEX + b"00000000000000010002000241420000\n"),
@@ -163,6 +164,8 @@ def all_calls():
         Call("pack, pack-two-messages", pack, b"4142\n\n"),
         Call("pack, refused", pack, MESSAGES + b"4\n", status=2),
         Call("sim", sim, script, status=2),
+        Call("check of lines", ["check", "-"], captured, status=1),
+        Call("check of lines, refused", ["check", "-"], b"\n" + HEX + b"\n", status=2),
         *calls_of_files(),
         *calls_over_ports(),
         Call("help", ["--help"], devices=("write",)),

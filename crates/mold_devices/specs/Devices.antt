@@ -1,10 +1,11 @@
 -- What sources and sinks of bytes do, in words that their contracts share.
-use Rattle.std.specs.Prelude.{◌≡◌, ℕ, ◌+◌, ◌-◌, ◌^◌, min, Bool, List, ◌++◌, Option, None, Some, Result, MatchResult}
+use Rattle.std.specs.Prelude.{◌≡◌, ℕ, ◌+◌, Bool, List, ◌++◌, Option, None, Some, Result, MatchResult}
+use Rattle.std.specs.Io.Iter.{u64_saturate}
 use Rattle.std.specs.Io.KnownBytes.{Appends}
 
 -- a count that rose by one, or stands at its limit
 abbrev pub one_more : ℕ → ℕ
-one_more n = min (n + 1) (2 ^ 64 - 1)
+one_more n = u64_saturate (n + 1)
 
 -- the failures stay where the call succeeds, and are one more where it fails
 abbrev pub Counts : {T E : Type 0} → ℕ → ℕ → Result T E → Type 0

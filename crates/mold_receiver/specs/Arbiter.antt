@@ -1,5 +1,6 @@
 -- An arbiter of two lines as its users see it.
-use Rattle.std.specs.Prelude.{◌≡◌, ◌⊎◌, ℕ, ◌+◌, ◌≤◌, min, max, List, Option, None, Some, Result, Ok, Err, refl}
+use Rattle.std.specs.Prelude.{◌≡◌, ◌⊎◌, ℕ, ◌+◌, ◌≤◌, max, List, Option, None, Some, Result, Ok, Err, refl}
+use Rattle.std.specs.Io.Iter.{u64_saturate}
 use Rattle.std.specs.Coded.{Coded, code_by, coded×, coded_ℕ}
 use Rattle.mold_wire.specs.Reading.{reading}
 use Rattle.mold_receiver.specs.declared.line.Line.{Line}
@@ -35,17 +36,21 @@ abbrev pub report_on : Line → LineReports → LineReport
 report_on A reports = reports.a
 report_on B reports = reports.b
 
--- one more, as far as 64 bits go
-abbrev pub one_more : ℕ → ℕ
-one_more count = min 18446744073709551615 (count + 1)
-
--- a line's report, once a packet with this top was taken on it, and once a datagram was refused on it
+-- a line's report, once a packet with this top was taken on it, and once a datagram was refused on it; a count stands
+-- at its limit once it is there
 abbrev pub report_taken : LineReport → ℕ → LineReport
-report_taken report top =
-    record { datagrams = one_more report.datagrams; refused = report.refused; front = max report.front top }
+report_taken report top = record {
+  datagrams = u64_saturate (report.datagrams + 1);
+  refused = report.refused;
+  front = max report.front top;
+}
 
 abbrev pub report_refused : LineReport → LineReport
-report_refused report = record { datagrams = report.datagrams; refused = one_more report.refused; front = report.front }
+report_refused report = record {
+  datagrams = report.datagrams;
+  refused = u64_saturate (report.refused + 1);
+  front = report.front;
+}
 
 -- the reports, once one of them changed so
 abbrev pub reports_taken : Line → LineReports → ℕ → LineReports

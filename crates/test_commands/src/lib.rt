@@ -8,6 +8,8 @@ mod dump;
 #[cfg(test)]
 mod folder;
 #[cfg(test)]
+mod lines;
+#[cfg(test)]
 mod pack;
 #[cfg(test)]
 mod running;
