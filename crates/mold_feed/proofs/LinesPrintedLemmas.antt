@@ -65,10 +65,11 @@ written_of : {P E : Type 0} {reporting : Bool} {lines : List (List ℕ)} {first 
 written_of {P} {E} {reporting} {lines} {first} {end} {result} {old} {new} come text is =
     let same : end.hearing.outgoing.text ++ listened_lines reporting end ≡ text ++ end_lines reporting end.hearing =
     ap (λ (t : List ℕ). t ++ listened_lines reporting end) is
-    in
-    (IfOk-weaker result _ _
-    (λ answer written. (written.1, subst (λ (t : List ℕ). Appends old new t) same written.0)) come.whole,
-    subst (λ (t : List ℕ). AppendsFront old new t) same come.front)
+    in (
+      IfOk-weaker result _ _
+          (λ answer written. (written.1, subst (λ (t : List ℕ). Appends old new t) same written.0)) come.whole,
+      subst (λ (t : List ℕ). AppendsFront old new t) same come.front,
+    )
 
 -- with the lines as its text, it printed the lines
 pub prints_lines : {P E : Type 0} {reporting : Bool} {lines : List (List ℕ)} {first : ℕ} {end : ListenerState P} {result : Result ℕ E}

@@ -48,14 +48,29 @@ fn the_first_refused_line_is_told(rt: HostRuntime) {
 53455353494f4e30303100000000000000020001000159
 5
 ";
-    expect(&rt, conflict, b"datagrams 3\nrefused line 4 Conflict 2\n", 2);
+    expect(
+        &rt,
+        conflict,
+        b"datagrams 3\nrefused line 4 Conflict 2\n",
+        2,
+    );
     let no_digits = b"53455353494f4e30303100000000000000020001000158
 5
 53455353494f4e30303100000000000000020001000159
 ";
     expect(&rt, no_digits, b"datagrams 3\nrefused line 2 NotHex\n", 2);
-    expect(&rt, b"\n\n00\r\n", b"datagrams 1\nrefused line 3 NotHex\n", 2);
-    expect(&rt, b"00", b"datagrams 1\nrefused line 1 Malformed Short 1\n", 2);
+    expect(
+        &rt,
+        b"\n\n00\r\n",
+        b"datagrams 1\nrefused line 3 NotHex\n",
+        2,
+    );
+    expect(
+        &rt,
+        b"00",
+        b"datagrams 1\nrefused line 1 Malformed Short 1\n",
+        2,
+    );
 }
 
 #[test]

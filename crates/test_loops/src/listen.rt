@@ -192,7 +192,11 @@ fn on_line_a(
 }
 
 /// The listener of messages 1 and 2, a failure and an end on line A.
-pub(crate) fn over_memory(alloc: Global, a: Option<usize>, b: Option<usize>) -> Result<Listener, Fail> {
+pub(crate) fn over_memory(
+    alloc: Global,
+    a: Option<usize>,
+    b: Option<usize>,
+) -> Result<Listener, Fail> {
     let line = port(alloc, &[DATA_1, DATA_2, FAILS, END_3], a)?;
     let quiet = port(alloc, &[QUIET; 5], b)?;
     Listener::new(alloc, line, quiet, MemoryPort::new(alloc, Vec::new(alloc)))
