@@ -1,13 +1,12 @@
 -- That a file gives one list of messages and one fault, and which messages its first blocks are.
-use Rattle.std.proofs.Common.{◌≡◌, ◌⊎◌, ℕ, ◌+◌, ◌<◌, ◌≤◌, List, [], ◌∷◌, ◌++◌, length, length-append, Option, None, Some}
+use Rattle.std.proofs.Common.{◌≡◌, ℕ, ◌+◌, ◌<◌, ◌≤◌, List, [], ◌∷◌, ◌++◌, length, length-append, Option, None, Some}
 use Rattle.std.proofs.Common.{refl, sym, ap, subst, ◌∙◌, append_assoc, append-nil, inl, inr, arith}
-use Rattle.std.specs.Prelude.{IfSome}
 use Rattle.std.specs.List.{AllByRecursion}
 use Rattle.mold_wire.specs.Block.{block, blocks}
-use Rattle.mold_session.specs.Contents.{HasBlocks, AreBefore, StandBefore, Gives, FileContents, IsFront}
-use Rattle.mold_session.specs.FileFault.{BlockFault, JournalFault}
+use Rattle.mold_session.specs.Contents.{HasBlocks, AreBefore, Gives, FileContents, IsFront}
+use Rattle.mold_session.specs.FileFault.{JournalFault}
 use Rattle.mold_session.specs.Journal.{IsWithin}
-use Rattle.mold_session.specs.Loading.{IsOfHead, Refuses, SpellsFile}
+use Rattle.mold_session.specs.Loading.{SpellsFile}
 use Rattle.mold_session.specs.declared.error.FileError.{FileError}
 use Rattle.mold_session.specs.declared.error.FileError.TheVariants.{TooLong, Memory, BadMagic, Short, BlockCut, Read, Write, Full, CountDiffers, BadFlag}
 use Rattle.mold_session.specs.declared.loading.FileHead.{FileHead}

@@ -1,17 +1,17 @@
 -- What a file gives, by the messages of it that were read.
-use Rattle.std.proofs.Common.{◌≡◌, ◌≢◌, ℕ, ◌+◌, ◌<◌, ◌≤◌, List, [], ◌∷◌, ◌++◌, length, length-append, Option, None, Some}
-use Rattle.std.proofs.Common.{refl, sym, ap, subst, ◌∙◌, append_assoc, append-nil, arith, Result}
-use Rattle.std.specs.Prelude.{IfSome, IfErr, unwrap_or}
-use Rattle.std.specs.Io.KnownBytes.{Consumes, IsAtEnd}
+use Rattle.std.proofs.Common.{◌≡◌, ℕ, ◌<◌, ◌≤◌, List, [], ◌∷◌, ◌++◌, length, length-append, Option, None, Some}
+use Rattle.std.proofs.Common.{refl, sym, ap, subst, ◌∙◌, append_assoc, append-nil, arith}
+use Rattle.std.specs.Prelude.{IfSome, unwrap_or}
+use Rattle.std.specs.Io.KnownBytes.{Consumes}
 use Rattle.std.specs.List.{AllByRecursion}
 use Rattle.std.proofs.KnownBytes.{Consumes-trans}
 use Rattle.std.proofs.lemmas.List.Concat.{flat_map-append}
 use Rattle.mold_wire.specs.Block.{block, blocks}
 use Rattle.mold_session.specs.Contents.{HasBlocks, AreBefore, Gives, FileContents, IsFront}
-use Rattle.mold_session.specs.FileFault.{BlockFault, BlocksFault, JournalFault}
-use Rattle.mold_session.specs.Journal.{AreMessages, IsWithin}
+use Rattle.mold_session.specs.FileFault.{BlockFault, JournalFault}
+use Rattle.mold_session.specs.Journal.{IsWithin}
 use Rattle.mold_session.specs.Loading.{head_spelling, IsOfHead, IsStated, ReadsHead, Refuses}
-use Rattle.mold_session.specs.Reader.{ReaderState, HasRead, ReadsNext, EndsWith, Misstates, RestFault}
+use Rattle.mold_session.specs.Reader.{ReaderState, HasRead, ReadsNext, EndsWith, RestFault}
 use Rattle.mold_session.specs.declared.error.FileError.{FileError}
 use Rattle.mold_session.specs.declared.error.FileError.TheVariants.{TooLong, Memory, BadMagic, Short, BlockCut, Read, Write, Full, CountDiffers, BadFlag}
 use Rattle.mold_session.specs.declared.loading.FileHead.{FileHead}

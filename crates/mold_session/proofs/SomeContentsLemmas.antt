@@ -1,6 +1,6 @@
 -- That all bytes give something as a file.
-use Rattle.std.proofs.Common.{◌≡◌, ◌⊎◌, ℕ, zero, suc, ◌+◌, ◌-◌, ◌*◌, ◌<◌, ◌≤◌, ◌^◌, eqb, Bool, true, false, List, [], ◌∷◌}
-use Rattle.std.proofs.Common.{◌++◌, length, length-append, length-drop, take, drop, get_or, take-append-drop, Option, None}
+use Rattle.std.proofs.Common.{◌≡◌, ◌⊎◌, ℕ, zero, suc, ◌+◌, ◌<◌, ◌≤◌, ◌^◌, eqb, Bool, true, false, List, [], ◌∷◌}
+use Rattle.std.proofs.Common.{◌++◌, length, length-drop, take, drop, get_or, take-append-drop, Option, None}
 use Rattle.std.proofs.Common.{Some, refl, sym, ap, subst, ◌∙◌, append_assoc, inl, inr, arith, ⊎_elim}
 use Rattle.std.proofs.lemmas.Bool.{cases_eq, cases_lt}
 use Rattle.std.specs.Prelude.{unwrap_or}
@@ -14,7 +14,7 @@ use Rattle.mold_wire.specs.Block.{IsBytes, be16, be64, block, blocks}
 use Rattle.mold_wire.specs.declared.session.Session.{Session}
 use Rattle.mold_session.specs.Contents.{FileContents, Gives}
 use Rattle.mold_session.specs.File.{magic_1, magic_2, closed_byte}
-use Rattle.mold_session.specs.FileFault.{BlockFault, IsCut}
+use Rattle.mold_session.specs.FileFault.{BlockFault}
 use Rattle.mold_session.specs.Journal.{IsWithin}
 use Rattle.mold_session.specs.Loading.{IsStated, head_spelling}
 use Rattle.mold_session.specs.Reader.{HasRead, ReaderState, RestFault}

@@ -1,13 +1,12 @@
 -- That what is printed of a journal's file is published as the same messages.
-use Rattle.std.proofs.Common.{◌≡◌, ℕ, zero, suc, ◌+◌, ◌-◌, ◌/◌, ◌%◌, ◌<◌, ◌≤◌, ◌==◌, Bool, true, false, cond, nat_lt, List, [], ◌∷◌}
-use Rattle.std.proofs.Common.{◌++◌, length, length-append, map, get_or, take, Option, None, Some, Result, Ok, Err, refl, sym, ap}
+use Rattle.std.proofs.Common.{◌≡◌, ℕ, zero, suc, ◌+◌, ◌-◌, ◌/◌, ◌%◌, ◌<◌, ◌≤◌, ◌==◌, Bool, false, cond, nat_lt, List, [], ◌∷◌}
+use Rattle.std.proofs.Common.{◌++◌, length, length-append, map, Option, None, Some, Result, Ok, refl, sym, ap}
 use Rattle.std.proofs.Common.{◌∙◌, append_assoc, append-nil, subst, arith}
 use Rattle.std.proofs.lemmas.Bool.Decides.{nat_tests}
 use Rattle.std.proofs.lemmas.List.{take_all}
 use Rattle.std.specs.List.{AllByRecursion}
 use Rattle.std.specs.Prelude.{slice_index}
 use Rattle.hex.specs.Hex.{decode_of, encode_lower, encode_with, lower_digits}
-use Rattle.hex.specs.declared.error.FromHexError.{FromHexError}
 use Rattle.hex.proofs.HexLemmas.{decode_of-encode_lower}
 use Rattle.mold_wire.specs.Block.{IsBytes, be16, block, blocks}
 use Rattle.mold_devices.specs.Lines.{lines_of, onto_first}

@@ -17,6 +17,7 @@ use Rattle.mold_text.specs.Text.{refused_line}
 abbrev pub message_line : List ℕ → List ℕ
 message_line message = line_of (encode_lower message ∷ [])
 
+-- a line for each message
 abbrev pub message_lines : List (List ℕ) → List ℕ
 message_lines messages = flat_map message_line messages
 
@@ -41,20 +42,22 @@ fault_line (Some error) = refused_line (file_fault_words error)
 abbrev pub dump_text : ℕ → ℕ → {bytes : List ℕ} → FileContents bytes → List ℕ
 dump_text from count contents = message_lines (dumped from count contents.messages) ++ fault_line contents.fault
 
--- the status: 0 a journal, 2 none
+-- the status: 0 where the file is a journal, 2 where it is none
 abbrev pub fault_status : Option FileError → ℕ
 fault_status None = 0
 fault_status (Some error) = 2
 
+-- the same by what the file gives
 abbrev pub dump_status : {bytes : List ℕ} → FileContents bytes → ℕ
 dump_status contents = fault_status contents.fault
 
--- how reading ends is told in the text, but for a failed read and want of memory
+-- whether the text tells how reading ends: all but a failed read and want of memory
 abbrev pub IsTold : Option FileError → Type 0
 IsTold (Some Read) = ⊥
 IsTold (Some Memory) = ⊥
 IsTold ended = ⊤
 
+-- what is printed of how reading ends
 abbrev pub ended_line : Option FileError → List ℕ
 ended_line (Some Read) = []
 ended_line (Some Memory) = []

@@ -5,6 +5,7 @@ ghost use Rattle.std.specs.Bool.{OnFalse, OnTrue};
 ghost use Rattle.std.specs.Io.KnownBytes.{Appends, prepend_known};
 ghost use Rattle.mold_devices.specs.Devices.{AppendsFront};
 ghost use Rattle.mold_devices.specs.Faults.{CountsCommand, CountsFault};
+ghost use Rattle.mold_refusals.specs.Words.{file_fault_words};
 ghost use Rattle.mold_session.specs.Contents.{FileContents};
 ghost use Rattle.mold_session.specs.Loading.{CountsLoad, CountsLoadFault, Refuses, work_left};
 ghost use Rattle.mold_session.specs.Reader.{EndsWith, ReadsNext, RestFault};
@@ -12,7 +13,6 @@ ghost use Rattle.mold_session.specs.declared.error.FileError.{FileError};
 ghost use Rattle.mold_show.specs.Dump.{CountsEnd, IsTold, dump_status, dump_text, ended_line, fault_status};
 ghost use Rattle.mold_show.specs.Dump.{is_dumped, message_line, next_line};
 ghost use Rattle.mold_text.specs.Text.{refused_line};
-ghost use Rattle.mold_refusals.specs.Words.{file_fault_words};
 
 use mold_devices::{CommandFault, LARGE, Sink, Source, send};
 use mold_refusals::push_file_refusal;
@@ -156,11 +156,11 @@ fn end_dump<K: Sink>(
 }
 
 /// Reads the file of a journal, of either version, and writes a line for each of its messages from the number `from`
-/// on, at most `count` of them: the message's bytes as lower-case hexadecimal digits. Where the file is none, the
-/// messages before the fault are written, and then why. The status is 0, or 2 where the file is none. It holds no more
-/// than the longest message, what was read at once, and text that goes out in pieces of 65,536 bytes or more. After a
-/// fault a beginning of the text is written. `Read` and `Write` come only where the source or the sink failed, `Memory`
-/// only where a growth was refused.
+/// on, at most `count` of them: the message's bytes as lower-case hexadecimal digits. The first message has number 1.
+/// Where the file is none, the messages before the fault are written, and then why. The status is 0, or 2 where the
+/// file is none. It holds no more than the longest message, what was read at once, and text that goes out in pieces of
+/// 65,536 bytes or more. After a fault a beginning of the text is written. `Read` and `Write` come only where the
+/// source or the sink failed, `Memory` only where a growth was refused.
 pub fn dump_file<S: Source, K: Sink>(
     alloc: Global,
     source: &mut S,

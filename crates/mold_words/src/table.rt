@@ -92,7 +92,8 @@ const LIVE: OptionRow = OptionRow {
 const REPORT: OptionRow = OptionRow {
     name: "report",
     kind: Kind::Flag,
-    help: "Print before the last line what came on each line, and how far it is behind",
+    help: "Print before the last line what came on each line,\n\
+        and how far it is behind",
 };
 
 /// The commands, in the order in which help lists them.

@@ -1,7 +1,6 @@
 use Rattle.std.proofs.Common.{[]}
 use Rattle.std.proofs.lemmas.Result.{err_from_is_err_and}
 use Rattle.std.specs.Prelude.{Some}
-use Rattle.std.specs.Io.KnownBytes.{prepend_known}
 use Rattle.mold_session.specs.Contents.{Gives}
 use Rattle.mold_session.specs.Loading.{Refuses}
 use Rattle.mold_session.proofs.FileLemmas.{passed_on, from_start}
