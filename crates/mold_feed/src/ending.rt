@@ -23,11 +23,7 @@ fn name(line: Line) -> &'static [u8]
 }
 
 // Adds the report of a line: what came on it, and how far it is behind what is known.
-fn push_report(
-    arbiter: &Arbiter,
-    line: Line,
-    outgoing: &mut Outgoing,
-) -> Result<(), AllocError>
+fn push_report(arbiter: &Arbiter, line: Line, outgoing: &mut Outgoing) -> Result<(), AllocError>
     ensures { OnOk result (outgoing.new ≡ with_more
         (report_line line (report_on line arbiter.now.reports) arbiter.now.view.known) outgoing.old) }
 {

@@ -80,7 +80,7 @@ pub(crate) struct Listener {
     b: MemoryPort,
     requests: MemoryPort,
     arbiter: Arbiter,
-    sink: MemorySink,
+    pub(crate) sink: MemorySink,
 }
 
 impl Listener {
@@ -100,7 +100,12 @@ impl Listener {
         })
     }
 
-    fn listen(&mut self, burst: u16, turns: u64, reporting: bool) -> Result<u8, CommandFault> {
+    pub(crate) fn listen(
+        &mut self,
+        burst: u16,
+        turns: u64,
+        reporting: bool,
+    ) -> Result<u8, CommandFault> {
         listen_loop(
             self.alloc,
             &mut self.a,
@@ -126,20 +131,6 @@ impl Listener {
     ) {
         let found = self.listen(burst, turns, false);
         same_outcome(rt, found, answer);
-        same_bytes(rt, self.sink.bytes(), text);
-    }
-
-    /// Listens and reports the lines, with this status and this text.
-    pub(crate) fn expect_reports(
-        &mut self,
-        rt: &impl Abort,
-        burst: u16,
-        turns: u64,
-        status: u8,
-        text: &[u8],
-    ) {
-        let found = self.listen(burst, turns, true);
-        same_outcome(rt, found, Ok(status));
         same_bytes(rt, self.sink.bytes(), text);
     }
 
@@ -192,7 +183,11 @@ fn on_line_a(
 }
 
 /// The listener of messages 1 and 2, a failure and an end on line A.
-pub(crate) fn over_memory(alloc: Global, a: Option<usize>, b: Option<usize>) -> Result<Listener, Fail> {
+pub(crate) fn over_memory(
+    alloc: Global,
+    a: Option<usize>,
+    b: Option<usize>,
+) -> Result<Listener, Fail> {
     let line = port(alloc, &[DATA_1, DATA_2, FAILS, END_3], a)?;
     let quiet = port(alloc, &[QUIET; 5], b)?;
     Listener::new(alloc, line, quiet, MemoryPort::new(alloc, Vec::new(alloc)))
