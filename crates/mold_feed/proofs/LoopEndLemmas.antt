@@ -130,7 +130,8 @@ pub loop_stopped : {P E F : Type 0} (reporting : Bool) (drops : Drops) (a b to :
     OnOk result (rounds_left.hearing.outgoing ≡ written_out here.hearing.outgoing) →
     IfSome known (λ input. LoopRun reporting drops a b to turns start.limit start.sent
     (lines_published start.journal (lines_of input)) server lines rounds result old new lines_left rounds_left)
-loop_stopped {P} reporting drops a b to turns start now server lines rounds known why number result old mid new here left asked hears numbered cut done agrees out =
+loop_stopped {P} reporting drops a b to turns start now server lines rounds known why number result old mid new here left asked
+    hears numbered cut done agrees out =
     let published : PublishedLines = record { journal = now.journal; refused = Some why } in
     let text : List ℕ = here.hearing.outgoing.text in
     let choice : Bool × List Bool = (false, []) in
@@ -223,7 +224,8 @@ pub loop_unrepaired : {P T U E F G H : Type 0} (reporting : Bool) (drops : Drops
     IsErr result → lines_left.publisher ≡ there.publisher →
     IfSome known (λ input. LoopRun reporting drops a b to turns start.limit start.sent
     (lines_published start.journal (lines_of input)) server lines rounds result old new lines_left rounds_left)
-loop_unrepaired reporting drops a b to turns start now server lines rounds known value asked result old mid new here there left made hears has rests failed same =
+loop_unrepaired reporting drops a b to turns start now server lines rounds known value asked result old mid new here there left
+    made hears has rests failed same =
     run_from drops a b to turns start server lines rounds known now.journal None hears.front result old new
     left made hears.all
     (λ whole.
@@ -247,7 +249,8 @@ pub loop_done : {P T U E F G H : Type 0} (reporting : Bool) (drops : Drops) (a b
     OnOk result (rounds_left.hearing.outgoing ≡ written_out behind.hearing.outgoing) →
     IfSome known (λ input. LoopRun reporting drops a b to turns start.limit start.sent
     (lines_published start.journal (lines_of input)) server lines rounds result old new lines_left rounds_left)
-loop_done reporting drops a b to turns start now server lines rounds known v done result old mid next new here there left made rest hears has rests cut printed is out =
+loop_done reporting drops a b to turns start now server lines rounds known v done result old mid next new here there left made
+    rest hears has rests cut printed is out =
     run_from drops a b to turns start server lines rounds known now.journal None hears.front result old new
     left rest hears.all
     (λ whole.

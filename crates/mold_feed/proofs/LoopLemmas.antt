@@ -260,7 +260,8 @@ pub run_unrepaired : {P T E F : Type 0} {reporting : Bool} (drops : Drops) (a b 
     IsErr result → lines_left.publisher ≡ mid.publisher →
     LoopRun reporting drops a b to turns limit sent (record { journal = journal; refused = None }) server lines rounds result old
     new lines_left now
-run_unrepaired {P} {T} {E} {F} {reporting} drops a b to turns limit sent journal server lines rounds asked result mid lines_left now old first new heard two failed same =
+run_unrepaired {P} {T} {E} {F} {reporting} drops a b to turns limit sent journal server lines rounds asked result mid lines_left now
+    old first new heard two failed same =
     let published : PublishedLines = record { journal = journal; refused = None } in
     let service : Service = service_of (left_journal published) server in
     let rests = two.rests in

@@ -70,9 +70,10 @@ pub(crate) fn print_last<K: Sink>(
 /// where it is left out; after the last one the session is closed and its end is sent, and what is missing
 /// is requested in at most `turns` rounds. What is handed on is printed as a listener prints it, with its last
 /// line and its status, and where `reporting` with its reports of the lines. A refused line ends it: what was
-/// handed on stays printed, then comes the refusal, without reports and last line, and the status is 2. A failed send or receive is counted, and nothing is received on a line where the send
-/// failed. The publisher may have messages, of which those that it didn't put in a packet yet have to fit one; they
-/// are sent before the lines' or with them. The number of a refused line counts them too: it is the number that
+/// handed on stays printed, then comes the refusal, without reports and last line, and the status is 2. A failed
+/// send or receive is counted, and nothing is received on a line where the send failed. The publisher may have
+/// messages, of which those that it didn't put in a packet yet have to fit one; they are sent before the lines' or
+/// with them. The number of a refused line counts them too: it is the number that
 /// the line's message would have. The publisher's messages may have at most as many bytes as the server's, so that
 /// each request is answered. After a fault a beginning of the text is written, and beginnings of what the publisher,
 /// the port of requests and the server send were sent. The ports of the lines send nothing. `Read` and `Write` come

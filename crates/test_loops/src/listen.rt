@@ -80,7 +80,7 @@ pub(crate) struct Listener {
     b: MemoryPort,
     requests: MemoryPort,
     arbiter: Arbiter,
-    sink: MemorySink,
+    pub(crate) sink: MemorySink,
 }
 
 impl Listener {
@@ -100,7 +100,12 @@ impl Listener {
         })
     }
 
-    fn listen(&mut self, burst: u16, turns: u64, reporting: bool) -> Result<u8, CommandFault> {
+    pub(crate) fn listen(
+        &mut self,
+        burst: u16,
+        turns: u64,
+        reporting: bool,
+    ) -> Result<u8, CommandFault> {
         listen_loop(
             self.alloc,
             &mut self.a,
@@ -126,20 +131,6 @@ impl Listener {
     ) {
         let found = self.listen(burst, turns, false);
         same_outcome(rt, found, answer);
-        same_bytes(rt, self.sink.bytes(), text);
-    }
-
-    /// Listens and reports the lines, with this status and this text.
-    pub(crate) fn expect_reports(
-        &mut self,
-        rt: &impl Abort,
-        burst: u16,
-        turns: u64,
-        status: u8,
-        text: &[u8],
-    ) {
-        let found = self.listen(burst, turns, true);
-        same_outcome(rt, found, Ok(status));
         same_bytes(rt, self.sink.bytes(), text);
     }
 

@@ -1,7 +1,23 @@
 //! Listening with reports of the lines.
 
+use crate::comparisons::{same_bytes, same_outcome};
 use crate::listen::{DATA_1, DATA_2, DATA_3, END_4, FAILS, Listener, over_memory, port};
+use std::process::Abort;
 use std::test::Fail;
+
+/// Listens and reports the lines, with this status and this text.
+fn expect(
+    rt: &impl Abort,
+    listener: &mut Listener,
+    burst: u16,
+    turns: u64,
+    status: u8,
+    text: &[u8],
+) {
+    let found = listener.listen(burst, turns, true);
+    same_outcome(rt, found, Ok(status));
+    same_bytes(rt, listener.sink.bytes(), text);
+}
 
 #[test]
 fn lines_are_reported(rt: HostRuntime) -> Result<(), Fail> {
@@ -19,7 +35,7 @@ line b datagrams 1 refused 1 front 2 lag 2
 finished next 4 failed 1
 ";
     let mut listener = Listener::new(rt.alloc(), a, b, answers)?;
-    listener.expect_reports(&rt, 2, 5, 0, text);
+    expect(&rt, &mut listener, 2, 5, 0, text);
     Ok(())
 }
 
@@ -30,6 +46,6 @@ line b datagrams 0 refused 0 front 1 lag 0
 open next 1 known 1 failed 0
 ";
     let mut listener = over_memory(rt.alloc(), None, None)?;
-    listener.expect_reports(&rt, 1, 0, 1, text);
+    expect(&rt, &mut listener, 1, 0, 1, text);
     Ok(())
 }
