@@ -3,7 +3,7 @@ use Rattle.mold_ports.specs.Ports.{Port}
 use Rattle.mold_feed.specs.Listening.{asking, hear_answers}
 use Rattle.mold_feed.specs.LocalFeed.{asking_state}
 use Rattle.mold_feed.proofs.ListenLemmas.{asking_is, stepped}
-use Rattle.mold_feed.proofs.LocalFeedLemmas.{repairs_at_first}
+use Rattle.mold_feed.proofs.LocalFeedLemmas.{repairs_at_first, repairs_twice}
 use Rattle.mold_feed.proofs.RepairLemmas.{all_heard, one_heard}
 use Rattle.mold_feed.proofs.local_feed.LocalFeed.take_answers.Goals as goal
 
@@ -30,8 +30,12 @@ loop-answer-preserved g c = record {
   sent = λ t. ap (λ (p : Port _). p.sent) (c.hear_once.ensures.port t) ∙ c.loop-answer.invariant.sent t;
   server = c.loop-answer.invariant.server;
   only =
-      let only = c.loop-answer.invariant.only in
-      record only { same = record only.same { place = c.hear_once.auto.place ∙ only.same.place } };
+      repairs_twice c.loop-answer.invariant.only (record {
+        same = record { ports = refl; peers = refl; drops = refl; place = c.hear_once.auto.place; listener = refl };
+        publisher = refl;
+        a = refl;
+        b = refl;
+      });
 }
 
 pub returns-in_err-hear_once-clause-sent : goal.returns-in_err-hear_once-clause-sent
@@ -40,8 +44,12 @@ returns-in_err-hear_once-clause-sent g c = λ t.
 
 pub returns-in_err-hear_once-clause-only : goal.returns-in_err-hear_once-clause-only
 returns-in_err-hear_once-clause-only g c =
-    let only = c.loop-answer.invariant.only in
-    record only { same = record only.same { place = c.hear_once.auto.place ∙ only.same.place } }
+    repairs_twice c.loop-answer.invariant.only (record {
+      same = record { ports = refl; peers = refl; drops = refl; place = c.hear_once.auto.place; listener = refl };
+      publisher = refl;
+      a = refl;
+      b = refl;
+    })
 
 pub returns : goal.returns
 returns g c = record {
