@@ -132,9 +132,9 @@ pub fn session_law<D: Datagrams>()
         PrintsAmong reporting journal.session (Hears (beginning a b requests arbitration)) lines first result old new }
     ensures refused { (reporting : Bool) (limit first window turns burst : ℕ) (journal : JournalState)
         (lines : List (List ℕ)) (why : LineRefusal) (server : D.Peer) (a b requests : Port D.Peer)
-        (arbitration : Arbitration) (a_left b_left requests_left : Port D.Peer) (left : Arbitration) (result : Result ℕ CommandFault)
-        (old new : Option (List ℕ)) (sent : List (D.Peer × List ℕ)) → IsOpening journal limit →
-        (lines_published journal lines).refused ≡ Some why →
+        (arbitration : Arbitration) (a_left b_left requests_left : Port D.Peer) (left : Arbitration)
+        (result : Result ℕ CommandFault) (old new : Option (List ℕ)) (sent : List (D.Peer × List ℕ)) →
+        IsOpening journal limit → (lines_published journal lines).refused ≡ Some why →
         1 ≤ first → first ≤ length (lines_published journal lines).journal.messages + 1 →
         arbitration.view ≡ fresh journal.session first window →
         HearsOnly (IsSent D.Peer journal limit lines) (beginning a b requests arbitration) →
@@ -148,13 +148,13 @@ pub fn session_law<D: Datagrams>()
     honest_stays_law();
 }
 
-/// From the lines that are published to the lines that are printed, by a loop in one process. Lines are published into
-/// a session that begins; the listener is a new one that begins at a message that will be published or is next. Nothing
-/// is supposed of the ports but that they give what was sent in the loop (`OwnPorts`). Where no line is refused, and the
-/// server may have messages as long as the journal's, the loop prints the published lines behind their numbers, from
-/// that one on, and with status 0 they are all of them. Where a line is refused, no server is asked: it prints lines
-/// before that one, and then the refusal. After a fault it printed a beginning of such a text. Reports of the two lines
-/// stand only where they are asked for, and only before the last line.
+/// From the lines that are published to the lines that are printed, by a loop in one process. Lines are published
+/// into a session that begins; the listener is a new one that begins at a message that will be published or is next.
+/// Nothing is supposed of the ports but that they give what was sent in the loop (`OwnPorts`). Where no line is
+/// refused, and the server may have messages as long as the journal's, the loop prints the published lines behind
+/// their numbers, from that one on, and with status 0 they are all of them. Where a line is refused, no server is
+/// asked: it prints lines before that one, and then the refusal. After a fault it printed a beginning of such a text.
+/// Reports of the two lines stand only where they are asked for, and only before the last line.
 pub fn loop_law<D: Datagrams>()
     ensures printed { (reporting : Bool) (drops : Drops) (a b to : D.Peer) (turns limit first window : ℕ)
         (journal : JournalState) (lines : List (List ℕ)) (server : ServerState) (start start_left : LineState D.Peer)

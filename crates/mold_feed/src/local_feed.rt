@@ -273,8 +273,8 @@ impl<'a, 'p, D: Datagrams + Drop> LocalFeed<'a, 'p, D> {
         ensures run { D.tells ≡ true → IfSome (S.left source.old) (λ input.
             LoopRun reporting self.old.drops self.old.peers.now.a self.old.peers.now.b self.old.peers.now.server
             turns publisher.old.limit publisher.old.sent (lines_published publisher.old.journal (lines_of input))
-            server.old (lines D.port self.old) (rounds D.port server.old self.old) result (K.held sink.old) (K.held sink.new)
-            (lines D.port self.new) (rounds D.port server.new self.new)) }
+            server.old (lines D.port self.old) (rounds D.port server.old self.old) result
+            (K.held sink.old) (K.held sink.new) (lines D.port self.new) (rounds D.port server.new self.new)) }
         ensures a { D.tells ≡ true → (D.port self.new.ports.now.a).sent ≡ (D.port self.old.ports.now.a).sent }
         ensures b { D.tells ≡ true → (D.port self.new.ports.now.b).sent ≡ (D.port self.old.ports.now.b).sent }
         ensures journal { D.tells ≡ true → OnOk result (IfSome (S.left source.old) (λ input.
