@@ -16,9 +16,9 @@ use Rattle.mold_capture.specs.Refusal.{reason}
 use Rattle.mold_capture.specs.Seen.{Seen, after, seen_of}
 use Rattle.mold_capture.specs.Verdict.{IsWholeSeen, lacks, missing_in}
 use Rattle.mold_check.specs.CheckLines.{one_behind, outcome_at, outcome_from, outcome_of, outcome_or}
-use Rattle.mold_check.proofs.VerdictLemmas.{is_whole, whole_at}
+use Rattle.mold_check.proofs.VerdictLemmas.{NoneLacks, is_whole, whole_at}
 
--- what the laws of `mold_capture` say
+-- what the laws of `mold_capture` and `mold_ranges` say
 pub record CaptureLaws : Type 0 where
   pub none : Consistent []
   pub accepted : (list : List (List ℕ)) (bytes : List ℕ) → Consistent list → IsBytes bytes →
@@ -29,6 +29,7 @@ pub record CaptureLaws : Type 0 where
   pub heard : (list messages : List (List ℕ)) → Whole list messages → IsWholeSeen (seen_of list) (length messages + 1)
   pub whole : (list : List (List ℕ)) (count : ℕ) → Consistent list → IsWholeSeen (seen_of list) (count + 1) →
       (messages : List (List ℕ)) × (Whole list messages × (length messages ≡ count))
+  pub lacking : NoneLacks
 
 -- ---- behind the last datagram
 
@@ -57,7 +58,7 @@ end_outcome laws list consistent (Some (suc count)) is =
       sym is,
       λ messages so.
           true≢false
-          (sym (eq-eqb _ 0 (whole_at (seen_of list) count
+          (sym (eq-eqb _ 0 (whole_at laws.lacking (seen_of list) count
           (subst (IsWholeSeen (seen_of list))
           (add-one (length messages) ∙ sym (told_end laws list messages (suc count) is so))
           (laws.heard list messages so))))

@@ -27,7 +27,7 @@ use Rattle.mold_check.specs.Checking.{line_refusal_words}
 use Rattle.mold_check.specs.Report.{outcome_status, outcome_text}
 use Rattle.mold_check.specs.declared.line_check.LineRefusal.{LineRefusal}
 use Rattle.mold_check.specs.declared.line_check.RefusedLine.{RefusedLine}
-use Rattle.mold_check.proofs.VerdictLemmas.{verdict_at}
+use Rattle.mold_check.proofs.VerdictLemmas.{NoneLacks, verdict_at}
 
 -- ---- what is told of lines, and the status
 
@@ -206,13 +206,13 @@ refused_named line why is =
     ∙ ap (λ (w : LineRefusal). refused_line (line_name line.number ∷ line_refusal_words w)) (sym is)
 
 -- what is told of a check that refused nothing
-pub told_verdict : (s : Checking) (v : Verdict) → s.judged.refused ≡ None → IsVerdict v s.judged.seen →
+pub told_verdict : NoneLacks → (s : Checking) (v : Verdict) → s.judged.refused ≡ None → IsVerdict v s.judged.seen →
     (outcome_text [] (outcome_in v) ≡ judged_text s.judged.seen s.judged.refused)
     × (outcome_status (outcome_in v) ≡ judged_status s.judged.seen s.judged.refused)
-told_verdict s v none is = (
-  ap (outcome_text []) (verdict_at s.judged.seen v is)
+told_verdict law s v none is = (
+  ap (outcome_text []) (verdict_at law s.judged.seen v is)
       ∙ ap (judged_text s.judged.seen) (sym none),
-  ap outcome_status (verdict_at s.judged.seen v is) ∙ ap (judged_status s.judged.seen) (sym none),
+  ap outcome_status (verdict_at law s.judged.seen v is) ∙ ap (judged_status s.judged.seen) (sym none),
 )
 
 -- the whole text, behind what stood there at first

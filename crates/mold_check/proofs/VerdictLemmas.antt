@@ -4,7 +4,6 @@ use Rattle.std.proofs.Common.{add-one, inl, inr}
 use Rattle.std.specs.Prelude.{Option, None, Some, is_none}
 use Rattle.std.specs.FinMap as finite
 use Rattle.std.proofs.lemmas.Bool.{cases_eq, eq-eqb, ne_eqb, true≢false}
-use Rattle.mold_ranges.proofs.LackingLemmas.{none_lacking}
 use Rattle.mold_ranges.specs.Ranges as lacking
 use Rattle.mold_capture.specs.Outcome.{whole, incomplete, outcome_in}
 use Rattle.mold_capture.specs.Seen.{Seen, Pairs}
@@ -12,6 +11,11 @@ use Rattle.mold_capture.specs.Verdict.{IsVerdict, IsWholeSeen, lacks, missing_in
 use Rattle.mold_capture.specs.declared.verdict.Verdict.{Verdict}
 use Rattle.mold_capture.specs.declared.verdict.Verdict.TheVariants.{Whole as IsWhole, Incomplete}
 use Rattle.mold_check.specs.CheckLines.{outcome_at}
+
+-- where each number is there, none is lacking, as the law of `mold_ranges` says
+abbrev pub NoneLacks : Type 0
+NoneLacks = (test : ℕ → Bool) (low count : ℕ) →
+    ((number : ℕ) → low ≤ number → number < low + count → test number ≡ false) → lacking.lacking test low count ≡ 0
 
 first_is : (lacks : Bool) (others : ℕ) → cond lacks 1 0 + others ≡ 0 → lacks ≡ false
 first_is true others none = absurd (omega arith)
@@ -44,10 +48,10 @@ there pairs number is = by_get (finite.get pairs number) refl
     by_get (Some message) same = (message, same)
 
 -- what was said is whole
-pub whole_at : (seen : Seen) (messages : ℕ) → IsWholeSeen seen (suc messages) →
+pub whole_at : NoneLacks → (seen : Seen) (messages : ℕ) → IsWholeSeen seen (suc messages) →
     lacking.lacking (lacks seen.pairs) 1 messages ≡ 0
-whole_at seen messages is =
-    none_lacking (lacks seen.pairs) 1 messages
+whole_at law seen messages is =
+    law (lacks seen.pairs) 1 messages
     (λ k low high. ap is_none (is.carried k low (omega arith)).1)
 
 pub is_whole : (seen : Seen) (messages : ℕ) → seen.ended ≡ Some (suc messages) →
@@ -57,11 +61,11 @@ is_whole seen messages ended none = record {
   carried = λ k low high. there seen.pairs k (lacking_none (lacks seen.pairs) 1 messages none k low (omega arith));
 }
 
-pub whole_outcome : (seen : Seen) (messages : ℕ) → IsWholeSeen seen (suc messages) →
+pub whole_outcome : NoneLacks → (seen : Seen) (messages : ℕ) → IsWholeSeen seen (suc messages) →
     whole messages ≡ outcome_at seen seen.ended
-whole_outcome seen messages is =
+whole_outcome law seen messages is =
     ap (λ (b : Bool). cond b (whole messages) (incomplete (missing_in seen) (Some (suc messages))))
-    (sym (eq-eqb _ 0 (whole_at seen messages is)))
+    (sym (eq-eqb _ 0 (whole_at law seen messages is)))
     ∙ ap (outcome_at seen) (sym is.ended)
 
 pub incomplete_outcome : (seen : Seen) → ((number : ℕ) → IsWholeSeen seen number → ⊥) →
@@ -76,10 +80,10 @@ incomplete_outcome seen other = by_end seen.ended refl
         (sym (ne_eqb _ 0 (λ none. other (suc messages) (is_whole seen messages is none))))
 
 -- the verdict's outcome
-pub verdict_at : (seen : Seen) (v : Verdict) → IsVerdict v seen → outcome_in v ≡ outcome_at seen seen.ended
-verdict_at seen (IsWhole messages) is =
-    whole_outcome seen messages (subst (IsWholeSeen seen) (add-one messages) is)
-verdict_at seen (Incomplete missing end) is =
+pub verdict_at : NoneLacks → (seen : Seen) (v : Verdict) → IsVerdict v seen → outcome_in v ≡ outcome_at seen seen.ended
+verdict_at law seen (IsWhole messages) is =
+    whole_outcome law seen messages (subst (IsWholeSeen seen) (add-one messages) is)
+verdict_at law seen (Incomplete missing end) is =
     ap (λ (ranges : List lacking.Range). incomplete ranges end) is.0
     ∙ ap (incomplete (missing_in seen)) is.1
     ∙ incomplete_outcome seen is.2

@@ -12,6 +12,7 @@ ghost use Rattle.mold_devices.specs.Faults.{CountsSink};
 use crate::report::tell_verdict;
 use mold_capture::{Checker, Reason};
 use mold_devices::{CommandFault, Sink, send};
+use mold_ranges::laws::lacking_law;
 use mold_text::{Word, push_line, push_line_with, push_refusal};
 use std::alloc::{AllocError, Global};
 
@@ -81,6 +82,7 @@ impl LineCheck {
         ensures front { AppendsFront (K.held sink.old) (K.held sink.new) (checking_text (checking_of self.now)) }
         ensures failures { CountsSink (K.failed sink.old) (K.failed sink.new) result }
     {
+        lacking_law();
         let mut text = Vec::new(alloc);
         push_count(&mut text, self.datagrams)?;
         if let Some(line) = self.refused {

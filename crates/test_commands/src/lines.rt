@@ -92,3 +92,14 @@ fn each_write_that_fails_leaves_a_beginning(rt: HostRuntime) {
 fn a_refused_growth_leaves_a_beginning(rt: HostRuntime) -> Result<(), Fail> {
     expect_again(&rt, &order(), TWO_MISSING, TWO_MISSING_TEXT, 1)
 }
+
+#[test]
+fn a_refused_growth_leaves_a_beginning_of_a_refused_line(rt: HostRuntime) -> Result<(), Fail> {
+    expect_again(
+        &rt,
+        &order(),
+        b"00",
+        b"datagrams 1\nrefused line 1 Malformed Short 1\n",
+        2,
+    )
+}

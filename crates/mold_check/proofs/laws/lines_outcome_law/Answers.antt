@@ -12,6 +12,7 @@ returns-clause-datagrams c =
       after = c.after_law.ensures;
       heard = c.whole_is_one_law.ensures.heard;
       whole = c.whole_is_one_law.ensures.whole;
+      lacking = c.lacking_law.ensures.none;
     })
 
 pub returns-clause-lines : goal.returns-clause-lines
@@ -23,4 +24,5 @@ returns-clause-lines c = λ lines.
       after = c.after_law.ensures;
       heard = c.whole_is_one_law.ensures.heard;
       whole = c.whole_is_one_law.ensures.whole;
+      lacking = c.lacking_law.ensures.none;
     }) (datagrams_of lines) (spelled_bytes lines)

@@ -6,14 +6,14 @@ use Rattle.mold_check.proofs.line_check.LineCheck.tell.Goals as goal
 
 pub returns-in-Ok-clause-whole : goal.returns-in-Ok-clause-whole
 returns-in-Ok-clause-whole g c =
-    let told = told_verdict (checking_of c.args.self.now) c.in-Ok.verdict c.in_default.is c.in-Ok.ensures in
+    let told = told_verdict c.lacking_law.ensures.none (checking_of c.args.self.now) c.in-Ok.verdict c.in_default.is c.in-Ok.ensures in
     told_whole _ _ c.tell_verdict.result _ _ _ _
     (told_text _ _ c.args.self.now.datagrams _ _ c.new-text.ensures.items c.in_ok-push_count.ensures told.0)
     told.1 c.tell_verdict.ensures.whole
 
 pub returns-in-Ok-clause-front : goal.returns-in-Ok-clause-front
 returns-in-Ok-clause-front g c =
-    let told = told_verdict (checking_of c.args.self.now) c.in-Ok.verdict c.in_default.is c.in-Ok.ensures in
+    let told = told_verdict c.lacking_law.ensures.none (checking_of c.args.self.now) c.in-Ok.verdict c.in_default.is c.in-Ok.ensures in
     subst (AppendsFront _ _)
     (told_text _ _ c.args.self.now.datagrams _ _ c.new-text.ensures.items c.in_ok-push_count.ensures told.0)
     c.tell_verdict.ensures.front
