@@ -1,0 +1,280 @@
+// libmold for C++17 and later: classes over the handles of mold.h, which says what each call does and when each code
+// comes. A class frees its handle when it goes away. None can be copied; one that was moved from is empty, and may be
+// opened again. Nothing here throws: each call answers a code, MOLD_DONE where it is done.
+//
+// A mold::Bytes is a view: a pointer and a length, as of std::span. What a listener lends is valid until the next call on it.
+#ifndef MOLD_HPP
+#define MOLD_HPP
+
+#include "mold.h"
+
+#include <cstddef>
+#include <cstdint>
+#include <string_view>
+#include <utility>
+
+namespace mold {
+
+/// Bytes that lie elsewhere, in order.
+class Bytes {
+public:
+    constexpr Bytes() noexcept = default;
+    constexpr Bytes(const std::uint8_t *at, std::size_t length) noexcept : at_(at), length_(length) {}
+    constexpr Bytes(mold_bytes bytes) noexcept : at_(bytes.at), length_(bytes.length) {}
+
+    /// Anything that has its bytes in one piece, as std::vector, std::array, std::string and std::span.
+    template <class Range, class = decltype(static_cast<const void *>(std::declval<const Range &>().data())),
+              class = decltype(std::declval<const Range &>().size())>
+    Bytes(const Range &range) noexcept
+        : at_(reinterpret_cast<const std::uint8_t *>(range.data())), length_(range.size()) {
+        static_assert(sizeof(*range.data()) == 1, "elements of one byte");
+    }
+
+    constexpr const std::uint8_t *data() const noexcept { return at_; }
+    constexpr std::size_t size() const noexcept { return length_; }
+    constexpr bool empty() const noexcept { return length_ == 0; }
+    constexpr const std::uint8_t *begin() const noexcept { return at_; }
+    constexpr const std::uint8_t *end() const noexcept { return at_ + length_; }
+    constexpr std::uint8_t operator[](std::size_t i) const noexcept { return at_[i]; }
+
+private:
+    const std::uint8_t *at_ = nullptr;
+    std::size_t length_ = 0;
+};
+
+/// Room that a call writes to.
+class Room {
+public:
+    constexpr Room(std::uint8_t *at, std::size_t length) noexcept : at_(at), length_(length) {}
+
+    /// Anything that has its bytes in one piece and lets them be written.
+    template <class Range, class = decltype(static_cast<void *>(std::declval<Range &>().data())),
+              class = decltype(std::declval<Range &>().size())>
+    Room(Range &range) noexcept : at_(reinterpret_cast<std::uint8_t *>(range.data())), length_(range.size()) {
+        static_assert(sizeof(*range.data()) == 1, "elements of one byte");
+    }
+
+    constexpr std::uint8_t *data() const noexcept { return at_; }
+    constexpr std::size_t size() const noexcept { return length_; }
+
+private:
+    std::uint8_t *at_;
+    std::size_t length_;
+};
+
+/// The name of a session: ten bytes. A shorter text is filled with spaces, as on the program's command line; of a longer
+/// one the first ten bytes count.
+class Session {
+public:
+    explicit Session(std::string_view text) noexcept {
+        for (std::size_t i = 0; i < sizeof name_; i++)
+            name_[i] = i < text.size() ? static_cast<std::uint8_t>(text[i]) : static_cast<std::uint8_t>(' ');
+    }
+
+    const std::uint8_t *data() const noexcept { return name_; }
+    static constexpr std::size_t size() noexcept { return sizeof name_; }
+
+private:
+    std::uint8_t name_[10];
+};
+
+/// The text of a code.
+inline std::string_view text(std::uint32_t code) noexcept {
+    mold_bytes bytes = MOLD_NO_BYTES;
+    mold_text(code, &bytes);
+    return {reinterpret_cast<const char *>(bytes.at), bytes.length};
+}
+
+/// Reads a datagram's header, and checks the rest of it.
+[[nodiscard]] inline std::uint32_t decode(Bytes datagram, mold_packet &packet) noexcept {
+    return mold_decode(datagram.data(), datagram.size(), &packet);
+}
+
+/// A handle that is freed at the end. What is moved away is empty.
+template <class Handle>
+class Owned {
+public:
+    Owned() noexcept = default;
+    Owned(const Owned &) = delete;
+    Owned &operator=(const Owned &) = delete;
+
+    Owned(Owned &&other) noexcept : handle_(other.handle_) { other.handle_ = MOLD_EMPTY; }
+
+    Owned &operator=(Owned &&other) noexcept {
+        if (this != &other) {
+            mold_free(&handle_);
+            handle_ = other.handle_;
+            other.handle_ = MOLD_EMPTY;
+        }
+        return *this;
+    }
+
+    ~Owned() { mold_free(&handle_); }
+
+    /// Frees what it holds, so that it can be opened again.
+    void close() noexcept { mold_free(&handle_); }
+
+    /// Whether it holds something.
+    explicit operator bool() const noexcept { return handle_.live; }
+
+    /// The handle, for calls of mold.h. It is not to be copied.
+    Handle *get() noexcept { return &handle_; }
+
+protected:
+    Handle handle_ = MOLD_EMPTY;
+};
+
+/// Hands on the messages of a session in order, from two lines and from answers to requests.
+class Listener : public Owned<mold_listener> {
+public:
+    [[nodiscard]] std::uint32_t open(const Session &session, std::uint64_t next = 1,
+                                     std::uint32_t window = 1024) noexcept {
+        return mold_listener_new(&handle_, session.data(), next, window);
+    }
+
+    [[nodiscard]] std::uint32_t take(std::uint32_t line, Bytes datagram, mold_told &told) noexcept {
+        return mold_listener_take(&handle_, line, datagram.data(), datagram.size(), &told);
+    }
+
+    /// How many messages were handed on and not yet cleared away, and the number of the first.
+    std::size_t count() noexcept { return mold_listener_count(&handle_); }
+    std::uint64_t first() noexcept { return mold_listener_first(&handle_); }
+
+    [[nodiscard]] std::uint32_t message(std::size_t i, Bytes &message) noexcept {
+        mold_bytes lent = MOLD_NO_BYTES;
+        const std::uint32_t code = mold_listener_message(&handle_, i, &lent);
+        if (code == MOLD_DONE)
+            message = lent;
+        return code;
+    }
+
+    /// Lends the first messages of the batch, as many as the array has room for.
+    std::size_t messages(mold_bytes *array, std::size_t room) noexcept {
+        return mold_listener_messages(&handle_, array, room);
+    }
+
+    [[nodiscard]] std::uint32_t copy(std::size_t i, Room buffer, std::size_t &size) noexcept {
+        return mold_listener_copy(&handle_, i, buffer.data(), buffer.size(), &size);
+    }
+
+    [[nodiscard]] bool wanted(std::uint8_t (&request)[20]) noexcept {
+        return mold_listener_wanted(&handle_, request);
+    }
+
+    std::uint64_t next() noexcept { return mold_listener_next(&handle_); }
+    std::uint64_t known() noexcept { return mold_listener_known(&handle_); }
+    [[nodiscard]] bool finished() noexcept { return mold_listener_finished(&handle_); }
+
+    [[nodiscard]] std::uint32_t report(std::uint32_t line, mold_report &report) noexcept {
+        return mold_listener_report(&handle_, line, &report);
+    }
+
+    std::uint32_t clear() noexcept { return mold_listener_clear(&handle_); }
+};
+
+/// What answers requests: a server of its own, or a publisher's.
+class Answering {
+public:
+    explicit Answering(mold_server *server) noexcept : server_(server) {}
+
+    [[nodiscard]] std::uint32_t answer(Bytes request, Room buffer, std::uint64_t &number) noexcept {
+        return mold_server_answer(server_, request.data(), request.size(), buffer.data(), buffer.size(), &number);
+    }
+
+    [[nodiscard]] std::uint32_t plan(Bytes request, mold_plan &plan, std::uint64_t &number) noexcept {
+        return mold_server_plan(server_, request.data(), request.size(), &plan, &number);
+    }
+
+    [[nodiscard]] std::uint32_t datagram(mold_plan &plan, Room buffer, std::size_t &size) noexcept {
+        return mold_server_datagram(server_, &plan, buffer.data(), buffer.size(), &size);
+    }
+
+private:
+    mold_server *server_;
+};
+
+/// Puts the messages of a session in datagrams and keeps them.
+class Publisher : public Owned<mold_publisher> {
+public:
+    [[nodiscard]] std::uint32_t open(const Session &session, std::size_t limit = 1400) noexcept {
+        return mold_publisher_new(&handle_, session.data(), limit);
+    }
+
+    [[nodiscard]] std::uint32_t publish(Bytes message, std::uint64_t &number) noexcept {
+        return mold_publisher_publish(&handle_, message.data(), message.size(), &number);
+    }
+
+    [[nodiscard]] bool is_full() noexcept { return mold_publisher_is_full(&handle_); }
+
+    [[nodiscard]] std::uint32_t datagram(Room buffer, std::size_t &size) noexcept {
+        return mold_publisher_datagram(&handle_, buffer.data(), buffer.size(), &size);
+    }
+
+    [[nodiscard]] std::uint32_t heartbeat(Room buffer, std::size_t &size) noexcept {
+        return mold_publisher_heartbeat(&handle_, buffer.data(), buffer.size(), &size);
+    }
+
+    /// Closes the session, which is another thing than `close`.
+    [[nodiscard]] std::uint32_t close_session(std::uint64_t &number) noexcept {
+        return mold_publisher_close(&handle_, &number);
+    }
+
+    [[nodiscard]] std::uint32_t end(Room buffer, std::size_t &size) noexcept {
+        return mold_publisher_end(&handle_, buffer.data(), buffer.size(), &size);
+    }
+
+    [[nodiscard]] std::uint32_t save(Room buffer, std::size_t &size) noexcept {
+        return mold_publisher_save(&handle_, buffer.data(), buffer.size(), &size);
+    }
+
+    /// From here on it answers requests too, by `server`.
+    [[nodiscard]] std::uint32_t serve(std::uint16_t burst) noexcept {
+        return mold_server_from_publisher(&handle_, burst);
+    }
+
+    /// What answers requests here. It is valid as long as this publisher is, and stands, in its place.
+    Answering server() noexcept { return Answering(mold_server_of(&handle_)); }
+};
+
+/// Answers requests from the bytes of a journal's file.
+class Server : public Owned<mold_server> {
+public:
+    [[nodiscard]] std::uint32_t open(std::size_t limit, std::uint16_t burst, Bytes journal,
+                                     std::uint64_t &number) noexcept {
+        return mold_server_new(&handle_, limit, burst, journal.data(), journal.size(), &number);
+    }
+
+    [[nodiscard]] std::uint32_t answer(Bytes request, Room buffer, std::uint64_t &number) noexcept {
+        return Answering(&handle_).answer(request, buffer, number);
+    }
+
+    [[nodiscard]] std::uint32_t plan(Bytes request, mold_plan &plan, std::uint64_t &number) noexcept {
+        return Answering(&handle_).plan(request, plan, number);
+    }
+
+    [[nodiscard]] std::uint32_t datagram(mold_plan &plan, Room buffer, std::size_t &size) noexcept {
+        return Answering(&handle_).datagram(plan, buffer, size);
+    }
+};
+
+/// Says whether captured datagrams are one whole session.
+class Checker : public Owned<mold_checker> {
+public:
+    [[nodiscard]] std::uint32_t open() noexcept { return mold_checker_new(&handle_); }
+
+    [[nodiscard]] std::uint32_t take(Bytes datagram, std::uint64_t &number) noexcept {
+        return mold_checker_take(&handle_, datagram.data(), datagram.size(), &number);
+    }
+
+    [[nodiscard]] std::uint32_t verdict(mold_verdict &verdict) noexcept {
+        return mold_checker_verdict(&handle_, &verdict);
+    }
+
+    [[nodiscard]] std::uint32_t ranges(mold_range *array, std::size_t room, std::size_t &count) noexcept {
+        return mold_checker_ranges(&handle_, array, room, &count);
+    }
+};
+
+} // namespace mold
+
+#endif

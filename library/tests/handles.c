@@ -1,0 +1,269 @@
+/* The checker; handles of each kind, empty, of another kind, and freed; and the texts of codes. */
+#include "check.h"
+#include "test.h"
+
+static uint32_t give(mold_checker *checker, datagram given, uint64_t *number) {
+    uint32_t code = mold_checker_take(checker, given.at, given.length, number);
+    free(given.at);
+    return code;
+}
+
+static mold_checker checker_of_none(void) {
+    mold_checker made = MOLD_EMPTY;
+    CODE(mold_checker_new(&made), MOLD_DONE);
+    return made;
+}
+
+static bool is_verdict(mold_checker *checker, uint32_t whole, uint64_t messages, uint64_t end, uint64_t ranges) {
+    mold_verdict verdict = {9, 9, 9, 9, 9};
+    return mold_checker_verdict(checker, &verdict) == MOLD_DONE && verdict.whole == whole &&
+           (whole == 1 ? verdict.messages == messages : verdict.end == end && verdict.ranges == ranges);
+}
+
+static void sessions_are_checked(void) {
+    mold_checker checker = checker_of_none();
+    mold_range ranges[3] = {{9, 9}, {9, 9}, {9, 9}};
+    uint64_t number = 99;
+    size_t count = 99;
+    CHECK(is_verdict(&checker, 0, 0, 0, 0));
+    CODE(give(&checker, packet_of(3, 1, 1), &number), MOLD_DONE);
+    CODE(give(&checker, packet_of(6, 2, 1), &number), MOLD_DONE);
+    CHECK(is_verdict(&checker, 0, 0, 0, 2));
+    CODE(give(&checker, end_of(9), &number), MOLD_DONE);
+    CHECK(is_verdict(&checker, 0, 0, 9, 3));
+    CODE(mold_checker_ranges(&checker, ranges, 2, &count), MOLD_ROOM);
+    CHECK(count == 3 && ranges[0].first == 9);
+    CODE(mold_checker_ranges(&checker, NULL, 0, &count), MOLD_ROOM);
+    CODE(mold_checker_ranges(&checker, ranges, 3, &count), MOLD_DONE);
+    CHECK(count == 3 && ranges[0].first == 1 && ranges[0].last == 2);
+    CHECK(ranges[1].first == 4 && ranges[1].last == 5 && ranges[2].first == 8 && ranges[2].last == 8);
+    CODE(give(&checker, packet_of(1, 8, 1), &number), MOLD_DONE);
+    CHECK(is_verdict(&checker, 1, 8, 0, 0));
+    CODE(mold_checker_ranges(&checker, NULL, 0, &count), MOLD_DONE);
+    CHECK(count == 0);
+    CODE(give(&checker, packet_of(2, 1, 1), &number), MOLD_DONE);
+    CHECK(is_verdict(&checker, 1, 8, 0, 0));
+    mold_free(&checker);
+}
+
+static void a_session_without_messages(void) {
+    mold_checker checker = checker_of_none();
+    uint64_t number = 99;
+    CODE(give(&checker, packet_of(1, 0, 0), &number), MOLD_DONE);
+    CHECK(is_verdict(&checker, 0, 0, 0, 0));
+    CODE(give(&checker, end_of(1), &number), MOLD_DONE);
+    CHECK(is_verdict(&checker, 1, 0, 0, 0));
+    mold_free(&checker);
+}
+
+static void captures_are_refused(void) {
+    mold_checker checker = checker_of_none();
+    uint64_t number = 99;
+    CODE(mold_checker_take(&checker, NULL, 0, &number), MOLD_SHORT);
+    CHECK(number == 0);
+    CODE(give(&checker, cut(packet_of(1, 2, 1), 25), &number), MOLD_BLOCK_CUT);
+    CHECK(number == 1);
+    CODE(give(&checker, of_hex(SESSION_HEX "0000000000000003ffff00"), &number), MOLD_TRAILING);
+    CHECK(number == 20);
+    CODE(give(&checker, packet_of(0, 1, 1), &number), MOLD_SEQUENCE_ZERO);
+    CODE(give(&checker, packet_of(UINT64_MAX, 1, 1), &number), MOLD_PAST_LAST);
+    CODE(give(&checker, packet_of(2, 2, 1), &number), MOLD_DONE);
+    datagram other = packet_of(1, 3, 1);
+    other.at[28] = 'X';
+    CODE(give(&checker, other, &number), MOLD_CONFLICT);
+    CHECK(number == 3);
+    other = packet_of(1, 3, 1);
+    other.at[0] = 'X';
+    CODE(give(&checker, other, &number), MOLD_WRONG_SESSION);
+    CODE(give(&checker, end_of(3), &number), MOLD_END_BELOW);
+    CHECK(number == 4);
+    CODE(give(&checker, end_of(5), &number), MOLD_DONE);
+    CODE(give(&checker, end_of(6), &number), MOLD_END_CONFLICT);
+    CHECK(number == 5);
+    CODE(give(&checker, packet_of(4, 2, 1), &number), MOLD_PAST_END);
+    CHECK(number == 5 && is_verdict(&checker, 0, 0, 5, 2));
+    mold_free(&checker);
+}
+
+static void no_listener(mold_listener *handle) {
+    mold_told told = {9, 9, 9, 9, 9};
+    mold_report report = {9, 9, 9};
+    mold_bytes bytes = MOLD_NO_BYTES;
+    uint8_t room[64] = {7};
+    size_t size = 99;
+    CODE(take(handle, MOLD_LINE_A, packet_of(1, 1, 1), &told), MOLD_BROKEN);
+    CODE(take(handle, 9, packet_of(1, 1, 1), &told), MOLD_BROKEN);
+    CHECK(mold_listener_count(handle) == 0 && mold_listener_first(handle) == 0);
+    CODE(mold_listener_message(handle, 0, &bytes), MOLD_BROKEN);
+    CHECK(mold_listener_messages(handle, &bytes, 1) == 0 && bytes.at == NULL);
+    CODE(mold_listener_copy(handle, 0, room, 64, &size), MOLD_BROKEN);
+    CHECK(!mold_listener_wanted(handle, room) && room[0] == 7 && room[1] == 0);
+    CHECK(mold_listener_next(handle) == 0 && mold_listener_known(handle) == 0 && !mold_listener_finished(handle));
+    CODE(mold_listener_report(handle, MOLD_LINE_A, &report), MOLD_BROKEN);
+    CHECK(report.datagrams == 9 && size == 99);
+    CODE(mold_listener_clear(handle), MOLD_BROKEN);
+}
+
+static void no_publisher(mold_publisher *handle) {
+    uint8_t room[64] = {7};
+    uint64_t number = 99;
+    size_t size = 99;
+    CODE(publish(handle, 1, 1, &number), MOLD_BROKEN);
+    CHECK(!mold_publisher_is_full(handle));
+    CODE(mold_publisher_datagram(handle, room, 64, &size), MOLD_BROKEN);
+    CODE(mold_publisher_heartbeat(handle, room, 64, &size), MOLD_BROKEN);
+    CODE(mold_publisher_close(handle, &number), MOLD_BROKEN);
+    CODE(mold_publisher_end(handle, room, 64, &size), MOLD_BROKEN);
+    CODE(mold_publisher_save(handle, room, 64, &size), MOLD_BROKEN);
+    CODE(mold_server_from_publisher(handle, 1), MOLD_BROKEN);
+    CHECK(room[0] == 7);
+}
+
+static void no_server(mold_server *handle) {
+    datagram room = of_length(64);
+    mold_plan made = {1, 2, 1, {0}};
+    uint64_t number = 99;
+    size_t size = 99;
+    CODE(answer(handle, SESSION_HEX "00000000000000010001", room, &number), MOLD_BROKEN);
+    CODE(plan(handle, SESSION_HEX "00000000000000010001", &made, &number), MOLD_BROKEN);
+    CODE(mold_server_datagram(handle, &made, room.at, 64, &size), MOLD_BROKEN);
+    CHECK(room.at[0] == 0 && made.from == 1 && made.left == 1);
+    free(room.at);
+}
+
+static void no_checker(mold_checker *handle) {
+    mold_verdict verdict = {9, 9, 9, 9, 9};
+    mold_range range = {9, 9};
+    uint64_t number = 99;
+    size_t count = 99;
+    CODE(give(handle, packet_of(1, 1, 1), &number), MOLD_BROKEN);
+    CODE(mold_checker_verdict(handle, &verdict), MOLD_BROKEN);
+    CODE(mold_checker_ranges(handle, &range, 1, &count), MOLD_BROKEN);
+    CHECK(verdict.messages == 9 && range.first == 9);
+}
+
+static void empty_handles(void) {
+    mold_listener listener = MOLD_EMPTY;
+    mold_publisher publisher = MOLD_EMPTY;
+    mold_server server = MOLD_EMPTY;
+    mold_checker checker = MOLD_EMPTY;
+    no_listener(&listener);
+    no_publisher(&publisher);
+    no_server(&server);
+    no_checker(&checker);
+    mold_free(&listener);
+    mold_free(&publisher);
+    mold_free(&server);
+    mold_free(&checker);
+}
+
+/* Each kind of handle, given as each other kind, and freed twice. */
+static void handles_of_another_kind(void) {
+    mold_listener listener = listener_at(1, 4);
+    mold_publisher publisher = publisher_of(64);
+    mold_server server = server_of_five(1);
+    mold_checker checker = checker_of_none();
+    void *const all[] = {&listener, &publisher, &server, &checker};
+    for (size_t i = 0; i < 4; i++) {
+        if (all[i] != (void *)&listener)
+            no_listener(all[i]);
+        if (all[i] != (void *)&publisher)
+            no_publisher(all[i]);
+        if (all[i] != (void *)&server)
+            no_server(all[i]);
+        if (all[i] != (void *)&checker)
+            no_checker(all[i]);
+        CODE(mold_listener_new(all[i], session, 1, 4), MOLD_BROKEN);
+        CODE(mold_publisher_new(all[i], session, 64), MOLD_BROKEN);
+        CODE(mold_checker_new(all[i]), MOLD_BROKEN);
+    }
+    CHECK(mold_listener_next(&listener) == 1 && is_verdict(&checker, 0, 0, 0, 0));
+    for (size_t i = 0; i < 8; i++)
+        mold_free(all[i % 4]);
+    CHECK(!listener.live && !publisher.live && !server.live && !checker.live);
+    listener = listener_at(1, 4);
+    mold_free(&listener);
+}
+
+/* A handle is freed with messages in its store and its batch, and made again. */
+static void full_handles_are_freed(void) {
+    mold_told told = {0, 0, 0, 0, 0};
+    uint64_t number = 0;
+    for (int times = 0; times < 2; times++) {
+        mold_listener listener = listener_at(1, 65536);
+        mold_checker checker = checker_of_none();
+        mold_publisher publisher = publisher_of(64);
+        for (uint64_t i = 0; i < 1000; i++) {
+            CODE(take(&listener, MOLD_LINE_A, packet_of(3 + 7 * i, 3, 40), &told), MOLD_DONE);
+            CODE(give(&checker, packet_of(3 + 7 * i, 3, 40), &number), MOLD_DONE);
+            CODE(publish(&publisher, (int)i, 40, &number), MOLD_DONE);
+        }
+        CODE(take(&listener, MOLD_ANSWER, packet_of(1, 2, 40), &told), MOLD_DONE);
+        CHECK(is_told(&told, 5, 0, 0) && is_verdict(&checker, 0, 0, 0, 1000));
+        mold_free(&listener);
+        mold_free(&checker);
+        mold_free(&publisher);
+    }
+}
+
+/* What a publisher sends, a listener hands on, and its request is answered. */
+static void from_publisher_to_listener(void) {
+    mold_publisher publisher = publisher_of(200);
+    mold_listener listener = listener_at(1, 16);
+    mold_told told = {0, 0, 0, 0, 0};
+    uint8_t room[200], request[20];
+    uint64_t number = 0;
+    size_t size = 0;
+    CODE(mold_server_from_publisher(&publisher, 1), MOLD_DONE);
+    for (int i = 1; i <= 100; i++)
+        CODE(publish(&publisher, i, (size_t)i % 60, &number), MOLD_DONE);
+    for (int sent = 0; mold_publisher_datagram(&publisher, room, sizeof room, &size) == MOLD_DONE; sent++) {
+        if (sent % 3 != 0)
+            CODE(mold_listener_take(&listener, MOLD_LINE_A, room, size, &told), MOLD_DONE);
+    }
+    CODE(mold_publisher_close(&publisher, &number), MOLD_DONE);
+    CODE(mold_publisher_end(&publisher, room, sizeof room, &size), MOLD_DONE);
+    CODE(mold_listener_take(&listener, MOLD_LINE_B, room, size, &told), MOLD_DONE);
+    for (int turns = 0; turns < 200 && mold_listener_wanted(&listener, request); turns++) {
+        CODE(mold_server_answer(mold_server_of(&publisher), request, 20, room, sizeof room, &number), MOLD_DONE);
+        CODE(mold_listener_take(&listener, MOLD_ANSWER, room, (size_t)number, &told), MOLD_DONE);
+    }
+    CHECK(mold_listener_finished(&listener) && mold_listener_count(&listener) == 100);
+    for (int i = 1; i <= 100; i++)
+        CHECK(is_message(&listener, (size_t)i - 1, i, (size_t)i % 60));
+    mold_free(&listener);
+    mold_free(&publisher);
+}
+
+static void codes_have_texts(void) {
+    mold_bytes texts[CODES + 2];
+    for (uint32_t code = 0; code < CODES + 2; code++) {
+        texts[code].at = NULL;
+        texts[code].length = 0;
+        mold_text(code < CODES + 1 ? code : UINT32_MAX, &texts[code]);
+        CHECK(texts[code].length > 0 && texts[code].at != NULL);
+        for (size_t i = 0; i < texts[code].length; i++)
+            CHECK(texts[code].at[i] >= 0x20 && texts[code].at[i] <= 0x7e);
+        for (uint32_t other = 0; other < code && code < CODES; other++)
+            CHECK(texts[other].length != texts[code].length ||
+                  memcmp(texts[other].at, texts[code].at, texts[code].length) != 0);
+    }
+}
+
+/* All codes came but that of refused memory, which failing.c sees, and that of numbers that no session runs out of. */
+static void each_code_came(void) {
+    for (uint32_t code = 0; code < CODES; code++)
+        CHECK(answered[code] == (code != MOLD_MEMORY && code != MOLD_NUMBERS));
+}
+
+void test_handles(void) {
+    sessions_are_checked();
+    a_session_without_messages();
+    captures_are_refused();
+    empty_handles();
+    handles_of_another_kind();
+    full_handles_are_freed();
+    from_publisher_to_listener();
+    codes_have_texts();
+    each_code_came();
+}

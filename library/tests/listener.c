@@ -1,0 +1,230 @@
+/* The listener. */
+#include "check.h"
+#include "test.h"
+
+static bool wants(mold_listener *listener, const char *digits) {
+    uint8_t request[20], wanted[20];
+    memset(request, 7, sizeof request);
+    memset(wanted, 7, sizeof wanted);
+    bool asks = mold_listener_wanted(listener, request);
+    if (digits != NULL)
+        unhex(digits, wanted);
+    return asks == (digits != NULL) && memcmp(request, wanted, 20) == 0;
+}
+
+static void listeners_that_cannot_be(void) {
+    mold_listener listener = MOLD_EMPTY;
+    CODE(mold_listener_new(&listener, session, 0, 0), MOLD_NEXT_ZERO);
+    CODE(mold_listener_new(&listener, session, 1, 0), MOLD_WINDOW);
+    CODE(mold_listener_new(&listener, session, 1, 65537), MOLD_WINDOW);
+    CHECK(listener.at == NULL && !listener.live);
+    CODE(mold_listener_new(&listener, session, UINT64_MAX, 65536), MOLD_DONE);
+    CHECK(mold_listener_next(&listener) == UINT64_MAX && mold_listener_known(&listener) == UINT64_MAX);
+    CODE(mold_listener_new(&listener, session, 1, 4), MOLD_BROKEN);
+    CHECK(mold_listener_next(&listener) == UINT64_MAX);
+    mold_free(&listener);
+}
+
+/* Messages 3, 2 and 1: the first two are stored. */
+static void messages_come_backwards(void) {
+    mold_listener listener = listener_at(1, 4);
+    mold_told told = {0, 9, 9, 9, 0};
+    CHECK(wants(&listener, NULL) && mold_listener_first(&listener) == 0);
+    CODE(take(&listener, MOLD_LINE_A, packet_of(3, 1, 5), &told), MOLD_DONE);
+    CHECK(is_told(&told, 0, 1, 0) && mold_listener_known(&listener) == 4 && mold_listener_next(&listener) == 1);
+    CHECK(wants(&listener, SESSION_HEX "00000000000000010002") && mold_listener_count(&listener) == 0);
+    CODE(take(&listener, MOLD_LINE_B, packet_of(2, 1, 0), &told), MOLD_DONE);
+    CHECK(is_told(&told, 0, 1, 0) && wants(&listener, SESSION_HEX "00000000000000010001"));
+    CODE(take(&listener, MOLD_ANSWER, packet_of(1, 1, 5), &told), MOLD_DONE);
+    CHECK(is_told(&told, 3, 0, 0) && mold_listener_count(&listener) == 3 && mold_listener_first(&listener) == 1);
+    CHECK(is_message(&listener, 0, 1, 5) && is_message(&listener, 1, 2, 0) && is_message(&listener, 2, 3, 5));
+    CHECK(mold_listener_next(&listener) == 4 && mold_listener_known(&listener) == 4 && wants(&listener, NULL));
+    mold_free(&listener);
+}
+
+static void the_batch_is_lent(void) {
+    mold_listener listener = listener_at(1, 4);
+    mold_told told = {0, 0, 0, 0, 0};
+    mold_bytes lent[4] = {MOLD_NO_BYTES, MOLD_NO_BYTES, MOLD_NO_BYTES, MOLD_NO_BYTES};
+    uint8_t copy[4] = {7, 7, 7, 7};
+    size_t size = 99;
+    CODE(take(&listener, MOLD_LINE_A, packet_of(1, 2, 3), &told), MOLD_DONE);
+    CODE(take(&listener, MOLD_LINE_A, packet_of(3, 1, 2), &told), MOLD_DONE);
+    CHECK(mold_listener_messages(&listener, NULL, 0) == 0);
+    CHECK(mold_listener_messages(&listener, lent, 2) == 2 && lent[0].length == 3 && lent[1].at[2] == 2);
+    CHECK(lent[2].at == NULL && lent[2].length == 0);
+    CHECK(mold_listener_messages(&listener, lent, 4) == 3 && lent[2].length == 2 && lent[2].at[1] == 3);
+    CHECK(lent[3].at == NULL && lent[3].length == 0);
+    CODE(mold_listener_message(&listener, 3, &lent[3]), MOLD_ABSENT);
+    CODE(mold_listener_message(&listener, SIZE_MAX, &lent[3]), MOLD_ABSENT);
+    CHECK(lent[3].at == NULL);
+    CODE(mold_listener_copy(&listener, 3, copy, 4, &size), MOLD_ABSENT);
+    CODE(mold_listener_copy(&listener, 1, copy, 2, &size), MOLD_ROOM);
+    CHECK(size == 3 && copy[0] == 7);
+    CODE(mold_listener_copy(&listener, 1, NULL, 0, &size), MOLD_ROOM);
+    CODE(mold_listener_copy(&listener, 1, copy, 4, &size), MOLD_DONE);
+    CHECK(size == 3 && copy[0] == 2 && copy[2] == 2 && copy[3] == 7);
+    CODE(mold_listener_clear(&listener), MOLD_DONE);
+    CHECK(mold_listener_count(&listener) == 0 && mold_listener_first(&listener) == 0);
+    CHECK(mold_listener_messages(&listener, lent, 4) == 0);
+    CODE(mold_listener_message(&listener, 0, &lent[3]), MOLD_ABSENT);
+    CODE(take(&listener, MOLD_LINE_A, packet_of(4, 1, 1), &told), MOLD_DONE);
+    CHECK(mold_listener_first(&listener) == 4 && is_message(&listener, 0, 4, 1));
+    mold_free(&listener);
+}
+
+static bool is_report(mold_listener *listener, uint32_t line, uint64_t datagrams, uint64_t refused, uint64_t front) {
+    mold_report report = {9, 9, 9};
+    return mold_listener_report(listener, line, &report) == MOLD_DONE && report.datagrams == datagrams &&
+           report.refused == refused && report.front == front;
+}
+
+static void two_lines_are_reported(void) {
+    mold_listener listener = listener_at(1, 4);
+    mold_told told = {0, 0, 0, 0, 0};
+    mold_report report = {9, 9, 9};
+    CODE(take(&listener, MOLD_LINE_A, packet_of(1, 3, 1), &told), MOLD_DONE);
+    CHECK(is_told(&told, 3, 0, 0));
+    CHECK(is_report(&listener, MOLD_LINE_A, 1, 0, 4) && is_report(&listener, MOLD_LINE_B, 0, 0, 1));
+    CODE(take(&listener, MOLD_LINE_B, packet_of(1, 3, 1), &told), MOLD_DONE);
+    CHECK(is_told(&told, 0, 0, 0) && mold_listener_count(&listener) == 3);
+    CHECK(is_report(&listener, MOLD_LINE_B, 1, 0, 4));
+    CODE(take(&listener, MOLD_LINE_B, of_length(3), &told), MOLD_SHORT);
+    CODE(take(&listener, MOLD_ANSWER, of_length(3), &told), MOLD_SHORT);
+    CODE(take(&listener, MOLD_ANSWER, packet_of(4, 1, 1), &told), MOLD_DONE);
+    CHECK(is_report(&listener, MOLD_LINE_A, 1, 0, 4) && is_report(&listener, MOLD_LINE_B, 1, 1, 4));
+    CODE(mold_listener_report(&listener, MOLD_ANSWER, &report), MOLD_LINE);
+    CODE(mold_listener_report(&listener, UINT32_MAX, &report), MOLD_LINE);
+    CHECK(report.datagrams == 9 && report.refused == 9 && report.front == 9);
+    CODE(take(&listener, 3, packet_of(5, 1, 1), &told), MOLD_LINE);
+    CHECK(mold_listener_next(&listener) == 5 && mold_listener_known(&listener) == 5);
+    CHECK(is_report(&listener, MOLD_LINE_A, 1, 0, 4) && is_report(&listener, MOLD_LINE_B, 1, 1, 4));
+    mold_free(&listener);
+}
+
+/* Of messages 2 to 9 a window of 4 stores three. */
+static void messages_behind_the_window(void) {
+    mold_listener listener = listener_at(1, 4);
+    mold_told told = {0, 0, 0, 0, 0};
+    CODE(take(&listener, MOLD_LINE_A, packet_of(2, 8, 2), &told), MOLD_DONE);
+    CHECK(is_told(&told, 0, 3, 5) && mold_listener_known(&listener) == 10);
+    CHECK(wants(&listener, SESSION_HEX "00000000000000010001"));
+    CODE(take(&listener, MOLD_LINE_A, packet_of(1, 1, 2), &told), MOLD_DONE);
+    CHECK(is_told(&told, 4, 0, 0) && mold_listener_next(&listener) == 5);
+    CHECK(wants(&listener, SESSION_HEX "00000000000000050005"));
+    mold_free(&listener);
+    listener = listener_at(1, 1);
+    CODE(take(&listener, MOLD_LINE_A, packet_of(1, 9, 2), &told), MOLD_DONE);
+    CHECK(is_told(&told, 9, 0, 0) && mold_listener_next(&listener) == 10);
+    mold_free(&listener);
+}
+
+/* The window at its greatest, filled from behind, and a gap of more messages than a request may ask for. */
+static void the_greatest_window(void) {
+    mold_listener listener = listener_at(1, 65536);
+    mold_told told = {0, 0, 0, 0, 0};
+    for (uint64_t number = 65536; number > 1; number--) {
+        CODE(take(&listener, MOLD_LINE_A, packet_of(number, 1, 3), &told), MOLD_DONE);
+        CHECK(is_told(&told, 0, 1, 0));
+    }
+    CODE(take(&listener, MOLD_LINE_A, packet_of(65537, 1, 3), &told), MOLD_DONE);
+    CHECK(is_told(&told, 0, 0, 1));
+    CODE(take(&listener, MOLD_LINE_A, packet_of(1, 1, 3), &told), MOLD_DONE);
+    CHECK(is_told(&told, 65536, 0, 0) && mold_listener_count(&listener) == 65536);
+    CHECK(is_message(&listener, 65535, 0, 3) && is_message(&listener, 258, 3, 3));
+    CODE(take(&listener, MOLD_LINE_A, packet_of(1000000, 0, 0), &told), MOLD_DONE);
+    CHECK(wants(&listener, SESSION_HEX "0000000000010001fffe"));
+    mold_free(&listener);
+}
+
+static void the_top_of_numbers(void) {
+    mold_listener listener = listener_at(1, 4);
+    mold_told told = {0, 0, 0, 0, 0};
+    CODE(take(&listener, MOLD_LINE_A, packet_of(UINT64_MAX, 1, 1), &told), MOLD_PAST_LAST);
+    CHECK(mold_listener_known(&listener) == 1);
+    CODE(take(&listener, MOLD_LINE_A, packet_of(UINT64_MAX, 0, 0), &told), MOLD_DONE);
+    CHECK(is_told(&told, 0, 0, 0) && mold_listener_known(&listener) == UINT64_MAX);
+    CHECK(wants(&listener, SESSION_HEX "0000000000000001fffe"));
+    mold_free(&listener);
+    listener = listener_at(UINT64_MAX - 1, 4);
+    CODE(take(&listener, MOLD_LINE_A, packet_of(UINT64_MAX - 1, 1, 1), &told), MOLD_DONE);
+    CODE(take(&listener, MOLD_LINE_A, end_of(UINT64_MAX), &told), MOLD_DONE);
+    CHECK(mold_listener_next(&listener) == UINT64_MAX && mold_listener_finished(&listener));
+    mold_free(&listener);
+}
+
+static void datagrams_are_refused(void) {
+    mold_listener listener = listener_at(1, 4);
+    mold_told told = {0, 0, 0, 0, 0};
+    datagram other = packet_of(1, 1, 1);
+    CODE(mold_listener_take(&listener, MOLD_LINE_A, NULL, 0, &told), MOLD_SHORT);
+    CHECK(told.detail == 0);
+    CODE(take(&listener, MOLD_LINE_A, of_length(19), &told), MOLD_SHORT);
+    CHECK(told.detail == 19);
+    CODE(mold_listener_take(&listener, MOLD_LINE_A, other.at, 22, &told), MOLD_BLOCK_CUT);
+    CHECK(told.detail == 0);
+    CODE(take(&listener, MOLD_LINE_A, of_hex(SESSION_HEX "0000000000000003ffff00"), &told), MOLD_TRAILING);
+    CHECK(told.detail == 20);
+    other.at[9] = '2';
+    CODE(take(&listener, MOLD_LINE_A, other, &told), MOLD_WRONG_SESSION);
+    CODE(take(&listener, MOLD_LINE_A, packet_of(0, 1, 1), &told), MOLD_SEQUENCE_ZERO);
+    CODE(take(&listener, MOLD_LINE_A, packet_of(0, 0, 0), &told), MOLD_SEQUENCE_ZERO);
+    CHECK(is_report(&listener, MOLD_LINE_A, 0, 7, 1) && mold_listener_known(&listener) == 1);
+    mold_free(&listener);
+}
+
+static void ends_are_taken_and_refused(void) {
+    mold_listener listener = listener_at(1, 4);
+    mold_told told = {0, 0, 0, 0, 0};
+    CODE(take(&listener, MOLD_LINE_A, packet_of(1, 2, 1), &told), MOLD_DONE);
+    CODE(take(&listener, MOLD_LINE_A, end_of(2), &told), MOLD_END_BELOW);
+    CHECK(told.detail == 3 && !mold_listener_finished(&listener));
+    CODE(take(&listener, MOLD_LINE_A, end_of(4), &told), MOLD_DONE);
+    CHECK(mold_listener_known(&listener) == 4 && !mold_listener_finished(&listener));
+    CHECK(wants(&listener, SESSION_HEX "00000000000000030001"));
+    CODE(take(&listener, MOLD_LINE_A, end_of(5), &told), MOLD_END_CONFLICT);
+    CHECK(told.detail == 4);
+    CODE(take(&listener, MOLD_LINE_A, end_of(2), &told), MOLD_END_CONFLICT);
+    CODE(take(&listener, MOLD_LINE_A, packet_of(3, 2, 1), &told), MOLD_PAST_END);
+    CHECK(told.detail == 4);
+    CODE(take(&listener, MOLD_LINE_A, packet_of(5, 0, 0), &told), MOLD_PAST_END);
+    CODE(take(&listener, MOLD_LINE_A, packet_of(4, 0, 0), &told), MOLD_DONE);
+    CODE(take(&listener, MOLD_LINE_A, packet_of(3, 1, 1), &told), MOLD_DONE);
+    CHECK(is_told(&told, 1, 0, 0) && mold_listener_finished(&listener) && wants(&listener, NULL));
+    CODE(take(&listener, MOLD_LINE_A, end_of(4), &told), MOLD_DONE);
+    CHECK(is_told(&told, 0, 0, 0) && mold_listener_finished(&listener));
+    mold_free(&listener);
+}
+
+static void another_message_is_refused(void) {
+    mold_listener listener = listener_at(1, 8);
+    mold_told told = {0, 0, 0, 0, 0};
+    datagram other = packet_of(2, 3, 1);
+    CODE(take(&listener, MOLD_LINE_A, packet_of(3, 2, 1), &told), MOLD_DONE);
+    other.at[25] = 'X';
+    other.at[28] = 'X';
+    CODE(mold_listener_take(&listener, MOLD_LINE_B, other.at, other.length, &told), MOLD_CONFLICT);
+    CHECK(told.detail == 3 && mold_listener_next(&listener) == 1 && mold_listener_count(&listener) == 0);
+    other.at[25] = 3;
+    CODE(take(&listener, MOLD_LINE_B, other, &told), MOLD_CONFLICT);
+    CHECK(told.detail == 4 && is_report(&listener, MOLD_LINE_B, 0, 2, 1));
+    CODE(take(&listener, MOLD_LINE_B, packet_of(3, 1, 2), &told), MOLD_CONFLICT);
+    CODE(take(&listener, MOLD_LINE_B, packet_of(1, 4, 1), &told), MOLD_DONE);
+    CHECK(is_told(&told, 4, 0, 0) && is_message(&listener, 2, 3, 1));
+    CODE(take(&listener, MOLD_LINE_B, packet_of(3, 1, 2), &told), MOLD_DONE);
+    CHECK(is_told(&told, 0, 0, 0));
+    mold_free(&listener);
+}
+
+void test_listener(void) {
+    listeners_that_cannot_be();
+    messages_come_backwards();
+    the_batch_is_lent();
+    two_lines_are_reported();
+    messages_behind_the_window();
+    the_greatest_window();
+    the_top_of_numbers();
+    datagrams_are_refused();
+    ends_are_taken_and_refused();
+    another_message_is_refused();
+}

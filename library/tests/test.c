@@ -1,0 +1,15 @@
+/* Every call of the library and every code, by values that are written by hand.
+ *
+ *     cd library/tests
+ *     cc -std=c99 test.c packets.c listener.c sessions.c handles.c ../out/libmold.a -o test && ./test */
+#define CHECK_MAIN
+#include "check.h"
+#include "test.h"
+
+int main(void) {
+    test_packets();
+    test_listener();
+    test_sessions();
+    test_handles();
+    return told_checks();
+}
