@@ -9,14 +9,14 @@ use Rattle.std.proofs.lemmas.Bool.{cases_lt, cond-true, lt-ltb, le-ltb}
 use Rattle.std.proofs.lemmas.Option.{slice_get-get_or}
 use Rattle.mold_wire.specs.declared.session.Session.{Session}
 use Rattle.mold_wire.specs.Truth.{message_at}
-use Rattle.mold_receiver.specs.Keeping.{is_fresh, fresh, put_pairs}
+use Rattle.mold_receiver.specs.Keeping.{is_fresh, fresh, filled}
 use Rattle.mold_receiver.specs.Receive.{handed_on, count_kept, count_beyond, view_at, view_after, taken_of}
 use Rattle.mold_receiver.specs.Receive.{data_packet}
 use Rattle.mold_receiver.specs.Slots.{Slot, store_of}
 use Rattle.mold_receiver.specs.Store.{Message, numbered, from_next, available, cut, first_conflict}
 use Rattle.mold_receiver.specs.View.{View, IsWellFormed, view_over}
 use Rattle.mold_receiver.proofs.CaseLemmas.{ahead_handed, ahead_stored}
-use Rattle.mold_receiver.proofs.KeepLemmas.{slot_fresh, length-put_pairs}
+use Rattle.mold_receiver.proofs.KeepLemmas.{slot_filled, length-filled}
 use Rattle.mold_receiver.proofs.RuleLemmas.{message_below, message_within, count_same, count_from}
 use Rattle.mold_receiver.proofs.ViewLemmas.{between_of, get_from, get_below}
 
@@ -40,19 +40,19 @@ limit_shifted next window q low =
 
 -- what is stored when the fresh messages were put into their slots
 pub ahead_looks : (next n : ℕ) (slots : List Slot) (ms : List Message) → next < n → (q : ℕ)
-    → finite.get (store_of next (put_pairs slots (fresh slots (n - next) ms))) q ≡ option_or
+    → finite.get (store_of next (filled slots (n - next) ms)) q ≡ option_or
     (finite.get (store_of next slots) q) (cond (ltb q (next + length slots)) (message_at n ms q) None)
 ahead_looks next n slots ms above q =
     elim (cases_lt q next) [
       | inl below ↦
-          get_below next (put_pairs slots (fresh slots (n - next) ms)) q below
+          get_below next (filled slots (n - next) ms) q below
           ∙ sym (ap (λ (o : Option Message). option_or o (cond (ltb q (next + length slots)) (message_at n ms q) None))
           (get_below next slots q below)
           ∙ cond-true (ltb q (next + length slots)) (message_at n ms q) None
           (lt-ltb q (next + length slots) (omega arith)) ∙ message_below n ms q (omega arith))
       | inr low ↦
-          get_from next (put_pairs slots (fresh slots (n - next) ms)) q low
-          ∙ slot_fresh slots (n - next) ms (q - next)
+          get_from next (filled slots (n - next) ms) q low
+          ∙ slot_filled slots (n - next) ms (q - next)
           ∙ ap (λ (o : Option Message). option_or o
           (cond (ltb (q - next) (length slots)) (message_at (n - next) ms (q - next)) None))
           (sym (get_from next slots q low))
@@ -68,10 +68,10 @@ pub ahead_view : (session : Session) (next known : ℕ) (ended : Option ℕ) (sl
     → IsWellFormed (view_over session next known ended slots) → next < n → n + length ms ≡ top
     → first_conflict (store_of next slots) (from_next next n ms) ≡ None
     → view_after (view_over session next known ended slots) (data_packet session n ms) ≡ view_over session next
-    (max known top) ended (put_pairs slots (fresh slots (n - next) ms))
+    (max known top) ended (filled slots (n - next) ms)
 ahead_view session next known ended slots n top ms well above tops none =
     let v = view_over session next known ended slots in
-    let kept = put_pairs slots (fresh slots (n - next) ms) in
+    let kept = filled slots (n - next) ms in
     let nothing : handed_on v n ms ≡ [] =
     ahead_handed v.store next v.window (max known (n + length ms) - next) n ms (between_of v well) above in
     let here : next + length (handed_on v n ms) ≡ next = ap (λ (t : List Message). next + length t) nothing
@@ -80,7 +80,7 @@ ahead_view session next known ended slots n top ms well above tops none =
     ahead_stored v.store (store_of next kept) next v.window n ms (between_of v well) above none
     (ahead_looks next n slots ms above)
     in
-    let size : length slots ≡ length kept = sym (length-put_pairs slots (fresh slots (n - next) ms)) in
+    let size : length slots ≡ length kept = sym (length-filled slots (n - next) ms) in
     ap (view_at v (data_packet session n ms)) here
     ∙ (λ i. record {
       session = session;
@@ -116,11 +116,11 @@ new_or_not (Some x) p false m is = refl
 
 -- as many messages are kept as there are fresh ones
 pub ahead_kept : (next n : ℕ) (slots : List Slot) (ms : List Message) → next < n
-    → count_kept (store_of next slots) (store_of next (put_pairs slots (fresh slots (n - next) ms)))
+    → count_kept (store_of next slots) (store_of next (filled slots (n - next) ms))
     (numbered n ms) ≡ length (fresh slots (n - next) ms)
 ahead_kept next n slots ms above =
     let old = store_of next slots in
-    let new = store_of next (put_pairs slots (fresh slots (n - next) ms)) in
+    let new = store_of next (filled slots (n - next) ms) in
     count_same (λ q. is_some (finite.get new q) && is_none (finite.get old q)) (is_fresh slots) n (n - next) ms
     (λ i within.
     let place : n + i - n ≡ i = omega arith in
@@ -147,7 +147,7 @@ pub ahead_taken : (session : Session) (next known : ℕ) (ended : Option ℕ) (s
     ≡ record { handed = 0; kept = length (fresh slots (n - next) ms); beyond = top - max n (next + length slots) }
 ahead_taken session next known ended slots n top ms well above tops none =
     let v = view_over session next known ended slots in
-    let new = put_pairs slots (fresh slots (n - next) ms) in
+    let new = filled slots (n - next) ms in
     let zero_handed : next - next ≡ 0 = omega arith in
     let past : count_beyond (next + length slots) (numbered n ms) ≡ top - max n (next + length slots) =
     count_from (next + length slots) n ms ∙ ap (λ (k : ℕ). k - max n (next + length slots)) tops in
@@ -159,7 +159,7 @@ pub kept_view : (session : Session) (next known : ℕ) (ended : Option ℕ) (slo
     (ms : List Message) (new_known : ℕ) (new_slots : List Slot)
     → IsWellFormed (view_over session next known ended slots) → next < n → n + length ms ≡ top
     → first_conflict (store_of next slots) (from_next next n ms) ≡ None
-    → new_known ≡ max known top → new_slots ≡ put_pairs slots (fresh slots (n - next) ms)
+    → new_known ≡ max known top → new_slots ≡ filled slots (n - next) ms
     → view_over session next new_known ended new_slots ≡ view_after (view_over session next known ended slots)
     (data_packet session n ms)
 kept_view session next known ended slots n top ms new_known new_slots well above tops none knows puts =

@@ -16,3 +16,6 @@ pub mod MissingLemmas
 pub mod GapLemmas
 pub mod ArbiterLemmas
 pub mod MarkLemmas
+pub mod ShelfLemmas
+pub mod PackLemmas
+pub mod KeptLemmas

@@ -1,7 +1,6 @@
 -- What the parts of the receiver find where a packet's messages join the store.
-use Rattle.std.specs.Prelude.{ℕ, Bool, ◌&&◌, nat_lt, is_none, List, [], ◌∷◌, length, Some, slice_set, map}
+use Rattle.std.specs.Prelude.{ℕ, suc, Bool, ◌&&◌, nat_lt, is_none, List, [], ◌∷◌, length, Some, slice_set, if◌then◌else◌}
 use Rattle.std.specs.List.{filter}
-use Rattle.mold_receiver.specs.declared.keep.Copied.{Copied}
 use Rattle.mold_receiver.specs.Slots.{Slot, slot_at}
 use Rattle.mold_receiver.specs.Store.{Message, numbered}
 
@@ -13,11 +12,11 @@ is_fresh slots slot = nat_lt slot (length slots) && is_none (slot_at slots slot)
 abbrev pub fresh : List Slot → ℕ → List Message → List (ℕ × Message)
 fresh slots first messages = filter (λ pair. is_fresh slots pair.0) (numbered first messages)
 
--- copies as pairs of slot and message
-abbrev pub pairs_of : List Copied → List (ℕ × Message)
-pairs_of copies = map (λ copied. (copied.slot, copied.message.items)) copies
+-- the slots with a message put into the one that is for it, where that is empty
+abbrev pub put_fresh : List Slot → ℕ → Message → List Slot
+put_fresh slots slot message = if is_fresh slots slot then slice_set slots slot (Some message) else slots
 
--- the slots with each pair's message put into its slot, the last pair's first
-abbrev pub put_pairs : List Slot → List (ℕ × Message) → List Slot
-put_pairs slots [] = slots
-put_pairs slots (pair ∷ pairs) = slice_set (put_pairs slots pairs) pair.0 (Some pair.1)
+-- the slots with each of the messages put so, the first into a given slot
+abbrev pub filled : List Slot → ℕ → List Message → List Slot
+filled slots first [] = slots
+filled slots first (message ∷ messages) = filled (put_fresh slots first message) (suc first) messages

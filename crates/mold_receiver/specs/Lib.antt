@@ -4,6 +4,7 @@ pub mod Receive
 pub mod Wanted
 pub mod Batch
 pub mod Slots
+pub mod Shelf
 pub mod Keeping
 pub mod Handing
 pub mod Honest

@@ -32,14 +32,22 @@ abbrev pub count_held : List Slot → ℕ
 count_held [] = 0
 count_held (slot ∷ slots) = (if is_some slot then 1 else 0) + count_held slots
 
--- the ring is full of slots, as many as a window may have; so many have a message, and so many from the
--- front have none
-pub record AreSlots (slots : List Slot) (capacity count clear : ℕ) : Type 0 where
+-- how many bytes the messages in the slots have together
+abbrev pub held_bytes : List Slot → ℕ
+held_bytes [] = 0
+held_bytes (None ∷ slots) = held_bytes slots
+held_bytes (Some message ∷ slots) = length message + held_bytes slots
+
+-- the ring is full of slots, as many as a window may have; so many have a message; so many from the front, and
+-- all from a place on, have none
+pub record AreSlots (slots : List Slot) (capacity count clear reach : ℕ) : Type 0 where
   pub some : 0 < length slots
   pub few : length slots ≤ 65536
   pub full : length slots ≡ capacity
   pub counted : count ≡ count_held slots
   pub empty : (i : ℕ) → i < clear → slot_at slots i ≡ None
+  pub behind : (i : ℕ) → reach ≤ i → slot_at slots i ≡ None
+  pub reached : reach ≤ length slots
 
 -- among so many slots from the front this is the first that has a message, or their number
 pub record IsFirstHeld (slots : List Slot) (most slot : ℕ) : Type 0 where

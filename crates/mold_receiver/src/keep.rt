@@ -1,73 +1,79 @@
 //! A packet above a gap: its messages join the store.
 
-ghost use Rattle.std.specs.Prelude.{◌≡◌, ◌+◌, ◌<◌, ◌^◌, ◌&&◌, ◌++◌, ◌∷◌, [], length, nat_lt, is_none, IfOk, OnOk};
-ghost use Rattle.std.specs.Prelude.{OnErr};
-ghost use Rattle.std.specs.List.{filter};
-ghost use Rattle.mold_receiver.specs.Keeping.{is_fresh, fresh, pairs_of, put_pairs};
-ghost use Rattle.mold_receiver.specs.Slots.{slot_at};
-ghost use Rattle.mold_receiver.specs.Store.{numbered};
+ghost use Rattle.std.specs.Prelude.{◌≡◌, ◌↔◌, ◌+◌, ◌<◌, ◌≤◌, ◌^◌, length, drop, IfOk, OnOk, OnErr, IsTrue};
+ghost use Rattle.mold_receiver.specs.Keeping.{filled, fresh};
+ghost use Rattle.mold_receiver.specs.Shelf.{IsKept, slots_on};
+ghost use Rattle.mold_wire.specs.Block.{blocks as packed};
 
-use crate::slots::Slots;
-use mold_wire::Blocks;
+use crate::shelf::Shelf;
+use crate::span::Span;
+use mold_wire::{Blocks, LENGTH_BYTES};
 use std::alloc::{AllocError, Global};
 
-/// The copy of a message, and the slot that it is for.
-#[derive(Debug, Drop)]
-pub(crate) struct Copied {
-    slot: usize,
-    message: Vec<u8>,
-}
-
-// Whether there is such a slot and it is empty.
-fn is_free(slots: &Slots, slot: u64) -> bool
-    ensures { result ≡ is_fresh slots.now slot }
-{
-    slot < slots.len() as u64 && !slots.has(slot as usize)
-}
-
-// Adds the copy of a message.
-fn push_copy(
-    alloc: Global,
-    copies: &mut Vec<Copied>,
-    slot: usize,
-    message: &[u8],
-) -> Result<(), AllocError>
-    ensures { OnOk result (pairs_of copies.new.items ≡ pairs_of copies.old.items ++ (slot, message.now) ∷ []) }
-{
-    let message = Vec::from_slice(alloc, message)?;
-    copies.push(Copied { slot, message })?;
-    Ok(())
-}
-
-/// Copies of the packet's messages for which there is an empty slot; `first` is the slot of its first
-/// message. An error comes where a growth is refused.
-pub(crate) fn copy_fresh(
-    alloc: Global,
-    slots: &Slots,
-    first: u64,
-    blocks: &Blocks<'_>,
-) -> Result<Vec<Copied>, AllocError>
+// Whether there is an empty slot for one of the packet's messages; `first` is the slot of its first message.
+fn has_fresh(shelf: &Shelf, first: u64, blocks: &Blocks<'_>) -> bool
     requires { first + length blocks.now < 2 ^ 64 }
-    ensures copied { IfOk result (λ copies. pairs_of copies.items ≡ fresh slots.now first blocks.now) }
-    ensures needed { OnErr result (0 < length (fresh slots.now first blocks.now)) }
+    ensures { IsTrue result ↔ (0 < length (fresh (slots_on shelf.now) first blocks.now)) }
 {
-    let mut copies = Vec::new(alloc);
     let mut slot = first;
-    for message in blocks.iter() {
-        if is_free(slots, slot) {
-            push_copy(alloc, &mut copies, slot as usize, message)?;
+    for _message in blocks.iter() {
+        if shelf.is_free(slot) {
+            return true;
         }
         slot += 1;
     }
-    Ok(copies)
+    false
 }
 
-/// Puts each copy into its slot.
-pub(crate) fn put_copies(slots: &mut Slots, copies: Vec<Copied>)
-    ensures { slots.new ≡ put_pairs slots.old (pairs_of copies.items) }
+// Makes the blocks that stand from `begin` on the messages in their slots, where these are empty; how many these
+// are.
+fn mark_blocks(shelf: &mut Shelf, first: u64, begin: usize, blocks: &Blocks<'_>) -> u32
+    requires kept { IsKept shelf.old }
+    requires numbered { first + length blocks.now < 2 ^ 64 }
+    requires few { length blocks.now < 65535 }
+    requires behind { shelf.old.used ≤ begin }
+    requires fits { length shelf.old.bytes.items < 2 ^ 64 }
+    requires there { drop begin shelf.old.bytes.items ≡ packed blocks.now }
+    ensures kept { IsKept shelf.new }
+    ensures filled { slots_on shelf.new ≡ filled (slots_on shelf.old) first blocks.now }
+    ensures count { result ≡ length (fresh (slots_on shelf.old) first blocks.now) }
 {
-    let mut copies = copies;
-    while let Some(copy) = copies.pop() {
-        slots.put(copy.slot, copy.message);
+    let mut at = begin;
+    let mut slot = first;
+    let mut count = 0;
+    for message in blocks.iter() {
+        let start = at + LENGTH_BYTES;
+        at = start + message.len();
+        if shelf.mark_free(slot, Span { start, end: at }) {
+            count += 1;
+        }
+        slot += 1;
     }
+    count
+}
+
+/// Puts each of the packet's messages into its slot, where there is such a slot and it is empty; how many these
+/// are. `first` is the slot of its first message. The packet's blocks are copied at once. An error comes where
+/// a growth is refused; the slots are then as before.
+pub(crate) fn keep_fresh(
+    alloc: Global,
+    shelf: &mut Shelf,
+    first: u64,
+    blocks: &Blocks<'_>,
+) -> Result<u32, AllocError>
+    requires kept { IsKept shelf.old }
+    requires numbered { first + length blocks.now < 2 ^ 64 }
+    requires few { length blocks.now < 65535 }
+    ensures kept { IsKept shelf.new }
+    ensures filled { OnOk result (slots_on shelf.new ≡ filled (slots_on shelf.old) first blocks.now) }
+    ensures count { IfOk result (λ count. count ≡ length (fresh (slots_on shelf.old) first blocks.now)) }
+    ensures needed { OnErr result (0 < length (fresh (slots_on shelf.old) first blocks.now)) }
+    ensures same { OnErr result (slots_on shelf.new ≡ slots_on shelf.old) }
+{
+    if !has_fresh(shelf, first, blocks) {
+        return Ok(0);
+    }
+    shelf.tidy(alloc)?;
+    let begin = shelf.append(blocks.bytes())?;
+    Ok(mark_blocks(shelf, first, begin, blocks))
 }

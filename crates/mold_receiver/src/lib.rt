@@ -11,7 +11,10 @@ mod keep;
 pub mod laws;
 mod line;
 mod receiver;
+mod ring;
+mod shelf;
 mod slots;
+mod span;
 mod taken;
 
 pub use arbiter::Arbiter;

@@ -20,7 +20,6 @@ use crate::batch::Batch;
 use crate::conflict::conflict_of;
 use crate::error::ReceiverError;
 use crate::hand::hand_on;
-use crate::keep::{copy_fresh, put_copies};
 use crate::slots::Slots;
 use crate::taken::{Accepted, Taken};
 use mold_rule::{Refusal as Refused, check_header};
@@ -125,10 +124,8 @@ impl Receiver {
             (TakesMemory self.old (data_packet self.old.session first blocks.now)) }
         ensures unchanged { OnErr result (self.new ≡ self.old) }
     {
-        let copies = copy_fresh(self.alloc, &self.slots, first - self.next, blocks)?;
         let beyond = count_beyond(self.next, self.slots.len(), top, blocks.len());
-        let kept = copies.len() as u32;
-        put_copies(&mut self.slots, copies);
+        let kept = self.slots.keep(self.alloc, first - self.next, blocks)?;
         self.known = self.known.max(top);
         Ok(Taken {
             handed: 0,
