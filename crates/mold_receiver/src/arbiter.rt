@@ -46,6 +46,7 @@ impl Arbiter {
     /// Takes a datagram that came on a line, as the receiver does, and notes in the line's report that it
     /// was taken or refused; want of memory changes no report. The batch must be empty or end just before
     /// the receiver's `next`.
+    #[inline(always)]
     pub fn take(&mut self, line: Line, bytes: &[u8], batch: &mut Batch) -> Result<Taken, Refused>
         requires { Follows batch.old self.old.view.next }
         ensures taken { IfOk result

@@ -134,6 +134,7 @@ impl Batch {
 
     /// Adds the messages of a packet, the first of which has the number `next`; their bytes are copied at
     /// once. An error comes where a growth is refused; the batch then ends with some of them.
+    #[inline(always)]
     pub(crate) fn push_blocks(&mut self, next: u64, blocks: &Blocks<'_>) -> Result<(), AllocError>
         requires follows { Follows self.old next }
         requires counted { next + length blocks.now < 2 ^ 64 }
@@ -161,6 +162,7 @@ impl<'a> IntoIterator for &'a Batch {
 }
 
 // Makes the blocks that stand from `begin` on messages.
+#[inline(always)]
 fn mark_blocks(list: &mut PartList, begin: usize, blocks: &Blocks<'_>) -> Result<(), AllocError>
     requires behind { list.old.end ≤ begin }
     requires fits { length list.old.bytes < 2 ^ 64 }

@@ -25,6 +25,7 @@ fn push_from(batch: &mut Batch, next: u64, number: u64, message: &[u8]) -> Resul
 }
 
 // Adds the packet's messages from `next` on.
+#[inline(always)]
 fn push_messages(
     batch: &mut Batch,
     next: u64,
@@ -50,6 +51,7 @@ fn push_messages(
 
 // Adds the stored messages from a slot on up to the first empty one, and tells that one; `next` is the
 // number of the first slot.
+#[inline(always)]
 fn push_stored(
     batch: &mut Batch,
     next: u64,
@@ -73,6 +75,7 @@ fn push_stored(
 }
 
 // Adds the packet's messages from `next` on, and the stored ones behind them; the new `next`.
+#[inline(always)]
 fn push_run(
     batch: &mut Batch,
     next: u64,
@@ -94,6 +97,7 @@ fn push_run(
 
 /// Hands on the packet's messages from `next` on, and the stored ones behind them; the new `next`. An error
 /// comes where a growth is refused, and the batch is then as before.
+#[inline(always)]
 pub(crate) fn hand_on(
     batch: &mut Batch,
     next: u64,

@@ -135,6 +135,7 @@ impl Receiver {
     }
 
     // Hands on from a packet that has the message `next`.
+    #[inline(always)]
     fn hand(
         &mut self,
         first: u64,
@@ -168,6 +169,7 @@ impl Receiver {
     }
 
     // Notes what a packet tells that has no message from `next` on.
+    #[inline(always)]
     fn note(&mut self, packet: &Packet<'_>, top: u64) -> Taken
         requires top { top_of packet.now ≡ top }
         requires last { top < 2 ^ 64 }
@@ -187,6 +189,7 @@ impl Receiver {
     }
 
     // The packet's top, or the first refusal that it meets.
+    #[inline(always)]
     fn check(&self, packet: &Packet<'_>) -> Result<u64, Refused>
         ensures top { IfOk result (λ top. top ≡ top_of packet.now) }
         ensures taken { OnOk result (refusal self.now packet.now ≡ None) }
@@ -200,6 +203,7 @@ impl Receiver {
     }
 
     // Takes a packet that meets no refusal.
+    #[inline(always)]
     fn take_packet(
         &mut self,
         packet: &Packet<'_>,
@@ -231,6 +235,7 @@ impl Receiver {
     }
 
     /// Takes a datagram as `take` does, and tells the packet's top too.
+    #[inline(always)]
     pub(crate) fn accept(&mut self, bytes: &[u8], batch: &mut Batch) -> Result<Accepted, Refused>
         requires { Follows batch.old self.old.next }
         ensures taken { IfOk result

@@ -84,6 +84,7 @@ impl Slots {
 
     /// Moves on by so many slots: the first ones are dropped, and empty ones follow the last. Where no slot
     /// has a message, they stay as they are.
+    #[inline(always)]
     pub(crate) fn skip(&mut self, count: usize)
         requires { count ≤ length self.old }
         ensures { self.new ≡ drop count self.old ++ replicate count None }
