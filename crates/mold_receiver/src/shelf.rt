@@ -1,6 +1,6 @@
 //! The gap store: a ring of slots, and the bytes of their messages.
 
-ghost use Rattle.std.specs.Prelude.{◌≡◌, ◌+◌, ◌*◌, ◌^◌, ◌<◌, ◌≤◌, ◌++◌, ◌∷◌, ◌⊎◌, [], length, drop, max, replicate};
+ghost use Rattle.std.specs.Prelude.{◌≡◌, ◌+◌, ◌-◌, ◌*◌, ◌^◌, ◌<◌, ◌≤◌, ◌++◌, ◌∷◌, ◌⊎◌, [], length, drop, max, replicate};
 ghost use Rattle.std.specs.Prelude.{slice_set, is_some, if◌then◌else◌, IfOk, OnOk, OnErr, IsTrue, None, Some};
 ghost use Rattle.std.specs.Option.{option_copied};
 ghost use Rattle.mold_receiver.specs.Keeping.{is_fresh, put_fresh};
@@ -12,10 +12,10 @@ use crate::span::Span;
 use circular_buffer::HeapCircularBuffer;
 use std::alloc::{AllocError, Global};
 
-// So many bytes that belong to no message are borne,
+// So many bytes that belong to no message are borne at least.
 const LEAST_WASTE: usize = 65536;
 
-// or so many for each slot that packing walks.
+// So many are borne for each slot that packing walks.
 const WASTE_OF_A_SLOT: usize = 32;
 
 // How many slots from the front have no message when one is written into a slot.
@@ -189,17 +189,19 @@ impl Shelf {
         Ok(())
     }
 
-    /// Lets the bytes go that belong to no message, where these are more than is borne. An error comes where a
-    /// growth is refused; the slots are then as before.
+    /// Lets the bytes go that belong to no message, where these are more than is borne: so many that what
+    /// packing walks and copies is paid by what was stored since the last time. An error comes where a growth is
+    /// refused; the slots are then as before.
     pub(crate) fn tidy(&mut self, alloc: Global) -> Result<(), AllocError>
         requires { IsKept self.old }
         ensures kept { IsKept self.new }
         ensures same { slots_on self.new ≡ slots_on self.old }
-        ensures borne { OnOk result
-            (length self.new.bytes.items ≤ self.new.used + max 65536 (32 * self.new.reach)) }
+        ensures borne { OnOk result (length self.new.bytes.items - self.new.used ≤
+            max (max 65536 (32 * self.new.reach)) self.new.used) }
     {
-        let waste = self.bytes.len() - self.used;
-        if waste <= LEAST_WASTE.max(WASTE_OF_A_SLOT * self.reach) {
+        let walk = WASTE_OF_A_SLOT * self.reach;
+        let borne = LEAST_WASTE.max(walk).max(self.used);
+        if self.bytes.len() - self.used <= borne {
             return Ok(());
         }
         self.pack(alloc)
