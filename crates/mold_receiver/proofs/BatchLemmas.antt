@@ -5,8 +5,9 @@ use Rattle.std.proofs.lemmas.List.{append-nil, take_at}
 use Rattle.std.specs.Prelude.{Option, None, Some}
 use Rattle.std.proofs.lemmas.Bool.{cases_lt, cond-true, cond-false, lt-ltb, le-ltb}
 use Rattle.mold_receiver.specs.Handing.{run_in, Grew}
-use Rattle.mold_receiver.specs.Slots.{Slot, slot_at}
+use Rattle.mold_receiver.specs.Slots.{Slot, count_held, slot_at}
 use Rattle.mold_receiver.specs.Store.{Message, behind_some, run_from}
+use Rattle.mold_receiver.proofs.SlotLemmas.{all_empty}
 use Rattle.mold_receiver.proofs.StoreLemmas.{none_some}
 use Rattle.mold_receiver.specs.Batch.{Handed, handed_from, Follows, FollowsIn, followed_by, joined_first}
 
@@ -159,6 +160,10 @@ run_more slots at m is =
 
 pub run_none : (slots : List Slot) (at : ℕ) → slot_at slots at ≡ None → run_in slots at ≡ []
 run_none slots at is = none_run (slot_at slots) at (length slots - at) is
+
+-- where no slot has a message, no run begins
+pub run_of_none : (slots : List Slot) (at : ℕ) → count_held slots ≡ 0 → run_in slots at ≡ []
+run_of_none slots at none = run_none slots at (all_empty slots none at)
 
 pub handing_length : (old new : Handed) (next at : ℕ) (whole : List Message) → IsHanding old new next at [] whole →
     next + length whole ≡ at

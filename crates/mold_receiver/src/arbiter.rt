@@ -8,7 +8,7 @@ ghost use Rattle.mold_receiver.specs.Receive.{IsRefusedFor};
 use crate::batch::Batch;
 use crate::line::{Line, LineReport, LineReports};
 use crate::receiver::Receiver;
-use crate::taken::Taken;
+use crate::taken::{Accepted, Taken};
 use mold_rule::Refusal as Refused;
 use std::marker::Model;
 
@@ -56,9 +56,21 @@ impl Arbiter {
         ensures batch { OnErr result (batch.new ≡ batch.old) }
     {
         match self.receiver.accept(bytes, batch) {
-            Ok(accepted) => {
-                self.reports.note_taken(line, accepted.top);
-                Ok(accepted.taken)
+            Ok(Accepted {
+                taken:
+                    Taken {
+                        handed,
+                        kept,
+                        beyond,
+                    },
+                top,
+            }) => {
+                self.reports.note_taken(line, top);
+                Ok(Taken {
+                    handed,
+                    kept,
+                    beyond,
+                })
             }
             Err(refused) => {
                 self.reports.note_refused(line, refused);

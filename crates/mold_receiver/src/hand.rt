@@ -49,10 +49,9 @@ fn push_messages(
     Ok(())
 }
 
-// Adds the stored messages from a slot on up to the first empty one, and tells that one; `next` is the
-// number of the first slot.
-#[inline(always)]
-fn push_stored(
+// Adds the messages from a slot on up to the first empty one, and tells that one; `next` is the number of the
+// first slot.
+fn push_held(
     batch: &mut Batch,
     next: u64,
     slots: &Slots,
@@ -72,6 +71,28 @@ fn push_stored(
         end += 1;
     }
     Ok(end)
+}
+
+// The same, and it looks at no slot where none has a message.
+#[inline(always)]
+fn push_stored(
+    batch: &mut Batch,
+    next: u64,
+    slots: &Slots,
+    start: usize,
+) -> Result<usize, AllocError>
+    requires follows { Follows batch.old (next + start) }
+    requires counted { next + start < 2 ^ 64 }
+    requires numbered { AreNumbered slots.now next }
+    ensures handed { OnOk result (batch.new ≡ followed_by batch.old (next + start) (run_in slots.now start)) }
+    ensures stopped { IfOk result (λ end. end ≡ start + length (run_in slots.now start)) }
+    ensures fits { IfOk result (λ end. next + end < 2 ^ 64) }
+    ensures grew { OnErr result (Grew batch.old batch.new (next + start)) }
+{
+    if slots.held() == 0 {
+        return Ok(start);
+    }
+    push_held(batch, next, slots, start)
 }
 
 // Adds the packet's messages from `next` on, and the stored ones behind them; the new `next`.

@@ -112,6 +112,7 @@ impl Receiver {
     }
 
     // Stores the messages of a packet that begins above `next`.
+    #[inline(always)]
     fn keep(&mut self, first: u64, top: u64, blocks: &Blocks<'_>) -> Result<Taken, AllocError>
         requires above { self.old.next < first }
         requires top { first + length blocks.now ≡ top }
@@ -251,7 +252,19 @@ impl Receiver {
         };
         let top = self.check(&packet)?;
         match self.take_packet(&packet, top, batch) {
-            Ok(taken) => Ok(Accepted { taken, top }),
+            // Field by field: a copy of the whole waits for what was just written in parts.
+            Ok(Taken {
+                handed,
+                kept,
+                beyond,
+            }) => Ok(Accepted {
+                taken: Taken {
+                    handed,
+                    kept,
+                    beyond,
+                },
+                top,
+            }),
             Err(_) => Err(Refused::Memory),
         }
     }

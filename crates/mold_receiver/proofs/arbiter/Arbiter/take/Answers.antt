@@ -20,7 +20,7 @@ returns-in-Ok-clause-taken c =
     let top = rw c.in-Ok.is at c.accept.ensures.top in
     let reports = c.note_taken.ensures ∙ ap (reports_taken c.args.line a.reports) top in
     subst (λ (old : Arbitration). HasArbitrated (Some c.args.line) old c.args.bytes.now c.args.batch.now
-    (record { view = c.accept.new.self; reports = c.note_taken.new.self }) c.accept.new.batch c.in-Ok.accepted.taken)
+    (record { view = c.accept.new.self; reports = c.note_taken.new.self }) c.accept.new.batch c.in-Ok.field-0.taken)
     c.self.view_is
     (record {
       reception = told.reception;

@@ -1,7 +1,7 @@
 use Rattle.std.proofs.Common.{◌<◌, ◌^◌, ◌+◌, ◌-◌, length}
 use Rattle.mold_receiver.specs.Handing.{run_in}
 use Rattle.mold_receiver.proofs.BatchLemmas.{IsHanding}
-use Rattle.mold_receiver.proofs.hand.push_stored.Given as goal
+use Rattle.mold_receiver.proofs.hand.push_held.Given as goal
 
 abbrev pub invariant-loop-message : goal.invariant-loop-message
 invariant-loop-message l = record {
