@@ -1,10 +1,10 @@
 -- A shelf stays as it should be.
-use Rattle.std.proofs.Common.{◌≡◌, ℕ, ◌+◌, ◌-◌, ◌<◌, ◌≤◌, ◌⊎◌, max, true, cond, Bool, List, [], ◌∷◌, ◌++◌, length, drop}
-use Rattle.std.proofs.Common.{slice_set, replicate, length-append, refl, sym, ap, subst, ◌∙◌, inl, arith, Vec, Global}
+use Rattle.std.proofs.Common.{◌≡◌, ℕ, ◌+◌, ◌-◌, ◌<◌, ◌≤◌, ◌^◌, ◌⊎◌, max, true, cond, List, [], ◌∷◌, ◌++◌, length, drop}
+use Rattle.std.proofs.Common.{slice_set, replicate, length-append, refl, sym, ap, subst, ◌∙◌, arith, Vec, Global}
 use Rattle.std.specs.Prelude.{Option, None, Some, is_some, is_none}
 use Rattle.std.specs.Option.{option_map}
 use Rattle.std.proofs.lemmas.Bool.{and_parts, ltb-true}
-use Rattle.std.proofs.lemmas.List.{map-set, length-map, append-nil}
+use Rattle.std.proofs.lemmas.List.{map-set, length-map}
 use Rattle.circular_buffer.specs.Buffer.{Buffer}
 use Rattle.mold_receiver.specs.declared.shelf.Shelf.{Shelf}
 use Rattle.mold_receiver.specs.declared.span.Span.{Span}
@@ -18,7 +18,7 @@ use Rattle.mold_receiver.proofs.ShelfLemmas.{joined_held, message_long, none_slo
 use Rattle.mold_receiver.proofs.ShelfLemmas.{within_more, within_moved, within_put}
 use Rattle.mold_receiver.proofs.SlotLemmas.{all_empty, are_empty, are_moved, are_put, bytes_empty, bytes_moved, count_empty}
 use Rattle.mold_receiver.proofs.StoreLemmas.{none_some}
-use Rattle.mold_receiver.proofs.SlotLemmas.{bytes_none, bytes_put, bytes_released, count_within, empty_view, moved_view}
+use Rattle.mold_receiver.proofs.SlotLemmas.{bytes_none, bytes_put, bytes_released, empty_view, moved_view}
 
 -- more bytes behind the others
 pub more_on : (old : Shelf) (bytes : Vec ℕ Global) (more : List ℕ) → IsKept old → bytes.items ≡ old.bytes.items ++ more →
@@ -28,16 +28,19 @@ more_on old bytes more kept joins =
     ∙ slots_more old.bytes.items more old.ring.items kept.within
 
 pub kept_more : (old : Shelf) (bytes : Vec ℕ Global) (more : List ℕ) → IsKept old →
-    bytes.items ≡ old.bytes.items ++ more → IsKept (record old { bytes = bytes })
-kept_more old bytes more kept joins =
+    bytes.items ≡ old.bytes.items ++ more → length old.bytes.items + length more < 2 ^ 32 →
+    IsKept (record old { bytes = bytes })
+kept_more old bytes more kept joins few =
     let same : slots_on (record old { bytes = bytes }) ≡ slots_on old = more_on old bytes more kept joins in
-    let longer : length old.bytes.items ≤ length bytes.items =
-    omega (arith, ap (λ (t : List ℕ). length t) joins, length-append old.bytes.items more) in
+    let long : length bytes.items ≡ length old.bytes.items + length more =
+    ap (λ (t : List ℕ). length t) joins ∙ length-append old.bytes.items more in
+    let longer : length old.bytes.items ≤ length bytes.items = omega (arith, long) in
     record {
       slots = subst (λ (t : List Slot). AreSlots t old.ring.capacity old.held old.clear old.reach) (sym same) kept.slots;
       within = within_more old.ring.items (length old.bytes.items) (length bytes.items) kept.within longer;
       used = kept.used ∙ sym (ap held_bytes same);
       fits = omega (arith, kept.fits, longer);
+      few = omega (arith, few, long);
     }
 
 -- a message in a slot that was empty
@@ -88,6 +91,7 @@ kept_put old ring slot span clear kept is free ordered ends behind before known 
           omega (arith, kept.used, long) in sum)
           ∙ sym (bytes_put slots slot m there empty) ∙ sym (ap held_bytes new);
       fits = omega (arith, behind, ordered, ends);
+      few = kept.few;
     }
 
 -- the slots moved on
@@ -115,6 +119,7 @@ kept_moved old ring held used clear reach kept is counted sum less empties reach
           (within_moved old.ring.items (length old.bytes.items) kept.within);
       used = sum ∙ sym (ap held_bytes new);
       fits = omega (arith, less, kept.fits);
+      few = kept.few;
     }
 
 -- the first slot had no message
@@ -189,9 +194,9 @@ first_fits old span kept first =
 
 -- empty slots, and no bytes
 pub kept_new : (ring : Buffer (Option Span)) (bytes : Vec ℕ Global) (window : ℕ) → 0 < window → window ≤ 65536 →
-    ring ≡ record { items = replicate window None; capacity = window } →
+    ring ≡ record { items = replicate window None; capacity = window } → bytes.items ≡ [] →
     IsKept (record { ring = ring; bytes = bytes; held = 0; used = 0; clear = 0; reach = 0 })
-kept_new ring bytes window some few is =
+kept_new ring bytes window some few is none_yet =
     subst (λ (r : Buffer (Option Span)).
     IsKept (record { ring = r; bytes = bytes; held = 0; used = 0; clear = 0; reach = 0 })) (sym is)
     (let none : slots_in bytes.items (replicate window None) ≡ replicate window None =
@@ -202,6 +207,7 @@ kept_new ring bytes window some few is =
           (ap count_held none ∙ count_empty window);
       used = sym (ap held_bytes none ∙ bytes_empty window);
       fits = omega arith;
+      few = omega (arith, ap (λ (t : List ℕ). length t) none_yet);
     })
 
 -- the bytes go where no slot has a message
@@ -210,7 +216,7 @@ pub gone_on : (old : Shelf) (bytes : Vec ℕ Global) → IsKept old → old.held
 gone_on old bytes kept none =
     none_slots old.bytes.items bytes.items old.ring.items (sym kept.slots.counted ∙ none)
 
-pub kept_gone : (old : Shelf) (bytes : Vec ℕ Global) → IsKept old → old.held ≡ 0 → IsKept (record {
+pub kept_gone : (old : Shelf) (bytes : Vec ℕ Global) → IsKept old → old.held ≡ 0 → bytes.items ≡ [] → IsKept (record {
   ring = old.ring;
   bytes = bytes;
   held = old.held;
@@ -218,7 +224,7 @@ pub kept_gone : (old : Shelf) (bytes : Vec ℕ Global) → IsKept old → old.he
   clear = old.clear;
   reach = 0;
 })
-kept_gone old bytes kept none =
+kept_gone old bytes kept none gone =
     let slots = slots_on old in
     let count : count_held slots ≡ 0 = sym kept.slots.counted ∙ none in
     let same : slots_in bytes.items old.ring.items ≡ slots = gone_on old bytes kept none in
@@ -236,6 +242,7 @@ kept_gone old bytes kept none =
       within = none_within old.bytes.items old.ring.items (length bytes.items) count;
       used = kept.used ∙ sym (ap held_bytes same);
       fits = omega (arith, empty);
+      few = omega (arith, ap (λ (t : List ℕ). length t) gone);
     }
 
 -- more slots from the front are known to be empty
@@ -254,6 +261,7 @@ kept_clear old clear kept empty = record {
   within = kept.within;
   used = kept.used;
   fits = kept.fits;
+  few = kept.few;
 }
 
 -- the messages joined, and their spans closed up
@@ -292,4 +300,5 @@ kept_packed old ring bytes kept is joins =
           (omega (arith, joined_held old.bytes.items old.ring.items kept.within, kept.used, long)));
       used = kept.used ∙ sym (ap held_bytes same);
       fits = omega (arith, long);
+      few = omega (arith, long, kept.fits, kept.few);
     }

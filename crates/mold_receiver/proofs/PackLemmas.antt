@@ -1,10 +1,10 @@
 -- Messages that are packed: they are joined, and their spans lie one behind the other.
 use Rattle.std.proofs.Common.{◌≡◌, ℕ, zero, suc, ◌+◌, ◌-◌, ◌<◌, ◌≤◌, List, [], ◌∷◌, ◌++◌, length, take, drop, slice_set}
 use Rattle.std.proofs.Common.{length-append, append_assoc, add-one, refl, sym, ap, subst, ◌∙◌, arith}
-use Rattle.std.specs.Prelude.{Option, None, Some, slice_get}
+use Rattle.std.specs.Prelude.{Option, None, Some}
 use Rattle.std.proofs.lemmas.List.{append-nil, length-drop, length-take-le, take_at, drop_at}
 use Rattle.mold_receiver.specs.declared.span.Span.{Span}
-use Rattle.mold_receiver.specs.Shelf.{AreNoneFrom, AreOrdered, AreWithin, closed_up, joined, joined_length, message_in}
+use Rattle.mold_receiver.specs.Shelf.{AreNoneFrom, AreWithin, closed_up, joined, joined_length, message_in}
 use Rattle.mold_receiver.specs.Shelf.{moved_to, size_of, slots_in, span_at}
 use Rattle.mold_receiver.specs.Slots.{Slot, held_bytes, slot_at}
 use Rattle.mold_receiver.specs.Store.{Message}

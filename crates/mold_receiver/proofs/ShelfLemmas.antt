@@ -1,13 +1,13 @@
 -- Spans, and the slots that they stand for.
-use Rattle.std.proofs.Common.{◌≡◌, ℕ, zero, suc, ◌+◌, ◌-◌, ◌<◌, ◌≤◌, List, [], ◌∷◌, ◌++◌, length, take, drop, slice_set}
-use Rattle.std.proofs.Common.{length-append, append_assoc, refl, sym, ap, subst, ◌∙◌, inl, inr, arith}
-use Rattle.std.specs.Prelude.{Option, None, Some, slice_get}
-use Rattle.std.specs.Option.{option_flatten, option_map}
+use Rattle.std.proofs.Common.{◌≡◌, ℕ, zero, suc, ◌-◌, ◌<◌, ◌≤◌, List, [], ◌∷◌, ◌++◌, length, take, drop, slice_set}
+use Rattle.std.proofs.Common.{refl, sym, ap, subst, ◌∙◌, inl, inr, arith}
+use Rattle.std.specs.Prelude.{Option, None, Some}
+use Rattle.std.specs.Option.{option_map}
 use Rattle.std.proofs.lemmas.Bool.{cases_eq}
-use Rattle.std.proofs.lemmas.List.{length-take-le, length-drop, take-append-le, drop-append-le, take_at, drop_at}
+use Rattle.std.proofs.lemmas.List.{length-take-le, length-drop, take-append-le, drop-append-le}
 use Rattle.mold_receiver.specs.declared.span.Span.{Span}
-use Rattle.mold_receiver.specs.Shelf.{AreNoneFrom, AreOrdered, AreWithin, closed_up, joined, joined_length, message_in}
-use Rattle.mold_receiver.specs.Shelf.{moved_to, size_of, slots_in, span_at}
+use Rattle.mold_receiver.specs.Shelf.{AreWithin, joined_length, message_in}
+use Rattle.mold_receiver.specs.Shelf.{slots_in, span_at}
 use Rattle.mold_receiver.specs.Slots.{Slot, count_held, held_bytes, slot_at}
 use Rattle.mold_receiver.specs.Store.{Message}
 use Rattle.mold_receiver.proofs.SlotLemmas.{all_empty}

@@ -1,5 +1,5 @@
 -- A gap store whose messages lie in bytes that they share.
-use Rattle.std.specs.Prelude.{◌≡◌, ℕ, ◌-◌, ◌+◌, ◌≤◌, List, [], ◌∷◌, ◌++◌, Option, None, Some, length, take, drop, slice_get}
+use Rattle.std.specs.Prelude.{◌≡◌, ℕ, ◌-◌, ◌+◌, ◌<◌, ◌≤◌, ◌^◌, List, [], ◌∷◌, ◌++◌, Option, None, Some, length, take, drop, slice_get}
 use Rattle.std.specs.Option.{option_flatten}
 use Rattle.mold_receiver.specs.declared.span.Span.{Span}
 use Rattle.mold_receiver.specs.declared.shelf.Shelf.{Shelf}
@@ -27,12 +27,14 @@ abbrev pub AreWithin : List (Option Span) → ℕ → Type 0
 AreWithin spans total =
     (i : ℕ) (span : Span) → span_at spans i ≡ Some span → (span.start ≤ span.end) × (span.end ≤ total)
 
--- the slots are as they should be, each message lies within the bytes, and so many bytes the messages have together
+-- the slots are as they should be, each message lies within the bytes, so many bytes the messages have together, and
+-- there are few enough for places of 32 bits
 pub record IsKept (shelf : Shelf) : Type 0 where
   pub slots : AreSlots (slots_on shelf) shelf.ring.capacity shelf.held shelf.clear shelf.reach
   pub within : AreWithin shelf.ring.items (length shelf.bytes.items)
   pub used : shelf.used ≡ held_bytes (slots_on shelf)
   pub fits : shelf.used ≤ length shelf.bytes.items
+  pub few : length shelf.bytes.items < 2 ^ 32
 
 -- the messages in slots, joined
 abbrev pub joined : List Slot → List ℕ

@@ -32,7 +32,6 @@ fn mark_blocks(shelf: &mut Shelf, first: u64, begin: usize, blocks: &Blocks<'_>)
     requires numbered { first + length blocks.now < 2 ^ 64 }
     requires few { length blocks.now < 65535 }
     requires behind { shelf.old.used ≤ begin }
-    requires fits { length shelf.old.bytes.items < 2 ^ 64 }
     requires there { drop begin shelf.old.bytes.items ≡ packed blocks.now }
     ensures kept { IsKept shelf.new }
     ensures filled { slots_on shelf.new ≡ filled (slots_on shelf.old) first blocks.now }
@@ -44,7 +43,11 @@ fn mark_blocks(shelf: &mut Shelf, first: u64, begin: usize, blocks: &Blocks<'_>)
     for message in blocks.iter() {
         let start = at + LENGTH_BYTES;
         at = start + message.len();
-        if shelf.mark_free(slot, Span { start, end: at }) {
+        let span = Span {
+            start: start as u32,
+            end: at as u32,
+        };
+        if shelf.mark_free(slot, span) {
             count += 1;
         }
         slot += 1;

@@ -56,10 +56,10 @@ pub(crate) fn write(ring: &mut HeapCircularBuffer<Option<Span>>, slot: usize, sp
 }
 
 // Writes the span of a slot that is as long, and begins at a place; where that ends.
-fn move_span(ring: &mut HeapCircularBuffer<Option<Span>>, slot: usize, at: usize) -> usize
+fn move_span(ring: &mut HeapCircularBuffer<Option<Span>>, slot: usize, at: u32) -> u32
     requires there { slot < length ring.old.items }
     requires ordered { (span : Span) → span_at ring.old.items slot ≡ Some span → span.start ≤ span.end }
-    requires fits { at + size_of (span_at ring.old.items slot) < 2 ^ 64 }
+    requires fits { at + size_of (span_at ring.old.items slot) < 2 ^ 32 }
     ensures moved { ring.new ≡ record ring.old {
       items = slice_set ring.old.items slot (moved_to at (span_at ring.old.items slot));
     } }
@@ -80,7 +80,7 @@ pub(crate) fn close_up(ring: &mut HeapCircularBuffer<Option<Span>>, reach: usize
     requires within { reach ≤ length ring.old.items }
     requires none { AreNoneFrom reach ring.old.items }
     requires ordered { AreOrdered ring.old.items }
-    requires fits { joined_length ring.old.items < 2 ^ 64 }
+    requires fits { joined_length ring.old.items < 2 ^ 32 }
     ensures { ring.new ≡ record ring.old { items = closed_up 0 ring.old.items } }
 {
     let mut at = 0;

@@ -12,6 +12,9 @@ use crate::span::Span;
 use circular_buffer::HeapCircularBuffer;
 use std::alloc::{AllocError, Global};
 
+// The most bytes: a place is a number of 32 bits.
+const MOST_BYTES: usize = u32::MAX as usize;
+
 // So many bytes that belong to no message are borne at least.
 const LEAST_WASTE: usize = 65536;
 
@@ -28,7 +31,7 @@ fn clear_with(clear: usize, held: u32, slot: usize) -> usize
 
 /// As many slots as a receiver's window, each empty or with a message. The messages lie in one list of bytes,
 /// as they came in their packets, and a slot has the place. The ring is made once. The bytes grow with what
-/// is stored, and keep their room.
+/// is stored, to less than 4 GiB, and keep their room.
 #[derive(Debug, Drop)]
 pub(crate) struct Shelf {
     ring: HeapCircularBuffer<Option<Span>>,
@@ -85,7 +88,7 @@ impl Shelf {
         ensures { option_copied result ≡ slot_at (slots_on self.now) slot }
     {
         match span_in(&self.ring, slot) {
-            Some(span) => Some(&self.bytes[span.start..span.end]),
+            Some(span) => Some(&self.bytes[span.start as usize..span.end as usize]),
             None => None,
         }
     }
@@ -105,7 +108,7 @@ impl Shelf {
     }
 
     /// Copies bytes behind the others, of which `mark` makes messages, and tells where they begin. An error
-    /// comes where a growth is refused; the slots are then as before.
+    /// comes where a growth is refused, or would reach 4 GiB; the slots are then as before.
     pub(crate) fn append(&mut self, bytes: &[u8]) -> Result<usize, AllocError>
         requires { IsKept self.old }
         ensures kept { IsKept self.new }
@@ -113,9 +116,11 @@ impl Shelf {
         ensures begin { IfOk result (λ begin. begin ≡ length self.old.bytes.items) }
         ensures added { OnOk result (self.new.bytes.items ≡ self.old.bytes.items ++ bytes.now) }
         ensures used { self.new.used ≤ length self.old.bytes.items }
-        ensures fits { length self.new.bytes.items < 2 ^ 64 }
     {
         let begin = self.bytes.len();
+        if bytes.len() > MOST_BYTES - begin {
+            return Err(AllocError);
+        }
         self.bytes.extend_from_slice(bytes)?;
         Ok(begin)
     }
@@ -136,7 +141,7 @@ impl Shelf {
         self.clear = clear_with(self.clear, self.held, slot);
         self.reach = self.reach.max(slot + 1);
         self.held += 1;
-        self.used += span.end - span.start;
+        self.used += (span.end - span.start) as usize;
         write(&mut self.ring, slot, span);
     }
 
@@ -164,8 +169,7 @@ impl Shelf {
     // The messages, joined.
     fn gather(&self, alloc: Global) -> Result<Vec<u8>, AllocError>
         requires { IsKept self.now }
-        ensures joined { IfOk result (λ packed. packed.items ≡ joined (slots_on self.now)) }
-        ensures fits { self.now.used < 2 ^ 64 }
+        ensures { IfOk result (λ packed. packed.items ≡ joined (slots_on self.now)) }
     {
         let mut packed = Vec::with_capacity(alloc, self.bytes.len())?;
         for slot in 0..self.reach {
@@ -218,7 +222,7 @@ impl Shelf {
         match advance(&mut self.ring) {
             Some(span) => {
                 self.held -= 1;
-                self.used -= span.end - span.start;
+                self.used -= (span.end - span.start) as usize;
             }
             None => {}
         }

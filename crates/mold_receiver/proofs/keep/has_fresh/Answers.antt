@@ -1,8 +1,8 @@
-use Rattle.std.proofs.Common.{◌≡◌, ◌+◌, ◌<◌, ◌∷◌, List, ℕ, length, refl, sym, ap, ◌∙◌, arith}
+use Rattle.std.proofs.Common.{◌≡◌, ◌∷◌, List, ℕ, length, refl, sym, ap, ◌∙◌, arith}
 use Rattle.mold_receiver.specs.Keeping.{fresh}
 use Rattle.mold_receiver.specs.Shelf.{slots_on}
 use Rattle.mold_receiver.specs.Store.{Message}
-use Rattle.mold_receiver.proofs.KeepLemmas.{fresh_later, fresh_some}
+use Rattle.mold_receiver.proofs.KeepLemmas.{fresh_some}
 use Rattle.mold_receiver.proofs.keep.has_fresh.Goals as goal
 
 pub returns-then-is_free : goal.returns-then-is_free

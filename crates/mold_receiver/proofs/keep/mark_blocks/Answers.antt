@@ -1,8 +1,8 @@
-use Rattle.std.proofs.Common.{◌≡◌, ℕ, suc, ◌+◌, ◌-◌, ◌<◌, ◌∷◌, [], List, length, take, drop, cond, Bool, ap, sym, subst, ◌∙◌, arith}
-use Rattle.std.proofs.Common.{add-one, true, false}
+use Rattle.std.proofs.Common.{◌≡◌, ℕ, suc, ◌+◌, ◌-◌, ◌∷◌, List, length, take, drop, cond, Bool, ap, sym, ◌∙◌, arith}
+use Rattle.std.proofs.Common.{add-one}
 use Rattle.mold_wire.specs.Block.{blocks}
 use Rattle.mold_receiver.specs.Keeping.{filled, fresh, is_fresh, put_fresh}
-use Rattle.mold_receiver.specs.Shelf.{message_in, slots_on}
+use Rattle.mold_receiver.specs.Shelf.{slots_on}
 use Rattle.mold_receiver.specs.Slots.{Slot}
 use Rattle.mold_receiver.specs.Store.{Message}
 use Rattle.mold_receiver.proofs.KeepLemmas.{count_fresh, fresh_some}
@@ -10,6 +10,26 @@ use Rattle.mold_receiver.proofs.AboveLemmas.{fresh_short}
 use Rattle.mold_receiver.proofs.MarkLemmas.{is_there}
 use Rattle.mold_receiver.proofs.keep.mark_blocks.Goals.{then-mark_free, else-mark_free}
 use Rattle.mold_receiver.proofs.keep.mark_blocks.Goals as goal
+
+pub overflow_cast-span : goal.overflow_cast-span
+overflow_cast-span c =
+    let i = c.loop-message.invariant in
+    omega (
+      arith,
+      (is_there c.loop-message.shelf.bytes.items c.loop-message.at c.in-Some.message.now c.next.new.self
+          (i.there ∙ ap blocks c.in-Some.ensures.steps)).within,
+      i.kept.few,
+    )
+
+pub overflow_cast-span-in-loop-message : goal.overflow_cast-span-in-loop-message
+overflow_cast-span-in-loop-message c =
+    let i = c.loop-message.invariant in
+    omega (
+      arith,
+      (is_there c.loop-message.shelf.bytes.items c.loop-message.at c.in-Some.message.now c.next.new.self
+          (i.there ∙ ap blocks c.in-Some.ensures.steps)).within,
+      i.kept.few,
+    )
 
 pub mark_free-requires-clause-within : goal.mark_free-requires-clause-within
 mark_free-requires-clause-within c =

@@ -1,4 +1,4 @@
-use Rattle.std.proofs.Common.{◌≡◌, ◌+◌, ◌++◌, ℕ, List, Option, Some, length, take, drop, slice_set, sym, ap, ◌∙◌, arith}
+use Rattle.std.proofs.Common.{◌≡◌, ◌+◌, ◌++◌, Option, length, take, drop, slice_set, sym, ap, ◌∙◌, arith}
 use Rattle.circular_buffer.specs.Buffer.{Buffer}
 use Rattle.mold_receiver.specs.declared.span.Span.{Span}
 use Rattle.mold_receiver.specs.Shelf.{closed_up, moved_to, size_of, span_at}

@@ -1,5 +1,4 @@
 use Rattle.std.proofs.Common.{◌≡◌, None, Option, slice_set, sym, ap, ◌∙◌}
-use Rattle.circular_buffer.specs.Buffer.{Buffer}
 use Rattle.mold_receiver.specs.declared.span.Span.{Span}
 use Rattle.mold_receiver.specs.Shelf.{moved_to, span_at}
 use Rattle.mold_receiver.proofs.ShelfLemmas.{set_none}

@@ -1,11 +1,11 @@
-use Rattle.std.proofs.Common.{◌≡◌, ℕ, ◌+◌, ◌-◌, ◌<◌, max, List, [], length, subst, sym, ap, ◌∙◌, arith, None, refl}
+use Rattle.std.proofs.Common.{◌≡◌, ◌+◌, ◌-◌, ◌<◌, max, [], length, subst, sym, ap, ◌∙◌, arith, None, refl}
 use Rattle.std.specs.Prelude.{Result, Ok, Err, OnErr}
 use Rattle.mold_wire.specs.declared.packet.Body.TheVariants.{Data}
 use Rattle.mold_receiver.specs.declared.taken.Taken.{Taken}
 use Rattle.mold_receiver.specs.Keeping.{fresh}
 use Rattle.mold_receiver.specs.Receive.{TakesMemory, data_packet, handed_on, view_after, taken_of}
 use Rattle.mold_rule.specs.Refusals.{past_end}
-use Rattle.mold_receiver.specs.Store.{Message, first_conflict, from_next}
+use Rattle.mold_receiver.specs.Store.{first_conflict, from_next}
 use Rattle.mold_receiver.specs.View.{View, IsWellFormed, view_over}
 use Rattle.mold_receiver.proofs.ViewLemmas.{stays_well}
 use Rattle.mold_receiver.proofs.AboveLemmas.{above_handed, kept_view, ahead_taken}

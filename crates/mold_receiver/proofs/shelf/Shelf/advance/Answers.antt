@@ -1,4 +1,4 @@
-use Rattle.std.proofs.Common.{sym, arith}
+use Rattle.std.proofs.Common.{sym}
 use Rattle.mold_receiver.proofs.KeptLemmas.{kept_moved_none, kept_moved_some}
 use Rattle.mold_receiver.proofs.shelf.Shelf.advance.Goals as goal
 

@@ -1,4 +1,4 @@
-use Rattle.std.proofs.Common.{◌≡◌, ◌+◌, ◌++◌, ℕ, List, Vec, Global, take, ap, sym, ◌∙◌, arith}
+use Rattle.std.proofs.Common.{◌≡◌, ◌++◌, ℕ, List, Vec, Global, take, ap, sym, ◌∙◌, arith}
 use Rattle.mold_receiver.specs.Shelf.{joined, slots_on}
 use Rattle.mold_receiver.proofs.PackLemmas.{joined_front, joined_more, joined_same}
 use Rattle.mold_receiver.proofs.shelf.Shelf.gather.Goals.{in-Some+in_ok-extend_from_slice, in_default}
@@ -20,8 +20,8 @@ loop-slot-preserved c =
           ∙ sym (joined_same slots slot (sym w.in_default.ensures))
     ]
 
-pub returns-clause-joined : goal.returns-clause-joined
-returns-clause-joined c =
+pub returns : goal.returns
+returns c =
     let slots = slots_on c.args.self.now in
     let end : c.loop-slot.slot ≡ c.args.self.now.reach = omega arith in
     c.loop-slot.invariant

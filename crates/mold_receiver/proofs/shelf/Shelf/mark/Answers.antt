@@ -1,5 +1,5 @@
-use Rattle.std.proofs.Common.{◌≡◌, ◌+◌, arith}
-use Rattle.mold_receiver.specs.Shelf.{IsKept, slots_on}
+use Rattle.std.proofs.Common.{arith}
+use Rattle.mold_receiver.specs.Shelf.{slots_on}
 use Rattle.mold_receiver.proofs.KeptLemmas.{kept_put, put_on}
 use Rattle.mold_receiver.proofs.SlotLemmas.{count_within}
 use Rattle.mold_receiver.proofs.shelf.Shelf.mark.Goals as goal

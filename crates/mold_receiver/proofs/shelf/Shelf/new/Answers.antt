@@ -9,6 +9,7 @@ use Rattle.mold_receiver.proofs.shelf.Shelf.new.Goals as goal
 pub returns-clause-kept : goal.returns-clause-kept
 returns-clause-kept c =
     kept_new c.in_ok-ring.ring c.new.result c.args.window c.requires.some c.requires.few c.in_ok-ring.ensures
+    c.new.ensures.items
 
 pub returns-clause-empty : goal.returns-clause-empty
 returns-clause-empty c =

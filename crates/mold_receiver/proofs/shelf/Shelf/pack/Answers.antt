@@ -13,16 +13,17 @@ close_up-requires-clause-fits c =
       arith,
       joined_held c.args.self.now.bytes.items c.args.self.now.ring.items c.requires.within,
       c.requires.used,
-      c.in_ok-packed.ensures.fits,
+      c.requires.fits,
+      c.requires.few,
     )
 
 pub returns-clause-kept : goal.returns-clause-kept
 returns-clause-kept c =
-    kept_packed c.args.self.now c.close_up.new.ring c.in_ok-packed.packed c.requires c.close_up.ensures c.in_ok-packed.ensures.joined
+    kept_packed c.args.self.now c.close_up.new.ring c.in_ok-packed.packed c.requires c.close_up.ensures c.in_ok-packed.ensures
 
 pub returns-clause-same : goal.returns-clause-same
 returns-clause-same c =
-    packed_on c.args.self.now c.close_up.new.ring c.in_ok-packed.packed c.requires c.close_up.ensures c.in_ok-packed.ensures.joined
+    packed_on c.args.self.now c.close_up.new.ring c.in_ok-packed.packed c.requires c.close_up.ensures c.in_ok-packed.ensures
 
 pub returns-clause-tight : goal.returns-clause-tight
-returns-clause-tight c = packed_length c.args.self.now c.in_ok-packed.packed c.requires c.in_ok-packed.ensures.joined
+returns-clause-tight c = packed_length c.args.self.now c.in_ok-packed.packed c.requires c.in_ok-packed.ensures
