@@ -2,6 +2,7 @@
 //! what is proved of the crates below.
 #![tactic(auto)]
 
+mod checker_calls;
 mod code;
 mod exchange;
 mod free;
@@ -13,6 +14,8 @@ mod listener_reads;
 mod listener_tells;
 mod mold_handle;
 mod parts;
+mod range;
 mod report;
 mod serving;
 mod told;
+mod verdict;
