@@ -8,6 +8,7 @@ mod exchange;
 mod free;
 mod handle;
 mod held;
+pub mod laws;
 mod listener;
 mod listener_calls;
 mod listener_reads;
