@@ -1,6 +1,6 @@
 -- Places that are written one by one, from the first on, with what a list has there.
-use Rattle.std.proofs.Common.{◌≡◌, ℕ, suc, zero, ◌+◌, ◌<◌, List, [], ◌∷◌, ◌++◌, map, length, take, drop, set, refl, sym, ap, ◌∙◌, subst, arith, lt-suc_self}
-use Rattle.std.proofs.lemmas.List.{map-append, take_more_set, drop-set-lt}
+use Rattle.std.proofs.Common.{◌≡◌, ℕ, suc, zero, ◌+◌, ◌<◌, List, [], ◌∷◌, ◌++◌, map, length, take, drop, set, refl, sym, ap, ◌∙◌, subst, arith, lt-suc_self, take-suc, get_or}
+use Rattle.std.proofs.lemmas.List.{map-append, take_more_set, drop-set-lt, length-map, get_or-map}
 
 -- the front of a list and of what is left behind it
 front_more : {X : Type 0} (all rest : List X) (x : X) (n : ℕ) → drop n all ≡ x ∷ rest → take (suc n) all ≡ take n all ++ x ∷ []
@@ -25,13 +25,26 @@ drop_one_more : {X : Type 0} (n : ℕ) (one other : List X) → drop n one ≡ d
 drop_one_more n one other same = drop_one n one ∙ ap (drop 1) same ∙ sym (drop_one n other)
 
 -- a place that is written tells one element more
+told_one : {X Y : Type 0} (f : X → Y) (places : List X) (all : List Y) (x : X) (n : ℕ)
+    → map f (take n places) ≡ take n all → take (suc n) all ≡ take n all ++ f x ∷ [] → n < length places
+    → map f (take (n + 1) (set places n x)) ≡ take (n + 1) all
+told_one f places all x n told more room =
+    let one : suc n ≡ n + 1 = omega arith in
+    ap (map f) (take_more_set places n x room) ∙ map-append f (take n places) (x ∷ []) ∙ ap (λ l. l ++ f x ∷ []) told ∙ sym more ∙ ap (λ k. take k all) one
+
+-- the one that is left first
 pub told_more : {X Y : Type 0} (f : X → Y) (places : List X) (all rest : List Y) (x : X) (n : ℕ)
     → map f (take n places) ≡ take n all → drop n all ≡ f x ∷ rest → n < length places
     → map f (take (n + 1) (set places n x)) ≡ take (n + 1) all
-told_more f places all rest x n told left room =
-    let one : suc n ≡ n + 1 = omega arith in
-    ap (map f) (take_more_set places n x room) ∙ map-append f (take n places) (x ∷ []) ∙ ap (λ l. l ++ f x ∷ []) told ∙ sym (front_more all rest (f x) n left)
-    ∙ ap (λ k. take k all) one
+told_more f places all rest x n told left room = told_one f places all x n told (front_more all rest (f x) n left) room
+
+-- the one at the place's number
+pub told_at : {X Y Z : Type 0} (f : X → Y) (g : Z → Y) (places : List X) (all : List Z) (x : X) (d : Z) (n : ℕ)
+    → map f (take n places) ≡ take n (map g all) → f x ≡ g (get_or all n d) → n < length all → n < length places
+    → map f (take (n + 1) (set places n x)) ≡ take (n + 1) (map g all)
+told_at f g places all x d n told same there room =
+    let more = take-suc (map g all) n (g d) (subst (λ k. n < k) (sym (length-map all g)) there) in
+    told_one f places (map g all) x n told (more ∙ ap (λ y. take n (map g all) ++ y ∷ []) (get_or-map g all n d (g d) there ∙ sym same)) room
 
 -- the places behind it stay
 pub behind_less : {X : Type 0} (places old : List X) (x : X) (n : ℕ) → drop n places ≡ drop n old → drop (n + 1) (set places n x) ≡ drop (n + 1) old

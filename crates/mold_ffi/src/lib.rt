@@ -2,17 +2,21 @@
 //! what is proved of the crates below.
 #![tactic(auto)]
 
+mod checker_calls;
 mod code;
 mod exchange;
 mod free;
 mod handle;
 mod held;
+pub mod laws;
 mod listener;
 mod listener_calls;
 mod listener_reads;
 mod listener_tells;
 mod mold_handle;
 mod parts;
+mod range;
 mod report;
 mod serving;
 mod told;
+mod verdict;
