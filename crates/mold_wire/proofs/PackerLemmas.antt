@@ -2,7 +2,7 @@
 use Rattle.std.proofs.Common.{◌≡◌, ℕ, ◌+◌, ◌<◌, ◌≤◌, Bool, true, false, List, [], ◌∷◌, ◌++◌, length, length-append}
 use Rattle.std.proofs.Common.{take, drop, refl, sym, ap, subst, ◌∙◌, append_assoc, arith, lit<}
 use Rattle.std.specs.List.{AllByRecursion}
-use Rattle.std.proofs.lemmas.List.{take_at, drop_at, append-nil, length-take-le}
+use Rattle.std.proofs.lemmas.List.{take_at, drop_at, drop-drop, append-nil, length-take-le, length-drop}
 use Rattle.mold_wire.specs.declared.session.Session.{Session}
 use Rattle.mold_wire.specs.declared.header.Header.{Header}
 use Rattle.mold_wire.specs.declared.packet.Body.{Body}
@@ -331,6 +331,32 @@ packet_pushed session sequence count messages message packet rest items spells c
       is_packet = is;
       spelled = ap (λ (t : List ℕ). take size t) parts ∙ take_at (head ++ blocks all) rest size whole_length ∙ whole;
     }
+
+-- what stands behind a message that was written into a buffer is what stood there
+pub behind_added :
+    (used count : ℕ) (old new message : List ℕ) → 20 ≤ used → used ≤ length old →
+    new ≡ recounted count (take used old) ++ (block message ++ drop (length message) (drop 2 (drop used old))) →
+    drop (used + (2 + length message)) new ≡ drop (used + (2 + length message)) old
+behind_added used count old new message header within laid =
+    let packet : List ℕ = take used old in
+    let kept : List ℕ = drop (length message) (drop 2 (drop used old)) in
+    let long : length (recounted count packet) ≡ used =
+    omega (
+      arith,
+      length-append (take 18 packet) (be16 count ++ drop 2 (drop 18 packet)),
+      length-append (be16 count) (drop 2 (drop 18 packet)),
+      length-take-le used old within,
+      length-take-le 18 packet (omega (arith, length-take-le used old within)),
+      length-drop 18 packet,
+      length-drop 2 (drop 18 packet),
+    )
+    in
+    sym (drop-drop (2 + length message) used new)
+    ∙ ap (λ (t : List ℕ). drop (2 + length message) t)
+    (ap (λ (t : List ℕ). drop used t) laid ∙ drop_at (recounted count packet) (block message ++ kept) used long)
+    ∙ drop_at (block message) kept (2 + length message) (length-append (be16 (length message)) message)
+    ∙ drop-drop (length message) 2 (drop used old)
+    ∙ drop-drop (2 + length message) used old
 
 -- a message that was written behind an open packet is added to it
 pub added :

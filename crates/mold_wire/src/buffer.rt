@@ -78,6 +78,7 @@ pub fn add_in(buffer: &mut [u8], used: usize, count: u16, message: &[u8]) -> usi
     ensures used { result ≡ used + (2 + length message.now) }
     ensures written { buffer.new ≡ recounted (count + 1) (take used buffer.old)
         ++ (block message.now ++ drop (length message.now) (drop 2 (drop used buffer.old))) }
+    ensures behind { drop result buffer.new ≡ drop result buffer.old }
     ensures held { (begun : Begun) → Holds (over buffer.old used count true) begun →
         Holds (over buffer.new result (count + 1) true) (with_message message.now begun) }
 {
