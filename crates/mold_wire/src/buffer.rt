@@ -56,8 +56,9 @@ pub fn fits_in(buffer: &[u8], used: usize, is_open: bool, len: usize) -> bool
 /// how many it takes.
 pub fn start_in(buffer: &mut [u8], session: Session, sequence: u64) -> usize
     requires { IsLimit (length buffer.old) }
+    ensures used { result ≡ 20 }
     ensures held { Holds (over buffer.new result 0 true) (Open session sequence []) }
-    ensures behind { drop 20 buffer.new ≡ drop 20 buffer.old }
+    ensures behind { drop result buffer.new ≡ drop result buffer.old }
 {
     Header {
         session,
@@ -91,8 +92,9 @@ pub fn add_in(buffer: &mut [u8], used: usize, count: u16, message: &[u8]) -> usi
 /// Makes the front of the buffer an end packet, and leaves the bytes behind it. The answer is how many it takes.
 pub fn end_in(buffer: &mut [u8], session: Session, sequence: u64) -> usize
     requires { IsLimit (length buffer.old) }
+    ensures used { result ≡ 20 }
     ensures held { (count : ℕ) → Holds (over buffer.new result count false) (Ended session sequence) }
-    ensures behind { drop 20 buffer.new ≡ drop 20 buffer.old }
+    ensures behind { drop result buffer.new ≡ drop result buffer.old }
 {
     Header {
         session,

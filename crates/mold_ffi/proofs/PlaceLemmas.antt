@@ -1,0 +1,77 @@
+-- How an array is filled with what was found, one after the other.
+use Rattle.std.proofs.Common.{◌≡◌, ℕ, zero, suc, ◌+◌, ◌-◌, ◌≤◌, ◌<◌, List, [], ◌∷◌, ◌++◌, length, take, drop, slice_set, refl, sym, ap}
+use Rattle.std.proofs.Common.{◌∙◌, subst, arith}
+use Rattle.std.specs.List.{sum_by}
+use Rattle.std.proofs.lemmas.List.{append-nil}
+use Rattle.std.proofs.lemmas.List.Sums.{sum_by-cons}
+use Rattle.mold_wire.specs.Packing.{packet_length}
+use Rattle.mold_ffi.specs.declared.reading.MoldPlace.{MoldPlace}
+use Rattle.mold_ffi.specs.Reading.{places_of, written_front}
+
+-- an array with what is still found written from a place on
+abbrev pub written_from : ℕ → List MoldPlace → List MoldPlace → List MoldPlace
+written_from index found places = take index places ++ written_front found (drop index places)
+
+one_written :
+    (index : ℕ) (place : MoldPlace) (found places : List MoldPlace) → index < length places →
+    written_from (suc index) found (slice_set places index place) ≡ written_from index (place ∷ found) places
+one_written zero place found [] below = absurd (omega arith)
+one_written zero place found (old ∷ places) below = refl
+one_written (suc index) place found [] below = absurd (omega arith)
+one_written (suc index) place found (old ∷ places) below =
+    ap (λ (t : List MoldPlace). old ∷ t) (one_written index place found places (omega arith))
+
+drop_none : (number : ℕ) → drop {A = MoldPlace} number [] ≡ []
+drop_none zero = refl
+drop_none (suc number) = refl
+
+take_none : (number : ℕ) → take {A = MoldPlace} number [] ≡ []
+take_none zero = refl
+take_none (suc number) = refl
+
+all_written : (index : ℕ) (found places : List MoldPlace) → index ≡ length places → written_from index found places ≡ places
+all_written zero found [] full = drop_none (length found)
+all_written zero found (old ∷ places) full = absurd (omega arith)
+all_written (suc index) found [] full = absurd (omega arith)
+all_written (suc index) found (old ∷ places) full =
+    ap (λ (t : List MoldPlace). old ∷ t) (all_written index found places (omega arith))
+
+none_left : (index : ℕ) (places : List MoldPlace) → written_from index [] places ≡ places
+none_left zero places = ap (λ (t : List MoldPlace). t ++ places) (take_none (length places))
+none_left (suc index) [] = refl
+none_left (suc index) (old ∷ places) = ap (λ (t : List MoldPlace). old ∷ t) (none_left index places)
+
+-- what was written so far and what is still found are all the places; and where the blocks that are left begin
+pub record HasFilled (at filled : ℕ) (left : List (List ℕ)) (places : List MoldPlace) (blocks : List (List ℕ)) (old : List MoldPlace) : Type 0 where
+  pub told : written_from filled (places_of at left) places ≡ written_front (places_of 20 blocks) old
+  pub room : filled ≤ length places
+  pub bound : at + sum_by (λ message. 2 + length message) left ≡ packet_length blocks
+
+pub begun : (blocks : List (List ℕ)) (old : List MoldPlace) → HasFilled 20 0 blocks old blocks old
+unfolding packet_length
+begun blocks old = record { told = refl; room = omega arith; bound = refl }
+
+pub filled_more :
+    (at filled : ℕ) (message : List ℕ) (left : List (List ℕ)) (places : List MoldPlace) (blocks : List (List ℕ))
+    (old : List MoldPlace) → HasFilled at filled (message ∷ left) places blocks old → filled < length places →
+    HasFilled (at + (2 + length message)) (suc filled) left
+    (slice_set places filled (record { offset = at + 2; length = length message })) blocks old
+unfolding places_of
+filled_more at filled message left places blocks old has below = record {
+  told = one_written filled (record { offset = at + 2; length = length message }) (places_of (at + (2 + length message)) left) places below ∙ has.told;
+  room = omega (arith, length-slice_set places filled (record { offset = at + 2; length = length message }));
+  bound = omega (arith, has.bound, sum_by-cons (λ m. 2 + length m) message left);
+}
+
+pub filled_full :
+    (at filled : ℕ) (left : List (List ℕ)) (places : List MoldPlace) (blocks : List (List ℕ)) (old : List MoldPlace) →
+    HasFilled at filled left places blocks old → filled ≡ length places →
+    places ≡ written_front (places_of 20 blocks) old
+filled_full at filled left places blocks old has full =
+    sym (all_written filled (places_of at left) places full) ∙ has.told
+
+pub filled_all :
+    (at filled : ℕ) (places : List MoldPlace) (blocks : List (List ℕ)) (old : List MoldPlace) →
+    HasFilled at filled [] places blocks old → places ≡ written_front (places_of 20 blocks) old
+unfolding places_of
+filled_all at filled places blocks old has = sym (none_left filled places) ∙ has.told
