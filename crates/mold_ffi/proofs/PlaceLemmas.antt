@@ -1,8 +1,8 @@
 -- How an array is filled with what was found, one after the other.
-use Rattle.std.proofs.Common.{◌≡◌, ℕ, zero, suc, ◌+◌, ◌-◌, ◌≤◌, ◌<◌, List, [], ◌∷◌, ◌++◌, length, take, drop, slice_set, refl, sym, ap}
-use Rattle.std.proofs.Common.{◌∙◌, subst, arith}
+use Rattle.std.proofs.Common.{◌≡◌, ℕ, zero, suc, ◌+◌, ◌≤◌, ◌<◌, List, [], ◌∷◌, ◌++◌, length, take, drop, slice_set, refl, sym, ap}
+use Rattle.std.proofs.Common.{◌∙◌, arith}
 use Rattle.std.specs.List.{sum_by}
-use Rattle.std.proofs.lemmas.List.{append-nil}
+use Rattle.std.proofs.lemmas.List.{length-set}
 use Rattle.std.proofs.lemmas.List.Sums.{sum_by-cons}
 use Rattle.mold_wire.specs.Packing.{packet_length}
 use Rattle.mold_ffi.specs.declared.reading.MoldPlace.{MoldPlace}
@@ -54,14 +54,23 @@ begun blocks old = record { told = refl; room = omega arith; bound = refl }
 pub filled_more :
     (at filled : ℕ) (message : List ℕ) (left : List (List ℕ)) (places : List MoldPlace) (blocks : List (List ℕ))
     (old : List MoldPlace) → HasFilled at filled (message ∷ left) places blocks old → filled < length places →
-    HasFilled (at + (2 + length message)) (suc filled) left
+    HasFilled (at + 2 + length message) (filled + 1) left
     (slice_set places filled (record { offset = at + 2; length = length message })) blocks old
 unfolding places_of
-filled_more at filled message left places blocks old has below = record {
-  told = one_written filled (record { offset = at + 2; length = length message }) (places_of (at + (2 + length message)) left) places below ∙ has.told;
-  room = omega (arith, length-slice_set places filled (record { offset = at + 2; length = length message }));
-  bound = omega (arith, has.bound, sum_by-cons (λ m. 2 + length m) message left);
-}
+filled_more at filled message left places blocks old has below =
+    let place : MoldPlace = record { offset = at + 2; length = length message } in
+    let more : List MoldPlace = slice_set places filled place in
+    let next : suc filled ≡ filled + 1 = omega arith in
+    let behind : at + (2 + length message) ≡ at + 2 + length message = omega arith in
+    record {
+      told =
+          ap (λ (n : ℕ). written_from n (places_of (at + 2 + length message) left) more) (sym next)
+          ∙ ap (λ (n : ℕ). written_from (suc filled) (places_of n left) more) (sym behind)
+          ∙ one_written filled place (places_of (at + (2 + length message)) left) places below
+          ∙ has.told;
+      room = omega (arith, length-set places filled place);
+      bound = omega (arith, has.bound, sum_by-cons (λ m. 2 + length m) message left);
+    }
 
 pub filled_full :
     (at filled : ℕ) (left : List (List ℕ)) (places : List MoldPlace) (blocks : List (List ℕ)) (old : List MoldPlace) →
@@ -75,3 +84,8 @@ pub filled_all :
     HasFilled at filled [] places blocks old → places ≡ written_front (places_of 20 blocks) old
 unfolding places_of
 filled_all at filled places blocks old has = sym (none_left filled places) ∙ has.told
+
+-- where nothing was found nothing is written
+pub no_places : (old : List MoldPlace) → written_front (places_of 20 []) old ≡ old
+unfolding places_of
+no_places old = none_left 0 old

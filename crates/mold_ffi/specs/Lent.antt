@@ -1,5 +1,5 @@
 -- A packer over memory that the caller lends.
-use Rattle.std.specs.Prelude.{◌≡◌, ℕ, length, drop}
+use Rattle.std.specs.Prelude.{◌≡◌, length, drop}
 use Rattle.mold_wire.specs.Buffer.{Fields, over, Holds, CanHold}
 use Rattle.mold_wire.specs.Packer.{Begun}
 use Rattle.mold_ffi.specs.declared.packer.MoldPacker.{MoldPacker}

@@ -29,7 +29,12 @@ fn can_be(packer: &MoldPacker<'_>) -> bool
     ensures exact { IsTrue result ↔ CanBe (fields_of packer.now) }
     ensures held { (begun : Begun) → Holds (fields_of packer.now) begun → IsTrue result }
 {
-    can_hold(packer.buffer.len(), packer.used, packer.count, packer.is_open)
+    can_hold(
+        packer.buffer.len(),
+        packer.used,
+        packer.count,
+        packer.is_open,
+    )
 }
 
 // Whether a packet is open that leaves room in the buffer for one more message of so many bytes.
@@ -45,7 +50,11 @@ fn leaves_room(packer: &MoldPacker<'_>, len: usize) -> bool
 /// Opens a packet without messages, in place of what was there: a heartbeat, until a message is added. Code 4 where
 /// the buffer has no length that a datagram's limit may have, and then nothing changes.
 #[unsafe(no_mangle)]
-pub extern "C" fn mold_packer_start(packer: &mut MoldPacker<'_>, session: &[u8; 10], sequence: u64) -> u32
+pub extern "C" fn mold_packer_start(
+    packer: &mut MoldPacker<'_>,
+    session: &[u8; 10],
+    sequence: u64,
+) -> u32
     ensures started { IsLimit (length packer.old.buffer.now) → (result ≡ done)
         × Packs packer.old packer.new (Open (record { 0 = session.now }) sequence []) }
     ensures limit { ¬ IsLimit (length packer.old.buffer.now) → (result ≡ limit) × (packer.new ≡ packer.old) }
@@ -96,7 +105,11 @@ pub extern "C" fn mold_packer_add(packer: &mut MoldPacker<'_>, message: &[u8]) -
 /// Makes the bytes an end packet, in place of what was there, to which nothing can be added. Code 4 where the buffer
 /// has no length that a datagram's limit may have, and then nothing changes.
 #[unsafe(no_mangle)]
-pub extern "C" fn mold_packer_end(packer: &mut MoldPacker<'_>, session: &[u8; 10], sequence: u64) -> u32
+pub extern "C" fn mold_packer_end(
+    packer: &mut MoldPacker<'_>,
+    session: &[u8; 10],
+    sequence: u64,
+) -> u32
     ensures ended { IsLimit (length packer.old.buffer.now) → (result ≡ done)
         × Packs packer.old packer.new (Ended (record { 0 = session.now }) sequence) }
     ensures limit { ¬ IsLimit (length packer.old.buffer.now) → (result ≡ limit) × (packer.new ≡ packer.old) }

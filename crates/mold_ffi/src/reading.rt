@@ -118,6 +118,7 @@ pub extern "C" fn mold_decode(bytes: &[u8], packet: &mut MoldPacket) -> u32
 /// places than messages, these are the first ones; places behind the last message stay as they were, and after a
 /// refusal all of them.
 #[unsafe(no_mangle)]
+#[tactic(auto, using(crate::proofs::PlaceLemmas::no_places))]
 pub extern "C" fn mold_read(bytes: &[u8], packet: &mut MoldPacket, places: &mut [MoldPlace]) -> u32
     ensures code { result ≡ code_read (reading bytes.now) }
     ensures packet { packet.new ≡ packet_read (reading bytes.now) packet.old }

@@ -26,7 +26,14 @@ pub extern "C" fn mold_request_decode(bytes: &[u8], request: &mut MoldRequest) -
     ensures code { result ≡ code_asked (request_reading bytes.now) }
     ensures request { request.new ≡ request_asked (request_reading bytes.now) request.old }
 {
-    let Ok(Request { session, sequence, count }) = Request::decode(bytes) else {
+    let Ok(
+        Request {
+            session,
+            sequence,
+            count,
+        },
+    ) = Request::decode(bytes)
+    else {
         return REQUEST_LENGTH;
     };
     let session = session.0;
@@ -43,7 +50,11 @@ pub extern "C" fn mold_request_decode(bytes: &[u8], request: &mut MoldRequest) -
 pub extern "C" fn mold_request_encode(request: &MoldRequest, bytes: &mut [u8; 20])
     ensures { SpellsRequest (request_of request.now) bytes.new }
 {
-    let MoldRequest { sequence, count, session } = *request;
+    let MoldRequest {
+        sequence,
+        count,
+        session,
+    } = *request;
     let asked = Request {
         session: Session(session),
         sequence,

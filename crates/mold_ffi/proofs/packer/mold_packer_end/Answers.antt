@@ -3,5 +3,6 @@ use Rattle.mold_ffi.proofs.packer.mold_packer_end.Goals as goal
 
 pub returns-clause-ended : goal.returns-clause-ended
 returns-clause-ended c is_limit = (
-  refl, record { holds = c.end_in-packer.ensures.held 0; limit = omega arith; behind = c.end_in-packer.ensures.behind },
+  refl,
+  record { holds = c.end_in-packer.ensures.held 0; limit = omega arith; behind = c.end_in-packer.ensures.behind },
 )
