@@ -1,4 +1,6 @@
 -- How an array is filled with what was found, one after the other.
+use Rattle.std.specs.Option.{unwrap_or}
+use Rattle.std.proofs.Common.{Option, Some, slice_get, length-append}
 use Rattle.std.proofs.Common.{◌≡◌, ℕ, zero, suc, ◌+◌, ◌≤◌, ◌<◌, List, [], ◌∷◌, ◌++◌, length, take, drop, slice_set, refl, sym, ap}
 use Rattle.std.proofs.Common.{◌∙◌, arith}
 use Rattle.std.specs.List.{sum_by}
@@ -89,3 +91,71 @@ filled_all at filled places blocks old has = sym (none_left filled places) ∙ h
 pub no_places : (old : List MoldPlace) → written_front (places_of 20 []) old ≡ old
 unfolding places_of
 no_places old = none_left 0 old
+
+length-places : (at : ℕ) (messages : List (List ℕ)) → length (places_of at messages) ≡ length messages
+unfolding places_of
+length-places at [] = refl
+length-places at (message ∷ messages) = ap suc (length-places (at + (2 + length message)) messages)
+
+abbrev place_at : ℕ → ℕ → MoldPlace
+place_at offset len = record { offset = offset; length = len }
+
+-- the place of a message, as it is found
+place_found :
+    (at : ℕ) (before behind : List (List ℕ)) (message : List ℕ) →
+    slice_get (places_of at (before ++ message ∷ behind)) (length before)
+    ≡ Some (record { offset = at + sum_by (λ m. 2 + length m) before + 2; length = length message })
+unfolding places_of
+place_found at [] behind message =
+    ap (λ (p : MoldPlace). Some p)
+    (ap (λ (n : ℕ). place_at n (length message)) (omega arith))
+place_found at (first ∷ before) behind message =
+    place_found (at + (2 + length first)) before behind message
+    ∙ ap (λ (p : MoldPlace). Some p)
+    (ap (λ (n : ℕ). place_at n (length message)) (omega (arith, sum_by-cons (λ m. 2 + length m) first before)))
+
+-- what is written over the front is found there, and behind it what stood there
+get_written :
+    (i : ℕ) (found old : List MoldPlace) → i < length found → i < length old →
+    slice_get (written_front found old) i ≡ slice_get found i
+get_written i [] old some room = absurd (omega arith)
+get_written i (place ∷ found) [] some room = absurd (omega arith)
+get_written zero (place ∷ found) (first ∷ old) some room = refl
+get_written (suc i) (place ∷ found) (first ∷ old) some room = get_written i found old (omega arith) (omega arith)
+
+get_kept :
+    (i : ℕ) (found old : List MoldPlace) → length found ≤ i → slice_get (written_front found old) i ≡ slice_get old i
+get_kept i [] old behind = ap (λ (t : List MoldPlace). slice_get t i) (none_left 0 old)
+get_kept i (place ∷ found) [] behind = refl
+get_kept zero (place ∷ found) (first ∷ old) behind = absurd (omega arith)
+get_kept (suc i) (place ∷ found) (first ∷ old) behind = get_kept i found old (omega arith)
+
+-- a packet's messages have their places in the array, as far as it goes
+pub placed :
+    (messages before behind : List (List ℕ)) (message : List ℕ) (old : List MoldPlace) →
+    messages ≡ before ++ message ∷ behind → length before < length old →
+    slice_get (written_front (places_of 20 messages) old) (length before)
+    ≡ Some (record { offset = packet_length before + 2; length = length message })
+unfolding packet_length
+placed messages before behind message old parts room =
+    get_written (length before) (places_of 20 messages) old
+    (omega (arith, length-places 20 messages, ap (λ (t : List (List ℕ)). length t) parts, length-append before (message ∷ behind)))
+    room
+    ∙ ap (λ (t : List (List ℕ)). slice_get (places_of 20 t) (length before)) parts
+    ∙ place_found 20 before behind message
+
+pub kept :
+    (messages : List (List ℕ)) (old : List MoldPlace) (i : ℕ) → length messages ≤ i →
+    slice_get (written_front (places_of 20 messages) old) i ≡ slice_get old i
+kept messages old i behind = get_kept i (places_of 20 messages) old (omega (arith, length-places 20 messages))
+
+some_is : (one other : MoldPlace) → Some one ≡ Some other → one ≡ other
+some_is one other same = ap (λ (found : Option MoldPlace). unwrap_or found one) same
+
+pub lies_there :
+    (bytes : List ℕ) (at : ℕ) (message : List ℕ) (place : MoldPlace) →
+    Some place ≡ Some (record { offset = at; length = length message }) →
+    take (length message) (drop at bytes) ≡ message → take place.length (drop place.offset bytes) ≡ message
+lies_there bytes at message place found lies =
+    let is : place ≡ record { offset = at; length = length message } = some_is _ _ found in
+    ap (λ (p : MoldPlace). take p.length (drop p.offset bytes)) is ∙ lies

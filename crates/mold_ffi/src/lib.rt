@@ -7,6 +7,7 @@ mod exchange;
 mod free;
 mod handle;
 mod held;
+mod laws;
 mod listener;
 mod mold_handle;
 mod packer;
