@@ -1,3 +1,5 @@
 mod AsBox
+mod HearingLemmas
+mod LoanLemmas
 mod Walking
 mod PlaceLemmas

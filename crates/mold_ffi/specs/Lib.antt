@@ -1,6 +1,7 @@
 pub mod Codes
 pub mod Hearing
 pub mod Lending
+pub mod Listening
 pub mod Owned
 pub mod Lent
 pub mod Reading

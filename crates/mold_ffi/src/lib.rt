@@ -3,16 +3,23 @@
 #![tactic(auto)]
 
 mod code;
+#[cfg(test)]
+mod codec_tests;
 mod exchange;
 mod free;
 mod handle;
 mod held;
 mod laws;
 mod listener;
+mod listener_calls;
+mod listener_reads;
+mod listener_tells;
 mod mold_handle;
 mod packer;
 mod parts;
 mod reading;
+mod report;
 mod request;
 mod serving;
 mod text;
+mod told;
