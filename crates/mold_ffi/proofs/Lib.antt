@@ -3,3 +3,4 @@ mod CheckingLemmas
 mod HearingLemmas
 mod LoanLemmas
 mod Walking
+mod PlaceLemmas

@@ -4,3 +4,7 @@ pub mod Hearing
 pub mod Lending
 pub mod Listening
 pub mod Owned
+pub mod Lent
+pub mod Reading
+pub mod Requests
+pub mod Texts

@@ -1,14 +1,21 @@
-//! What holds of the definitions alone. Each law is a function that does nothing: its contract is the law.
+//! What holds of the calls' definitions. Each law is a function that does nothing: its contract is the law.
 
-ghost use Rattle.std.specs.Prelude.{◌≡◌, [], List, ℕ, length};
+ghost use Rattle.std.specs.Prelude.{◌≡◌, [], List, ℕ, length, ◌+◌, ◌<◌, ◌≤◌, ◌++◌, ◌∷◌, Some, take, drop, slice_get};
 ghost use Rattle.std.specs.List.{All};
 ghost use Rattle.mold_capture.specs.Consistent.{Consistent, Whole};
 ghost use Rattle.mold_capture.specs.Seen.{seen_of};
 ghost use Rattle.mold_ffi.specs.Checking.{AreTaken, TellsMissing, TellsWhole, said};
 ghost use Rattle.mold_ffi.specs.declared.verdict.MoldVerdict.{MoldVerdict};
 ghost use Rattle.mold_wire.specs.Block.{IsBytes};
+ghost use Rattle.mold_ffi.specs.Reading.{places_read};
+ghost use Rattle.mold_ffi.specs.declared.reading.MoldPlace.{MoldPlace};
+ghost use Rattle.mold_wire.specs.Packet.{Spells, messages_of};
+ghost use Rattle.mold_wire.specs.Packing.{packet_length};
+ghost use Rattle.mold_wire.specs.Reading.{reading};
+ghost use Rattle.mold_wire.specs.declared.packet.Packet.{Packet};
 
 use mold_capture::laws::{after_law, reason_law, whole_is_one_law};
+use mold_wire::laws::{message_place_law, reading_law};
 
 /// What a checker's verdict says of the datagrams that it took, one after the other, from a new one on: they are
 /// consistent; where it tells a whole session they are whole, by as many messages as it tells; where it tells that
@@ -27,4 +34,25 @@ pub fn checked_law()
     reason_law();
     after_law();
     whole_is_one_law();
+}
+
+/// What `mold_read` writes is where the messages lie. Each message has a place, as far as there are any: behind the
+/// header, the blocks before it and the two bytes of its own length. The bytes there are the message. Places behind
+/// the last message stay as they were.
+pub fn places_law()
+    ensures placed { (packet : Packet) (bytes : List ℕ) (before behind : List (List ℕ)) (message : List ℕ)
+        (old : List MoldPlace) → Spells packet bytes → messages_of packet.body ≡ before ++ message ∷ behind →
+        length before < length old → slice_get (places_read (reading bytes) old) (length before)
+        ≡ Some (record { offset = packet_length before + 2; length = length message }) }
+    ensures lies { (packet : Packet) (bytes : List ℕ) (before behind : List (List ℕ)) (message : List ℕ)
+        (old : List MoldPlace) (place : MoldPlace) →
+        Spells packet bytes → messages_of packet.body ≡ before ++ message ∷ behind → length before < length old →
+        slice_get (places_read (reading bytes) old) (length before) ≡ Some place →
+        take place.length (drop place.offset bytes) ≡ message }
+    ensures kept { (packet : Packet) (bytes : List ℕ) (old : List MoldPlace) (i : ℕ) →
+        Spells packet bytes → length (messages_of packet.body) ≤ i →
+        slice_get (places_read (reading bytes) old) i ≡ slice_get old i }
+{
+    reading_law();
+    message_place_law();
 }

@@ -4,6 +4,8 @@
 
 mod checker_calls;
 mod code;
+#[cfg(test)]
+mod codec_tests;
 mod exchange;
 mod free;
 mod handle;
@@ -14,9 +16,13 @@ mod listener_calls;
 mod listener_reads;
 mod listener_tells;
 mod mold_handle;
+mod packer;
 mod parts;
 mod range;
+mod reading;
 mod report;
+mod request;
 mod serving;
+mod text;
 mod told;
 mod verdict;

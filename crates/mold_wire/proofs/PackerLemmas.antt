@@ -2,7 +2,7 @@
 use Rattle.std.proofs.Common.{◌≡◌, ℕ, ◌+◌, ◌<◌, ◌≤◌, Bool, true, false, List, [], ◌∷◌, ◌++◌, length, length-append}
 use Rattle.std.proofs.Common.{take, drop, refl, sym, ap, subst, ◌∙◌, append_assoc, arith, lit<}
 use Rattle.std.specs.List.{AllByRecursion}
-use Rattle.std.proofs.lemmas.List.{take_at, drop_at, append-nil, length-take-le}
+use Rattle.std.proofs.lemmas.List.{take_at, drop_at, drop-drop, append-nil, length-take-le, length-drop}
 use Rattle.mold_wire.specs.declared.session.Session.{Session}
 use Rattle.mold_wire.specs.declared.header.Header.{Header}
 use Rattle.mold_wire.specs.declared.packet.Body.{Body}
@@ -13,7 +13,7 @@ use Rattle.mold_wire.specs.Packet.{IsBody, IsPacket, Spells, count_of, messages_
 use Rattle.mold_wire.specs.Packing.{packet_length}
 use Rattle.mold_wire.specs.Packer.{Begun, Nothing, Open, Ended, PackerState, IsLimit, SpellsBegun, FitsBegun, HasRoom}
 use Rattle.mold_wire.specs.Packer.{with_message, body_with, open_packet, end_packet}
-use Rattle.mold_wire.specs.Buffer.{Fields, begun_of, begun_in, state_of, IsTold, Holds}
+use Rattle.mold_wire.specs.Buffer.{Fields, over, begun_of, begun_in, state_of, IsTold, Holds, CanHold}
 use Rattle.mold_wire.specs.Reading.{reading}
 use Rattle.mold_wire.proofs.ReadingLemmas.{reading-spelled}
 use Rattle.mold_wire.proofs.BlockLemmas.{blocks-append, each-append}
@@ -71,14 +71,11 @@ limit_shown : (fields : Fields) (seen_as : PackerState) → Shows fields seen_as
 limit_shown fields seen_as shown = subst (λ (s : PackerState). IsLimit s.limit) shown.seen shown.holds.limit
 
 -- a packer that was made has begun nothing
-abbrev pub made_of : List ℕ → Fields
-made_of items = record { items = items; used = 0; count = 0; is_open = false }
-
 pub made :
     (items : List ℕ) (limit : ℕ) → length items ≡ limit → IsLimit limit →
-    Shows (made_of items) (state limit Nothing)
+    Shows (over items 0 0 false) (state limit Nothing)
 made items limit long is_limit =
-    shows (made_of items) limit Nothing long
+    shows (over items 0 0 false) limit Nothing long
     (record {
       limit = subst (λ (n : ℕ). IsLimit n) (sym long) is_limit;
       within = omega arith;
@@ -94,89 +91,69 @@ written_over len new old = take len (new ++ drop (length new) old)
 all_written : (len : ℕ) (new old : List ℕ) → length new ≡ len → written_over len new old ≡ new
 all_written len new old long = take_at new (drop (length new) old) len long
 
+-- a buffer that was written over holds what was written
+pub shows_over :
+    (used count : ℕ) (is_open : Bool) (begun : Begun) (fields : Fields) (seen_as : PackerState) (len : ℕ)
+    (new : List ℕ) → Shows fields seen_as → length fields.items ≡ len → length new ≡ len →
+    Holds (over new used count is_open) begun →
+    Shows (over (written_over len new fields.items) used count is_open) (state seen_as.limit begun)
+shows_over used count is_open begun fields seen_as len new shown whole long holds =
+    let items : List ℕ = written_over len new fields.items in
+    let same : items ≡ new = all_written len new fields.items long in
+    shows (over items used count is_open) seen_as.limit begun
+    (ap (λ (t : List ℕ). length t) same ∙ long ∙ sym whole ∙ ap (λ (s : PackerState). s.limit) shown.seen)
+    (subst (λ (t : List ℕ). Holds (over t used count is_open) begun) (sym same) holds)
+
 abbrev pub header_of : Session → ℕ → ℕ → Header
 header_of session sequence count = record { session = session; sequence = sequence; count = count }
 
--- a header that was written over a buffer of as many bytes as the limit
-record IsWritten (header : Header) (limit : ℕ) (items : List ℕ) : Type 0 where
-  is_limit : IsLimit limit
-  long : length items ≡ limit
-  rest : List ℕ
-  stands : IsHeaderAndRest header items rest
-
-written :
-    (header : Header) (fields : Fields) (seen_as : PackerState) (len : ℕ) (new rest : List ℕ) → Shows fields seen_as →
-    length fields.items ≡ len → length new ≡ len → IsHeaderAndRest header new rest →
-    IsWritten header seen_as.limit (written_over len new fields.items)
-written header fields seen_as len new rest shown whole long stands =
-    let same : written_over len new fields.items ≡ new = all_written len new fields.items long in
-    record {
-      is_limit = limit_shown fields seen_as shown;
-      long =
-          ap (λ (t : List ℕ). length t) same ∙ long ∙ sym whole ∙ ap (λ (s : PackerState). s.limit) shown.seen;
-      rest = rest;
-      stands = subst (λ (t : List ℕ). IsHeaderAndRest header t rest) (sym same) stands;
-    }
+-- what stands behind a header
+pub behind_header :
+    (header : Header) (items rest : List ℕ) → IsHeaderAndRest header items rest → drop 20 items ≡ rest
+behind_header header items rest stands =
+    let head : List ℕ = header_bytes header.session.0 header.sequence header.count in
+    ap (λ (t : List ℕ). drop 20 t) stands.parts
+    ∙ drop_at head rest 20 (length-header_bytes header.session.0 header.sequence header.count stands.session)
 
 -- a header alone spells a packet without messages
 header_spells :
-    (session : Session) (sequence limit : ℕ) (body : Body) (items : List ℕ) →
-    IsWritten (header_of session sequence (count_of body)) limit items → IsBody body → messages_of body ≡ [] →
+    (session : Session) (sequence : ℕ) (body : Body) (items rest : List ℕ) →
+    IsHeaderAndRest (header_of session sequence (count_of body)) items rest → IsBody body → messages_of body ≡ [] →
     Spells (record { session = session; sequence = sequence; body = body }) (take 20 items)
-header_spells session sequence limit body items is is_body none =
+header_spells session sequence body items rest stands is_body none =
     let head : List ℕ = header_bytes session.0 sequence (count_of body) in
     record {
-      is_packet = record { session = is.stands.session; sequence = is.stands.sequence; body = is_body };
+      is_packet = record { session = stands.session; sequence = stands.sequence; body = is_body };
       spelled =
-          ap (λ (t : List ℕ). take 20 t) is.stands.parts
-          ∙ take-header_bytes session.0 sequence (count_of body) is.rest is.stands.session
+          ap (λ (t : List ℕ). take 20 t) stands.parts
+          ∙ take-header_bytes session.0 sequence (count_of body) rest stands.session
           ∙ sym (append-nil head)
           ∙ ap (λ (t : List (List ℕ)). head ++ blocks t) (sym none);
     }
 
 -- a header without messages is an open packet
-abbrev pub opened : List ℕ → Fields
-opened items = record { items = items; used = 20; count = 0; is_open = true }
-
 pub started :
-    (session : Session) (sequence : ℕ) (fields : Fields) (seen_as : PackerState) (len : ℕ) (new rest : List ℕ) →
-    Shows fields seen_as → length fields.items ≡ len → length new ≡ len →
-    IsHeaderAndRest (header_of session sequence 0) new rest →
-    Shows (opened (written_over len new fields.items)) (state seen_as.limit (Open session sequence []))
-started session sequence fields seen_as len new rest shown whole long stands =
-    let items : List ℕ = written_over len new fields.items in
-    let is : IsWritten (header_of session sequence 0) seen_as.limit items =
-    written (header_of session sequence 0) fields seen_as len new rest shown whole long stands
-    in
-    shows (opened items) seen_as.limit (Open session sequence []) is.long
-    (record {
-      limit = subst (λ (n : ℕ). IsLimit n) (sym is.long) is.is_limit;
-      within = omega (arith, is.long, is.is_limit.0);
-      told = (refl, refl);
-      spelled = header_spells session sequence seen_as.limit Heartbeat items is tt refl;
-    })
+    (session : Session) (sequence : ℕ) (items rest : List ℕ) → IsLimit (length items) →
+    IsHeaderAndRest (header_of session sequence 0) items rest →
+    Holds (over items 20 0 true) (Open session sequence [])
+started session sequence items rest is_limit stands = record {
+  limit = is_limit;
+  within = omega (arith, is_limit.0);
+  told = (refl, refl);
+  spelled = header_spells session sequence Heartbeat items rest stands tt refl;
+}
 
 -- and with the message count that ends a session it is an end packet
-abbrev pub closed : ℕ → List ℕ → Fields
-closed count items = record { items = items; used = 20; count = count; is_open = false }
-
 pub ended :
-    (session : Session) (sequence : ℕ) (fields : Fields) (seen_as : PackerState) (len : ℕ) (new rest : List ℕ) →
-    Shows fields seen_as → length fields.items ≡ len → length new ≡ len →
-    IsHeaderAndRest (header_of session sequence 65535) new rest →
-    Shows (closed fields.count (written_over len new fields.items)) (state seen_as.limit (Ended session sequence))
-ended session sequence fields seen_as len new rest shown whole long stands =
-    let items : List ℕ = written_over len new fields.items in
-    let is : IsWritten (header_of session sequence 65535) seen_as.limit items =
-    written (header_of session sequence 65535) fields seen_as len new rest shown whole long stands
-    in
-    shows (closed fields.count items) seen_as.limit (Ended session sequence) is.long
-    (record {
-      limit = subst (λ (n : ℕ). IsLimit n) (sym is.long) is.is_limit;
-      within = omega (arith, is.long, is.is_limit.0);
-      told = refl;
-      spelled = header_spells session sequence seen_as.limit End items is tt refl;
-    })
+    (session : Session) (sequence count : ℕ) (items rest : List ℕ) → IsLimit (length items) →
+    IsHeaderAndRest (header_of session sequence 65535) items rest →
+    Holds (over items 20 count false) (Ended session sequence)
+ended session sequence count items rest is_limit stands = record {
+  limit = is_limit;
+  within = omega (arith, is_limit.0);
+  told = refl;
+  spelled = header_spells session sequence End items rest stands tt refl;
+}
 
 -- the bytes that are used are as many as the open packet's messages take
 used_by :
@@ -187,7 +164,7 @@ used_by fields session sequence messages holds =
     ∙ sym (spelling_length (open_packet session sequence messages) (take fields.used fields.items) holds.spelled)
     ∙ length-take-le fields.used fields.items holds.within
 
-has_room :
+pub has_room :
     (fields : Fields) (begun : Begun) (len : ℕ) → Holds fields begun → fields.is_open ≡ true →
     fields.used + (2 + len) ≤ length fields.items → HasRoom (length fields.items) begun len
 has_room fields Nothing len holds is_open room = let shut : fields.is_open ≡ false = holds.told in cc
@@ -196,13 +173,6 @@ has_room fields (Open session sequence messages) len holds is_open room =
 has_room fields (Ended session sequence) len holds is_open room =
     let shut : fields.is_open ≡ false = holds.told in cc
 
-pub room_shown :
-    (fields : Fields) (seen_as : PackerState) (len : ℕ) → Shows fields seen_as → fields.is_open ≡ true →
-    fields.used + (2 + len) ≤ length fields.items → HasRoom seen_as.limit seen_as.begun len
-room_shown fields seen_as len shown is_open long =
-    subst (λ (s : PackerState). HasRoom s.limit s.begun len) shown.seen
-    (has_room fields (begun_in fields) len shown.holds is_open long)
-
 -- what a packet that has room for one more message is like
 pub record Room (fields : Fields) (len : ℕ) : Type 0 where
   pub is_open : fields.is_open ≡ true
@@ -210,7 +180,7 @@ pub record Room (fields : Fields) (len : ℕ) : Type 0 where
   pub few : fields.count < 65534
   pub fits : fields.used + (2 + len) ≤ length fields.items
 
-room_left :
+pub room_left :
     (fields : Fields) (begun : Begun) (len : ℕ) → Holds fields begun → HasRoom (length fields.items) begun len →
     Room fields len
 room_left fields Nothing len holds room = absurd room
@@ -235,6 +205,24 @@ pub shown_room :
     HasRoom seen_as.limit seen_as.begun len → Room fields len
 shown_room fields seen_as len shown room =
     room_left fields (begun_in fields) len shown.holds (room_held fields seen_as len shown room)
+
+-- the numbers of a packer that holds what was begun are some that it may have
+pub can_hold_begun :
+    (fields : Fields) (begun : Begun) → Holds fields begun →
+    CanHold (length fields.items) fields.used fields.count fields.is_open
+can_hold_begun fields Nothing holds =
+    let shut : fields.is_open ≡ false = holds.told in
+    record { is_limit = holds.limit; within = holds.within; laid = λ is_open. cc }
+can_hold_begun fields (Open session sequence messages) holds = record {
+  is_limit = holds.limit;
+  within = holds.within;
+  laid =
+      λ is_open.
+      omega (arith, least_packet_length messages, holds.told.1, used_by fields session sequence messages holds);
+}
+can_hold_begun fields (Ended session sequence) holds =
+    let shut : fields.is_open ≡ false = holds.told in
+    record { is_limit = holds.limit; within = holds.within; laid = λ is_open. cc }
 
 begun_fits : (fields : Fields) (begun : Begun) → Holds fields begun → FitsBegun (length fields.items) begun
 begun_fits fields Nothing holds = tt
@@ -344,56 +332,73 @@ packet_pushed session sequence count messages message packet rest items spells c
       spelled = ap (λ (t : List ℕ). take size t) parts ∙ take_at (head ++ blocks all) rest size whole_length ∙ whole;
     }
 
--- a message that was written behind an open packet is added to it
-abbrev pub with_block : Fields → List ℕ → List ℕ → Fields
-with_block fields items message = record {
-  items = items;
-  used = fields.used + (2 + length message);
-  count = fields.count + 1;
-  is_open = fields.is_open;
-}
+-- what stands behind a message that was written into a buffer is what stood there
+pub behind_added :
+    (used count : ℕ) (old new message : List ℕ) → 20 ≤ used → used ≤ length old →
+    new ≡ recounted count (take used old) ++ (block message ++ drop (length message) (drop 2 (drop used old))) →
+    drop (used + (2 + length message)) new ≡ drop (used + (2 + length message)) old
+behind_added used count old new message header within laid =
+    let packet : List ℕ = take used old in
+    let kept : List ℕ = drop (length message) (drop 2 (drop used old)) in
+    let long : length (recounted count packet) ≡ used =
+    omega (
+      arith,
+      length-append (take 18 packet) (be16 count ++ drop 2 (drop 18 packet)),
+      length-append (be16 count) (drop 2 (drop 18 packet)),
+      length-take-le used old within,
+      length-take-le 18 packet (omega (arith, length-take-le used old within)),
+      length-drop 18 packet,
+      length-drop 2 (drop 18 packet),
+    )
+    in
+    sym (drop-drop (2 + length message) used new)
+    ∙ ap (λ (t : List ℕ). drop (2 + length message) t)
+    (ap (λ (t : List ℕ). drop used t) laid ∙ drop_at (recounted count packet) (block message ++ kept) used long)
+    ∙ drop_at (block message) kept (2 + length message) (length-append (be16 (length message)) message)
+    ∙ drop-drop (length message) 2 (drop used old)
+    ∙ drop-drop (2 + length message) used old
 
-added :
-    (fields : Fields) (new rest message : List ℕ) (begun : Begun) → Holds fields begun →
-    HasRoom (length fields.items) begun (length message) → length new ≡ length fields.items →
-    new ≡ recounted (fields.count + 1) (take fields.used fields.items) ++ (block message ++ rest) →
-    Holds (with_block fields new message) (with_message message begun)
-added fields new rest message Nothing holds room long laid = absurd room
-added fields new rest message (Open session sequence messages) holds room long laid =
-    let taken : packet_length messages ≡ fields.used = used_by fields session sequence messages holds in
+-- a message that was written behind an open packet is added to it
+pub added :
+    (used count : ℕ) (old new rest message : List ℕ) (begun : Begun) → Holds (over old used count true) begun →
+    used + (2 + length message) ≤ length old → length new ≡ length old →
+    new ≡ recounted (count + 1) (take used old) ++ (block message ++ rest) →
+    Holds (over new (used + (2 + length message)) (count + 1) true) (with_message message begun)
+added used count old new rest message Nothing holds room long laid =
+    absurd (has_room (over old used count true) Nothing (length message) holds refl room)
+added used count old new rest message (Open session sequence messages) holds room long laid =
+    let taken : packet_length messages ≡ used = used_by (over old used count true) session sequence messages holds in
     let few : length messages < 65534 = omega (arith, least_packet_length messages, holds.limit.1) in
     record {
       limit = subst (λ (n : ℕ). IsLimit n) (sym long) holds.limit;
       within = omega arith;
-      told = (holds.told.0, omega (arith, holds.told.1, length-append messages (message ∷ [])));
+      told = (refl, omega (arith, holds.told.1, length-append messages (message ∷ [])));
       spelled =
-          packet_pushed session sequence fields.count messages message (take fields.used fields.items) rest new
-          holds.spelled holds.told.1 few (omega (arith, holds.limit.1)) laid (fields.used + (2 + length message))
-          (omega (arith, length-take-le fields.used fields.items holds.within));
+          packet_pushed session sequence count messages message (take used old) rest new holds.spelled holds.told.1 few
+          (omega (arith, holds.limit.1)) laid (used + (2 + length message))
+          (omega (arith, length-take-le used old holds.within));
     }
-added fields new rest message (Ended session sequence) holds room long laid = absurd room
+added used count old new rest message (Ended session sequence) holds room long laid =
+    absurd (has_room (over old used count true) (Ended session sequence) (length message) holds refl room)
 
--- the same of what a packer is seen as, whose buffer was written over
-pub pushed :
-    (fields : Fields) (seen_as : PackerState) (len : ℕ) (old new message : List ℕ) → Shows fields seen_as →
-    HasRoom seen_as.limit seen_as.begun (length message) → length fields.items ≡ len → length new ≡ len →
-    old ≡ fields.items →
-    new ≡ recounted (fields.count + 1) (take fields.used old)
-    ++ (block message ++ drop (length message) (drop 2 (drop fields.used old))) →
-    Shows (with_block fields (written_over len new fields.items) message)
+-- the same of a packer, to whose buffer the message was added
+pub shows_added :
+    (size : ℕ) (fields : Fields) (seen_as : PackerState) (len : ℕ) (old new message : List ℕ) → Shows fields seen_as →
+    length fields.items ≡ len → length new ≡ len → old ≡ fields.items →
+    HasRoom seen_as.limit seen_as.begun (length message) →
+    ((begun : Begun) → Holds (over old fields.used fields.count true) begun →
+    Holds (over new size (fields.count + 1) true) (with_message message begun)) →
+    Shows (over (written_over len new fields.items) size (fields.count + 1) fields.is_open)
     (state seen_as.limit (with_message message seen_as.begun))
-pushed fields seen_as len old new message shown room whole long is_old laid =
-    let rest = drop (length message) (drop 2 (drop fields.used old)) in
-    let items : List ℕ = written_over len new fields.items in
-    let same : items ≡ new = all_written len new fields.items long in
-    let as_long : length items ≡ length fields.items = ap (λ (t : List ℕ). length t) same ∙ long ∙ sym whole in
-    let is_laid : items ≡ recounted (fields.count + 1) (take fields.used fields.items) ++ (block message ++ rest) =
-    same
-    ∙ laid
-    ∙ ap (λ (t : List ℕ). recounted (fields.count + 1) (take fields.used t) ++ (block message ++ rest)) is_old
+shows_added size fields seen_as len old new message shown whole long is_old room added =
+    let begun : Begun = begun_in fields in
+    let is_open : fields.is_open ≡ true = (shown_room fields seen_as (length message) shown room).is_open in
+    let held : Holds (over old fields.used fields.count true) begun =
+    subst (λ (t : List ℕ). Holds (over t fields.used fields.count true) begun) (sym is_old)
+    (subst (λ (b : Bool). Holds (over fields.items fields.used fields.count b) begun) is_open shown.holds)
     in
-    shows (with_block fields items message) seen_as.limit (with_message message seen_as.begun)
-    (as_long ∙ ap (λ (s : PackerState). s.limit) shown.seen)
-    (subst (λ (s : PackerState). Holds (with_block fields items message) (with_message message s.begun)) shown.seen
-    (added fields items rest message (begun_in fields) shown.holds
-    (room_held fields seen_as (length message) shown room) as_long is_laid))
+    shows_over size (fields.count + 1) fields.is_open (with_message message seen_as.begun) fields seen_as len new shown
+    whole long
+    (subst (λ (b : Bool). Holds (over new size (fields.count + 1) b) (with_message message seen_as.begun)) (sym is_open)
+    (subst (λ (s : PackerState). Holds (over new size (fields.count + 1) true) (with_message message s.begun)) shown.seen
+    (added begun held)))

@@ -1,5 +1,5 @@
 -- How a packer's fields stand for what it has begun.
-use Rattle.std.specs.Prelude.{◌≡◌, ℕ, ◌≤◌, Bool, true, false, List, length, take, Result, Ok, Err}
+use Rattle.std.specs.Prelude.{◌≡◌, ℕ, ◌+◌, ◌*◌, ◌≤◌, Bool, true, false, List, length, take, Result, Ok, Err}
 use Rattle.std.specs.Box.{boxed_slice_items}
 use Rattle.mold_wire.specs.Packet.{messages_of}
 use Rattle.mold_wire.specs.Packer.{Begun, Nothing, Open, Ended, PackerState, IsLimit, SpellsBegun}
@@ -14,6 +14,10 @@ pub record Fields : Type 0 where
   pub used : ℕ
   pub count : ℕ
   pub is_open : Bool
+
+-- the fields of a packer over a buffer
+abbrev pub over : List ℕ → ℕ → ℕ → Bool → Fields
+over items used count is_open = record { items = items; used = used; count = count; is_open = is_open }
 
 abbrev pub fields_of : Inside → Fields
 fields_of p = record { items = boxed_slice_items p.buffer; used = p.used; count = p.count; is_open = p.is_open }
@@ -44,3 +48,10 @@ pub record Holds (fields : Fields) (begun : Begun) : Type 0 where
   pub within : fields.used ≤ length fields.items
   pub told : IsTold fields.is_open fields.count begun
   pub spelled : SpellsBegun begun (take fields.used fields.items)
+
+-- the numbers that a packer may have, whatever its bytes are: a limit, no more bytes used than it has, and in
+-- an open packet as many as a header and the lengths of its messages take
+pub record CanHold (limit used count : ℕ) (is_open : Bool) : Type 0 where
+  pub is_limit : IsLimit limit
+  pub within : used ≤ limit
+  pub laid : is_open ≡ true → 20 + 2 * count ≤ used

@@ -4,6 +4,7 @@
 
 mod block;
 mod blocks;
+mod buffer;
 mod error;
 mod header;
 pub mod laws;
@@ -17,6 +18,7 @@ mod session;
 
 pub use block::LENGTH_BYTES;
 pub use blocks::Blocks;
+pub use buffer::{add_in, can_hold, end_in, fits_in, is_limit, start_in};
 pub use error::{DecodeError, PackerError, RequestError};
 pub use header::{END_OF_SESSION, HEADER_LENGTH};
 pub use limits::{MAX_LIMIT, MESSAGE_OVERHEAD, MIN_LIMIT};

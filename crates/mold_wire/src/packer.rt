@@ -1,31 +1,14 @@
 //! Packing messages into downstream packets.
 
-ghost use Rattle.std.specs.Prelude.{◌≡◌, ◌↔◌, ◌+◌, ◌≤◌, ◌<◌, ◌^◌, ◌++◌, length, take, drop, IfOk, IsOk, IsTrue, []};
+ghost use Rattle.std.specs.Prelude.{◌≡◌, ◌↔◌, ◌≤◌, length, IfOk, IsOk, IsTrue, []};
 ghost use Rattle.std.specs.Bool.{OnTrue, OnFalse};
-ghost use Rattle.mold_wire.specs.Block.{block};
-ghost use Rattle.mold_wire.specs.Header.{recounted};
 
-use crate::block::{LENGTH_BYTES, put_block};
+use crate::buffer::{add_in, end_in, fits_in, is_limit, start_in};
 use crate::error::PackerError;
-use crate::header::{END_OF_SESSION, HEADER_LENGTH, HEARTBEAT, Header, put_count};
-use crate::limits::{MAX_LIMIT, MIN_LIMIT};
 use crate::session::Session;
 use std::alloc::Global;
 use std::boxed::BoxedSlice;
 use std::marker::Model;
-
-// Writes a block behind the bytes that are used, and the new message count in their header.
-fn put_message(buffer: &mut [u8], used: usize, count: u16, message: &[u8])
-    requires header { 20 ≤ used }
-    requires fits { length message.now < 2 ^ 16 }
-    requires room { used + (2 + length message.now) ≤ length buffer.old }
-    ensures { buffer.new ≡ recounted count (take used buffer.old)
-        ++ (block message.now ++ drop (length message.now) (drop 2 (drop used buffer.old))) }
-{
-    let (packet, behind) = buffer.split_at_mut(used);
-    put_block(behind, message);
-    put_count(packet, count);
-}
 
 /// Packs messages into one downstream packet after the other, in a buffer of its own that is made once.
 /// No call but `new` takes memory: a boxed slice can't grow.
@@ -64,7 +47,7 @@ impl Packer {
         ensures limit { (result ≡ Err PackerError.Limit) ↔ (¬ IsLimit limit) }
         ensures memory { result ≡ Err PackerError.Memory → IsLimit limit }
     {
-        if limit < MIN_LIMIT || MAX_LIMIT < limit {
+        if !is_limit(limit) {
             return Err(PackerError::Limit);
         }
         let Ok(buffer) = vec![in alloc; 0; limit] else {
@@ -83,13 +66,7 @@ impl Packer {
     pub fn start(&mut self, session: Session, sequence: u64)
         ensures { self.new ≡ record self.old { begun = Open session sequence [] } }
     {
-        Header {
-            session,
-            sequence,
-            count: HEARTBEAT,
-        }
-        .put(&mut self.buffer);
-        self.used = HEADER_LENGTH;
+        self.used = start_in(&mut self.buffer, session, sequence);
         self.count = 0;
         self.is_open = true;
     }
@@ -98,11 +75,7 @@ impl Packer {
     pub fn fits(&self, len: usize) -> bool
         ensures { IsTrue result ↔ HasRoom self.now.limit self.now.begun len }
     {
-        if !self.is_open {
-            return false;
-        }
-        let room = self.buffer.len() - self.used;
-        LENGTH_BYTES <= room && len <= room - LENGTH_BYTES
+        fits_in(&self.buffer, self.used, self.is_open, len)
     }
 
     /// Adds a message behind those of the open packet, where it fits; else changes nothing.
@@ -115,9 +88,8 @@ impl Packer {
         if !self.fits(message.len()) {
             return false;
         }
+        self.used = add_in(&mut self.buffer, self.used, self.count, message);
         self.count += 1;
-        put_message(&mut self.buffer, self.used, self.count, message);
-        self.used += LENGTH_BYTES + message.len();
         true
     }
 
@@ -125,13 +97,7 @@ impl Packer {
     pub fn end(&mut self, session: Session, sequence: u64)
         ensures { self.new ≡ record self.old { begun = Ended session sequence } }
     {
-        Header {
-            session,
-            sequence,
-            count: END_OF_SESSION,
-        }
-        .put(&mut self.buffer);
-        self.used = HEADER_LENGTH;
+        self.used = end_in(&mut self.buffer, session, sequence);
         self.is_open = false;
     }
 

@@ -1,0 +1,106 @@
+//! Packing into memory that is lent: the rules of `Packer`, over a buffer and the numbers of a packer.
+
+ghost use Rattle.std.specs.Prelude.{◌≡◌, ◌↔◌, ◌+◌, ◌*◌, ◌<◌, ◌≤◌, ◌++◌, ℕ, List, Bool, true, false};
+ghost use Rattle.std.specs.Prelude.{length, take, drop, IsTrue, []};
+ghost use Rattle.mold_wire.specs.Block.{block};
+ghost use Rattle.mold_wire.specs.Buffer.{over, Holds, CanHold};
+ghost use Rattle.mold_wire.specs.Header.{recounted};
+ghost use Rattle.mold_wire.specs.Packer.{Begun, Open, Ended, IsLimit, HasRoom, with_message};
+
+use crate::block::{LENGTH_BYTES, put_block};
+use crate::header::{END_OF_SESSION, HEADER_LENGTH, HEARTBEAT, Header, put_count};
+use crate::limits::{MAX_LIMIT, MIN_LIMIT};
+use crate::session::Session;
+
+// What a packet takes at least: a header, and the length of each message.
+fn least_length(count: u16) -> usize
+    ensures { result ≡ 20 + 2 * count }
+{
+    HEADER_LENGTH + LENGTH_BYTES * usize::from(count)
+}
+
+/// Whether a datagram may have so many bytes: 64 to 65,507.
+pub fn is_limit(limit: usize) -> bool
+    ensures { IsTrue result ↔ IsLimit limit }
+{
+    MIN_LIMIT <= limit && limit <= MAX_LIMIT
+}
+
+/// Whether a packer of this limit may have used so many bytes for so many messages. Where it may not, its
+/// numbers were written by somebody else.
+pub fn can_hold(limit: usize, used: usize, count: u16, is_open: bool) -> bool
+    ensures exact { IsTrue result ↔ CanHold limit used count is_open }
+    ensures held { (items : List ℕ) (begun : Begun) → length items ≡ limit →
+        Holds (over items used count is_open) begun → IsTrue result }
+{
+    is_limit(limit) && used <= limit && (!is_open || least_length(count) <= used)
+}
+
+/// Whether a packet is open that leaves room in the buffer, behind its `used` bytes, for one more message of
+/// so many.
+pub fn fits_in(buffer: &[u8], used: usize, is_open: bool, len: usize) -> bool
+    ensures exact { IsTrue result ↔ ((is_open ≡ true) × (used + (2 + len) ≤ length buffer.now)) }
+    ensures held { (count : ℕ) (begun : Begun) → Holds (over buffer.now used count is_open) begun →
+        IsTrue result ↔ HasRoom (length buffer.now) begun len }
+{
+    if !is_open {
+        return false;
+    }
+    let Some(room) = buffer.len().checked_sub(used) else {
+        return false;
+    };
+    LENGTH_BYTES <= room && len <= room - LENGTH_BYTES
+}
+
+/// Opens a packet without messages at the front of the buffer, and leaves the bytes behind it. The answer is
+/// how many it takes.
+pub fn start_in(buffer: &mut [u8], session: Session, sequence: u64) -> usize
+    requires { IsLimit (length buffer.old) }
+    ensures used { result ≡ 20 }
+    ensures held { Holds (over buffer.new result 0 true) (Open session sequence []) }
+    ensures behind { drop result buffer.new ≡ drop result buffer.old }
+{
+    Header {
+        session,
+        sequence,
+        count: HEARTBEAT,
+    }
+    .put(buffer);
+    HEADER_LENGTH
+}
+
+/// Adds a message behind the open packet of `count` messages that takes `used` bytes: its block, and one more
+/// in the header's count. The answer is how many bytes the packet takes then.
+pub fn add_in(buffer: &mut [u8], used: usize, count: u16, message: &[u8]) -> usize
+    requires limit { IsLimit (length buffer.old) }
+    requires header { 20 ≤ used }
+    requires few { count < 65535 }
+    requires room { used + (2 + length message.now) ≤ length buffer.old }
+    ensures used { result ≡ used + (2 + length message.now) }
+    ensures written { buffer.new ≡ recounted (count + 1) (take used buffer.old)
+        ++ (block message.now ++ drop (length message.now) (drop 2 (drop used buffer.old))) }
+    ensures behind { drop result buffer.new ≡ drop result buffer.old }
+    ensures held { (begun : Begun) → Holds (over buffer.old used count true) begun →
+        Holds (over buffer.new result (count + 1) true) (with_message message.now begun) }
+{
+    let (packet, behind) = buffer.split_at_mut(used);
+    put_block(behind, message);
+    put_count(packet, count + 1);
+    used + LENGTH_BYTES + message.len()
+}
+
+/// Makes the front of the buffer an end packet, and leaves the bytes behind it. The answer is how many it takes.
+pub fn end_in(buffer: &mut [u8], session: Session, sequence: u64) -> usize
+    requires { IsLimit (length buffer.old) }
+    ensures used { result ≡ 20 }
+    ensures held { (count : ℕ) → Holds (over buffer.new result count false) (Ended session sequence) }
+    ensures behind { drop result buffer.new ≡ drop result buffer.old }
+{
+    Header {
+        session,
+        sequence,
+        count: END_OF_SESSION,
+    }
+    .put(buffer);
+    HEADER_LENGTH
+}
