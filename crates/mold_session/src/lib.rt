@@ -12,6 +12,7 @@ mod packing;
 mod piece;
 mod plan;
 mod publisher;
+mod putting;
 mod reader;
 mod saving;
 mod server;
