@@ -1,0 +1,4 @@
+pub mod Codes
+pub mod Hearing
+pub mod Lending
+pub mod Owned

@@ -1,0 +1,91 @@
+//! The handle by which a program in C holds what the library made.
+
+ghost use Rattle.std.specs.Prelude.{◌≡◌, Option, None, Some, is_some, true};
+ghost use Rattle.std.specs.Coded.{coded_option};
+ghost use Rattle.mold_ffi.specs.contracts.held.Held.{the_row as held_row};
+ghost use Rattle.mold_ffi.specs.declared.held.Held.{Held};
+
+use crate::held::Held;
+use crate::parts::Parts;
+use std::alloc::{AllocError, Global};
+use std::marker::Model;
+use std::ptr::null_mut;
+
+/// What a handle holds, if anything: a box of it, as a pointer that crosses to C. It is let go by `into_box` alone.
+#[repr(C)]
+#[derive(Drop)]
+pub struct Handle {
+    at: *mut u8,
+    alloc: Global,
+    pub ghost value: { Option Held } by { coded_option held_row.coded },
+}
+
+impl Model for Handle {
+    ghost use Rattle.mold_ffi.specs.Owned.{handle_owns};
+
+    ghost also_owns = { λ h. handle_owns h.alloc h.at h.value };
+}
+
+impl Handle {
+    ghost use Rattle.std.specs.Borrow.{sem};
+    ghost use Rattle.mold_ffi.specs.Lending.{LendsHeld};
+
+    /// A handle that holds nothing.
+    pub(crate) fn empty(alloc: Global) -> Handle
+        ensures { result.value ≡ None }
+    {
+        Handle {
+            at: null_mut(),
+            alloc,
+        }
+    }
+
+    // A handle of what the parts hold.
+    fn of_parts(parts: Parts<Held, Global>) -> Handle
+        ensures { result.value ≡ Some parts.value }
+    {
+        let Parts { pointer, alloc } = parts;
+        Handle {
+            at: pointer as *mut u8,
+            alloc,
+        }
+    }
+
+    // The pointer and the allocator of a handle that holds something.
+    fn into_parts(self) -> Parts<Held, Global>
+        requires { is_some self.value ≡ true }
+        ensures { Some result.value ≡ self.value }
+    {
+        let Handle { at, alloc } = self;
+        Parts {
+            pointer: at as *mut Held,
+            alloc,
+        }
+    }
+
+    /// What the handle holds, to be changed in place.
+    pub(crate) fn lend(&mut self) -> &mut Held
+        requires { is_some self.old.value ≡ true }
+        ensures* writes_back { sem 𝓛 (LendsHeld self.entry result) }
+        ensures value { Some result.now ≡ self.old.value }
+    {
+        unsafe { &mut *(self.at as *mut Held) }
+    }
+
+    /// A handle of what the box holds.
+    pub(crate) fn of(boxed: Box<Held>) -> Handle
+        ensures { result.value ≡ Some boxed.value }
+    {
+        Handle::of_parts(Parts::of(boxed))
+    }
+
+    /// The box of what the handle holds.
+    pub(crate) fn into_box(self) -> Box<Held>
+        requires { is_some self.value ≡ true }
+        ensures { Some result.value ≡ self.value }
+    {
+        self.into_parts().into_box()
+    }
+}
+
+unsafe impl Send for Handle {}

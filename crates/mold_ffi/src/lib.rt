@@ -1,0 +1,13 @@
+//! The library for programs in C, C++ and Rust: each call of its header is an export here, whose contract cites
+//! what is proved of the crates below.
+#![tactic(auto)]
+
+mod code;
+mod exchange;
+mod free;
+mod handle;
+mod held;
+mod listener;
+mod mold_handle;
+mod parts;
+mod serving;

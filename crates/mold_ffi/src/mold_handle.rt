@@ -1,0 +1,37 @@
+//! The handle as a program in C declares it.
+
+ghost use Rattle.std.specs.Prelude.{◌≡◌, None, is_some};
+
+use crate::handle::Handle;
+use std::alloc::Global;
+
+/// A handle as a program in C declares it: `{ NULL, false }` holds nothing. Whoever declares it ends with
+/// `mold_free`.
+#[repr(C)]
+pub struct MoldHandle {
+    pub(crate) handle: Handle,
+    /// Whether it holds something.
+    pub(crate) live: bool,
+    ghost tied: { is_some handle.value ≡ live },
+}
+
+impl MoldHandle {
+    /// A handle that holds nothing.
+    pub(crate) fn empty(alloc: Global) -> MoldHandle
+        ensures { result.handle.value ≡ None }
+    {
+        MoldHandle {
+            handle: Handle::empty(alloc),
+            live: false,
+        }
+    }
+}
+
+impl Drop for MoldHandle {
+    fn drop(self) {
+        let MoldHandle { handle, live } = self;
+        if live {
+            drop(handle.into_box());
+        }
+    }
+}
