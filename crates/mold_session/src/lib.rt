@@ -24,7 +24,9 @@ pub use error::{
 };
 pub use journal::{Journal, MAX_MESSAGES};
 pub use loading::FileHead;
-pub use mold_devices::{DeviceFault, FromRead, IntoWrite, MemorySink, MemorySource, Sink, Source};
+pub use mold_devices::{
+    DeviceFault, FromRead, IntoWrite, MemorySink, MemorySource, Sink, SliceSource, Source,
+};
 pub use plan::Plan;
 pub use publisher::Publisher;
 pub use reader::JournalReader;
