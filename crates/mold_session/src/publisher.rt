@@ -87,6 +87,14 @@ impl Publisher {
         self.journal.append(message)
     }
 
+    /// How many bytes a datagram may have.
+    pub fn limit(&self) -> usize
+        ensures value { result ≡ self.now.limit }
+        ensures publisher { IsPublisher self.now }
+    {
+        self.limit
+    }
+
     /// How many messages were not yet put in a datagram.
     pub fn unsent(&self) -> u64
         ensures value { result ≡ length self.now.journal.messages - self.now.sent }
@@ -114,6 +122,7 @@ impl Publisher {
     pub fn datagram(&mut self) -> Option<&[u8]>
         ensures* after { sem 𝓛 (Rests the_row self.entry (λ new. new ≡ after_datagram self.old)) }
         ensures lent { Lends (next_datagram self.old) (option_copied result) }
+        ensures within { IfSome result (λ bytes. length bytes.now ≤ self.old.limit) }
         ensures truth { IfSome result (λ bytes. TellsTruth self.old.journal bytes.now) }
     {
         front_law();
@@ -140,6 +149,7 @@ impl Publisher {
     pub fn heartbeat(&mut self) -> Option<&[u8]>
         ensures* after { sem 𝓛 (Rests the_row self.entry (λ new. new ≡ self.old)) }
         ensures lent { Lends (next_heartbeat self.old) (option_copied result) }
+        ensures within { IfSome result (λ bytes. length bytes.now ≤ self.old.limit) }
         ensures truth { IfSome result (λ bytes. TellsTruth self.old.journal bytes.now) }
     {
         if self.journal.is_closed() {
@@ -173,6 +183,7 @@ impl Publisher {
     pub fn end(&mut self) -> Option<&[u8]>
         ensures* after { sem 𝓛 (Rests the_row self.entry (λ new. new ≡ self.old)) }
         ensures lent { Lends (next_end self.old) (option_copied result) }
+        ensures within { IfSome result (λ bytes. length bytes.now ≤ self.old.limit) }
         ensures truth { IfSome result (λ bytes. TellsTruth self.old.journal bytes.now) }
     {
         if !self.journal.is_closed() {
