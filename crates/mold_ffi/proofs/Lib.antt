@@ -1,2 +1,3 @@
 mod AsBox
+mod HearingLemmas
 mod Walking

@@ -1,4 +1,5 @@
 pub mod Codes
 pub mod Hearing
 pub mod Lending
+pub mod Listening
 pub mod Owned

@@ -8,6 +8,8 @@ mod free;
 mod handle;
 mod held;
 mod listener;
+mod listener_calls;
 mod mold_handle;
 mod parts;
 mod serving;
+mod told;

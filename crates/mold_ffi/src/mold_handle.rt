@@ -1,8 +1,9 @@
 //! The handle as a program in C declares it.
 
-ghost use Rattle.std.specs.Prelude.{◌≡◌, None, is_some};
+ghost use Rattle.std.specs.Prelude.{◌≡◌, None, Some, is_some};
 
 use crate::handle::Handle;
+use crate::held::Held;
 use std::alloc::Global;
 
 /// A handle as a program in C declares it: `{ NULL, false }` holds nothing. Whoever declares it ends with
@@ -23,6 +24,16 @@ impl MoldHandle {
         MoldHandle {
             handle: Handle::empty(alloc),
             live: false,
+        }
+    }
+
+    /// A handle of what the box holds.
+    pub(crate) fn of(boxed: Box<Held>) -> MoldHandle
+        ensures { result.handle.value ≡ Some boxed.value }
+    {
+        MoldHandle {
+            handle: Handle::of(boxed),
+            live: true,
         }
     }
 }
