@@ -11,8 +11,12 @@ use Rattle.mold_ffi.specs.Hearing.{Hearing, HasHeard}
 -- a datagram that was taken
 taken_heard : (line : Option Line) (bytes : List ℕ) (old new : Hearing) (taken : Taken)
     → HasArbitrated line old.arbitration bytes old.batch new.arbitration new.batch taken → HasHeard line bytes old new (Ok taken)
-taken_heard line bytes old new taken h = (h.reception, h.received, h.told,
-    λ i. record { arbitration = (h.arbitration ∙ ap (arbitrated line bytes old.arbitration) h.received) i; batch = h.batch i })
+taken_heard line bytes old new taken h = (
+  h.reception,
+  h.received,
+  h.told,
+  λ i. record { arbitration = (h.arbitration ∙ ap (arbitrated line bytes old.arbitration) h.received) i; batch = h.batch i },
+)
 
 -- one that was refused on a line, and one that was refused as an answer
 refused_heard : (line : Line) (bytes : List ℕ) (old new : Hearing) (refused : Refusal)

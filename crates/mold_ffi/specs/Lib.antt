@@ -3,3 +3,4 @@ pub mod Hearing
 pub mod Lending
 pub mod Listening
 pub mod Owned
+pub mod Publishing

@@ -1,7 +1,7 @@
 //! The publisher of a session.
 
 ghost use Rattle.std.specs.Prelude.{◌≡◌, ◌↔◌, ◌+◌, ◌-◌, ◌≤◌, [], true, false, None, Err, length, unwrap_or, not, IfOk};
-ghost use Rattle.std.specs.Prelude.{IfErr, IfSome, IsOk, OnOk, OnErr, IsTrue};
+ghost use Rattle.std.specs.Prelude.{IfErr, IfSome, IfNone, IsOk, OnOk, OnErr, IsTrue};
 ghost use Rattle.std.specs.Option.{option_copied};
 ghost use Rattle.mold_wire.specs.Packer.{IsLimit};
 ghost use Rattle.mold_wire.specs.Packing.{Fits};
@@ -123,6 +123,7 @@ impl Publisher {
         ensures* after { sem 𝓛 (Rests the_row self.entry (λ new. new ≡ after_datagram self.old)) }
         ensures lent { Lends (next_datagram self.old) (option_copied result) }
         ensures within { IfSome result (λ bytes. length bytes.now ≤ self.old.limit) }
+        ensures idle { IfNone result (after_datagram self.old ≡ self.old) }
         ensures truth { IfSome result (λ bytes. TellsTruth self.old.journal bytes.now) }
     {
         front_law();
