@@ -1,3 +1,4 @@
 mod AsBox
 mod HearingLemmas
+mod LoanLemmas
 mod Walking

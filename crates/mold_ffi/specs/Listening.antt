@@ -10,6 +10,7 @@ use Rattle.mold_ffi.specs.Codes.{done, refused_code, refused_detail}
 use Rattle.mold_ffi.specs.Hearing.{Hearing, heard}
 use Rattle.mold_ffi.specs.declared.held.Held.{Held}
 use Rattle.mold_ffi.specs.declared.held.Held.TheVariants.{Listener, Publisher, Server, Checker}
+use Rattle.mold_ffi.specs.declared.report.MoldReport.{MoldReport}
 use Rattle.mold_ffi.specs.declared.told.MoldTold.{MoldTold}
 
 -- a handle that holds nothing, or something else than a listener
@@ -66,3 +67,7 @@ abbrev pub Takes : Option Line → List ℕ → Hearing → ℕ → ℕ → Mold
 Takes line bytes old unused code told new =
     HasTold line bytes old unused (receive old.arbitration.view bytes) code told new
     ⊎ HasLacked bytes old unused code told new
+
+-- a line's report, as it crosses
+abbrev pub reported : LineReport → MoldReport
+reported report = record { datagrams = report.datagrams; refused = report.refused; front = report.front }

@@ -2,7 +2,7 @@
 
 ghost use Rattle.std.specs.Prelude.{◌≡◌, ◌⊎◌, ◌<◌, Option, None, Some, is_some, true};
 ghost use Rattle.mold_ffi.specs.Codes as codes;
-ghost use Rattle.mold_ffi.specs.Hearing.{Hearing, begun};
+ghost use Rattle.mold_ffi.specs.Hearing.{Hearing, begun, cleared};
 ghost use Rattle.mold_ffi.specs.Listening.{IsNoListener, Takes, origin_at};
 ghost use Rattle.mold_ffi.specs.declared.held.Held.TheVariants.{Listener as AListener};
 ghost use Rattle.mold_receiver.specs.View.{IsWindow};
@@ -101,4 +101,22 @@ pub extern "C" fn mold_listener_take(
         }
         Err(refused) => told.tell_refused(refused),
     }
+}
+
+/// Clears the batch away, and keeps its room for what is handed on next. What was lent of it is no longer valid.
+#[unsafe(no_mangle)]
+pub extern "C" fn mold_listener_clear(listener: &mut MoldHandle) -> u32
+    ensures cleared { (hearing : Hearing) → listener.old.handle.value ≡ Some (AListener hearing) →
+        (result ≡ codes.done) × (listener.new.handle.value ≡ Some (AListener (cleared hearing))) }
+    ensures broken { IsNoListener listener.old.handle.value →
+        (result ≡ codes.broken) × (listener.new.handle.value ≡ listener.old.handle.value) }
+{
+    if !listener.live {
+        return BROKEN;
+    }
+    let Held::Listener(held) = listener.handle.lend() else {
+        return BROKEN;
+    };
+    held.clear();
+    DONE
 }

@@ -1,0 +1,161 @@
+//! The messages that a listener handed on.
+
+ghost use Rattle.std.specs.Prelude.{◌≡◌, ◌≤◌, ◌<◌, ◌++◌, ℕ, List, None, Some, length, take, drop, map, min};
+ghost use Rattle.std.specs.Prelude.{slice_get, unwrap_or};
+ghost use Rattle.mold_ffi.specs.Codes as codes;
+ghost use Rattle.mold_ffi.specs.Hearing.{Hearing};
+ghost use Rattle.mold_ffi.specs.Listening.{IsNoListener};
+ghost use Rattle.mold_ffi.specs.declared.held.Held.TheVariants.{Listener as AListener};
+ghost use Rattle.mold_receiver.specs.Batch.{first_of};
+
+use crate::code::{ABSENT, BROKEN, DONE, ROOM};
+use crate::held::Held;
+use crate::mold_handle::MoldHandle;
+use mold_receiver::Batch;
+
+/// How many messages the batch has; 0 where the handle holds no listener.
+#[unsafe(no_mangle)]
+pub extern "C" fn mold_listener_count(listener: &mut MoldHandle) -> usize
+    ensures count { (hearing : Hearing) → listener.old.handle.value ≡ Some (AListener hearing) →
+        result ≡ length hearing.batch.messages }
+    ensures broken { IsNoListener listener.old.handle.value → result ≡ 0 }
+    ensures same { listener.new.handle.value ≡ listener.old.handle.value }
+{
+    if !listener.live {
+        return 0;
+    }
+    let Held::Listener(held) = listener.handle.lend() else {
+        return 0;
+    };
+    held.batch().len()
+}
+
+/// The number of the batch's first message, from 1; 0 where it has none, or the handle holds no listener.
+#[unsafe(no_mangle)]
+pub extern "C" fn mold_listener_first(listener: &mut MoldHandle) -> u64
+    ensures first { (hearing : Hearing) → listener.old.handle.value ≡ Some (AListener hearing) →
+        result ≡ unwrap_or (first_of hearing.batch) 0 }
+    ensures broken { IsNoListener listener.old.handle.value → result ≡ 0 }
+    ensures same { listener.new.handle.value ≡ listener.old.handle.value }
+{
+    if !listener.live {
+        return 0;
+    }
+    let Held::Listener(held) = listener.handle.lend() else {
+        return 0;
+    };
+    held.batch().first().unwrap_or(0)
+}
+
+/// Lends the message at place `i` of the batch, counted from 0, until the next call on this handle that takes,
+/// clears or frees. Nothing is written but on code 0.
+#[unsafe(no_mangle)]
+pub extern "C" fn mold_listener_message<'a>(
+    listener: &'a mut MoldHandle,
+    i: usize,
+    message: &mut &'a [u8],
+) -> u32
+    ensures lent { (hearing : Hearing) (bytes : List ℕ) →
+        listener.old.handle.value ≡ Some (AListener hearing) → slice_get hearing.batch.messages i ≡ Some bytes →
+        (result ≡ codes.done) × (message.new.now ≡ bytes) }
+    ensures absent { (hearing : Hearing) →
+        listener.old.handle.value ≡ Some (AListener hearing) → slice_get hearing.batch.messages i ≡ None →
+        (result ≡ codes.absent) × (message.new ≡ message.old) }
+    ensures broken { IsNoListener listener.old.handle.value →
+        (result ≡ codes.broken) × (message.new ≡ message.old) }
+{
+    if !listener.live {
+        return BROKEN;
+    }
+    let Held::Listener(held) = listener.handle.lend() else {
+        return BROKEN;
+    };
+    match held.batch().get(i) {
+        Some(bytes) => {
+            *message = bytes;
+            DONE
+        }
+        None => ABSENT,
+    }
+}
+
+/// Copies the message at place `i` of the batch to the front of the buffer, and writes how many bytes it has. Where
+/// the buffer is too small that is all that is written.
+#[unsafe(no_mangle)]
+pub extern "C" fn mold_listener_copy(
+    listener: &mut MoldHandle,
+    i: usize,
+    buffer: &mut [u8],
+    size: &mut usize,
+) -> u32
+    ensures copied { (hearing : Hearing) (bytes : List ℕ) →
+        listener.old.handle.value ≡ Some (AListener hearing) → slice_get hearing.batch.messages i ≡ Some bytes →
+        length bytes ≤ length buffer.old →
+        (result ≡ codes.done) × (size.new ≡ length bytes) × (buffer.new ≡ bytes ++ drop (length bytes) buffer.old) }
+    ensures room { (hearing : Hearing) (bytes : List ℕ) →
+        listener.old.handle.value ≡ Some (AListener hearing) → slice_get hearing.batch.messages i ≡ Some bytes →
+        length buffer.old < length bytes →
+        (result ≡ codes.room) × (size.new ≡ length bytes) × (buffer.new ≡ buffer.old) }
+    ensures absent { (hearing : Hearing) →
+        listener.old.handle.value ≡ Some (AListener hearing) → slice_get hearing.batch.messages i ≡ None →
+        (result ≡ codes.absent) × (size.new ≡ size.old) × (buffer.new ≡ buffer.old) }
+    ensures broken { IsNoListener listener.old.handle.value →
+        (result ≡ codes.broken) × (size.new ≡ size.old) × (buffer.new ≡ buffer.old) }
+    ensures same { listener.new.handle.value ≡ listener.old.handle.value }
+{
+    if !listener.live {
+        return BROKEN;
+    }
+    let Held::Listener(held) = listener.handle.lend() else {
+        return BROKEN;
+    };
+    let Some(bytes) = held.batch().get(i) else {
+        return ABSENT;
+    };
+    *size = bytes.len();
+    if buffer.len() < bytes.len() {
+        return ROOM;
+    }
+    buffer[..bytes.len()].copy_from_slice(bytes);
+    DONE
+}
+
+// Lends a batch's messages from the first on, as many as there are places, and answers how many.
+fn lend_messages<'a>(batch: &'a Batch, messages: &mut [&'a [u8]]) -> usize
+    ensures count { result ≡ min (length messages.old) (length batch.now.messages) }
+    ensures lent { map (λ bytes. bytes.now) messages.new ≡
+        take result batch.now.messages ++ drop result (map (λ bytes. bytes.now) messages.old) }
+{
+    let mut filled = 0;
+    for bytes in batch.iter() {
+        if filled == messages.len() {
+            return filled;
+        }
+        messages[filled] = bytes;
+        filled += 1;
+    }
+    filled
+}
+
+/// Lends the messages of the batch from the first on, as many as there are places, and answers how many; 0 where the
+/// handle holds no listener. They are lent as `mold_listener_message` lends one, and places behind them stay.
+#[unsafe(no_mangle)]
+pub extern "C" fn mold_listener_messages<'a>(
+    listener: &'a mut MoldHandle,
+    messages: &mut [&'a [u8]],
+) -> usize
+    ensures count { (hearing : Hearing) → listener.old.handle.value ≡ Some (AListener hearing) →
+        result ≡ min (length messages.old) (length hearing.batch.messages) }
+    ensures lent { (hearing : Hearing) → listener.old.handle.value ≡ Some (AListener hearing) →
+        map (λ bytes. bytes.now) messages.new ≡
+        take result hearing.batch.messages ++ drop result (map (λ bytes. bytes.now) messages.old) }
+    ensures broken { IsNoListener listener.old.handle.value → (result ≡ 0) × (messages.new ≡ messages.old) }
+{
+    if !listener.live {
+        return 0;
+    }
+    let Held::Listener(held) = listener.handle.lend() else {
+        return 0;
+    };
+    lend_messages(held.batch(), messages)
+}

@@ -1,0 +1,134 @@
+//! What a listener tells: how far it is, what it lacks, and what came on a line.
+
+ghost use Rattle.std.specs.Prelude.{◌≡◌, ◌↔◌, None, Some, IsTrue, IsFalse};
+ghost use Rattle.mold_ffi.specs.Codes as codes;
+ghost use Rattle.mold_ffi.specs.Hearing.{Hearing};
+ghost use Rattle.mold_ffi.specs.Listening.{IsNoListener, line_at, reported};
+ghost use Rattle.mold_ffi.specs.declared.held.Held.TheVariants.{Listener as AListener};
+ghost use Rattle.mold_receiver.specs.Arbiter.{report_on};
+ghost use Rattle.mold_receiver.specs.Wanted.{wanted};
+ghost use Rattle.mold_receiver.specs.declared.line.Line.{Line as ALine};
+ghost use Rattle.mold_wire.specs.Request.{SpellsRequest};
+ghost use Rattle.mold_wire.specs.declared.request.Request.{Request};
+
+use crate::code::{BROKEN, DONE, LINE};
+use crate::held::Held;
+use crate::mold_handle::MoldHandle;
+use crate::report::MoldReport;
+use mold_receiver::Line;
+
+// The line with this number; none for a number that is none.
+fn line_of(number: u32) -> Option<Line>
+    ensures { result ≡ line_at number }
+{
+    match number {
+        0 => Some(Line::A),
+        1 => Some(Line::B),
+        _ => None,
+    }
+}
+
+/// The number of the message that is handed on next, from 1; 0 where the handle holds no listener.
+#[unsafe(no_mangle)]
+pub extern "C" fn mold_listener_next(listener: &mut MoldHandle) -> u64
+    ensures next { (hearing : Hearing) → listener.old.handle.value ≡ Some (AListener hearing) →
+        result ≡ hearing.arbitration.view.next }
+    ensures broken { IsNoListener listener.old.handle.value → result ≡ 0 }
+    ensures same { listener.new.handle.value ≡ listener.old.handle.value }
+{
+    if !listener.live {
+        return 0;
+    }
+    let Held::Listener(held) = listener.handle.lend() else {
+        return 0;
+    };
+    held.arbiter().receiver().next()
+}
+
+/// One more than the greatest number that the listener has heard of; 0 where the handle holds no listener.
+#[unsafe(no_mangle)]
+pub extern "C" fn mold_listener_known(listener: &mut MoldHandle) -> u64
+    ensures known { (hearing : Hearing) → listener.old.handle.value ≡ Some (AListener hearing) →
+        result ≡ hearing.arbitration.view.known }
+    ensures broken { IsNoListener listener.old.handle.value → result ≡ 0 }
+    ensures same { listener.new.handle.value ≡ listener.old.handle.value }
+{
+    if !listener.live {
+        return 0;
+    }
+    let Held::Listener(held) = listener.handle.lend() else {
+        return 0;
+    };
+    held.arbiter().receiver().known()
+}
+
+/// Whether every message up to the session's end was handed on; false where the handle holds no listener.
+#[unsafe(no_mangle)]
+pub extern "C" fn mold_listener_finished(listener: &mut MoldHandle) -> bool
+    ensures finished { (hearing : Hearing) → listener.old.handle.value ≡ Some (AListener hearing) →
+        (IsTrue result ↔ (hearing.arbitration.view.ended ≡ Some hearing.arbitration.view.next)) }
+    ensures broken { IsNoListener listener.old.handle.value → IsFalse result }
+    ensures same { listener.new.handle.value ≡ listener.old.handle.value }
+{
+    if !listener.live {
+        return false;
+    }
+    let Held::Listener(held) = listener.handle.lend() else {
+        return false;
+    };
+    held.arbiter().receiver().finished()
+}
+
+/// Writes the 20 bytes of the request for what the listener lacks, at most 65,534 messages. Where it lacks nothing,
+/// or the handle holds no listener, the answer is false and nothing is written.
+#[unsafe(no_mangle)]
+pub extern "C" fn mold_listener_wanted(listener: &mut MoldHandle, out: &mut [u8; 20]) -> bool
+    ensures asked { (hearing : Hearing) (request : Request) →
+        listener.old.handle.value ≡ Some (AListener hearing) → wanted hearing.arbitration.view ≡ Some request →
+        IsTrue result × SpellsRequest request out.new }
+    ensures nothing { (hearing : Hearing) →
+        listener.old.handle.value ≡ Some (AListener hearing) → wanted hearing.arbitration.view ≡ None →
+        IsFalse result × (out.new ≡ out.old) }
+    ensures broken { IsNoListener listener.old.handle.value → IsFalse result × (out.new ≡ out.old) }
+    ensures same { listener.new.handle.value ≡ listener.old.handle.value }
+{
+    if !listener.live {
+        return false;
+    }
+    let Held::Listener(held) = listener.handle.lend() else {
+        return false;
+    };
+    match held.arbiter().receiver().wanted() {
+        Some(request) => {
+            *out = request.encode();
+            true
+        }
+        None => false,
+    }
+}
+
+/// What came on line A, 0, or B, 1.
+#[unsafe(no_mangle)]
+pub extern "C" fn mold_listener_report(listener: &mut MoldHandle, line: u32, report: &mut MoldReport) -> u32
+    ensures reported { (hearing : Hearing) (at : ALine) →
+        listener.old.handle.value ≡ Some (AListener hearing) → line_at line ≡ Some at →
+        (result ≡ codes.done) × (report.new ≡ reported (report_on at hearing.arbitration.reports)) }
+    ensures line { (hearing : Hearing) →
+        listener.old.handle.value ≡ Some (AListener hearing) → line_at line ≡ None →
+        (result ≡ codes.line) × (report.new ≡ report.old) }
+    ensures broken { IsNoListener listener.old.handle.value →
+        (result ≡ codes.broken) × (report.new ≡ report.old) }
+    ensures same { listener.new.handle.value ≡ listener.old.handle.value }
+{
+    if !listener.live {
+        return BROKEN;
+    }
+    let Held::Listener(held) = listener.handle.lend() else {
+        return BROKEN;
+    };
+    let Some(line) = line_of(line) else {
+        return LINE;
+    };
+    *report = MoldReport::of(held.arbiter().report(line));
+    DONE
+}
