@@ -1,7 +1,6 @@
 -- What an arbiter and its batch do is what a listener does.
 use Rattle.std.proofs.Common.{◌≡◌, ap, ◌∙◌, inl, inr, List, ℕ, Option, None, Some, Result, Ok, Err, IfOk, IfErr, OnErr}
-use Rattle.mold_receiver.specs.Arbiter.{Arbitration, HasArbitrated, HasRefused, arbitrated}
-use Rattle.mold_receiver.specs.Batch.{Handed}
+use Rattle.mold_receiver.specs.Arbiter.{HasArbitrated, HasRefused, arbitrated}
 use Rattle.mold_receiver.specs.Receive.{IsRefusedFor}
 use Rattle.mold_receiver.specs.declared.line.Line.{Line}
 use Rattle.mold_receiver.specs.declared.taken.Taken.{Taken}

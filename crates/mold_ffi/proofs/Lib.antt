@@ -2,3 +2,4 @@ mod AsBox
 mod HearingLemmas
 mod LoanLemmas
 mod Walking
+mod ServingLemmas

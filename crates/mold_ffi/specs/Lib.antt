@@ -4,3 +4,4 @@ pub mod Lending
 pub mod Listening
 pub mod Owned
 pub mod Publishing
+pub mod Serving

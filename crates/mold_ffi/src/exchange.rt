@@ -1,15 +1,21 @@
 //! A publisher, and the server that answers from its journal.
 
-ghost use Rattle.std.specs.Prelude.{◌≡◌, ◌↔◌, None, Some, IsTrue, IfOk, IfErr, OnOk};
+ghost use Rattle.std.specs.Prelude.{◌≡◌, ◌↔◌, Option, None, Some, IsTrue, IfOk, IfErr, OnOk};
 ghost use Rattle.mold_wire.specs.Packer.{IsLimit};
 ghost use Rattle.mold_wire.specs.Packing.{Fits};
 ghost use Rattle.mold_session.specs.Publisher.{unsent_of, next_datagram, next_heartbeat, next_end, after_datagram};
 ghost use Rattle.mold_session.specs.declared.error.PublisherError.{PublisherError as APublisherError};
 ghost use Rattle.mold_ffi.specs.Publishing.{opened, holding, append_code, append_number, Publishes, Sends, Closes, Saves};
-ghost use Rattle.mold_ffi.specs.Publishing.{GivesServer};
+ghost use Rattle.mold_ffi.specs.Publishing.{GivesServer, with_server};
+ghost use Rattle.mold_ffi.specs.Codes as codes;
+ghost use Rattle.mold_ffi.specs.Serving.{Answers, Plans, Serves};
+ghost use Rattle.mold_ffi.specs.declared.held.Held.{Held as AHeld};
+ghost use Rattle.mold_session.specs.Server.{ServerState};
 
+use crate::answering::{answer, datagram, plan};
 use crate::code::{BROKEN, BURST, CLOSED, DONE, LIMIT, MEMORY, NUMBERS, ROOM, TOO_LONG, UNSENT};
 use crate::lending::give;
+use crate::mold_plan::MoldPlan;
 use mold_session::{AppendError, Publisher, PublisherError, Server, ServerError, Unsent};
 use mold_wire::Session;
 use std::alloc::Global;
@@ -160,6 +166,54 @@ impl Exchange {
             Err(ServerError::Limit) => LIMIT,
             Err(ServerError::Burst) => BURST,
             Err(ServerError::Memory) => MEMORY,
+        }
+    }
+
+    /// Writes the first datagram of the answer to a request.
+    pub(crate) fn answer(&mut self, request: &[u8], buffer: &mut [u8], number: &mut u64) -> u32
+        ensures answers { (server : ServerState) → self.old.server ≡ Some server →
+            Answers (Option AHeld) server self.old.publisher.journal request.now buffer.old buffer.new number.old
+            result number.new (with_server self.old) (holding self.new) }
+        ensures broken { self.old.server ≡ None → (result ≡ codes.broken) × (number.new ≡ number.old)
+            × (buffer.new ≡ buffer.old) × (self.new ≡ self.old) }
+    {
+        match &mut self.server {
+            Some(server) => answer(server, self.publisher.journal(), request, buffer, number),
+            None => BROKEN,
+        }
+    }
+
+    /// Plans the answer to a request.
+    pub(crate) fn plan(&mut self, request: &[u8], told: &mut MoldPlan, number: &mut u64) -> u32
+        ensures plans { (server : ServerState) → self.old.server ≡ Some server →
+            Plans (Option AHeld) server self.old.publisher.journal request.now told.old told.new number.old
+            result number.new (with_server self.old) (holding self.new) }
+        ensures broken { self.old.server ≡ None → (result ≡ codes.broken) × (number.new ≡ number.old)
+            × (told.new ≡ told.old) × (self.new ≡ self.old) }
+    {
+        match &mut self.server {
+            Some(server) => plan(server, self.publisher.journal(), request, told, number),
+            None => BROKEN,
+        }
+    }
+
+    /// Writes the next datagram of a plan.
+    pub(crate) fn planned(
+        &mut self,
+        told: &mut MoldPlan,
+        buffer: &mut [u8],
+        size: &mut usize,
+    ) -> u32
+        ensures serves { (server : ServerState) → self.old.server ≡ Some server →
+            Serves server self.old.publisher.journal told.old told.new buffer.old buffer.new size.old
+            result size.new }
+        ensures broken { self.old.server ≡ None → (result ≡ codes.broken) × (size.new ≡ size.old)
+            × (buffer.new ≡ buffer.old) × (told.new ≡ told.old) }
+        ensures same { self.new ≡ self.old }
+    {
+        match &mut self.server {
+            Some(server) => datagram(server, self.publisher.journal(), told, buffer, size),
+            None => BROKEN,
         }
     }
 }

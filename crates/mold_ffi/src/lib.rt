@@ -2,6 +2,7 @@
 //! what is proved of the crates below.
 #![tactic(auto)]
 
+mod answering;
 mod code;
 mod exchange;
 mod free;
@@ -13,8 +14,10 @@ mod listener_calls;
 mod listener_reads;
 mod listener_tells;
 mod mold_handle;
+mod mold_plan;
 mod parts;
 mod publisher_calls;
 mod report;
+mod server_calls;
 mod serving;
 mod told;
