@@ -1,4 +1,4 @@
-use Rattle.std.proofs.Common.{◌<◌, ◌∙◌, length, ap, arith, Bor, List, ℕ}
+use Rattle.std.proofs.Common.{◌≡◌, ◌∷◌, ◌<◌, ◌∙◌, length, ap, arith, Bor, List, ℕ}
 use Rattle.mold_ffi.proofs.LoanLemmas.{lent_more, left_less}
 use Rattle.mold_ffi.proofs.listener_reads.lend_messages.Goals as goal
 
