@@ -1,7 +1,6 @@
 -- What an arbiter and its batch do is what a listener does.
 use Rattle.std.proofs.Common.{◌≡◌, ap, ◌∙◌, inl, inr, List, ℕ, Option, None, Some, Result, Ok, Err, IfOk, IfErr, OnErr}
-use Rattle.mold_receiver.specs.Arbiter.{Arbitration, HasArbitrated, HasRefused, arbitrated}
-use Rattle.mold_receiver.specs.Batch.{Handed}
+use Rattle.mold_receiver.specs.Arbiter.{HasArbitrated, HasRefused, arbitrated}
 use Rattle.mold_receiver.specs.Receive.{IsRefusedFor}
 use Rattle.mold_receiver.specs.declared.line.Line.{Line}
 use Rattle.mold_receiver.specs.declared.taken.Taken.{Taken}
@@ -11,8 +10,12 @@ use Rattle.mold_ffi.specs.Hearing.{Hearing, HasHeard}
 -- a datagram that was taken
 taken_heard : (line : Option Line) (bytes : List ℕ) (old new : Hearing) (taken : Taken)
     → HasArbitrated line old.arbitration bytes old.batch new.arbitration new.batch taken → HasHeard line bytes old new (Ok taken)
-taken_heard line bytes old new taken h = (h.reception, h.received, h.told,
-    λ i. record { arbitration = (h.arbitration ∙ ap (arbitrated line bytes old.arbitration) h.received) i; batch = h.batch i })
+taken_heard line bytes old new taken h = (
+  h.reception,
+  h.received,
+  h.told,
+  λ i. record { arbitration = (h.arbitration ∙ ap (arbitrated line bytes old.arbitration) h.received) i; batch = h.batch i },
+)
 
 -- one that was refused on a line, and one that was refused as an answer
 refused_heard : (line : Line) (bytes : List ℕ) (old new : Hearing) (refused : Refusal)

@@ -1,32 +1,57 @@
--- Places that are written one by one, from the first on.
-use Rattle.std.proofs.Common.{◌≡◌, ℕ, suc, zero, ◌+◌, ◌<◌, List, [], ◌∷◌, ◌++◌, map, length, take, drop, set, get_or, refl, sym, ap, ◌∙◌, subst, arith}
-use Rattle.std.proofs.lemmas.List.{map-set, length-map}
+-- Places that are written one by one, from the first on, with what a list has there.
+use Rattle.std.proofs.Common.{◌≡◌, ℕ, suc, zero, ◌+◌, ◌<◌, List, [], ◌∷◌, ◌++◌, map, length, take, drop, set, refl, sym, ap, ◌∙◌, subst, arith, lt-suc_self, take-suc, get_or}
+use Rattle.std.proofs.lemmas.List.{map-append, take_more_set, drop-set-lt, length-map, get_or-map}
 
--- one more message of a list is put behind those in front places
-front_set : {X : Type 0} (places all rest : List X) (x : X) (n : ℕ) → drop n all ≡ x ∷ rest → n < length places
-    → set (take n all ++ drop n places) n x ≡ take (suc n) all ++ drop (suc n) places
-front_set [] all rest x n left room = absurd (omega (arith, room))
-front_set (p ∷ places) [] rest x zero left room = absurd (omega (arith, ap length left))
-front_set (p ∷ places) (y ∷ all) rest x zero left room = ap (λ z. z ∷ places) (sym (ap (λ l. get_or l 0 x) left))
-front_set (p ∷ places) [] rest x (suc n) left room = absurd (omega (arith, ap length left))
-front_set (p ∷ places) (y ∷ all) rest x (suc n) left room = ap (λ l. y ∷ l) (front_set places all rest x n left (omega (arith, room)))
+-- the front of a list and of what is left behind it
+front_more : {X : Type 0} (all rest : List X) (x : X) (n : ℕ) → drop n all ≡ x ∷ rest → take (suc n) all ≡ take n all ++ x ∷ []
+front_more [] rest x zero left = absurd (omega (arith, ap length left))
+front_more (y ∷ all) rest x zero left = ap (λ l. take 1 l) left
+front_more [] rest x (suc n) left = absurd (omega (arith, ap length left))
+front_more (y ∷ all) rest x (suc n) left = ap (λ l. y ∷ l) (front_more all rest x n left)
 
--- and a message less is left
-front_left : {X : Type 0} (all rest : List X) (x : X) (n : ℕ) → drop n all ≡ x ∷ rest → drop (suc n) all ≡ rest
-front_left [] rest x zero left = absurd (omega (arith, ap length left))
-front_left (y ∷ all) rest x zero left = ap (drop 1) left
-front_left [] rest x (suc n) left = absurd (omega (arith, ap length left))
-front_left (y ∷ all) rest x (suc n) left = front_left all rest x n left
+front_less : {X : Type 0} (all rest : List X) (x : X) (n : ℕ) → drop n all ≡ x ∷ rest → drop (suc n) all ≡ rest
+front_less [] rest x zero left = absurd (omega (arith, ap length left))
+front_less (y ∷ all) rest x zero left = ap (drop 1) left
+front_less [] rest x (suc n) left = absurd (omega (arith, ap length left))
+front_less (y ∷ all) rest x (suc n) left = front_less all rest x n left
 
--- a place that is written is a message more
-pub lent_more : {X Y : Type 0} (f : X → Y) (places old : List X) (all rest : List Y) (x : X) (n : ℕ)
-    → map f places ≡ take n all ++ drop n (map f old) → drop n all ≡ f x ∷ rest → n < length old
-    → map f (set places n x) ≡ take (n + 1) all ++ drop (n + 1) (map f old)
-lent_more f places old all rest x n told left room =
+-- what is left behind one element more
+drop_one : {X : Type 0} (n : ℕ) (list : List X) → drop (suc n) list ≡ drop 1 (drop n list)
+drop_one zero list = refl
+drop_one (suc n) [] = refl
+drop_one (suc n) (x ∷ list) = drop_one n list
+
+drop_one_more : {X : Type 0} (n : ℕ) (one other : List X) → drop n one ≡ drop n other → drop (suc n) one ≡ drop (suc n) other
+drop_one_more n one other same = drop_one n one ∙ ap (drop 1) same ∙ sym (drop_one n other)
+
+-- a place that is written tells one element more
+told_one : {X Y : Type 0} (f : X → Y) (places : List X) (all : List Y) (x : X) (n : ℕ)
+    → map f (take n places) ≡ take n all → take (suc n) all ≡ take n all ++ f x ∷ [] → n < length places
+    → map f (take (n + 1) (set places n x)) ≡ take (n + 1) all
+told_one f places all x n told more room =
     let one : suc n ≡ n + 1 = omega arith in
-    let fits : n < length (map f old) = subst (λ k. n < k) (sym (length-map old f)) room in
-    subst (λ k. map f (set places n x) ≡ take k all ++ drop k (map f old)) one
-    (map-set f places n x ∙ ap (λ l. set l n (f x)) told ∙ front_set (map f old) all rest (f x) n left fits)
+    ap (map f) (take_more_set places n x room) ∙ map-append f (take n places) (x ∷ []) ∙ ap (λ l. l ++ f x ∷ []) told ∙ sym more ∙ ap (λ k. take k all) one
 
+-- the one that is left first
+pub told_more : {X Y : Type 0} (f : X → Y) (places : List X) (all rest : List Y) (x : X) (n : ℕ)
+    → map f (take n places) ≡ take n all → drop n all ≡ f x ∷ rest → n < length places
+    → map f (take (n + 1) (set places n x)) ≡ take (n + 1) all
+told_more f places all rest x n told left room = told_one f places all x n told (front_more all rest (f x) n left) room
+
+-- the one at the place's number
+pub told_at : {X Y Z : Type 0} (f : X → Y) (g : Z → Y) (places : List X) (all : List Z) (x : X) (d : Z) (n : ℕ)
+    → map f (take n places) ≡ take n (map g all) → f x ≡ g (get_or all n d) → n < length all → n < length places
+    → map f (take (n + 1) (set places n x)) ≡ take (n + 1) (map g all)
+told_at f g places all x d n told same there room =
+    let more = take-suc (map g all) n (g d) (subst (λ k. n < k) (sym (length-map all g)) there) in
+    told_one f places (map g all) x n told (more ∙ ap (λ y. take n (map g all) ++ y ∷ []) (get_or-map g all n d (g d) there ∙ sym same)) room
+
+-- the places behind it stay
+pub behind_less : {X : Type 0} (places old : List X) (x : X) (n : ℕ) → drop n places ≡ drop n old → drop (n + 1) (set places n x) ≡ drop (n + 1) old
+behind_less places old x n same =
+    let one : suc n ≡ n + 1 = omega arith in
+    subst (λ k. drop k (set places n x) ≡ drop k old) one (drop-set-lt (suc n) places n x (lt-suc_self n) ∙ drop_one_more n places old same)
+
+-- and an element less is left
 pub left_less : {X : Type 0} (all rest : List X) (x : X) (n : ℕ) → drop n all ≡ x ∷ rest → drop (n + 1) all ≡ rest
-left_less all rest x n left = let one : suc n ≡ n + 1 = omega arith in subst (λ k. drop k all ≡ rest) one (front_left all rest x n left)
+left_less all rest x n left = let one : suc n ≡ n + 1 = omega arith in subst (λ k. drop k all ≡ rest) one (front_less all rest x n left)

@@ -1,5 +1,5 @@
 -- A listener as its users see it: an arbiter, and the batch of what it handed on.
-use Rattle.std.specs.Prelude.{◌≡◌, ◌⊎◌, ℕ, List, [], Option, None, Result, Ok, Err, refl}
+use Rattle.std.specs.Prelude.{◌≡◌, ◌⊎◌, ℕ, List, [], Option, Result, Ok, Err, refl}
 use Rattle.std.specs.Coded.{Coded, code_by, coded×, coded_list, coded_ℕ}
 use Rattle.mold_receiver.specs.Arbiter.{Arbitration, arbitrated, arbitration_code}
 use Rattle.mold_receiver.specs.Batch.{Handed, Follows, followed_by}

@@ -3,6 +3,7 @@
 #![tactic(auto)]
 
 mod answering;
+mod checker_calls;
 mod code;
 mod exchange;
 mod free;
@@ -17,7 +18,9 @@ mod mold_handle;
 mod mold_plan;
 mod parts;
 mod publisher_calls;
+mod range;
 mod report;
 mod server_calls;
 mod serving;
 mod told;
+mod verdict;

@@ -33,7 +33,12 @@ impl Model for Listener {
 impl Listener {
     /// A listener that begins at the message `next` and stores messages of less than `next + window`. It makes its
     /// window here; later only messages take memory.
-    pub(crate) fn new(alloc: Global, session: Session, next: u64, window: u32) -> Result<Listener, ReceiverError>
+    pub(crate) fn new(
+        alloc: Global,
+        session: Session,
+        next: u64,
+        window: u32,
+    ) -> Result<Listener, ReceiverError>
         ensures made { IfOk result (λ listener. listener ≡ begun session next window) }
         ensures ok { OnOk result ((0 < next) × IsWindow window) }
         ensures zero { next ≡ 0 → IfErr result (λ error. error ≡ NextZero) }

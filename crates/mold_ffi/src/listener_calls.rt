@@ -70,7 +70,12 @@ pub extern "C" fn mold_listener_new(
 /// Takes a datagram that came on line A, 0, or B, 1, or on none as the answer to a request, 2. The messages that
 /// are handed on stand at the end of the batch.
 #[unsafe(no_mangle)]
-pub extern "C" fn mold_listener_take(listener: &mut MoldHandle, line: u32, bytes: &[u8], told: &mut MoldTold) -> u32
+pub extern "C" fn mold_listener_take(
+    listener: &mut MoldHandle,
+    line: u32,
+    bytes: &[u8],
+    told: &mut MoldTold,
+) -> u32
     ensures takes { (hearing : Hearing) (origin : Option ALine) →
         listener.old.handle.value ≡ Some (AListener hearing) → origin_at line ≡ Some origin →
         Takes origin bytes.now hearing told.old.unused result told.new listener.new.handle.value }

@@ -123,8 +123,8 @@ pub extern "C" fn mold_listener_copy(
 // Lends a batch's messages from the first on, as many as there are places, and answers how many.
 fn lend_messages<'a>(batch: &'a Batch, messages: &mut [&'a [u8]]) -> usize
     ensures count { result ≡ min (length messages.old) (length batch.now.messages) }
-    ensures lent { map (λ bytes. bytes.now) messages.new ≡
-        take result batch.now.messages ++ drop result (map (λ bytes. bytes.now) messages.old) }
+    ensures lent { map (λ bytes. bytes.now) (take result messages.new) ≡ take result batch.now.messages }
+    ensures behind { drop result messages.new ≡ drop result messages.old }
 {
     let mut filled = 0;
     for bytes in batch.iter() {
@@ -147,8 +147,8 @@ pub extern "C" fn mold_listener_messages<'a>(
     ensures count { (hearing : Hearing) → listener.old.handle.value ≡ Some (AListener hearing) →
         result ≡ min (length messages.old) (length hearing.batch.messages) }
     ensures lent { (hearing : Hearing) → listener.old.handle.value ≡ Some (AListener hearing) →
-        map (λ bytes. bytes.now) messages.new ≡
-        take result hearing.batch.messages ++ drop result (map (λ bytes. bytes.now) messages.old) }
+        map (λ bytes. bytes.now) (take result messages.new) ≡ take result hearing.batch.messages }
+    ensures behind { drop result messages.new ≡ drop result messages.old }
     ensures broken { IsNoListener listener.old.handle.value → (result ≡ 0) × (messages.new ≡ messages.old) }
 {
     if !listener.live {

@@ -109,7 +109,11 @@ pub extern "C" fn mold_listener_wanted(listener: &mut MoldHandle, out: &mut [u8;
 
 /// What came on line A, 0, or B, 1.
 #[unsafe(no_mangle)]
-pub extern "C" fn mold_listener_report(listener: &mut MoldHandle, line: u32, report: &mut MoldReport) -> u32
+pub extern "C" fn mold_listener_report(
+    listener: &mut MoldHandle,
+    line: u32,
+    report: &mut MoldReport,
+) -> u32
     ensures reported { (hearing : Hearing) (at : ALine) →
         listener.old.handle.value ≡ Some (AListener hearing) → line_at line ≡ Some at →
         (result ≡ codes.done) × (report.new ≡ reported (report_on at hearing.arbitration.reports)) }
