@@ -15,6 +15,7 @@ mod output;
 mod piece;
 mod plan;
 mod sink;
+mod slice_source;
 mod source;
 mod turn;
 
@@ -30,5 +31,6 @@ pub use new_file::NewFile;
 pub use output::{LARGE, send};
 pub use piece::Piece;
 pub use sink::{Sink, write_all};
+pub use slice_source::SliceSource;
 pub use source::Source;
 pub use turn::Turn;

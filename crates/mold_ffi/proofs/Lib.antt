@@ -2,5 +2,6 @@ mod AsBox
 mod CheckingLemmas
 mod HearingLemmas
 mod LoanLemmas
-mod Walking
 mod PlaceLemmas
+mod ServingLemmas
+mod Walking

@@ -2,9 +2,11 @@ pub mod Checking
 pub mod Codes
 pub mod Hearing
 pub mod Lending
+pub mod Lent
 pub mod Listening
 pub mod Owned
-pub mod Lent
+pub mod Publishing
 pub mod Reading
 pub mod Requests
+pub mod Serving
 pub mod Texts

@@ -2,6 +2,7 @@
 //! what is proved of the crates below.
 #![tactic(auto)]
 
+mod answering;
 mod checker_calls;
 mod code;
 #[cfg(test)]
@@ -11,17 +12,21 @@ mod free;
 mod handle;
 mod held;
 pub mod laws;
+mod lending;
 mod listener;
 mod listener_calls;
 mod listener_reads;
 mod listener_tells;
 mod mold_handle;
+mod mold_plan;
 mod packer;
 mod parts;
+mod publisher_calls;
 mod range;
 mod reading;
 mod report;
 mod request;
+mod server_calls;
 mod serving;
 mod text;
 mod told;

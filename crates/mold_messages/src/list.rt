@@ -1,6 +1,6 @@
 //! A list of messages.
 
-ghost use Rattle.std.specs.Prelude.{◌≡◌, ◌-◌, ◌<◌, ◌≤◌, ◌++◌, ◌∷◌, [], length, take, drop, slice_get, IsOk, OnOk};
+ghost use Rattle.std.specs.Prelude.{◌≡◌, ◌-◌, ◌<◌, ◌≤◌, ◌++◌, ◌∷◌, ◌^◌, [], length, take, drop, slice_get, IsOk, OnOk};
 ghost use Rattle.std.specs.Prelude.{OnErr, ◌==◌};
 ghost use Rattle.std.specs.Option.{option_copied};
 ghost use Rattle.mold_messages.specs.Listed.{byte_count, extended, HasRoom, KeepsRoom};
@@ -90,6 +90,18 @@ impl MessageList {
         ensures { result ≡ byte_count (take (to - from) (drop from self.now.messages)) }
     {
         place_of(&self.ends, to) - place_of(&self.ends, from)
+    }
+
+    /// How many bytes the messages have together, in constant time. They are less than 2 ^ 63 and the
+    /// messages less than 2 ^ 60, since all of them lie in memory.
+    pub fn total_length(&self) -> usize
+        ensures value { result ≡ byte_count self.now.messages }
+        ensures bound { result < 2 ^ 63 }
+        ensures few { length self.now.messages < 2 ^ 60 }
+    {
+        // A slice's length is bounded by its bytes.
+        let _ends = self.ends.as_slice();
+        self.bytes.as_slice().len()
     }
 
     /// The messages in order, from the first.

@@ -11,6 +11,7 @@ pub mod MovingLemmas
 pub mod OneFaultLemmas
 pub mod PackingLemmas
 pub mod PublisherLemmas
+pub mod PuttingLemmas
 pub mod SavingLemmas
 pub mod ReaderLemmas
 pub mod ServingLemmas

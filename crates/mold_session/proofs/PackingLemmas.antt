@@ -7,6 +7,7 @@ use Rattle.mold_messages.specs.Listed.{byte_count}
 use Rattle.mold_wire.specs.declared.session.Session.{Session}
 use Rattle.mold_wire.specs.Packer.{PackerState, Open, IsLimit, HasRoom, with_message}
 use Rattle.mold_wire.specs.Packing.{packet_length, Fits, IsFront}
+use Rattle.mold_session.specs.File.{file_length}
 use Rattle.mold_session.specs.Packing.{HasPacked}
 
 -- what the wire crate's law says of a front that can't be longer
@@ -138,3 +139,8 @@ pub packet_bytes :
     (messages : List (List ℕ)) → packet_length messages ≡ 20 + (2 * length messages + byte_count messages)
 unfolding packet_length
 packet_bytes messages = ap (λ (n : ℕ). 20 + n) (lengths_and_bytes messages)
+
+-- and those of a file
+pub file_bytes :
+    (messages : List (List ℕ)) → file_length messages ≡ 27 + (2 * length messages + byte_count messages)
+file_bytes messages = ap (λ (n : ℕ). 27 + n) (lengths_and_bytes messages)

@@ -57,17 +57,22 @@ each_next : (done : List (List ℕ)) (message : List ℕ) (rest : List (List ℕ
 each_next [] message rest each = each.0
 each_next (first ∷ done) message rest each = each_next done message rest each.1
 
+pub next_within : (all done left : List (List ℕ)) (message : List ℕ) (rest : List (List ℕ)) → AreMessages 65535 all →
+    left ≡ message ∷ rest → all ≡ done ++ left → length message < 2 ^ 16
+next_within all done left message rest are some parts =
+    let each : length message ≤ 65535 =
+    each_next done message rest
+    (subst (AllByRecursion (IsWithin 65535)) (parts ∙ ap (λ (t : List (List ℕ)). done ++ t) some) are.each)
+    in
+    omega (arith, each)
+
 pub next_fits : (old new : Option (List ℕ)) (head : List ℕ) (all left : List (List ℕ)) (message : List ℕ)
     (rest : List (List ℕ)) (kept : List ℕ) → AreMessages 65535 all → left ≡ message ∷ rest →
     Saves old new head all left kept → length message < 2 ^ 16
 next_fits old new head all left message rest kept are some saves =
-    let each : length message ≤ 65535 =
-    each_next saves.done message rest
-    (subst (AllByRecursion (IsWithin 65535)) (saves.parts ∙ ap (λ (t : List (List ℕ)). saves.done ++ t) some) are.each)
-    in
-    omega (arith, each)
+    next_within all saves.done left message rest are some saves.parts
 
-blocks_one_more : (done : List (List ℕ)) (message : List ℕ) (head : List ℕ) →
+pub blocks_one_more : (done : List (List ℕ)) (message : List ℕ) (head : List ℕ) →
     (head ++ blocks done) ++ block message ≡ head ++ blocks (done ++ message ∷ [])
 blocks_one_more done message head =
     append_assoc head (blocks done) (block message)

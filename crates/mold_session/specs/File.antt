@@ -1,5 +1,5 @@
 -- The file of a journal: which bytes spell which journal.
-use Rattle.std.specs.Prelude.{◌≡◌, ℕ, Bool, true, false, List, ◌∷◌, ◌++◌, length, codes, Option}
+use Rattle.std.specs.Prelude.{◌≡◌, ℕ, ◌+◌, Bool, true, false, List, ◌∷◌, ◌++◌, length, sum_by, codes, Option}
 use Rattle.std.specs.Io.KnownBytes.{Appends}
 use Rattle.mold_wire.specs.Block.{be64, blocks}
 use Rattle.mold_wire.specs.declared.session.Session.{Session}
@@ -37,6 +37,10 @@ pub record SpellsJournal2 (session : Session) (messages : List (List ℕ)) (clos
   pub named : length session.0 ≡ 10
   pub listed : AreMessages 65535 messages
   pub spelled : bytes ≡ head_2 session.0 closed (length messages) ++ blocks messages
+
+-- how many bytes that are: 27, and for each message two and its length
+abbrev pub file_length : List (List ℕ) → ℕ
+file_length messages = 27 + sum_by (λ message. 2 + length message) messages
 
 -- known bytes grew by the file of version 2 of a journal
 pub record AppendsFile (old new : Option (List ℕ)) (session : Session) (messages : List (List ℕ))

@@ -8,6 +8,7 @@ pub mod Loading
 pub mod Moving
 pub mod Packing
 pub mod Publisher
+pub mod Putting
 pub mod Reader
 pub mod Server
 pub mod Serving

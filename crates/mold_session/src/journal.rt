@@ -1,24 +1,25 @@
 //! The messages of a session, in the order in which they were published.
 
-ghost use Rattle.std.specs.Prelude.{◌≡◌, ◌+◌, ◌≤◌, [], true, false, None, length, drop, take, ◌-◌, unwrap_or, IfOk};
-ghost use Rattle.std.specs.Prelude.{IfErr, IfSome, OnOk, OnErr, ◌⊎◌};
+ghost use Rattle.std.specs.Prelude.{◌≡◌, ◌+◌, ◌<◌, ◌≤◌, [], true, false, None, length, drop, take, ◌-◌, unwrap_or, IfOk};
+ghost use Rattle.std.specs.Prelude.{IfErr, IfSome, IfNone, OnOk, OnErr, ◌⊎◌};
 ghost use Rattle.std.specs.Io.KnownBytes.{IsAtEnd};
-ghost use Rattle.std.specs.Option.{option_copied};
+ghost use Rattle.std.specs.Option.{option_copied, OnSome};
 ghost use Rattle.mold_messages.specs.Listed.{byte_count};
 ghost use Rattle.mold_devices.specs.Devices.{Counts};
-ghost use Rattle.mold_session.specs.File.{SpellsJournal, SpellsJournal2, AppendsFile, AppendsFileFront};
+ghost use Rattle.mold_session.specs.File.{SpellsJournal, SpellsJournal2, AppendsFile, AppendsFileFront, file_length};
 ghost use Rattle.mold_session.specs.FileFault.{JournalFault};
 ghost use Rattle.mold_session.specs.Journal.{IsJournal, message_numbered, append_refusal, appended};
 ghost use Rattle.mold_session.specs.Loading.{Refuses, CountsLoad};
+ghost use Rattle.mold_session.specs.Putting.{PutsFile};
 ghost use Rattle.mold_session.specs.declared.error.AppendError.{AppendError};
 ghost use Rattle.mold_session.specs.declared.error.FileError.{FileError};
 
 use crate::error::{AppendError, FileError};
 use crate::loading::load_file;
-use crate::saving::save_file;
+use crate::saving::{HEAD_LENGTH, put_file, save_file};
 use mold_devices::{Sink, Source};
 use mold_messages::{MessageIterator, MessageList};
-use mold_wire::Session;
+use mold_wire::{LENGTH_BYTES, Session};
 use std::alloc::Global;
 use std::marker::Model;
 
@@ -194,6 +195,30 @@ impl Journal {
             Ok(()) => Ok(()),
             Err(_) => Err(FileError::Write),
         }
+    }
+
+    /// How many bytes the journal's file has in version 2, in constant time: 27, and for each message two
+    /// and its length.
+    pub fn file_length(&self) -> usize
+        ensures { result ≡ file_length self.now.messages }
+    {
+        self.list.total_length() + LENGTH_BYTES * self.list.len() + HEAD_LENGTH
+    }
+
+    /// Writes the journal's file, in version 2, at the front of the bytes, and answers its length; none,
+    /// and the bytes stay, where they are fewer than that. It takes no memory.
+    pub fn save_in(&self, bytes: &mut [u8]) -> Option<usize>
+        ensures put { IfSome result (λ size.
+            PutsFile bytes.old bytes.new self.now.session self.now.messages self.now.closed size) }
+        ensures size { IfSome result (λ size. size ≡ file_length self.now.messages) }
+        ensures room { OnSome result (file_length self.now.messages ≤ length bytes.old) }
+        ensures short { IfNone result (length bytes.old < file_length self.now.messages) }
+        ensures same { IfNone result (bytes.new ≡ bytes.old) }
+    {
+        if bytes.len() < self.file_length() {
+            return None;
+        }
+        Some(put_file(bytes, self.session, self.closed, &self.list))
     }
 
     /// Lets no more messages come. On a closed journal it changes nothing.

@@ -12,6 +12,7 @@ mod packing;
 mod piece;
 mod plan;
 mod publisher;
+mod putting;
 mod reader;
 mod saving;
 mod server;
@@ -23,7 +24,9 @@ pub use error::{
 };
 pub use journal::{Journal, MAX_MESSAGES};
 pub use loading::FileHead;
-pub use mold_devices::{DeviceFault, FromRead, IntoWrite, MemorySink, MemorySource, Sink, Source};
+pub use mold_devices::{
+    DeviceFault, FromRead, IntoWrite, MemorySink, MemorySource, Sink, SliceSource, Source,
+};
 pub use plan::Plan;
 pub use publisher::Publisher;
 pub use reader::JournalReader;

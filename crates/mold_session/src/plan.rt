@@ -1,6 +1,6 @@
 //! What is left of the answer to a request.
 
-ghost use Rattle.std.specs.Prelude.{◌≡◌, ◌+◌, ◌≤◌, ◌<◌, ◌↔◌, length, IsTrue};
+ghost use Rattle.std.specs.Prelude.{◌≡◌, ◌+◌, ◌≤◌, ◌<◌, ◌↔◌, length, IsTrue, IsSome, IfSome};
 ghost use Rattle.mold_session.specs.Answer.{IsPlan, IsSpent, plan_for, moved};
 ghost use Rattle.mold_session.specs.Journal.{IsJournal};
 
@@ -43,6 +43,25 @@ impl Plan {
             to: behind.min(journal.next()),
             left: burst,
         }
+    }
+
+    /// What is left of an answer, from numbers that a caller kept; none where `from` is 0 or above `to`. Any
+    /// `left` is taken: how many datagrams a plan may have is for its server to say, which makes plans of at
+    /// most 64.
+    pub fn resumed(session: Session, from: u64, to: u64, left: u16) -> Option<Plan>
+        ensures some { IsSome result ↔ IsPlan (record { session = session; from = from; to = to; left = left }) }
+        ensures made { IfSome result (λ plan.
+            plan ≡ record { session = session; from = from; to = to; left = left }) }
+    {
+        if from == 0 || to < from {
+            return None;
+        }
+        Some(Plan {
+            session,
+            from,
+            to,
+            left,
+        })
     }
 
     /// The session of the messages.

@@ -1,7 +1,7 @@
 //! The publisher of a session.
 
 ghost use Rattle.std.specs.Prelude.{◌≡◌, ◌↔◌, ◌+◌, ◌-◌, ◌≤◌, [], true, false, None, Err, length, unwrap_or, not, IfOk};
-ghost use Rattle.std.specs.Prelude.{IfErr, IfSome, IsOk, OnOk, OnErr, IsTrue};
+ghost use Rattle.std.specs.Prelude.{IfErr, IfSome, IfNone, IsOk, OnOk, OnErr, IsTrue};
 ghost use Rattle.std.specs.Option.{option_copied};
 ghost use Rattle.mold_wire.specs.Packer.{IsLimit};
 ghost use Rattle.mold_wire.specs.Packing.{Fits};
@@ -87,6 +87,14 @@ impl Publisher {
         self.journal.append(message)
     }
 
+    /// How many bytes a datagram may have.
+    pub fn limit(&self) -> usize
+        ensures value { result ≡ self.now.limit }
+        ensures publisher { IsPublisher self.now }
+    {
+        self.limit
+    }
+
     /// How many messages were not yet put in a datagram.
     pub fn unsent(&self) -> u64
         ensures value { result ≡ length self.now.journal.messages - self.now.sent }
@@ -114,6 +122,8 @@ impl Publisher {
     pub fn datagram(&mut self) -> Option<&[u8]>
         ensures* after { sem 𝓛 (Rests the_row self.entry (λ new. new ≡ after_datagram self.old)) }
         ensures lent { Lends (next_datagram self.old) (option_copied result) }
+        ensures within { IfSome result (λ bytes. length bytes.now ≤ self.old.limit) }
+        ensures idle { IfNone result (after_datagram self.old ≡ self.old) }
         ensures truth { IfSome result (λ bytes. TellsTruth self.old.journal bytes.now) }
     {
         front_law();
@@ -140,6 +150,7 @@ impl Publisher {
     pub fn heartbeat(&mut self) -> Option<&[u8]>
         ensures* after { sem 𝓛 (Rests the_row self.entry (λ new. new ≡ self.old)) }
         ensures lent { Lends (next_heartbeat self.old) (option_copied result) }
+        ensures within { IfSome result (λ bytes. length bytes.now ≤ self.old.limit) }
         ensures truth { IfSome result (λ bytes. TellsTruth self.old.journal bytes.now) }
     {
         if self.journal.is_closed() {
@@ -173,6 +184,7 @@ impl Publisher {
     pub fn end(&mut self) -> Option<&[u8]>
         ensures* after { sem 𝓛 (Rests the_row self.entry (λ new. new ≡ self.old)) }
         ensures lent { Lends (next_end self.old) (option_copied result) }
+        ensures within { IfSome result (λ bytes. length bytes.now ≤ self.old.limit) }
         ensures truth { IfSome result (λ bytes. TellsTruth self.old.journal bytes.now) }
     {
         if !self.journal.is_closed() {

@@ -1,31 +1,47 @@
 //! The file of a journal, written.
 
-ghost use Rattle.std.specs.Prelude.{◌≡◌, ◌<◌, ◌^◌, ◌++◌, [], length, OnOk, OnErr};
-ghost use Rattle.mold_wire.specs.Block.{block};
+ghost use Rattle.std.specs.Prelude.{◌≡◌, ◌<◌, ◌≤◌, ◌^◌, ◌++◌, length, OnOk, OnErr};
+ghost use Rattle.mold_wire.specs.Block.{be16, block};
 ghost use Rattle.mold_devices.specs.Devices.{AppendsFront, Counts};
-ghost use Rattle.mold_session.specs.File.{head_2, AppendsFile, AppendsFileFront};
+ghost use Rattle.mold_session.specs.File.{head_2, file_length, AppendsFile, AppendsFileFront};
 ghost use Rattle.mold_session.specs.Journal.{AreMessages};
 ghost use Rattle.mold_session.specs.Moving.{Moves};
+ghost use Rattle.mold_session.specs.Putting.{PutsFile};
 
 use crate::magic::second_magic;
+use crate::putting::put_behind;
 use crate::write_buffer::WriteBuffer;
 use byteorder::{BigEndian, ByteOrder};
 use mold_devices::{DeviceFault, Sink};
 use mold_messages::MessageList;
 use mold_wire::{LENGTH_BYTES, Session};
 
-// Keeps what stands before the blocks.
-fn keep_head(buffer: &mut WriteBuffer, session: Session, closed: bool, count: u64)
-    requires { buffer.old ≡ [] }
+/// How many bytes stand before the blocks.
+pub const HEAD_LENGTH: usize = 27;
+
+// What stands before the blocks.
+fn head(session: Session, closed: bool, count: u64) -> [u8; HEAD_LENGTH]
     ensures named { length session.0 ≡ 10 }
-    ensures head { buffer.new ≡ head_2 session.0 closed count }
+    ensures head { result ≡ head_2 session.0 closed count }
 {
     let mut number = [0; 8];
     BigEndian::write_u64(&mut number, count);
-    buffer.keep(&second_magic());
-    buffer.keep(&session.0);
-    buffer.keep(&[u8::from(closed)]);
-    buffer.keep(&number);
+    let mut bytes = [0; HEAD_LENGTH];
+    put_behind(&mut bytes, 0, &second_magic());
+    put_behind(&mut bytes, 8, &session.0);
+    put_behind(&mut bytes, 18, &[u8::from(closed)]);
+    put_behind(&mut bytes, 19, &number);
+    bytes
+}
+
+// What stands before a message in its block.
+fn length_of(message: &[u8]) -> [u8; LENGTH_BYTES]
+    requires { length message.now < 2 ^ 16 }
+    ensures { result ≡ be16 (length message.now) }
+{
+    let mut bytes = [0; LENGTH_BYTES];
+    BigEndian::write_u16(&mut bytes, message.len() as u16);
+    bytes
 }
 
 // Takes the block of a message.
@@ -39,9 +55,7 @@ fn put_block<K: Sink>(
     ensures front { OnErr result (AppendsFront (K.held sink.old) (K.held sink.new) (buffer.old ++ block message.now)) }
     ensures failures { Counts (K.failed sink.old) (K.failed sink.new) result }
 {
-    let mut len = [0; LENGTH_BYTES];
-    BigEndian::write_u16(&mut len, message.len() as u16);
-    buffer.put(sink, &len)?;
+    buffer.put(sink, &length_of(message))?;
     buffer.put(sink, message)
 }
 
@@ -60,9 +74,27 @@ pub fn save_file<K: Sink>(
     ensures failures { Counts (K.failed sink.old) (K.failed sink.new) result }
 {
     let mut buffer = WriteBuffer::new();
-    keep_head(&mut buffer, session, closed, list.len() as u64);
+    buffer.keep(&head(session, closed, list.len() as u64));
     for message in list.iter() {
         put_block(&mut buffer, sink, message)?;
     }
     buffer.flush(sink)
+}
+
+/// Writes the file of version 2 of these messages at the front of the bytes, and answers its length.
+pub fn put_file(bytes: &mut [u8], session: Session, closed: bool, list: &MessageList) -> usize
+    requires messages { AreMessages 65535 list.now.messages }
+    requires room { file_length list.now.messages ≤ length bytes.old }
+    ensures put { PutsFile bytes.old bytes.new session list.now.messages closed result }
+    ensures size { result ≡ file_length list.now.messages }
+{
+    put_behind(bytes, 0, &head(session, closed, list.len() as u64));
+    let mut used = HEAD_LENGTH;
+    for message in list.iter() {
+        put_behind(bytes, used, &length_of(message));
+        used += LENGTH_BYTES;
+        put_behind(bytes, used, message);
+        used += message.len();
+    }
+    used
 }

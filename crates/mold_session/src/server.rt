@@ -98,6 +98,14 @@ impl Server {
         }
     }
 
+    /// How many bytes a datagram may have.
+    pub fn limit(&self) -> usize
+        ensures value { result ≡ self.now.limit }
+        ensures server { IsServer self.now }
+    {
+        self.packer.limit()
+    }
+
     /// How many bytes the messages of a journal may have from which it answers.
     pub fn max_message(&self) -> u16
         ensures value { result ≡ self.now.max_message }
@@ -121,6 +129,7 @@ impl Server {
         requires { journal.now.max_message ≤ self.old.max_message }
         ensures* after { sem 𝓛 (Rests the_row self.entry (λ new. new ≡ counted_if (is_ok result) self.old)) }
         ensures spelled { IfOk result (λ bytes. SpellsAnswer journal.now self.old request.now bytes.now) }
+        ensures within { IfOk result (λ bytes. length bytes.now ≤ self.old.limit) }
         ensures truth { IfOk result (λ bytes. TellsTruth journal.now bytes.now) }
         ensures refused { IfErr result (λ error. asking journal.now request.now ≡ Err error) }
         ensures journal { IsJournal journal.now }
@@ -161,6 +170,7 @@ impl Server {
         ensures* after { sem 𝓛 (Rests the_row self.entry (λ new. new ≡ self.old)) }
         ensures spelled { IfSome result (λ bytes.
             Spells (next_packet journal.now.messages self.old.limit plan.old) bytes.now) }
+        ensures within { IfSome result (λ bytes. length bytes.now ≤ self.old.limit) }
         ensures truth { IfSome result (λ bytes. TellsTruth journal.now bytes.now) }
         ensures moved { OnSome result
             (plan.new ≡ moved plan.old (length (next_part journal.now.messages self.old.limit plan.old))) }

@@ -1,10 +1,11 @@
 //! Bytes on their way into a sink.
 
-ghost use Rattle.std.specs.Prelude.{◌≡◌, ◌+◌, ◌≤◌, ◌++◌, [], length, take, drop, OnOk, OnErr};
+ghost use Rattle.std.specs.Prelude.{◌≡◌, ◌+◌, ◌≤◌, ◌++◌, [], length, OnOk, OnErr};
 ghost use Rattle.std.specs.Io.KnownBytes.{Appends};
 ghost use Rattle.mold_devices.specs.Devices.{AppendsFront, Counts};
 ghost use Rattle.mold_session.specs.Moving.{Moves};
 
+use crate::putting::put_behind;
 use mold_devices::{DeviceFault, Sink, write_all};
 use std::marker::Model;
 
@@ -26,16 +27,6 @@ impl Model for WriteBuffer {
     ghost view = { λ b. take b.used b.bytes };
 
     ghost invariant = { λ b. (b.used ≤ 4096) × (length b.bytes ≡ 4096) };
-}
-
-// Writes the text behind the bytes that are used, and leaves what is behind it.
-fn put_behind(bytes: &mut [u8], used: usize, text: &[u8])
-    requires { used + length text.now ≤ length bytes.old }
-    ensures { bytes.new ≡ take used bytes.old ++ (text.now ++ drop (length text.now) (drop used bytes.old)) }
-{
-    let (_, behind) = bytes.split_at_mut(used);
-    let (place, _) = behind.split_at_mut(text.len());
-    place.copy_from_slice(text);
 }
 
 impl WriteBuffer {

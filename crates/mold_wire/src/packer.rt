@@ -61,6 +61,13 @@ impl Packer {
         })
     }
 
+    /// How many bytes a datagram may have.
+    pub fn limit(&self) -> usize
+        ensures { result ≡ self.now.limit }
+    {
+        self.buffer.len()
+    }
+
     /// Opens a packet without messages, in place of what was there. A packet without messages is a
     /// heartbeat.
     pub fn start(&mut self, session: Session, sequence: u64)

@@ -6,14 +6,14 @@ use Rattle.mold_session.proofs.saving.put_block.Goals as goal
 pub returns-in_err-put-clause-front : goal.returns-in_err-put-clause-front
 returns-in_err-put-clause-front g c =
     on_err c.from_residual.result
-    (block_front (g.K.Sink.held c.args.sink.now) (g.K.Sink.held c.put.new.sink) c.args.buffer.now c.write_u16.new.buf
-    c.args.message.now c.write_u16.ensures c.in_err-put.ensures.front)
+    (block_front (g.K.Sink.held c.args.sink.now) (g.K.Sink.held c.put.new.sink) c.args.buffer.now c.length_of.result
+    c.args.message.now c.length_of.ensures c.in_err-put.ensures.front)
 
 pub returns-clause-moved : goal.returns-clause-moved
 returns-clause-moved g c =
     on_ok_weaker c.put-2.result
     (block_moves (g.K.Sink.held c.args.sink.now) (g.K.Sink.held c.put.new.sink) (g.K.Sink.held c.put-2.new.sink)
-    c.args.buffer.now c.write_u16.new.buf c.put.new.self c.args.message.now c.put-2.new.self c.write_u16.ensures
+    c.args.buffer.now c.length_of.result c.put.new.self c.args.message.now c.put-2.new.self c.length_of.ensures
     c.in_ok-put.ensures.moved)
     c.put-2.ensures.moved
 
@@ -21,6 +21,6 @@ pub returns-clause-front : goal.returns-clause-front
 returns-clause-front g c =
     on_err_weaker c.put-2.result
     (block_front_behind (g.K.Sink.held c.args.sink.now) (g.K.Sink.held c.put.new.sink) (g.K.Sink.held c.put-2.new.sink)
-    c.args.buffer.now c.write_u16.new.buf c.put.new.self c.args.message.now c.write_u16.ensures
+    c.args.buffer.now c.length_of.result c.put.new.self c.args.message.now c.length_of.ensures
     c.in_ok-put.ensures.moved)
     c.put-2.ensures.front

@@ -1,4 +1,4 @@
-use Rattle.std.proofs.Common.{◌≡◌, ℕ, ◌+◌, None, Some, refl, sym, ap, subst, ◌∙◌}
+use Rattle.std.proofs.Common.{◌≡◌, ℕ, ◌+◌, None, Some, refl, sym, ap, subst, ◌∙◌, arith}
 use Rattle.mold_session.specs.Publisher.{PublisherState, Lends, next_datagram, after_datagram}
 use Rattle.mold_session.proofs.PublisherLemmas.{IsNext, stays_idle, is_next, lends_next, still_publisher}
 use Rattle.mold_session.specs.Truthful.{TellsTruth}
@@ -17,7 +17,10 @@ returns-then-unsent-eq0 c =
     let nothing : Lends (next_datagram c.args.self.now) None =
     subst (λ (p : PublisherState). Lends (next_datagram p) None) c.self.view_is (rw idle.nothing tt)
     in
-    ((refl, (λ _. tt), same), record { after = tt; lent = nothing; truth = tt })
+    let unmoved : after_datagram c.args.self.now ≡ c.args.self.now =
+    subst (λ (p : PublisherState). after_datagram p ≡ p) c.self.view_is (sym idle.same)
+    in
+    ((refl, (λ _. tt), same), record { after = tt; lent = nothing; within = tt; idle = unmoved; truth = tt })
 
 -- what was packed is the next datagram
 packed_next : (c : After-pack_front-count) →
@@ -64,6 +67,8 @@ returns c =
       record {
         after = tt;
         lent = subst (λ (p : PublisherState). Lends (next_datagram p) (Some c.bytes.result.now)) c.self.view_is lent;
+        idle = tt;
+        within = omega (arith, c.bytes.ensures.within, next.limit, c.self.invariant.0, ap (λ (p : PublisherState). p.limit) c.self.view_is);
         truth = subst (λ (p : PublisherState). TellsTruth p.journal c.bytes.result.now) c.self.view_is truth;
       },
     )

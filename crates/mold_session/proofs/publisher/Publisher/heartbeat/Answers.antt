@@ -1,4 +1,4 @@
-use Rattle.std.proofs.Common.{◌+◌, [], Some, refl, sym, ap, subst, ◌∙◌}
+use Rattle.std.proofs.Common.{◌+◌, [], Some, refl, sym, ap, subst, ◌∙◌, arith}
 use Rattle.mold_wire.specs.declared.session.Session.{Session}
 use Rattle.mold_wire.specs.Packer.{PackerState, Open}
 use Rattle.mold_session.specs.Publisher.{PublisherState, Lends, next_heartbeat}
@@ -24,6 +24,7 @@ returns c =
       record {
         after = tt;
         lent = subst (λ (p : PublisherState). Lends (next_heartbeat p) (Some bytes)) c.self.view_is lent;
+        within = omega (arith, c.bytes.ensures.within, ap (λ (p : PackerState). p.limit) c.start.ensures, c.self.invariant.0, ap (λ (p : PublisherState). p.limit) c.self.view_is);
         truth = subst (λ (p : PublisherState). TellsTruth p.journal bytes) c.self.view_is truth;
       },
     )

@@ -1,4 +1,4 @@
-use Rattle.std.proofs.Common.{refl, ap, ◌∙◌}
+use Rattle.std.proofs.Common.{refl, ap, ◌∙◌, arith}
 use Rattle.mold_wire.specs.Packer.{PackerState}
 use Rattle.mold_session.proofs.ServingLemmas.{server_of, spells_answer}
 use Rattle.mold_session.specs.Server.{ServerState}
@@ -25,6 +25,7 @@ returns c =
       record {
         after = tt;
         spelled = answer.spelled;
+        within = omega (arith, c.bytes.ensures.within, ap (λ (p : PackerState). p.limit) c.pack_next.ensures.begun, limit);
         truth = answer.truth;
         refused = tt;
         journal = c.in_ok-plan.ensures.journal;

@@ -36,6 +36,7 @@ returns c =
       record {
         after = tt;
         spelled = subst (λ (n : ℕ). Spells (next_packet published n plan) c.bytes.result.now) limit spelled;
+        within = omega (arith, c.bytes.ensures.within, ap (λ (p : PackerState). p.limit) c.pack_next-count.ensures.begun, limit);
         truth = truth;
         moved = c.advance.ensures ∙ ap (moved plan) counted;
         more = more;

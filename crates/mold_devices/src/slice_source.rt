@@ -1,0 +1,64 @@
+//! Lent bytes as a source.
+
+ghost use Rattle.std.specs.Prelude.{◌≡◌, ◌<◌, ◌≤◌, ◌++◌, min, take, drop, length, Some, Ok, IfOk};
+ghost use Rattle.std.specs.Io.{ReadsAtMost};
+ghost use Rattle.std.specs.Io.KnownBytes.{ReadConsumes};
+ghost use Rattle.mold_devices.specs.Devices.{Counts};
+
+use crate::device_fault::DeviceFault;
+use crate::source::Source;
+use std::marker::Model;
+
+/// Lent bytes as a source that never fails: what is read from it can't end with a failed read.
+#[derive(Debug, Drop)]
+pub struct SliceSource<'a> {
+    left: &'a [u8],
+}
+
+impl<'a> Model for SliceSource<'a> {
+    ghost use Rattle.std.specs.Prelude.{ℕ, List};
+
+    ghost Value = { List ℕ };
+
+    ghost view = { λ s. s.left.now };
+}
+
+impl<'a> SliceSource<'a> {
+    pub fn new(bytes: &'a [u8]) -> SliceSource<'a>
+        ensures { result ≡ bytes.now }
+    {
+        SliceSource { left: bytes }
+    }
+}
+
+impl<'a> Source for SliceSource<'a> {
+    ghost left = { λ s. Some s };
+
+    ghost bound = { λ s. length s };
+
+    ghost failed = { λ _. 0 };
+
+    fn read(&mut self, place: &mut [u8]) -> Result<usize, DeviceFault>
+        // What a source does.
+        ensures count { ReadsAtMost result place.new }
+        ensures bytes { ReadConsumes (Some self.old) (Some self.new) result place.new }
+        ensures bound { IfOk result (λ n. 0 < n → length self.new < length self.old) }
+        ensures kept { length self.new ≤ length self.old }
+        ensures failures { Counts 0 0 result }
+
+        // Just what this one does.
+        ensures moved { result ≡ Ok (min (length self.old) (length place.old)) }
+        ensures left { self.new ≡ drop (length place.old) self.old }
+        ensures place { IfOk result (λ n. place.new ≡ take n self.old ++ drop n place.old) }
+    {
+        let count = self.left.len().min(place.len());
+        let (given, left) = self.left.split_at(count);
+        place[..count].copy_from_slice(given);
+        self.left = left;
+        Ok(count)
+    }
+
+    fn failures(&self) -> u64 {
+        0
+    }
+}
