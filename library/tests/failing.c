@@ -168,18 +168,37 @@ static bool done(uint32_t code) {
     return code == MOLD_DONE;
 }
 
+/* A packet of messages of many lengths, which their numbers tell. */
+static datagram varied(uint64_t sequence, uint16_t count) {
+    datagram made = of_length(20 + (size_t)count * 62);
+    size_t at = 20;
+    memcpy(made.at, SESSION, 10);
+    put_number(made.at + 10, sequence, 8);
+    put_number(made.at + 18, count, 2);
+    for (uint64_t number = sequence; number < sequence + count; number++) {
+        size_t length = (size_t)(number * 7 % 60);
+        put_number(made.at + at, length, 2);
+        memset(made.at + at + 2, (int)number, length);
+        at += 2 + length;
+    }
+    return cut(made, at);
+}
+
 static void run_listener(void) {
     mold_listener listener = MOLD_EMPTY;
     mold_told told = {0, 0, 0, 0, 0};
     if (done(try_listener(&listener))) {
         for (uint64_t number = 40; number > 3; number -= 2)
-            done(try_take(&listener, packet_of(number, 2, (size_t)number), &told));
-        done(try_take(&listener, packet_of(1, 20, 30), &told));
-        done(try_take(&listener, packet_of(1, 50, 60), &told));
-        CHECK(all_fail || mold_listener_next(&listener) == 42 || mold_listener_next(&listener) == 21);
+            done(try_take(&listener, varied(number, 2), &told));
+        done(try_take(&listener, varied(2, 1), &told));
+        done(try_take(&listener, varied(1, 3), &told));
+        CHECK(all_fail || (mold_listener_next(&listener) == 42 && told.handed == 41));
+        done(try_take(&listener, varied(30, 20), &told));
+        CHECK(all_fail || (mold_listener_next(&listener) == 50 && told.handed == 8));
         CHECK(try_take(&listener, packet_of(90, 0, 0), &told) == MOLD_DONE);
         CHECK(mold_listener_clear(&listener) == MOLD_DONE);
-        done(try_take(&listener, packet_of(mold_listener_next(&listener), 3, 3), &told));
+        done(try_take(&listener, varied(mold_listener_next(&listener), 3), &told));
+        CHECK(all_fail || mold_listener_count(&listener) == 3);
     }
     mold_free(&listener);
 }
