@@ -107,9 +107,9 @@ enum {
 
 typedef struct mold_packet {
     uint64_t sequence;   /* the number of the first message, or of the one to expect */
-    uint64_t detail;     /* of a refusal alone: see mold_decode */
+    uint64_t detail;     /* the number that goes with a refusal; else 0 */
     uint32_t kind;       /* MOLD_DATA, MOLD_HEARTBEAT or MOLD_END */
-    uint16_t count;      /* the message count as it is written: 0 of a heartbeat, 65535 of an end */
+    uint16_t count;      /* how many messages there are: 0 of a heartbeat and of an end */
     uint8_t session[10];
 } mold_packet;
 
@@ -132,7 +132,7 @@ typedef struct mold_request {
  *   MOLD_BLOCK_CUT  packet->detail is how many whole message blocks stand before the one that is cut
  *   MOLD_TRAILING   packet->detail is where the first byte too many stands
  *
- * After a refusal the other fields of *packet have no meaning. */
+ * After a refusal the other fields of *packet are as they were. */
 uint32_t mold_decode(const uint8_t *bytes, size_t length, mold_packet *packet);
 
 /* Does what mold_decode does, and writes to places[i] where message i of the packet lies, i from 0. Where the array has
@@ -172,8 +172,9 @@ bool mold_packer_fits(const mold_packer *packer, size_t length);
 
 /* Adds a message to a packet that was begun.
  *
- *   MOLD_BROKEN  no packet is begun, an end was written, or the fields can't be a packer's
- *   MOLD_FULL    the message doesn't fit: with its two bytes of length the packet would be longer than the limit */
+ *   MOLD_BROKEN  the fields can't be a packer's
+ *   MOLD_FULL    no packet is begun, or an end was written, or the message doesn't fit: with its two bytes of length the
+ *                packet would be longer than the limit */
 uint32_t mold_packer_add(mold_packer *packer, const uint8_t *message, size_t length);
 
 /* Writes an end of session in place of what was begun. No message can be added to it.
@@ -215,7 +216,7 @@ void mold_free(void *handle);
 
 /* What a datagram that was taken brought. */
 typedef struct mold_told {
-    uint64_t detail; /* of a refusal alone: see mold_listener_take */
+    uint64_t detail; /* the number that goes with a refusal; else 0. After a refusal the counts are 0 */
     uint32_t handed; /* how many messages were handed on: these were put behind the batch */
     uint32_t kept;   /* how many messages of the datagram were stored above a gap */
     uint32_t beyond; /* how many messages of the datagram lie behind the window: they are lost and have to come again */
@@ -263,8 +264,8 @@ uint32_t mold_listener_new(mold_listener *listener, const uint8_t session[10], u
  *   MOLD_CONFLICT       it has another message than the one that is stored at number told->detail, the least such
  *   MOLD_MEMORY         memory was refused; taken again it may go through
  *
- * After a refusal the listener is as it was, but that the line counts the datagram as refused; after MOLD_BROKEN,
- * MOLD_LINE and MOLD_MEMORY no line does. */
+ * After a refusal the listener is as it was, but that the line counts the datagram as refused. It doesn't after
+ * MOLD_MEMORY; after MOLD_BROKEN and MOLD_LINE *told is as it was too. */
 uint32_t mold_listener_take(mold_listener *listener, uint32_t line, const uint8_t *bytes, size_t length,
                             mold_told *told);
 
@@ -347,14 +348,14 @@ bool mold_publisher_is_full(mold_publisher *publisher);
  *
  *   MOLD_BROKEN  the handle holds no publisher
  *   MOLD_ABSENT  every message was put in a datagram
- *   MOLD_ROOM    the buffer has less room than the limit; nothing is counted as put in a datagram */
+ *   MOLD_ROOM    the buffer has less room than the limit, which *size is then; it comes before MOLD_ABSENT */
 uint32_t mold_publisher_datagram(mold_publisher *publisher, uint8_t *buffer, size_t room, size_t *size);
 
 /* Writes a heartbeat, which has 20 bytes and the number of the first message that was not yet put in a datagram.
  *
  *   MOLD_BROKEN  the handle holds no publisher
  *   MOLD_ABSENT  the session is closed
- *   MOLD_ROOM    the buffer has less room than the limit */
+ *   MOLD_ROOM    the buffer has less room than the limit, which *size is then; it comes before MOLD_ABSENT */
 uint32_t mold_publisher_heartbeat(mold_publisher *publisher, uint8_t *buffer, size_t room, size_t *size);
 
 /* Closes the session: no message can be published any more. On a closed session it is done and changes nothing.
@@ -367,7 +368,7 @@ uint32_t mold_publisher_close(mold_publisher *publisher, uint64_t *number);
  *
  *   MOLD_BROKEN  the handle holds no publisher
  *   MOLD_ABSENT  the session is not closed
- *   MOLD_ROOM    the buffer has less room than the limit */
+ *   MOLD_ROOM    the buffer has less room than the limit, which *size is then; it comes before MOLD_ABSENT */
 uint32_t mold_publisher_end(mold_publisher *publisher, uint8_t *buffer, size_t room, size_t *size);
 
 /* Writes the journal of what was published to the front of a buffer: the bytes of a journal's file of version 2, as `mold

@@ -14,7 +14,7 @@ static void packets_are_decoded(void) {
     CHECK(packet.kind == MOLD_HEARTBEAT && packet.sequence == 1 && packet.count == 0);
     CHECK(memcmp(packet.session, SESSION, 10) == 0);
     CODE(decoded(of_hex(SESSION_HEX "0000000000000003ffff"), &packet), MOLD_DONE);
-    CHECK(packet.kind == MOLD_END && packet.sequence == 3 && packet.count == 65535);
+    CHECK(packet.kind == MOLD_END && packet.sequence == 3 && packet.count == 0 && packet.detail == 0);
     CODE(decoded(of_hex(SESSION_HEX "00000000000000010002000241420000"), &packet), MOLD_DONE);
     CHECK(packet.kind == MOLD_DATA && packet.sequence == 1 && packet.count == 2);
     CODE(decoded(of_hex(SESSION_HEX "ffffffffffffffff0002000141000142"), &packet), MOLD_DONE);
@@ -105,7 +105,7 @@ static void a_packet_is_packed(void) {
     datagram room = of_length(64);
     mold_packer packer = MOLD_PACKER(room.at, room.length);
     CHECK(!mold_packer_fits(&packer, 0));
-    CODE(mold_packer_add(&packer, bytes, 1), MOLD_BROKEN);
+    CODE(mold_packer_add(&packer, bytes, 1), MOLD_FULL);
     CODE(mold_packer_start(&packer, session, 7), MOLD_DONE);
     HEX(packer.buffer, packer.used, SESSION_HEX "00000000000000070000");
     CHECK(mold_packer_fits(&packer, 42) && !mold_packer_fits(&packer, 43) && !mold_packer_fits(&packer, SIZE_MAX / 2));
@@ -122,7 +122,7 @@ static void a_packet_is_packed(void) {
     CODE(mold_packer_end(&packer, session, 10), MOLD_DONE);
     HEX(packer.buffer, packer.used, SESSION_HEX "000000000000000affff");
     CHECK(!mold_packer_fits(&packer, 0));
-    CODE(mold_packer_add(&packer, bytes, 1), MOLD_BROKEN);
+    CODE(mold_packer_add(&packer, bytes, 1), MOLD_FULL);
     free(room.at);
 }
 

@@ -1,0 +1,241 @@
+/* Says whether captures have one whole session: it reads classic pcap files, and gives the checker the payload of each UDP
+ * datagram in them, as `mold check` does of datagrams.
+ *
+ *     cc -O2 library/examples/check.c library/out/libmold.a -o check
+ *     ./check [--port PORT] [--to ADDRESS] FILE..
+ *
+ * With --port and --to only datagrams to this port and to this address are taken; without them all are. Files of both byte
+ * orders, with times in microseconds or nanoseconds, are read, of Ethernet with and without VLAN tags, raw IP and Linux
+ * cooked captures of both versions. Of a datagram that was captured in part, or that IP cut into fragments, nothing is
+ * known: it is skipped, and counted on standard error.
+ *
+ * It prints `datagrams N`, and `whole MESSAGES`, or `incomplete end END` and a line `missing FIRST LAST` for each range of
+ * missing numbers, or `refused datagram K WHY NUMBER`. The status is 0 where all of the session is there, 1 where something
+ * is missing, 2 where a datagram was refused, 3 where a file can't be read. */
+#include "udp.h"
+
+struct options {
+    bool has_port, has_address;
+    uint16_t port;
+    struct in_addr address;
+};
+
+/* A pcap file. */
+struct capture {
+    FILE *file;
+    const char *name;
+    bool is_swapped;
+    uint32_t link;
+};
+
+struct check {
+    struct options options;
+    mold_checker checker;
+    uint64_t datagrams, skipped;
+    bool refused;
+};
+
+/* Bytes of a frame, from the front of a header on. */
+struct part {
+    const uint8_t *at;
+    size_t length;
+};
+
+enum { FRAME = 1 << 18, ETHERNET = 1, RAW = 101, RAW_OLD = 12, RAW_BSD = 14, COOKED = 113, IPV4 = 228, COOKED_2 = 276 };
+
+static uint16_t two(const uint8_t *at) {
+    return (uint16_t)(at[0] << 8 | at[1]);
+}
+
+/* ---- Files ---- */
+
+static uint32_t four(const struct capture *capture, const uint8_t *at) {
+    uint32_t big = (uint32_t)at[0] << 24 | (uint32_t)at[1] << 16 | (uint32_t)at[2] << 8 | at[3];
+    uint32_t little = (uint32_t)at[3] << 24 | (uint32_t)at[2] << 16 | (uint32_t)at[1] << 8 | at[0];
+    return capture->is_swapped ? little : big;
+}
+
+/* The file's head: a number that tells the byte order, versions, and what kind of frames there are. */
+static struct capture open_capture(const char *name) {
+    struct capture capture = {fopen(name, "rb"), name, false, 0};
+    uint8_t head[24];
+    if (capture.file == NULL)
+        fail(name, strerror(errno));
+    if (fread(head, 1, sizeof head, capture.file) != sizeof head)
+        fail(name, "too short for a pcap file");
+    uint32_t magic = four(&capture, head);
+    capture.is_swapped = magic == 0xd4c3b2a1 || magic == 0x4d3cb2a1;
+    magic = four(&capture, head);
+    if (magic != 0xa1b2c3d4 && magic != 0xa1b23c4d)
+        fail(name, "no classic pcap file; editcap -F pcap makes one of a newer one");
+    capture.link = four(&capture, head + 20) & 0xffff;
+    return capture;
+}
+
+/* Reads the next frame; false at the file's end. *whole says whether all of it was captured. */
+static bool next_frame(struct capture *capture, uint8_t *frame, size_t *length, bool *whole) {
+    uint8_t head[16];
+    size_t came = fread(head, 1, sizeof head, capture->file);
+    if (came == 0 && !ferror(capture->file))
+        return false;
+    if (came != sizeof head)
+        fail(capture->name, "the file is cut");
+    *length = four(capture, head + 8);
+    *whole = *length >= four(capture, head + 12);
+    if (*length > FRAME)
+        fail(capture->name, "a frame is too long");
+    if (fread(frame, 1, *length, capture->file) != *length)
+        fail(capture->name, "the file is cut");
+    return true;
+}
+
+/* ---- Frames ---- */
+
+/* Goes behind a header of so many bytes; false where there are fewer. */
+static bool skip(struct part *part, size_t bytes) {
+    if (part->length < bytes)
+        return false;
+    part->at += bytes;
+    part->length -= bytes;
+    return true;
+}
+
+/* Goes behind the header of the link, where IPv4 follows it. */
+static bool skip_link(uint32_t link, struct part *part) {
+    uint16_t type = 0x0800;
+    if (link == RAW || link == RAW_OLD || link == RAW_BSD || link == IPV4)
+        return true;
+    size_t header = link == ETHERNET ? 14 : link == COOKED ? 16 : 20;
+    size_t place = link == ETHERNET ? 12 : link == COOKED ? 14 : 0;
+    if (part->length < header)
+        return false;
+    type = two(part->at + place);
+    skip(part, header);
+    while (type == 0x8100 || type == 0x88a8) {
+        if (part->length < 4)
+            return false;
+        type = two(part->at + 2);
+        skip(part, 4);
+    }
+    return type == 0x0800;
+}
+
+/* Goes behind the headers of IPv4 and UDP, and leaves the payload; false where it is no such datagram, or one that isn't
+ * asked for. *whole is false where IP cut it. */
+static bool skip_headers(const struct options *options, struct part *part, bool *whole) {
+    if (part->length < 20 || part->at[0] >> 4 != 4 || part->at[9] != 17)
+        return false;
+    const uint8_t *address = part->at + 16;
+    size_t header = (size_t)(part->at[0] & 15) * 4, total = two(part->at + 2);
+    if ((two(part->at + 6) & 0x3fff) != 0)
+        *whole = false;
+    if (header < 20 || total < header || (options->has_address && memcmp(address, &options->address, 4) != 0))
+        return false;
+    if (part->length > total)
+        part->length = total;
+    if (!*whole)
+        return true;
+    if (!skip(part, header) || part->length < 8 || two(part->at + 4) < 8)
+        return false;
+    size_t length = (size_t)two(part->at + 4) - 8;
+    if (options->has_port && two(part->at + 2) != options->port)
+        return false;
+    skip(part, 8);
+    *whole = part->length >= length;
+    part->length = length;
+    return true;
+}
+
+/* Gives the checker the datagram of a frame, where there is one; false where it is refused. */
+static bool check_frame(struct check *check, uint32_t link, struct part part, bool whole) {
+    mold_bytes text = MOLD_NO_BYTES;
+    uint64_t number = 0;
+    if (!skip_link(link, &part) || !skip_headers(&check->options, &part, &whole))
+        return true;
+    if (!whole) {
+        check->skipped++;
+        return true;
+    }
+    check->datagrams++;
+    uint32_t code = mold_checker_take(&check->checker, part.at, part.length, &number);
+    if (code == MOLD_DONE)
+        return true;
+    mold_text(code, &text);
+    printf("refused datagram %llu %.*s %llu\n", (unsigned long long)check->datagrams, (int)text.length,
+           (const char *)text.at, (unsigned long long)number);
+    check->refused = true;
+    return false;
+}
+
+static void check_file(struct check *check, const char *name) {
+    static uint8_t frame[FRAME];
+    struct capture capture = open_capture(name);
+    struct part part = {frame, 0};
+    bool whole = true, known = capture.link == ETHERNET || capture.link == COOKED || capture.link == COOKED_2 ||
+                               capture.link == RAW || capture.link == RAW_OLD || capture.link == RAW_BSD ||
+                               capture.link == IPV4;
+    if (!known)
+        fail(name, "another kind of link than Ethernet, raw IP and Linux cooked");
+    while (!check->refused && next_frame(&capture, frame, &part.length, &whole))
+        check_frame(check, capture.link, part, whole);
+    fclose(capture.file);
+}
+
+/* ---- The verdict ---- */
+
+static void print_missing(mold_checker *checker, uint64_t count) {
+    mold_range *ranges = calloc((size_t)count + 1, sizeof *ranges);
+    size_t there = 0;
+    if (ranges == NULL)
+        fail("ranges", "out of memory");
+    need("ranges", mold_checker_ranges(checker, ranges, (size_t)count, &there));
+    for (size_t i = 0; i < there; i++)
+        printf("missing %llu %llu\n", (unsigned long long)ranges[i].first, (unsigned long long)ranges[i].last);
+    free(ranges);
+}
+
+/* Prints what is said of all datagrams, and answers the status. */
+static int print_verdict(struct check *check) {
+    mold_verdict verdict = {0, 0, 0, 0, 0};
+    need("verdict", mold_checker_verdict(&check->checker, &verdict));
+    printf("datagrams %llu\n", (unsigned long long)check->datagrams);
+    if (verdict.whole == 1) {
+        printf("whole %llu\n", (unsigned long long)verdict.messages);
+        return 0;
+    }
+    if (verdict.end == 0)
+        printf("incomplete end none\n");
+    else
+        printf("incomplete end %llu\n", (unsigned long long)verdict.end);
+    print_missing(&check->checker, verdict.ranges);
+    return 1;
+}
+
+static int read_options(struct options *options, int count, char **words) {
+    int at = 1;
+    for (; at < count && strncmp(words[at], "--", 2) == 0; at++) {
+        const char *name = words[at], *value = value_of(count, words, &at);
+        if (strcmp(name, "--port") == 0)
+            options->port = (uint16_t)number_of(value, 0, 65535), options->has_port = true;
+        else if (strcmp(name, "--to") == 0 && inet_pton(AF_INET, value, &options->address) == 1)
+            options->has_address = true;
+        else
+            fail(name, "no such option");
+    }
+    if (at >= count)
+        fail("usage", "check [--port PORT] [--to ADDRESS] FILE..");
+    return at;
+}
+
+int main(int count, char **words) {
+    static struct check check;
+    int first = read_options(&check.options, count, words);
+    need("checker", mold_checker_new(&check.checker));
+    for (int i = first; i < count && !check.refused; i++)
+        check_file(&check, words[i]);
+    int status = check.refused ? 2 : print_verdict(&check);
+    if (check.skipped > 0)
+        fprintf(stderr, "skipped %llu datagrams that are not whole\n", (unsigned long long)check.skipped);
+    mold_free(&check.checker);
+    return fflush(stdout) == 0 ? status : 3;
+}

@@ -1,0 +1,321 @@
+/* An exchange: a publisher and its re-request server in one process, over a session that goes on.
+ *
+ *     cc -O2 library/examples/exchange.c library/out/libmold.a -o exchange
+ *     ./exchange --session DEMO --a 239.192.1.1:26477 --b 239.192.1.2:26477 --bind 0.0.0.0:26400 --journal day.journal
+ *
+ * Messages come as lines of hexadecimal digits on standard input, as `mold publish` reads them, and go out on both lines
+ * at once: what has come together goes in one datagram, as far as it fits. A heartbeat goes out in each second without a
+ * datagram. Requests are answered meanwhile. Where the input ends, the session is closed, and an end of session goes out
+ * four times a second, until no request came for --linger MS (2000).
+ *
+ * Other options: --limit L, the most bytes of a datagram (1400); --burst B, the most datagrams of an answer (4);
+ * --save N, after how many messages the journal is saved each time (1000000); --interface ADDRESS, by which groups are
+ * sent to. The journal is saved at the end too. It is written to a new file, which then takes the place of the old one.
+ *
+ * The last line is `published MESSAGES datagrams D answered R failed F`. The status is 0, or 2 where a line was no message:
+ * that is told on standard error, and the session goes on. */
+#include "udp.h"
+
+enum { INPUT = 1 << 16, LONGEST = 1 << 18 };
+
+struct options {
+    uint8_t session[10];
+    struct sockaddr_in lines[2], bind;
+    const char *interface, *journal;
+    size_t limit;
+    uint16_t burst;
+    uint64_t save;
+    int64_t linger;
+};
+
+struct exchange {
+    struct options options;
+    mold_publisher publisher;
+    /* Where datagrams are sent from, and where requests come to. */
+    int out, requests;
+    uint64_t messages, datagrams, answered, failed, saved, line;
+    bool ended, refused;
+    int64_t last_sent, last_asked;
+};
+
+/* The datagram that is sent, and what of a line of input has come. */
+static uint8_t datagram[GREATEST];
+static char line[LONGEST];
+static size_t line_length;
+
+static void read_option(struct options *read, const char *name, const char *value) {
+    if (strcmp(name, "--session") == 0)
+        session_of(value, read->session);
+    else if (strcmp(name, "--a") == 0)
+        read->lines[0] = address_of(value);
+    else if (strcmp(name, "--b") == 0)
+        read->lines[1] = address_of(value);
+    else if (strcmp(name, "--bind") == 0)
+        read->bind = address_of(value);
+    else if (strcmp(name, "--interface") == 0)
+        read->interface = value;
+    else if (strcmp(name, "--journal") == 0)
+        read->journal = value;
+    else if (strcmp(name, "--limit") == 0)
+        read->limit = (size_t)number_of(value, 64, GREATEST);
+    else if (strcmp(name, "--burst") == 0)
+        read->burst = (uint16_t)number_of(value, 1, 64);
+    else if (strcmp(name, "--save") == 0)
+        read->save = number_of(value, 1, UINT64_MAX);
+    else if (strcmp(name, "--linger") == 0)
+        read->linger = (int64_t)number_of(value, 0, 86400000);
+    else
+        fail(name, "no such option");
+}
+
+static struct options options_of(int count, char **words) {
+    struct options read;
+    memset(&read, 0, sizeof read);
+    read.limit = 1400;
+    read.burst = 4;
+    read.save = 1000000;
+    read.linger = 2000;
+    for (int i = 1; i < count; i++) {
+        const char *name = words[i];
+        read_option(&read, name, value_of(count, words, &i));
+    }
+    if (read.session[0] == 0 || read.lines[0].sin_family == 0 || read.lines[1].sin_family == 0 ||
+        read.bind.sin_family == 0 || read.journal == NULL)
+        fail("usage", "exchange --session SESSION --a ADDRESS --b ADDRESS --bind ADDRESS --journal FILE ..");
+    return read;
+}
+
+/* ---- Sending ---- */
+
+static void send_to(struct exchange *exchange, int from, size_t size, const struct sockaddr_in *to) {
+    if (sendto(from, datagram, size, 0, (const struct sockaddr *)to, sizeof *to) != (ssize_t)size)
+        exchange->failed++;
+}
+
+/* Sends a datagram on both lines. */
+static void send_on_lines(struct exchange *exchange, size_t size) {
+    send_to(exchange, exchange->out, size, &exchange->options.lines[0]);
+    send_to(exchange, exchange->out, size, &exchange->options.lines[1]);
+    exchange->last_sent = now();
+}
+
+/* Sends the messages that were not sent yet: all of them, or as long as they don't fit one datagram. */
+static void send_messages(struct exchange *exchange, bool all) {
+    size_t size = 0;
+    while ((all || mold_publisher_is_full(&exchange->publisher)) &&
+           mold_publisher_datagram(&exchange->publisher, datagram, sizeof datagram, &size) == MOLD_DONE) {
+        send_on_lines(exchange, size);
+        exchange->datagrams++;
+    }
+}
+
+/* Sends a heartbeat, or the end of the session where it is closed. */
+static void send_heartbeat(struct exchange *exchange) {
+    size_t size = 0;
+    if (exchange->ended)
+        need("end", mold_publisher_end(&exchange->publisher, datagram, sizeof datagram, &size));
+    else
+        need("heartbeat", mold_publisher_heartbeat(&exchange->publisher, datagram, sizeof datagram, &size));
+    send_on_lines(exchange, size);
+}
+
+/* ---- The journal ---- */
+
+static void write_all(const char *name, int file, const uint8_t *bytes, size_t length) {
+    while (length > 0) {
+        ssize_t written = write(file, bytes, length);
+        if (written < 0 && errno != EINTR)
+            fail(name, strerror(errno));
+        if (written > 0) {
+            bytes += written;
+            length -= (size_t)written;
+        }
+    }
+}
+
+/* Writes a new file, and gives it the name of the old one once its bytes are kept. */
+static void replace_file(const char *name, const uint8_t *bytes, size_t length) {
+    char new_name[4096];
+    int size = snprintf(new_name, sizeof new_name, "%s.new", name);
+    if (size < 0 || (size_t)size >= sizeof new_name)
+        fail(name, "too long a name");
+    int file = open(new_name, O_WRONLY | O_CREAT | O_TRUNC | O_CLOEXEC, 0666);
+    if (file < 0)
+        fail(new_name, strerror(errno));
+    write_all(new_name, file, bytes, length);
+    if (fsync(file) != 0 || close(file) != 0 || rename(new_name, name) != 0)
+        fail(name, strerror(errno));
+}
+
+static void save_journal(struct exchange *exchange) {
+    size_t size = 0;
+    if (mold_publisher_save(&exchange->publisher, NULL, 0, &size) != MOLD_ROOM)
+        fail("save", "the journal has no size");
+    uint8_t *bytes = calloc(1, size);
+    if (bytes == NULL)
+        fail("save", "out of memory");
+    need("save", mold_publisher_save(&exchange->publisher, bytes, size, &size));
+    replace_file(exchange->options.journal, bytes, size);
+    free(bytes);
+    exchange->saved = exchange->messages;
+}
+
+/* ---- Input ---- */
+
+static int digit_of(char text) {
+    if (text >= '0' && text <= '9')
+        return text - '0';
+    text |= 0x20;
+    return text >= 'a' && text <= 'f' ? text - 'a' + 10 : -1;
+}
+
+/* Makes bytes of the digits of a line; false where it has others. */
+static bool unhex(uint8_t *bytes) {
+    for (size_t i = 0; i + 1 < line_length; i += 2) {
+        int high = digit_of(line[i]), low = digit_of(line[i + 1]);
+        if (high < 0 || low < 0)
+            return false;
+        bytes[i / 2] = (uint8_t)(high << 4 | low);
+    }
+    return line_length % 2 == 0;
+}
+
+static void refuse_line(struct exchange *exchange, const char *why, size_t length) {
+    exchange->refused = true;
+    fprintf(stderr, "refused line %llu %.*s\n", (unsigned long long)exchange->line, (int)length, why);
+}
+
+/* Publishes the line that has come to its end. */
+static void publish_line(struct exchange *exchange) {
+    static uint8_t message[LONGEST / 2];
+    mold_bytes text = MOLD_NO_BYTES;
+    uint64_t number = 0;
+    exchange->line++;
+    bool is_hex = line_length < LONGEST && unhex(message);
+    size_t length = line_length / 2;
+    line_length = 0;
+    if (!is_hex) {
+        refuse_line(exchange, "NotHex", 6);
+        return;
+    }
+    uint32_t code = mold_publisher_publish(&exchange->publisher, message, length, &number);
+    if (code == MOLD_MEMORY)
+        need("publish", code);
+    if (code != MOLD_DONE) {
+        mold_text(code, &text);
+        refuse_line(exchange, (const char *)text.at, text.length);
+        return;
+    }
+    exchange->messages = number;
+    send_messages(exchange, false);
+    if (exchange->messages - exchange->saved >= exchange->options.save)
+        save_journal(exchange);
+}
+
+/* Publishes what has come on standard input. At its end the session is closed. */
+static void read_input(struct exchange *exchange) {
+    static char input[INPUT];
+    uint64_t unsent = 0;
+    ssize_t came = read(STDIN_FILENO, input, sizeof input);
+    if (came < 0 && (errno == EINTR || errno == EAGAIN))
+        return;
+    if (came < 0)
+        fail("standard input", strerror(errno));
+    for (ssize_t i = 0; i < came; i++) {
+        if (input[i] == '\n')
+            publish_line(exchange);
+        else if (line_length < LONGEST)
+            line[line_length++] = input[i];
+    }
+    if (came == 0 && line_length > 0)
+        publish_line(exchange);
+    send_messages(exchange, true);
+    if (came == 0) {
+        need("close", mold_publisher_close(&exchange->publisher, &unsent));
+        exchange->ended = true;
+        exchange->last_asked = now();
+        send_heartbeat(exchange);
+    }
+}
+
+/* ---- Requests ---- */
+
+/* Answers the requests that have come; one that is refused gets no answer. */
+static void answer_requests(struct exchange *exchange) {
+    mold_server *server = mold_server_of(&exchange->publisher);
+    struct sockaddr_in from;
+    socklen_t length = sizeof from;
+    uint8_t request[64];
+    mold_plan plan = {0, 0, 0, {0}};
+    uint64_t number = 0;
+    size_t size = 0;
+    ssize_t came;
+    while ((came = recvfrom(exchange->requests, request, sizeof request, MSG_TRUNC, (struct sockaddr *)&from,
+                            &length)) >= 0) {
+        exchange->last_asked = now();
+        size_t had = (size_t)came > sizeof request ? sizeof request : (size_t)came;
+        if (mold_server_plan(server, request, had, &plan, &number) == MOLD_DONE) {
+            exchange->answered++;
+            while (mold_server_datagram(server, &plan, datagram, sizeof datagram, &size) == MOLD_DONE)
+                send_to(exchange, exchange->requests, size, &from);
+        }
+        length = sizeof from;
+    }
+    if (errno != EAGAIN && errno != EINTR)
+        exchange->failed++;
+}
+
+/* ---- The loop ---- */
+
+/* When the next heartbeat is due, or the next end of session. */
+static int64_t due(const struct exchange *exchange) {
+    return exchange->last_sent + (exchange->ended ? 250 : 1000);
+}
+
+static bool goes_on(const struct exchange *exchange) {
+    return !exchange->ended || now() < exchange->last_asked + exchange->options.linger;
+}
+
+static void turn(struct exchange *exchange) {
+    struct pollfd ready[2] = {{exchange->requests, POLLIN, 0}, {exchange->ended ? -1 : STDIN_FILENO, POLLIN, 0}};
+    int64_t left = due(exchange) - now();
+    if (poll(ready, 2, left < 0 ? 0 : (int)left) < 0 && errno != EINTR)
+        fail("poll", strerror(errno));
+    if (ready[0].revents != 0)
+        answer_requests(exchange);
+    if (ready[1].revents != 0)
+        read_input(exchange);
+    if (now() >= due(exchange))
+        send_heartbeat(exchange);
+}
+
+static void open_exchange(struct exchange *exchange) {
+    struct in_addr interface;
+    need("publisher", mold_publisher_new(&exchange->publisher, exchange->options.session, exchange->options.limit));
+    need("server", mold_server_from_publisher(&exchange->publisher, exchange->options.burst));
+    exchange->out = open_socket();
+    exchange->requests = open_line(&exchange->options.bind, "0.0.0.0");
+    if (exchange->options.interface != NULL) {
+        if (inet_pton(AF_INET, exchange->options.interface, &interface) != 1)
+            fail(exchange->options.interface, "no address of an interface");
+        if (setsockopt(exchange->out, IPPROTO_IP, IP_MULTICAST_IF, &interface, sizeof interface) != 0)
+            fail("IP_MULTICAST_IF", strerror(errno));
+    }
+    exchange->last_sent = now();
+}
+
+int main(int count, char **words) {
+    static struct exchange exchange;
+    exchange.options = options_of(count, words);
+    open_exchange(&exchange);
+    while (goes_on(&exchange))
+        turn(&exchange);
+    save_journal(&exchange);
+    printf("published %llu datagrams %llu answered %llu failed %llu\n", (unsigned long long)exchange.messages,
+           (unsigned long long)exchange.datagrams, (unsigned long long)exchange.answered,
+           (unsigned long long)exchange.failed);
+    close(exchange.out);
+    close(exchange.requests);
+    mold_free(&exchange.publisher);
+    return fflush(stdout) != 0 ? 3 : exchange.refused ? 2 : 0;
+}

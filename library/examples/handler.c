@@ -1,0 +1,223 @@
+/* A feed handler: it hears the two lines of a feed, asks a re-request server for what both lost, and prints the messages
+ * in order, a line each, as `mold listen` does.
+ *
+ *     cc -O2 library/examples/handler.c library/out/libmold.a -o handler
+ *     ./handler --session DEMO --a 239.192.1.1:26477 --b 239.192.1.2:26477 --interface 10.0.0.7 --server 10.0.0.9:26400
+ *
+ * Where the address of a line is a multicast group, it is joined on the interface. Other options: --next N, the number of
+ * the first message (1); --window W, how many messages are stored above a gap (1024); --patience MS, how long a gap stands
+ * before it is asked for (2), as the other line may fill it; --timeout MS, after which it is asked for again (50);
+ * --quiet MS, after which it gives up where nothing comes (10000). Without --server nothing is asked for.
+ *
+ * It ends when it has all of the session, with status 0, or when nothing came for too long, with status 1. At the end it
+ * tells what came on each line. Refused datagrams are told on standard error. */
+#include "udp.h"
+
+enum { LINES = 3, AT_ONCE = 32 };
+
+struct options {
+    uint8_t session[10];
+    struct sockaddr_in lines[2], server;
+    bool has_server;
+    const char *interface;
+    uint64_t next;
+    uint32_t window;
+    int64_t patience, timeout, quiet;
+};
+
+struct handler {
+    struct options options;
+    mold_listener listener;
+    /* Line A, line B, and where answers come to. */
+    int sockets[LINES];
+    /* The gap that was seen last, by the number at its front, and when it is asked for. */
+    uint64_t gap;
+    int64_t due;
+    int64_t last_came;
+    uint64_t failed;
+};
+
+/* Room for what comes at once. */
+static uint8_t room[AT_ONCE][GREATEST];
+
+static struct options options_of(int count, char **words) {
+    struct options read;
+    bool has_session = false, has_a = false, has_b = false;
+    memset(&read, 0, sizeof read);
+    read.interface = "0.0.0.0";
+    read.next = 1;
+    read.window = 1024;
+    read.patience = 2;
+    read.timeout = 50;
+    read.quiet = 10000;
+    for (int i = 1; i < count; i++) {
+        const char *name = words[i], *value = value_of(count, words, &i);
+        if (strcmp(name, "--session") == 0)
+            session_of(value, read.session), has_session = true;
+        else if (strcmp(name, "--a") == 0)
+            read.lines[0] = address_of(value), has_a = true;
+        else if (strcmp(name, "--b") == 0)
+            read.lines[1] = address_of(value), has_b = true;
+        else if (strcmp(name, "--server") == 0)
+            read.server = address_of(value), read.has_server = true;
+        else if (strcmp(name, "--interface") == 0)
+            read.interface = value;
+        else if (strcmp(name, "--next") == 0)
+            read.next = number_of(value, 1, UINT64_MAX);
+        else if (strcmp(name, "--window") == 0)
+            read.window = (uint32_t)number_of(value, 1, 65536);
+        else if (strcmp(name, "--patience") == 0)
+            read.patience = (int64_t)number_of(value, 0, 60000);
+        else if (strcmp(name, "--timeout") == 0)
+            read.timeout = (int64_t)number_of(value, 1, 60000);
+        else if (strcmp(name, "--quiet") == 0)
+            read.quiet = (int64_t)number_of(value, 1, 86400000);
+        else
+            fail(name, "no such option");
+    }
+    if (!has_session || !has_a || !has_b)
+        fail("usage", "handler --session SESSION --a ADDRESS --b ADDRESS [--server ADDRESS] ..");
+    return read;
+}
+
+/* Prints the batch, and empties it. */
+static void print_batch(mold_listener *listener) {
+    size_t count = mold_listener_count(listener);
+    uint64_t first = mold_listener_first(listener);
+    for (size_t i = 0; i < count; i++) {
+        mold_bytes message = MOLD_NO_BYTES;
+        need("message", mold_listener_message(listener, i, &message));
+        print_message(first + i, message);
+    }
+    need("clear", mold_listener_clear(listener));
+}
+
+static void tell_refused(uint32_t line, uint32_t code, uint64_t detail) {
+    mold_bytes text = MOLD_NO_BYTES;
+    mold_text(code, &text);
+    fprintf(stderr, "refused %c %.*s %llu\n", "ab-"[line], (int)text.length, (const char *)text.at,
+            (unsigned long long)detail);
+}
+
+/* Takes a datagram of a line; one that wants memory that isn't there is lost, as on the network. */
+static void take(struct handler *handler, uint32_t line, const uint8_t *bytes, size_t length) {
+    mold_told told = {0, 0, 0, 0, 0};
+    uint32_t code = mold_listener_take(&handler->listener, line, bytes, length, &told);
+    if (code != MOLD_DONE)
+        tell_refused(line, code, told.detail);
+    else if (told.handed > 0)
+        print_batch(&handler->listener);
+}
+
+/* Takes what has come on a line, many datagrams by one call of the system, and answers how many those were. */
+static int hear(struct handler *handler, uint32_t line) {
+    struct mmsghdr heads[AT_ONCE];
+    struct iovec places[AT_ONCE];
+    memset(heads, 0, sizeof heads);
+    for (int i = 0; i < AT_ONCE; i++) {
+        places[i].iov_base = room[i];
+        places[i].iov_len = GREATEST;
+        heads[i].msg_hdr.msg_iov = &places[i];
+        heads[i].msg_hdr.msg_iovlen = 1;
+    }
+    int came = recvmmsg(handler->sockets[line], heads, AT_ONCE, 0, NULL);
+    if (came < 0) {
+        if (errno != EAGAIN && errno != EINTR)
+            handler->failed++;
+        return 0;
+    }
+    for (int i = 0; i < came; i++)
+        take(handler, line, room[i], heads[i].msg_len);
+    return came;
+}
+
+/* Sends the request for what is missing, once its time has come. After an answer that brought something the rest is asked
+ * for at once. */
+static void ask(struct handler *handler, bool answered) {
+    uint8_t request[20] = {0};
+    int64_t time = now();
+    if (!handler->options.has_server || !mold_listener_wanted(&handler->listener, request))
+        return;
+    uint64_t next = mold_listener_next(&handler->listener);
+    if (handler->gap != next) {
+        handler->gap = next;
+        handler->due = answered ? time : time + handler->options.patience;
+    }
+    if (time < handler->due)
+        return;
+    if (sendto(handler->sockets[MOLD_ANSWER], request, sizeof request, 0,
+               (const struct sockaddr *)&handler->options.server, sizeof handler->options.server) != sizeof request)
+        handler->failed++;
+    handler->due = time + handler->options.timeout;
+}
+
+/* How long to wait for what comes: until a request is due, or nothing came for too long. */
+static int waiting(struct handler *handler) {
+    uint8_t request[20] = {0};
+    int64_t until = handler->last_came + handler->options.quiet;
+    if (handler->options.has_server && mold_listener_wanted(&handler->listener, request) && handler->due < until)
+        until = handler->due;
+    int64_t left = until - now();
+    return left < 0 ? 0 : (int)left;
+}
+
+/* A turn: it waits, takes all that has come, and asks for what is missing. */
+static void turn(struct handler *handler) {
+    struct pollfd ready[LINES];
+    bool answered = false;
+    for (uint32_t line = 0; line < LINES; line++) {
+        ready[line].fd = handler->sockets[line];
+        ready[line].events = POLLIN;
+        ready[line].revents = 0;
+    }
+    if (poll(ready, LINES, waiting(handler)) < 0 && errno != EINTR)
+        fail("poll", strerror(errno));
+    for (uint32_t line = 0; line < LINES; line++) {
+        if (ready[line].revents == 0 || hear(handler, line) == 0)
+            continue;
+        handler->last_came = now();
+        answered = answered || line == MOLD_ANSWER;
+    }
+    ask(handler, answered);
+    fflush(stdout);
+}
+
+static void tell_line(mold_listener *listener, uint32_t line) {
+    mold_report report = {0, 0, 0};
+    need("report", mold_listener_report(listener, line, &report));
+    printf("line %c datagrams %llu refused %llu front %llu lag %llu\n", "ab"[line],
+           (unsigned long long)report.datagrams, (unsigned long long)report.refused, (unsigned long long)report.front,
+           (unsigned long long)(mold_listener_known(listener) - report.front));
+}
+
+/* Tells how it ended, and answers the status. */
+static int tell_end(struct handler *handler) {
+    unsigned long long next = mold_listener_next(&handler->listener), failed = handler->failed;
+    tell_line(&handler->listener, MOLD_LINE_A);
+    tell_line(&handler->listener, MOLD_LINE_B);
+    if (mold_listener_finished(&handler->listener)) {
+        printf("finished next %llu failed %llu\n", next, failed);
+        return 0;
+    }
+    printf("open next %llu known %llu failed %llu\n", next,
+           (unsigned long long)mold_listener_known(&handler->listener), failed);
+    return 1;
+}
+
+int main(int count, char **words) {
+    static struct handler handler;
+    handler.options = options_of(count, words);
+    need("listener", mold_listener_new(&handler.listener, handler.options.session, handler.options.next,
+                                       handler.options.window));
+    for (uint32_t line = 0; line < 2; line++)
+        handler.sockets[line] = open_line(&handler.options.lines[line], handler.options.interface);
+    handler.sockets[MOLD_ANSWER] = open_socket();
+    handler.last_came = now();
+    while (!mold_listener_finished(&handler.listener) && now() < handler.last_came + handler.options.quiet)
+        turn(&handler);
+    int status = tell_end(&handler);
+    for (uint32_t line = 0; line < LINES; line++)
+        close(handler.sockets[line]);
+    mold_free(&handler.listener);
+    return fflush(stdout) == 0 ? status : 3;
+}

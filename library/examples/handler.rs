@@ -1,0 +1,245 @@
+//! A feed handler in Rust, without cargo: it hears two lines, asks a re-request server for what both lost, and prints the
+//! messages in order, as `handler.c` does.
+//!
+//!     rustc -O --edition 2021 library/examples/handler.rs -L library/out -l static=mold -o handler-rs
+//!     ./handler-rs DEMO 127.0.0.1:26477 127.0.0.1:26478 127.0.0.1:26400
+//!
+//! The words are the session, the addresses of line A and line B, and that of the server. It ends when it has all of the
+//! session, with status 0, or when nothing came for ten seconds, with status 1.
+
+use std::io::{self, ErrorKind, Write};
+use std::net::UdpSocket;
+use std::os::raw::c_void;
+use std::process::ExitCode;
+use std::time::{Duration, Instant};
+
+/// What of mold.h is used here. Its duties are the caller's: a safe type stands over it below.
+mod sys {
+    use super::c_void;
+
+    #[repr(C)]
+    pub struct Listener {
+        pub at: *mut c_void,
+        pub live: bool,
+    }
+
+    #[repr(C)]
+    #[derive(Default)]
+    pub struct Told {
+        pub detail: u64,
+        pub handed: u32,
+        pub kept: u32,
+        pub beyond: u32,
+        pub unused: u32,
+    }
+
+    #[repr(C)]
+    #[derive(Clone, Copy)]
+    pub struct Bytes {
+        pub at: *const u8,
+        pub length: usize,
+    }
+
+    const _: () = assert!(size_of::<Listener>() == 16 && size_of::<Told>() == 24 && size_of::<Bytes>() == 16);
+
+    extern "C" {
+        pub fn mold_listener_new(listener: *mut Listener, session: *const u8, next: u64, window: u32) -> u32;
+        pub fn mold_listener_take(
+            listener: *mut Listener,
+            line: u32,
+            bytes: *const u8,
+            length: usize,
+            told: *mut Told,
+        ) -> u32;
+        pub fn mold_listener_count(listener: *mut Listener) -> usize;
+        pub fn mold_listener_first(listener: *mut Listener) -> u64;
+        pub fn mold_listener_message(listener: *mut Listener, i: usize, message: *mut Bytes) -> u32;
+        pub fn mold_listener_wanted(listener: *mut Listener, request: *mut u8) -> bool;
+        pub fn mold_listener_next(listener: *mut Listener) -> u64;
+        pub fn mold_listener_finished(listener: *mut Listener) -> bool;
+        pub fn mold_listener_clear(listener: *mut Listener) -> u32;
+        pub fn mold_free(handle: *mut c_void);
+        pub fn mold_text(code: u32, text: *mut Bytes);
+    }
+
+    use std::mem::size_of;
+}
+
+/// Where a datagram came from.
+#[derive(Clone, Copy)]
+enum Origin {
+    LineA = 0,
+    LineB = 1,
+    Answer = 2,
+}
+
+/// Why a call was refused.
+struct Refused {
+    code: u32,
+    detail: u64,
+}
+
+impl std::fmt::Display for Refused {
+    fn fmt(&self, f: &mut std::fmt::Formatter<'_>) -> std::fmt::Result {
+        let mut text = sys::Bytes { at: std::ptr::null(), length: 0 };
+        // The text lives for ever.
+        let bytes = unsafe {
+            sys::mold_text(self.code, &mut text);
+            std::slice::from_raw_parts(text.at, text.length)
+        };
+        write!(f, "{} {}", String::from_utf8_lossy(bytes), self.detail)
+    }
+}
+
+/// A listener. That each call takes `&mut self` keeps the duties: one call at a time, and what is lent ends with the next.
+struct Listener(sys::Listener);
+
+impl Listener {
+    fn new(session: &[u8; 10], next: u64, window: u32) -> Result<Listener, Refused> {
+        let mut made = Listener(sys::Listener { at: std::ptr::null_mut(), live: false });
+        match unsafe { sys::mold_listener_new(&mut made.0, session.as_ptr(), next, window) } {
+            0 => Ok(made),
+            code => Err(Refused { code, detail: 0 }),
+        }
+    }
+
+    fn take(&mut self, from: Origin, datagram: &[u8]) -> Result<sys::Told, Refused> {
+        let mut told = sys::Told::default();
+        let (at, length) = (datagram.as_ptr(), datagram.len());
+        match unsafe { sys::mold_listener_take(&mut self.0, from as u32, at, length, &mut told) } {
+            0 => Ok(told),
+            code => Err(Refused { code, detail: told.detail }),
+        }
+    }
+
+    /// Hands the batch to a function, message by message with its number, and empties it.
+    fn drain(&mut self, mut hand: impl FnMut(u64, &[u8]) -> io::Result<()>) -> io::Result<()> {
+        let (first, count) = unsafe { (sys::mold_listener_first(&mut self.0), sys::mold_listener_count(&mut self.0)) };
+        for i in 0..count {
+            let mut message = sys::Bytes { at: std::ptr::null(), length: 0 };
+            if unsafe { sys::mold_listener_message(&mut self.0, i, &mut message) } == 0 && message.length > 0 {
+                hand(first + i as u64, unsafe { std::slice::from_raw_parts(message.at, message.length) })?;
+            } else {
+                hand(first + i as u64, &[])?;
+            }
+        }
+        unsafe { sys::mold_listener_clear(&mut self.0) };
+        Ok(())
+    }
+
+    fn wanted(&mut self) -> Option<[u8; 20]> {
+        let mut request = [0; 20];
+        unsafe { sys::mold_listener_wanted(&mut self.0, request.as_mut_ptr()) }.then_some(request)
+    }
+
+    fn next(&mut self) -> u64 {
+        unsafe { sys::mold_listener_next(&mut self.0) }
+    }
+
+    fn finished(&mut self) -> bool {
+        unsafe { sys::mold_listener_finished(&mut self.0) }
+    }
+}
+
+impl Drop for Listener {
+    fn drop(&mut self) {
+        unsafe { sys::mold_free((&mut self.0 as *mut sys::Listener).cast()) }
+    }
+}
+
+fn print_message(out: &mut impl Write, number: u64, message: &[u8]) -> io::Result<()> {
+    write!(out, "{number} ")?;
+    if message.is_empty() {
+        write!(out, "-")?;
+    }
+    for byte in message {
+        write!(out, "{byte:02x}")?;
+    }
+    writeln!(out)
+}
+
+/// Takes what has come at a socket, and answers whether something had.
+fn hear(listener: &mut Listener, socket: &UdpSocket, from: Origin, out: &mut impl Write) -> io::Result<bool> {
+    let mut room = [0; 65507];
+    let mut came = false;
+    loop {
+        match socket.recv(&mut room) {
+            Ok(length) => {
+                came = true;
+                match listener.take(from, &room[..length]) {
+                    Ok(told) if told.handed > 0 => {
+                        listener.drain(|number, message| print_message(out, number, message))?
+                    }
+                    Ok(_) => {}
+                    Err(refused) => eprintln!("refused {refused}"),
+                }
+            }
+            Err(error) if error.kind() == ErrorKind::WouldBlock => return Ok(came),
+            // As where nobody listens at the server's port.
+            Err(_) => return Ok(came),
+        }
+    }
+}
+
+fn open(address: &str) -> io::Result<UdpSocket> {
+    let socket = UdpSocket::bind(address)?;
+    socket.set_nonblocking(true)?;
+    Ok(socket)
+}
+
+fn session_of(text: &str) -> Option<[u8; 10]> {
+    let mut session = [b' '; 10];
+    session.get_mut(..text.len())?.copy_from_slice(text.as_bytes());
+    Some(session)
+}
+
+fn handle(session: &[u8; 10], a: &str, b: &str, server: &str) -> io::Result<bool> {
+    let mut listener = Listener::new(session, 1, 1024).map_err(|refused| io::Error::other(refused.to_string()))?;
+    let (a, b, answers) = (open(a)?, open(b)?, open("0.0.0.0:0")?);
+    let mut out = io::BufWriter::new(io::stdout().lock());
+    let mut last_came = Instant::now();
+    let (mut gap, mut due) = (0, Instant::now());
+    while !listener.finished() && last_came.elapsed() < Duration::from_secs(10) {
+        let mut came = hear(&mut listener, &a, Origin::LineA, &mut out)?;
+        came |= hear(&mut listener, &b, Origin::LineB, &mut out)?;
+        came |= hear(&mut listener, &answers, Origin::Answer, &mut out)?;
+        if came {
+            last_came = Instant::now();
+        } else {
+            out.flush()?;
+            std::thread::sleep(Duration::from_micros(200));
+        }
+        // A gap is asked for when it stood for two milliseconds, and again after fifty.
+        if let Some(request) = listener.wanted() {
+            if gap != listener.next() {
+                (gap, due) = (listener.next(), Instant::now() + Duration::from_millis(2));
+            } else if Instant::now() >= due {
+                due = Instant::now() + Duration::from_millis(50);
+                let _ = answers.send_to(&request, server);
+            }
+        }
+    }
+    writeln!(out, "{} next {}", if listener.finished() { "finished" } else { "open" }, listener.next())?;
+    out.flush()?;
+    Ok(listener.finished())
+}
+
+fn main() -> ExitCode {
+    let words: Vec<String> = std::env::args().collect();
+    let [_, session, a, b, server] = words.as_slice() else {
+        eprintln!("usage: handler-rs SESSION ADDRESS ADDRESS SERVER");
+        return ExitCode::from(3);
+    };
+    let Some(session) = session_of(session) else {
+        eprintln!("{session}: a session has at most 10 characters");
+        return ExitCode::from(3);
+    };
+    match handle(&session, a, b, server) {
+        Ok(true) => ExitCode::SUCCESS,
+        Ok(false) => ExitCode::from(1),
+        Err(error) => {
+            eprintln!("{error}");
+            ExitCode::from(3)
+        }
+    }
+}

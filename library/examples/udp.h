@@ -1,0 +1,140 @@
+/* What the examples have in common: words, addresses, UDP sockets, time, and bytes as hexadecimal digits. */
+#ifndef UDP_H
+#define UDP_H
+
+#ifndef _GNU_SOURCE
+#define _GNU_SOURCE
+#endif
+
+#include "../mold.h"
+
+#include <arpa/inet.h>
+#include <errno.h>
+#include <fcntl.h>
+#include <netinet/in.h>
+#include <poll.h>
+#include <stdio.h>
+#include <stdlib.h>
+#include <string.h>
+#include <sys/socket.h>
+#include <time.h>
+#include <unistd.h>
+
+/* The most bytes that a datagram can have over IPv4. */
+#define GREATEST 65507
+
+/* Ends the program where it can't go on; the system gives back what is open. */
+static inline void fail(const char *what, const char *why) {
+    fprintf(stderr, "%s: %s\n", what, why);
+    exit(3);
+}
+
+/* Wants a call of the library to be done. */
+static inline void need(const char *what, uint32_t code) {
+    if (code != MOLD_DONE) {
+        mold_bytes text = MOLD_NO_BYTES;
+        mold_text(code, &text);
+        fprintf(stderr, "%s: %.*s\n", what, (int)text.length, (const char *)text.at);
+        exit(3);
+    }
+}
+
+/* The value of the option at words[*at], which is the next word. */
+static inline const char *value_of(int count, char **words, int *at) {
+    if (*at + 1 >= count)
+        fail(words[*at], "an option without a value");
+    return words[++*at];
+}
+
+/* A decimal number from least to most. */
+static inline uint64_t number_of(const char *text, uint64_t least, uint64_t most) {
+    char *end = NULL;
+    errno = 0;
+    unsigned long long number = strtoull(text, &end, 10);
+    if (*text < '0' || *text > '9' || *end != 0 || errno != 0 || number < least || number > most)
+        fail(text, "no such number");
+    return number;
+}
+
+/* A session of 1 to 10 characters, with spaces behind them. */
+static inline void session_of(const char *text, uint8_t session[10]) {
+    size_t length = strlen(text);
+    if (length < 1 || length > 10)
+        fail(text, "a session has 1 to 10 characters");
+    memset(session, ' ', 10);
+    memcpy(session, text, length);
+}
+
+/* An address of IPv4 and a port, as 127.0.0.1:9000. */
+static inline struct sockaddr_in address_of(const char *text) {
+    struct sockaddr_in address;
+    char host[INET_ADDRSTRLEN] = {0};
+    const char *colon = strchr(text, ':');
+    memset(&address, 0, sizeof address);
+    address.sin_family = AF_INET;
+    if (colon == NULL || (size_t)(colon - text) >= sizeof host)
+        fail(text, "no address such as 127.0.0.1:9000");
+    memcpy(host, text, (size_t)(colon - text));
+    if (inet_pton(AF_INET, host, &address.sin_addr) != 1)
+        fail(text, "no address such as 127.0.0.1:9000");
+    address.sin_port = htons((uint16_t)number_of(colon + 1, 0, 65535));
+    return address;
+}
+
+static inline bool is_group(const struct sockaddr_in *address) {
+    return IN_MULTICAST(ntohl(address->sin_addr.s_addr));
+}
+
+/* A socket whose calls don't wait, with room for a burst. */
+static inline int open_socket(void) {
+    int made = socket(AF_INET, SOCK_DGRAM | SOCK_NONBLOCK | SOCK_CLOEXEC, 0);
+    int room = 4 << 20;
+    if (made < 0)
+        fail("socket", strerror(errno));
+    /* The system may give less. */
+    (void)setsockopt(made, SOL_SOCKET, SO_RCVBUF, &room, sizeof room);
+    return made;
+}
+
+/* A socket that hears an address, and joins it on a network interface where it is a multicast group. */
+static inline int open_line(const struct sockaddr_in *address, const char *interface) {
+    int made = open_socket(), yes = 1;
+    struct ip_mreq member;
+    memset(&member, 0, sizeof member);
+    member.imr_multiaddr = address->sin_addr;
+    if (inet_pton(AF_INET, interface, &member.imr_interface) != 1)
+        fail(interface, "no address of an interface");
+    if (is_group(address) && setsockopt(made, SOL_SOCKET, SO_REUSEADDR, &yes, sizeof yes) != 0)
+        fail("SO_REUSEADDR", strerror(errno));
+    if (bind(made, (const struct sockaddr *)address, sizeof *address) != 0)
+        fail("bind", strerror(errno));
+    if (is_group(address) && setsockopt(made, IPPROTO_IP, IP_ADD_MEMBERSHIP, &member, sizeof member) != 0)
+        fail("IP_ADD_MEMBERSHIP", strerror(errno));
+    return made;
+}
+
+/* The time in milliseconds, of a clock that is never set. */
+static inline int64_t now(void) {
+    struct timespec time;
+    if (clock_gettime(CLOCK_MONOTONIC, &time) != 0)
+        fail("clock_gettime", strerror(errno));
+    return (int64_t)time.tv_sec * 1000 + time.tv_nsec / 1000000;
+}
+
+/* Writes a message as the line of its number and bytes, a hyphen where it has none. */
+static inline void print_message(uint64_t number, mold_bytes message) {
+    static const char digits[] = "0123456789abcdef";
+    static char line[2 * GREATEST];
+    for (size_t i = 0; i < message.length; i++) {
+        line[2 * i] = digits[message.at[i] >> 4];
+        line[2 * i + 1] = digits[message.at[i] & 15];
+    }
+    printf("%llu ", (unsigned long long)number);
+    if (message.length == 0)
+        putchar('-');
+    else
+        fwrite(line, 1, 2 * message.length, stdout);
+    putchar('\n');
+}
+
+#endif

@@ -1,0 +1,296 @@
+/* Memory that is refused: each allocation in turn, and all from one on. A call that wants memory then answers
+ * MOLD_MEMORY and leaves everything as it was; called again with memory it goes through. What is taken is given back,
+ * with the sizes and alignments that it was asked for.
+ *
+ *     cd library/tests && cc -std=c99 failing.c ../out/libmold.a -o failing && ./failing
+ *
+ * The three functions here take the place of those of alloc.c, as in a program that has memory of its own. */
+#define CHECK_MAIN
+#include "check.h"
+
+typedef struct memory {
+    uint64_t had;
+    void *at;
+} memory;
+
+/* What stands in front of each piece of memory: 32 bytes, so that the piece is aligned to 16. */
+typedef union front {
+    struct {
+        size_t size, align;
+    } asked;
+    uint8_t room[32];
+} front;
+
+/* How many more allocations go through, whether later ones go through again, and what was counted. */
+static unsigned long left;
+static bool all_fail;
+static unsigned long refused, live, taken;
+
+memory rattle_alloc(size_t size, size_t align);
+memory rattle_realloc(void *old, size_t old_size, size_t size, size_t align);
+void rattle_dealloc(void *old, size_t size, size_t align);
+
+static bool is_refused(void) {
+    if (left > 0) {
+        left--;
+        return false;
+    }
+    if (!all_fail && refused > 0)
+        return false;
+    refused++;
+    return true;
+}
+
+memory rattle_alloc(size_t size, size_t align) {
+    memory made = {0, NULL};
+    CHECK(align >= 1 && align <= 16);
+    front *at = is_refused() ? NULL : malloc(sizeof *at + size);
+    if (at == NULL)
+        return made;
+    at->asked.size = size;
+    at->asked.align = align;
+    live++;
+    taken++;
+    made.had = 1;
+    made.at = at + 1;
+    return made;
+}
+
+void rattle_dealloc(void *old, size_t size, size_t align) {
+    front *at = (front *)old - 1;
+    CHECK(at->asked.size == size && at->asked.align == align);
+    live--;
+    free(at);
+}
+
+memory rattle_realloc(void *old, size_t old_size, size_t size, size_t align) {
+    memory made = rattle_alloc(size, align);
+    if (made.had == 0)
+        return made;
+    memcpy(made.at, old, old_size < size ? old_size : size);
+    rattle_dealloc(old, old_size, align);
+    return made;
+}
+
+/* ---- What a handle holds, as a sum over all that can be read of it ---- */
+
+static uint64_t mixed(uint64_t sum, const void *bytes, size_t length) {
+    for (size_t i = 0; i < length; i++)
+        sum = (sum ^ ((const uint8_t *)bytes)[i]) * 1099511628211u;
+    return sum;
+}
+
+static uint64_t sum_of_listener(mold_listener *listener) {
+    uint64_t numbers[] = {mold_listener_next(listener), mold_listener_known(listener), mold_listener_first(listener),
+                          mold_listener_finished(listener), mold_listener_count(listener)};
+    uint8_t request[20] = {0};
+    uint64_t sum = mixed(1, numbers, sizeof numbers);
+    if (mold_listener_wanted(listener, request))
+        sum = mixed(sum, request, sizeof request);
+    for (uint32_t line = 0; line < 2; line++) {
+        mold_report report = {0, 0, 0};
+        CHECK(mold_listener_report(listener, line, &report) == MOLD_DONE);
+        sum = mixed(sum, &report, sizeof report);
+    }
+    for (size_t i = 0; i < numbers[4]; i++) {
+        mold_bytes message = MOLD_NO_BYTES;
+        CHECK(mold_listener_message(listener, i, &message) == MOLD_DONE);
+        sum = mixed(sum, message.at, message.length);
+    }
+    return sum;
+}
+
+static uint64_t sum_of_publisher(mold_publisher *publisher) {
+    uint8_t journal[4096], heartbeat[64];
+    size_t size = 0, length = 0;
+    CHECK(mold_publisher_save(publisher, journal, sizeof journal, &size) == MOLD_DONE);
+    CHECK(mold_publisher_heartbeat(publisher, heartbeat, sizeof heartbeat, &length) == MOLD_DONE);
+    return mixed(mixed(mold_publisher_is_full(publisher), journal, size), heartbeat, length);
+}
+
+/* Whether memory was refused in a call that answers this code; then the call has to be made again. */
+static bool again(uint32_t code, unsigned long before) {
+    CHECK((code == MOLD_MEMORY) == (refused > before));
+    return code == MOLD_MEMORY && !all_fail;
+}
+
+/* ---- Calls that want memory ---- */
+
+static uint32_t try_listener(mold_listener *listener) {
+    unsigned long before = refused;
+    uint32_t code = mold_listener_new(listener, session, 1, 64);
+    CHECK(listener->live == (code == MOLD_DONE));
+    return again(code, before) ? mold_listener_new(listener, session, 1, 64) : code;
+}
+
+static uint32_t try_take(mold_listener *listener, datagram given, mold_told *told) {
+    unsigned long before = refused;
+    uint64_t sum = sum_of_listener(listener);
+    uint32_t code = mold_listener_take(listener, MOLD_LINE_A, given.at, given.length, told);
+    CHECK(code != MOLD_MEMORY || sum == sum_of_listener(listener));
+    if (again(code, before))
+        code = mold_listener_take(listener, MOLD_LINE_A, given.at, given.length, told);
+    free(given.at);
+    return code;
+}
+
+static uint32_t try_publish(mold_publisher *publisher, int value, size_t length) {
+    unsigned long before = refused;
+    uint64_t number = 0, sum = sum_of_publisher(publisher);
+    uint32_t code = publish(publisher, value, length, &number);
+    CHECK(code != MOLD_MEMORY || sum == sum_of_publisher(publisher));
+    return again(code, before) ? publish(publisher, value, length, &number) : code;
+}
+
+static uint32_t try_server(mold_server *server) {
+    unsigned long before = refused;
+    uint64_t number = 0;
+    uint32_t code = server_new(server, 64, 1, five_messages(), &number);
+    CHECK(server->live == (code == MOLD_DONE));
+    return again(code, before) ? server_new(server, 64, 1, five_messages(), &number) : code;
+}
+
+static uint32_t try_check(mold_checker *checker, datagram given) {
+    unsigned long before = refused;
+    uint64_t number = 0;
+    uint32_t code = mold_checker_take(checker, given.at, given.length, &number);
+    if (again(code, before))
+        code = mold_checker_take(checker, given.at, given.length, &number);
+    free(given.at);
+    return code;
+}
+
+/* ---- Runs in which memory is refused somewhere ---- */
+
+/* Whether a call was done; where all memory is refused from one call on, it may want memory. */
+static bool done(uint32_t code) {
+    CHECK(code == MOLD_DONE || (all_fail && code == MOLD_MEMORY));
+    return code == MOLD_DONE;
+}
+
+/* A packet of messages of many lengths, which their numbers tell. */
+static datagram varied(uint64_t sequence, uint16_t count) {
+    datagram made = of_length(20 + (size_t)count * 62);
+    size_t at = 20;
+    memcpy(made.at, SESSION, 10);
+    put_number(made.at + 10, sequence, 8);
+    put_number(made.at + 18, count, 2);
+    for (uint64_t number = sequence; number < sequence + count; number++) {
+        size_t length = (size_t)(number * 7 % 60);
+        put_number(made.at + at, length, 2);
+        memset(made.at + at + 2, (int)number, length);
+        at += 2 + length;
+    }
+    return cut(made, at);
+}
+
+static void run_listener(void) {
+    mold_listener listener = MOLD_EMPTY;
+    mold_told told = {0, 0, 0, 0, 0};
+    if (done(try_listener(&listener))) {
+        for (uint64_t number = 40; number > 3; number -= 2)
+            done(try_take(&listener, varied(number, 2), &told));
+        done(try_take(&listener, varied(2, 1), &told));
+        done(try_take(&listener, varied(1, 3), &told));
+        CHECK(all_fail || (mold_listener_next(&listener) == 42 && told.handed == 41));
+        done(try_take(&listener, varied(30, 20), &told));
+        CHECK(all_fail || (mold_listener_next(&listener) == 50 && told.handed == 8));
+        CHECK(try_take(&listener, packet_of(90, 0, 0), &told) == MOLD_DONE);
+        CHECK(mold_listener_clear(&listener) == MOLD_DONE);
+        done(try_take(&listener, varied(mold_listener_next(&listener), 3), &told));
+        CHECK(all_fail || mold_listener_count(&listener) == 3);
+    }
+    mold_free(&listener);
+}
+
+static void run_publisher(void) {
+    mold_publisher publisher = MOLD_EMPTY;
+    unsigned long before = refused;
+    uint32_t code = mold_publisher_new(&publisher, session, 64);
+    CHECK(publisher.live == (code == MOLD_DONE));
+    if (again(code, before))
+        code = mold_publisher_new(&publisher, session, 64);
+    if (done(code)) {
+        for (int i = 0; i < 40; i++)
+            done(try_publish(&publisher, i, (size_t)i));
+        before = refused;
+        code = mold_server_from_publisher(&publisher, 1);
+        if (again(code, before))
+            code = mold_server_from_publisher(&publisher, 1);
+        done(code);
+        done(try_publish(&publisher, 1, 42));
+    }
+    mold_free(&publisher);
+}
+
+static void run_server(void) {
+    mold_server server = MOLD_EMPTY;
+    datagram room = of_length(64);
+    uint64_t number = 0;
+    if (done(try_server(&server))) {
+        CHECK(answer(&server, SESSION_HEX "00000000000000050001", room, &number) == MOLD_DONE);
+        CHECK(number == 42 && room.at[22] == 5);
+    }
+    mold_free(&server);
+    free(room.at);
+}
+
+static void run_checker(void) {
+    mold_checker checker = MOLD_EMPTY;
+    mold_verdict verdict = {0, 0, 0, 0, 0};
+    mold_range ranges[16];
+    size_t count = 0;
+    memset(ranges, 0, sizeof ranges);
+    unsigned long before = refused;
+    uint32_t code = mold_checker_new(&checker);
+    if (again(code, before))
+        code = mold_checker_new(&checker);
+    if (done(code)) {
+        for (uint64_t number = 30; number > 0; number -= 3)
+            done(try_check(&checker, packet_of(number, 2, 9)));
+        before = refused;
+        code = mold_checker_verdict(&checker, &verdict);
+        if (again(code, before))
+            code = mold_checker_verdict(&checker, &verdict);
+        if (done(code))
+            CHECK(all_fail || (verdict.whole == 0 && verdict.ranges == 10));
+        before = refused;
+        code = mold_checker_ranges(&checker, ranges, 16, &count);
+        if (again(code, before))
+            code = mold_checker_ranges(&checker, ranges, 16, &count);
+        if (done(code))
+            CHECK(all_fail || (count == 10 && ranges[0].first == 1 && ranges[9].last == 29));
+    }
+    mold_free(&checker);
+}
+
+/* Runs with the allocation behind so many failing, and answers whether there was one. */
+static bool fails_at(void (*run)(void), unsigned long place, bool and_all_after) {
+    left = place;
+    all_fail = and_all_after;
+    refused = 0;
+    run();
+    CHECK(live == 0);
+    return refused > 0;
+}
+
+static void each_in_turn(const char *name, void (*run)(void)) {
+    unsigned long places = 0;
+    while (fails_at(run, places, false) && places < 100000)
+        places++;
+    while (places > 0 && fails_at(run, --places, true))
+        ;
+    left = 100000;
+    taken = refused = 0;
+    run();
+    printf("%s: %lu allocations, each refused in turn\n", name, taken);
+    CHECK(taken > 0 && refused == 0 && live == 0);
+}
+
+int main(void) {
+    each_in_turn("listener", run_listener);
+    each_in_turn("publisher", run_publisher);
+    each_in_turn("server", run_server);
+    each_in_turn("checker", run_checker);
+    return told_checks();
+}
