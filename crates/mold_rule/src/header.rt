@@ -53,7 +53,7 @@ fn is_foreign(packet: &Packet<'_>, session: Option<Session>) -> bool
         wrong_session (option_map (λ s. s.0) session) packet.now.session.0 }
 {
     match session {
-        Some(session) => packet.session != session,
+        Some(session) => !packet.session.is_same(&session),
         None => false,
     }
 }

@@ -9,3 +9,4 @@ pub mod PackingLemmas
 pub mod FrontLemmas
 pub mod TruthLemmas
 pub mod PackerLemmas
+mod SessionLemmas

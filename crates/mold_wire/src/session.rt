@@ -1,5 +1,10 @@
 //! The name of a session.
 
+ghost use Rattle.std.specs.Prelude.{◌≡◌, length};
+ghost use Rattle.std.specs.Str.{bytes_eq};
+
+use byteorder::{BigEndian, ByteOrder};
+
 /// The bytes of a session's name.
 pub const SESSION_LENGTH: usize = 10;
 
@@ -7,3 +12,26 @@ pub const SESSION_LENGTH: usize = 10;
 /// a downstream packet and of a request packet.)
 #[derive(Clone, Copy, Debug, PartialEq, Eq, Hash)]
 pub struct Session(pub [u8; SESSION_LENGTH]);
+
+// Whether ten bytes are ten others. It compares two numbers in place of them.
+#[inline(always)]
+fn same_name(name: &[u8], other: &[u8]) -> bool
+    requires name { length name.now ≡ 10 }
+    requires other { length other.now ≡ 10 }
+    ensures { result ≡ bytes_eq name.now other.now }
+{
+    let (front, back) = name.split_at(8);
+    let (other_front, other_back) = other.split_at(8);
+    BigEndian::read_u64(front) == BigEndian::read_u64(other_front)
+        && BigEndian::read_u16(back) == BigEndian::read_u16(other_back)
+}
+
+impl Session {
+    /// Whether another session has the same name, as `==` says, in less time: it is asked of each datagram.
+    #[inline(always)]
+    pub fn is_same(&self, other: &Session) -> bool
+        ensures { result ≡ bytes_eq self.now.0 other.now.0 }
+    {
+        same_name(&self.0, &other.0)
+    }
+}
