@@ -3,7 +3,7 @@
 
 use crate::comparisons::{same_message, same_number, same_truth};
 use crate::reception::{
-    DATA_1, DATA_1_2, DATA_1_3, DATA_2, DATA_2_3, DATA_3, END_3, END_4, Reception, SESSION,
+    DATA_1, DATA_1_2, DATA_1_3, DATA_2, DATA_2_3, DATA_3, END_3, END_4, Reception, SESSION, State,
     expect_each, same_maybe,
 };
 use mold_receiver::{Batch, Receiver, ReceiverError, Refused};
@@ -255,6 +255,46 @@ fn a_refused_growth_takes_nothing(rt: HostRuntime) -> Result<(), Fail> {
     reception.take_again(&rt, DATA_1, (3, 0, 0), (1, 4, 2, 0, None))?;
     reception.expect_batch(&rt, 1, &[b"A", b"B", b"C"]);
     reception.expect_numbers(&rt, 4, 4, 0);
+    Ok(())
+}
+
+/// A message of 40,000 bytes.
+fn long_message(alloc: Global) -> Result<Vec<u8>, Fail> {
+    let mut message = Vec::new(alloc);
+    for i in 0..40000u32 {
+        message.push((i % 251) as u8)?;
+    }
+    Ok(message)
+}
+
+/// Long messages by their numbers, in the order in which they come: a new gap opens before the old one is
+/// closed. How many are handed on and stored, and the state before.
+const NEVER_EMPTY: [(u64, (u32, u32, u32), State); 8] = [
+    (2, (0, 1, 0), (1, 1, 0, 0, None)),
+    (4, (0, 1, 0), (1, 3, 1, 0, None)),
+    (1, (2, 0, 0), (1, 5, 2, 0, None)),
+    (6, (0, 1, 0), (3, 5, 1, 2, Some(1))),
+    (3, (2, 0, 0), (3, 7, 2, 2, Some(1))),
+    (8, (0, 1, 0), (5, 7, 1, 4, Some(1))),
+    (5, (2, 0, 0), (5, 9, 2, 4, Some(1))),
+    (7, (2, 0, 0), (7, 9, 1, 6, Some(1))),
+];
+
+/// The store has 80,006 bytes of messages that were handed on when 8 comes, and is packed.
+#[test]
+fn a_refused_growth_of_a_packed_store(rt: HostRuntime) -> Result<(), Fail> {
+    let message = long_message(rt.alloc())?;
+    let mut packer = Packer::new(rt.alloc(), 65507)?;
+    let mut reception = Reception::new(rt.alloc(), 1, 8)?;
+    for (number, counts, state) in NEVER_EMPTY {
+        packer.start(SESSION, number);
+        packer.add(message.as_slice());
+        reception.take_again(&rt, packer.bytes(), counts, state)?;
+    }
+    for i in 0..8usize {
+        same_message(&rt, reception.batch.get(i), Some(message.as_slice()));
+    }
+    reception.expect_numbers(&rt, 9, 9, 0);
     Ok(())
 }
 
