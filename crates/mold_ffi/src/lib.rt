@@ -18,5 +18,7 @@ mod parts;
 mod range;
 mod report;
 mod serving;
+#[cfg(test)]
+mod tests;
 mod told;
 mod verdict;
