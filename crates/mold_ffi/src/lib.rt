@@ -28,6 +28,8 @@ mod report;
 mod request;
 mod server_calls;
 mod serving;
+#[cfg(test)]
+mod tests;
 mod text;
 mod told;
 mod verdict;
