@@ -1,4 +1,5 @@
 mod AsBox
+mod CheckingLemmas
 mod HearingLemmas
 mod LoanLemmas
 mod Walking

@@ -10,6 +10,7 @@ mod free;
 mod handle;
 mod held;
 mod lending;
+pub mod laws;
 mod listener;
 mod listener_calls;
 mod listener_reads;
