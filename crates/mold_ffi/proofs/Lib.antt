@@ -2,5 +2,5 @@ mod AsBox
 mod CheckingLemmas
 mod HearingLemmas
 mod LoanLemmas
-mod Walking
 mod ServingLemmas
+mod Walking
