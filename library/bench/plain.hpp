@@ -1,6 +1,7 @@
 // A plain receiver in C++, for comparison: it does the work of the library's listener, with the same refusals in the same
 // order, the same window and the same counts of lines, as an engineer would write it who wants it fast. Nothing is proved
-// of it. What is handed on goes to a function, message by message.
+// of it. What is handed on goes to a function, message by message. Its store is a ring of vectors, which either keep their
+// memory when a message leaves, or give it back: which is quicker hangs on the work.
 #ifndef PLAIN_HPP
 #define PLAIN_HPP
 
@@ -64,6 +65,7 @@ private:
     std::vector<std::size_t> ends_;
 };
 
+template <bool keeps_memory>
 class Receiver {
 public:
     Receiver(const std::uint8_t *session, std::uint64_t next, std::uint32_t window)
@@ -109,7 +111,7 @@ public:
     const Report &report(std::uint32_t line) const { return reports_[line]; }
 
 private:
-    /// A slot of the ring. Its memory stays when the message leaves.
+    /// A slot of the ring.
     struct Slot {
         std::vector<std::uint8_t> bytes;
         bool is_held = false;
@@ -222,11 +224,15 @@ private:
         told.handed = static_cast<std::uint32_t>(next_ - first);
     }
 
-    /// Frees the slot of a number, whose next use keeps the memory.
+    /// Frees the slot of a number.
     void release(std::uint64_t number) {
         Slot &freed = slot(number);
-        held_ -= freed.is_held;
+        if (!freed.is_held)
+            return;
+        held_--;
         freed.is_held = false;
+        if (!keeps_memory)
+            std::vector<std::uint8_t>().swap(freed.bytes);
     }
 
     /// Stores a packet's messages as far as the window goes.

@@ -148,7 +148,7 @@ private:
     }
 
     mold_listener listener_ = MOLD_EMPTY;
-    plain::Receiver plain_;
+    plain::Receiver<true> plain_;
 };
 
 } // namespace
