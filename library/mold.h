@@ -293,7 +293,7 @@ size_t mold_listener_messages(mold_listener *listener, mold_bytes *messages, siz
  * it was.
  *
  *   MOLD_BROKEN  the handle holds no listener
- *   MOLD_ABSENT  the batch has no message i
+ *   MOLD_ABSENT  the batch has no message i; *size is as it was
  *   MOLD_ROOM    the message is longer than the buffer: *size is its size, and the buffer is as it was */
 uint32_t mold_listener_copy(mold_listener *listener, size_t i, uint8_t *buffer, size_t room, size_t *size);
 
