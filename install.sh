@@ -1,11 +1,15 @@
 #!/bin/sh
 # Puts the program mold, its man page and its completions where a system has them, or takes them away.
 #
-#     sh install.sh [--prefix DIR]                puts them below DIR, or below /usr/local
+#     sh install.sh [--library] [--prefix DIR]    puts them below DIR, or below /usr/local
 #     sh install.sh --uninstall [--prefix DIR]    takes away what it put there
 #
+# With --library it also puts the library for programs in C, C++ and Rust: libmold.a, mold.h, mold.hpp, and
+# mold.pc for pkg-config.
+#
 # The program is the one that ./mold runs. Where it is not built yet, ./mold builds it first, which takes
-# minutes and needs the toolchain. The program needs nothing of this repository when it runs.
+# minutes and needs the toolchain; the library is built likewise by library/build, which also needs a C
+# compiler. The program needs nothing of this repository when it runs.
 #
 # It tells each file that it puts or takes away, a line each. What it put is listed in the file
 # share/doc/mold/installed below DIR. A file that is there and not on that list is never replaced: another
@@ -23,7 +27,7 @@ fail() {
 }
 
 refuse_words() {
-    printf 'usage: sh install.sh [--uninstall] [--prefix DIR]\n' >&2
+    printf 'usage: sh install.sh [--library | --uninstall] [--prefix DIR]\n' >&2
     exit 2
 }
 
@@ -37,6 +41,12 @@ files() {
 644 LICENSE-MIT share/doc/mold/LICENSE-MIT
 644 LICENSE-APACHE share/doc/mold/LICENSE-APACHE
 644 LICENSES-OF-LIBRARIES.md share/doc/mold/LICENSES-OF-LIBRARIES.md
+END
+    [ "$library" = no ] || cat <<'END'
+644 library/out/libmold.a lib/libmold.a
+644 library/mold.h include/mold.h
+644 library/mold.hpp include/mold.hpp
+644 library/mold.pc.in lib/pkgconfig/mold.pc
 END
 }
 
@@ -63,18 +73,31 @@ make_folder() {
     mkdir -- "$prefix/$1" && printf 'folder %s\n' "$1"
 }
 
-# Makes all folders, and prints the list of what is there then: folders made now or before, and files.
+# Makes all folders, and prints the list of what is there then: folders and files of now and before.
 make_folders() {
-    grep '^folder ' "$prefix/$list" 2>/dev/null
+    cat -- "$prefix/$list" 2>/dev/null
     files | while read -r _ _ place; do
         make_folder "$(dirname -- "$place")" || exit 1
-        printf 'file %s\n' "$place"
+        is_listed "$place" || printf 'file %s\n' "$place"
     done
+}
+
+# A text as it has to stand in a replacement of sed.
+escaped() {
+    printf '%s\n' "$1" | sed 's/[\\&|]/\\&/g'
+}
+
+# Copies a file; in one whose name ends in .in, prefix and version are put in their places.
+copy_file() {
+    case $1 in
+    *.in) sed "s|@prefix@|$(escaped "$prefix")|; s|@version@|$version|" "$1" >"$2" ;;
+    *) cp -- "$1" "$2" ;;
+    esac
 }
 
 # Puts a file in its place in one step, so that a program that runs is not written over.
 put_file() {
-    cp -- "$top/$2" "$prefix/$3.new.$$" && chmod "$1" "$prefix/$3.new.$$" &&
+    copy_file "$top/$2" "$prefix/$3.new.$$" && chmod "$1" "$prefix/$3.new.$$" &&
         mv -f -- "$prefix/$3.new.$$" "$prefix/$3" && printf '%s\n' "$prefix/$3"
 }
 
@@ -85,7 +108,9 @@ put_files() {
 }
 
 put_all() {
-    "$top/mold" --version >/dev/null || fail 'the program could not be built'
+    version=$("$top/mold" --version) || fail 'the program could not be built'
+    version=${version#mold }
+    [ "$library" = no ] || sh "$top/library/build" >/dev/null || fail 'the library could not be built'
     mkdir -p -- "$prefix" || fail "the folder $prefix cannot be made"
     respect_others
     made=$(make_folders) || fail "not all folders could be made below $prefix"
@@ -113,6 +138,7 @@ take_all() {
 
 prefix=/usr/local
 task=put_all
+library=no
 while [ $# -gt 0 ]; do
     case $1 in
     --prefix)
@@ -122,6 +148,7 @@ while [ $# -gt 0 ]; do
         ;;
     --prefix=*) prefix=${1#--prefix=} ;;
     --uninstall) task=take_all ;;
+    --library) library=yes ;;
     *) refuse_words ;;
     esac
     shift

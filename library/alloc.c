@@ -16,8 +16,8 @@ typedef struct memory {
 } memory;
 
 memory rattle_alloc(size_t size, size_t align);
-memory rattle_realloc(void *old, size_t old_size, size_t size, size_t align);
-void rattle_dealloc(void *old, size_t size, size_t align);
+memory rattle_realloc(void *old, size_t used, size_t size, size_t align);
+void rattle_dealloc(void *old);
 
 /* What is answered where no memory is had is not used, but is an address all the same. */
 static memory answer(void *at) {
@@ -35,14 +35,12 @@ memory rattle_alloc(size_t size, size_t align) {
     return answer(align <= ALIGNED ? malloc(asked(size, align)) : NULL);
 }
 
-/* Where it is refused, the old memory stays as it was. */
-memory rattle_realloc(void *old, size_t old_size, size_t size, size_t align) {
-    (void)old_size;
+/* So many bytes of the old memory are used, and stay. Where more is refused, the old memory stays as it was. */
+memory rattle_realloc(void *old, size_t used, size_t size, size_t align) {
+    (void)used;
     return answer(align <= ALIGNED ? realloc(old, asked(size, align)) : NULL);
 }
 
-void rattle_dealloc(void *old, size_t size, size_t align) {
-    (void)size;
-    (void)align;
+void rattle_dealloc(void *old) {
     free(old);
 }

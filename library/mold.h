@@ -30,8 +30,9 @@
  * to a call may be thrown away when it returns: the library keeps copies.
  *
  * CODES. A call that may refuse answers a code: 0 where it is done, and else the first reason that applies, in the order
- * in which the call names them. After any code but 0 everything is as it was, but for what the call itself names. A code
- * has one meaning for ever.
+ * in which the call names them. After any code but 0 what the handle holds is as it was, and so are outputs, but for those
+ * that the call names: a number that goes with the refusal is written, and where a call has such an output, a refusal
+ * without a number, but MOLD_BROKEN, writes 0 to it. A code has one meaning for ever.
  *
  * NUMBERS. The messages of a session have the sequence numbers 1, 2, 3 and so on. Lengths and sizes are in bytes, and
  * numbers in structs are in the machine's own order. A session is any ten bytes. */
@@ -292,7 +293,7 @@ size_t mold_listener_messages(mold_listener *listener, mold_bytes *messages, siz
  * it was.
  *
  *   MOLD_BROKEN  the handle holds no listener
- *   MOLD_ABSENT  the batch has no message i
+ *   MOLD_ABSENT  the batch has no message i; *size is as it was
  *   MOLD_ROOM    the message is longer than the buffer: *size is its size, and the buffer is as it was */
 uint32_t mold_listener_copy(mold_listener *listener, size_t i, uint8_t *buffer, size_t room, size_t *size);
 
@@ -347,15 +348,15 @@ bool mold_publisher_is_full(mold_publisher *publisher);
  * on that was not yet put in a datagram. A buffer of as many bytes as the limit is always enough.
  *
  *   MOLD_BROKEN  the handle holds no publisher
- *   MOLD_ABSENT  every message was put in a datagram
- *   MOLD_ROOM    the buffer has less room than the limit, which *size is then; it comes before MOLD_ABSENT */
+ *   MOLD_ROOM    the buffer has less room than the limit, which *size is then
+ *   MOLD_ABSENT  every message was put in a datagram; *size is 0 */
 uint32_t mold_publisher_datagram(mold_publisher *publisher, uint8_t *buffer, size_t room, size_t *size);
 
 /* Writes a heartbeat, which has 20 bytes and the number of the first message that was not yet put in a datagram.
  *
  *   MOLD_BROKEN  the handle holds no publisher
- *   MOLD_ABSENT  the session is closed
- *   MOLD_ROOM    the buffer has less room than the limit, which *size is then; it comes before MOLD_ABSENT */
+ *   MOLD_ROOM    the buffer has less room than the limit, which *size is then
+ *   MOLD_ABSENT  the session is closed; *size is 0 */
 uint32_t mold_publisher_heartbeat(mold_publisher *publisher, uint8_t *buffer, size_t room, size_t *size);
 
 /* Closes the session: no message can be published any more. On a closed session it is done and changes nothing.
@@ -367,15 +368,15 @@ uint32_t mold_publisher_close(mold_publisher *publisher, uint64_t *number);
 /* Writes an end of session, which has 20 bytes and one more than the number of messages.
  *
  *   MOLD_BROKEN  the handle holds no publisher
- *   MOLD_ABSENT  the session is not closed
- *   MOLD_ROOM    the buffer has less room than the limit, which *size is then; it comes before MOLD_ABSENT */
+ *   MOLD_ROOM    the buffer has less room than the limit, which *size is then
+ *   MOLD_ABSENT  the session is not closed; *size is 0 */
 uint32_t mold_publisher_end(mold_publisher *publisher, uint8_t *buffer, size_t room, size_t *size);
 
 /* Writes the journal of what was published to the front of a buffer: the bytes of a journal's file of version 2, as `mold
  * serve` and mold_server_new read it. It has 27 bytes, and for each message two bytes and the message.
  *
  *   MOLD_BROKEN  the handle holds no publisher
- *   MOLD_ROOM    the buffer is too small: *size is how many bytes the journal has */
+ *   MOLD_ROOM    the buffer is too small: *size is how many bytes the journal has, and the buffer is as it was */
 uint32_t mold_publisher_save(mold_publisher *publisher, uint8_t *buffer, size_t room, size_t *size);
 
 /* ---- Server: answers of requests from a journal ---- */
@@ -388,10 +389,10 @@ typedef struct mold_plan {
     uint8_t session[10];
 } mold_plan;
 
-/* From here on the publisher answers requests too, from the journal of what it published so far, with at most `burst`
- * datagrams each. Its handle goes as a server's in the calls below: mold_server_of(&publisher).
+/* From here on the publisher answers requests too, from the journal of what it has published by then, with at most `burst`
+ * datagrams each, which have its own limit. Its handle goes as a server's in the calls below: mold_server_of(&publisher).
  *
- *   MOLD_BROKEN  the handle holds no publisher
+ *   MOLD_BROKEN  the handle holds no publisher, or one that answers requests already
  *   MOLD_BURST   burst is not 1 to 64
  *   MOLD_MEMORY  memory was refused */
 uint32_t mold_server_from_publisher(mold_publisher *publisher, uint16_t burst);
@@ -421,7 +422,7 @@ uint32_t mold_server_new(mold_server *server, size_t limit, uint16_t burst, cons
  * more datagrams than one uses mold_server_plan and mold_server_datagram in place of it.
  *
  *   MOLD_BROKEN          the handle holds no server
- *   MOLD_ROOM            the buffer has less room than the limit
+ *   MOLD_ROOM            the buffer has less room than the limit, which *number is then
  *   MOLD_REQUEST_LENGTH  the request has *number bytes and not 20
  *   MOLD_WRONG_SESSION   it is of another session
  *   MOLD_SEQUENCE_ZERO   it asks from number 0 on
@@ -435,13 +436,13 @@ uint32_t mold_server_answer(mold_server *server, const uint8_t *request, size_t 
 uint32_t mold_server_plan(mold_server *server, const uint8_t *request, size_t length, mold_plan *plan,
                           uint64_t *number);
 
-/* Writes the next datagram of a plan to the front of a buffer, and moves the plan behind its messages.
+/* Writes the next datagram of a plan to the front of a buffer, and its size to *size, and moves the plan behind its
+ * messages.
  *
- *   MOLD_BROKEN         the handle holds no server, or the plan can't be one
- *   MOLD_WRONG_SESSION  the plan is of another session
- *   MOLD_AHEAD          the plan goes behind the last message
- *   MOLD_ABSENT         nothing is left of the plan: the answer is whole
- *   MOLD_ROOM           the buffer has less room than the limit */
+ *   MOLD_BROKEN  the handle holds no server; or the plan can't be one of this server: its numbers are no part of the
+ *                journal, or its session is another one
+ *   MOLD_ROOM    the buffer has less room than the limit, which *size is then
+ *   MOLD_ABSENT  nothing is left of the plan: the answer is whole; *size is 0 */
 uint32_t mold_server_datagram(mold_server *server, mold_plan *plan, uint8_t *buffer, size_t room, size_t *size);
 
 /* ---- Checker: whether captured datagrams are one whole session ---- */
@@ -488,12 +489,12 @@ uint32_t mold_checker_take(mold_checker *checker, const uint8_t *bytes, size_t l
  *   MOLD_MEMORY  memory was refused */
 uint32_t mold_checker_verdict(mold_checker *checker, mold_verdict *verdict);
 
-/* Writes the longest ranges of missing numbers below the greatest number heard of, ascending, to the front of an array,
- * and to *count how many there are. There are as many as mold_checker_verdict says.
+/* Writes the longest ranges of missing numbers below the greatest number heard of, ascending, to the front of an array: the
+ * first ones where it has too little room for all. *count is how many there are in all, as many as mold_checker_verdict
+ * says. What stands behind them in the array is as it was.
  *
  *   MOLD_BROKEN  the handle holds no checker
- *   MOLD_MEMORY  memory was refused
- *   MOLD_ROOM    the array is too small; *count is how many there are, and the array is as it was */
+ *   MOLD_MEMORY  memory was refused; nothing is written */
 uint32_t mold_checker_ranges(mold_checker *checker, mold_range *ranges, size_t room, size_t *count);
 
 #ifdef __cplusplus

@@ -1,3 +1,4 @@
+<<<<<<< HEAD
 // How long the library's listener takes for a datagram, beside a plain receiver in C++ with the same checks, once
 // copying what it hands on into a batch that the caller reads, as the library does, and once handing it on where it lies.
 //
@@ -245,4 +246,274 @@ int main(int argc, char **argv) {
         return 0;
     }
     return compare(option == "--quick" ? 1 : 30);
+=======
+// How fast the library's listener is, against a plain receiver in C++ that does the same checks: once the plain one hands
+// its messages to a function where they lie, once it copies them into a batch first, as one has to that is asked for them.
+//
+//     c++ -O2 -std=c++17 library/bench/bench.cpp library/out/libmold.a -pthread -o bench && ./bench
+//
+// A row is one kind of work. All do it by turns, each the same number of times, and the least time of a round counts, in
+// nanoseconds a datagram; of the plain ones that of the quicker store. With --brief there are few rounds, whose times say little. Each looks at the length
+// and the first byte of every message that is handed on, and their sums are compared. The last lines tell how many
+// datagrams a second one, two and four threads take, each with a listener of its own.
+#include "plain.hpp"
+
+#include <chrono>
+#include <cstdio>
+#include <cstdlib>
+#include <string>
+#include <thread>
+
+namespace {
+
+using Clock = std::chrono::steady_clock;
+
+constexpr std::uint32_t window = 1024;
+const std::uint8_t session[] = {'B', 'E', 'N', 'C', 'H', ' ', ' ', ' ', ' ', ' '};
+
+/// A datagram, and where it comes from.
+struct Arrival {
+    std::vector<std::uint8_t> bytes;
+    std::uint32_t line;
+};
+
+/// A kind of work: datagrams that a new receiver takes in this order.
+struct Work {
+    std::string name;
+    std::vector<Arrival> arrivals;
+};
+
+std::vector<std::uint8_t> datagram(std::uint64_t sequence, std::size_t count, std::size_t length) {
+    std::vector<std::uint8_t> made(plain::header + count * (2 + length));
+    std::memcpy(made.data(), session, sizeof session);
+    for (std::size_t i = 0; i < 8; i++)
+        made[10 + i] = static_cast<std::uint8_t>(sequence >> (56 - 8 * i));
+    made[18] = static_cast<std::uint8_t>(count >> 8);
+    made[19] = static_cast<std::uint8_t>(count);
+    for (std::size_t i = 0; i < count; i++) {
+        std::uint8_t *block = made.data() + plain::header + i * (2 + length);
+        block[0] = static_cast<std::uint8_t>(length >> 8);
+        block[1] = static_cast<std::uint8_t>(length);
+        for (std::size_t k = 0; k < length; k++)
+            block[2 + k] = static_cast<std::uint8_t>(sequence * 31 + i * 7 + k);
+    }
+    return made;
+}
+
+// ---- The kinds of work ----
+
+Work in_order(std::size_t count) {
+    Work work{"in order, " + std::to_string(count) + " x 40 bytes", {}};
+    for (std::uint64_t i = 0; i < 1000; i++)
+        work.arrivals.push_back({datagram(1 + i * count, count, 40), MOLD_LINE_A});
+    return work;
+}
+
+Work heartbeats() {
+    Work work{"heartbeat", {}};
+    for (int i = 0; i < 1000; i++)
+        work.arrivals.push_back({datagram(1, 0, 0), MOLD_LINE_A});
+    return work;
+}
+
+Work repeated() {
+    Work work{"the same again, 10 x 40", {}};
+    for (int i = 0; i < 1000; i++)
+        work.arrivals.push_back({datagram(1, 10, 40), MOLD_LINE_A});
+    return work;
+}
+
+Work two_lines() {
+    Work work{"two lines, 10 x 40, a call", {}};
+    for (std::uint64_t i = 0; i < 500; i++)
+        for (std::uint32_t line : {MOLD_LINE_A, MOLD_LINE_B})
+            work.arrivals.push_back({datagram(1 + i * 10, 10, 40), line});
+    return work;
+}
+
+/// Nine of ten datagrams lie above a gap, and then the answer comes that fills it.
+Work stored() {
+    Work work{"9 of 10 stored, 10 x 40", {}};
+    for (std::uint64_t gap = 0; gap < 100; gap++) {
+        for (std::uint64_t i = 1; i < 10; i++)
+            work.arrivals.push_back({datagram(1 + gap * 100 + i * 10, 10, 40), MOLD_LINE_A});
+        work.arrivals.push_back({datagram(1 + gap * 100, 10, 40), MOLD_ANSWER});
+    }
+    return work;
+}
+
+/// A new gap opens before the old one is filled, so that something is always stored.
+Work never_empty() {
+    Work work{"never empty, 1 x 1,400", {}};
+    work.arrivals.push_back({datagram(2, 1, 1400), MOLD_LINE_A});
+    for (std::uint64_t i = 1; i < 500; i++) {
+        work.arrivals.push_back({datagram(2 * i + 2, 1, 1400), MOLD_LINE_A});
+        work.arrivals.push_back({datagram(2 * i - 1, 1, 1400), MOLD_LINE_A});
+    }
+    return work;
+}
+
+/// A store of many messages that never empties: datagrams come two by two the wrong way round, sixty-four behind a gap.
+Work never_empty_behind() {
+    Work work{"never empty, 64 behind, 1 x 1,400", {}};
+    for (std::uint64_t i = 2; i <= 65; i++)
+        work.arrivals.push_back({datagram(i, 1, 1400), MOLD_LINE_A});
+    for (std::uint64_t gap = 0; gap < 14; gap++) {
+        for (std::uint64_t i = 2; i <= 65; i++)
+            work.arrivals.push_back({datagram(65 * (gap + 1) + i, 1, 1400), MOLD_LINE_A});
+        work.arrivals.push_back({datagram(65 * gap + 1, 1, 1400), MOLD_ANSWER});
+    }
+    return work;
+}
+
+// ---- The three receivers ----
+
+/// What was handed on, so that none of it can be left out.
+struct Sum {
+    std::uint64_t messages = 0, lengths = 0, first_bytes = 0;
+
+    void add(const std::uint8_t *at, std::size_t length) {
+        messages++;
+        lengths += length;
+        first_bytes += length > 0 ? at[0] : 0;
+    }
+
+    bool operator==(const Sum &other) const {
+        return messages == other.messages && lengths == other.lengths && first_bytes == other.first_bytes;
+    }
+};
+
+[[noreturn]] void stop(const char *why) {
+    std::fprintf(stderr, "bench: %s\n", why);
+    std::exit(1);
+}
+
+double since(Clock::time_point began) {
+    return std::chrono::duration<double, std::nano>(Clock::now() - began).count();
+}
+
+/// The time of a round in which the plain receiver hands messages to a function.
+template <bool keeps_memory>
+double by_function(const Work &work, Sum &sum) {
+    plain::Receiver<keeps_memory> receiver(session, 1, window);
+    mold_told told{};
+    const Clock::time_point began = Clock::now();
+    for (const Arrival &arrival : work.arrivals)
+        receiver.take(arrival.line, arrival.bytes.data(), arrival.bytes.size(), told,
+                      [&sum](std::uint64_t, const std::uint8_t *at, std::size_t length) { sum.add(at, length); });
+    return since(began);
+}
+
+/// The time of a round in which the plain receiver copies messages into a batch.
+template <bool keeps_memory>
+double by_batch(const Work &work, Sum &sum) {
+    plain::Receiver<keeps_memory> receiver(session, 1, window);
+    plain::Batch batch;
+    mold_told told{};
+    const Clock::time_point began = Clock::now();
+    for (const Arrival &arrival : work.arrivals) {
+        receiver.take(arrival.line, arrival.bytes.data(), arrival.bytes.size(), told,
+                      [&batch](std::uint64_t, const std::uint8_t *at, std::size_t length) { batch.push(at, length); });
+        if (told.handed == 0)
+            continue;
+        for (std::size_t i = 0; i < batch.size(); i++)
+            sum.add(batch[i].at, batch[i].length);
+        batch.clear();
+    }
+    return since(began);
+}
+
+/// Takes a batch of the library, all messages by one call.
+void drain(mold_listener &listener, std::size_t count, std::vector<mold_bytes> &room, Sum &sum) {
+    if (count > room.size())
+        room.resize(count);
+    if (mold_listener_messages(&listener, room.data(), room.size()) != count)
+        stop("fewer messages than there are");
+    for (std::size_t i = 0; i < count; i++)
+        sum.add(room[i].at, room[i].length);
+    mold_listener_clear(&listener);
+}
+
+/// The time of a round of the library.
+double by_library(const Work &work, Sum &sum) {
+    mold_listener listener = MOLD_EMPTY;
+    std::vector<mold_bytes> room(64);
+    mold_told told{};
+    if (mold_listener_new(&listener, session, 1, window) != MOLD_DONE)
+        stop("no listener");
+    const Clock::time_point began = Clock::now();
+    for (const Arrival &arrival : work.arrivals) {
+        if (mold_listener_take(&listener, arrival.line, arrival.bytes.data(), arrival.bytes.size(), &told) != MOLD_DONE)
+            stop("a datagram is refused");
+        if (told.handed > 0)
+            drain(listener, told.handed, room, sum);
+    }
+    const double took = since(began);
+    mold_free(&listener);
+    return took;
+}
+
+// ---- Tables ----
+
+void run_row(const Work &work, int rounds) {
+    using Round = double (*)(const Work &, Sum &);
+    const Round rounds_of[] = {by_function<true>, by_function<false>, by_batch<true>, by_batch<false>, by_library};
+    const std::size_t columns[] = {0, 0, 1, 1, 2};
+    double least[] = {1e18, 1e18, 1e18};
+    for (int round = 0; round < rounds; round++) {
+        Sum sums[5];
+        for (std::size_t who = 0; who < 5; who++) {
+            double &best = least[columns[who]];
+            best = std::min(best, rounds_of[who](work, sums[who]));
+            if (!(sums[who] == sums[0]))
+                stop("they hand on something else");
+        }
+    }
+    const double count = static_cast<double>(work.arrivals.size());
+    std::printf("%-36s %10.1f %10.1f %10.1f %10.2f\n", work.name.c_str(), least[0] / count, least[1] / count,
+                least[2] / count, least[2] / least[1]);
+    std::fflush(stdout);
+}
+
+/// How many datagrams a second so many threads take, each with a listener of its own.
+double in_threads(unsigned threads, int rounds) {
+    const Work work = in_order(10);
+    std::vector<std::thread> started;
+    const Clock::time_point began = Clock::now();
+    for (unsigned i = 0; i < threads; i++)
+        started.emplace_back([&work, rounds] {
+            Sum sum;
+            for (int round = 0; round < rounds; round++)
+                by_library(work, sum);
+        });
+    for (std::thread &thread : started)
+        thread.join();
+    return 1e9 * threads * rounds * static_cast<double>(work.arrivals.size()) / since(began);
+}
+
+void run_threads(int rounds) {
+    double alone = 0;
+    std::printf("\n%-36s %21s %21s\n", "threads", "datagrams a second", "by one thread");
+    for (unsigned threads : {1u, 2u, 4u}) {
+        double most = 0;
+        for (int i = 0; i < 5; i++)
+            most = std::max(most, in_threads(threads, rounds));
+        alone = threads == 1 ? most : alone;
+        std::printf("%-36u %21.0f %21.2f\n", threads, most, most / alone);
+    }
+}
+
+} // namespace
+
+int main(int count, char **words) {
+    const bool brief = count > 1 && std::string(words[1]) == "--brief";
+    const int rounds = brief ? 3 : 500;
+    std::printf("%-36s %10s %10s %10s %10s\n%-36s %10s %10s %10s %10s\n", "nanoseconds a datagram", "plain,", "plain,", "",
+                "library /", "", "function", "copied", "library", "copied");
+    for (const Work &work : {heartbeats(), in_order(1), in_order(10), in_order(30), repeated(), two_lines(), stored(),
+                             never_empty(), never_empty_behind()})
+        run_row(work, rounds);
+    run_threads(brief ? 3 : 2000);
+    return 0;
+>>>>>>> 8778791f2c6115bad464be63c77f2a8d1e62532d
 }

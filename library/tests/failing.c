@@ -1,6 +1,5 @@
 /* Memory that is refused: each allocation in turn, and all from one on. A call that wants memory then answers
- * MOLD_MEMORY and leaves everything as it was; called again with memory it goes through. What is taken is given back,
- * with the sizes and alignments that it was asked for.
+ * MOLD_MEMORY and leaves everything as it was; called again with memory it goes through. What is taken is given back.
  *
  *     cd library/tests && cc -std=c99 failing.c ../out/libmold.a -o failing && ./failing
  *
@@ -27,8 +26,8 @@ static bool all_fail;
 static unsigned long refused, live, taken;
 
 memory rattle_alloc(size_t size, size_t align);
-memory rattle_realloc(void *old, size_t old_size, size_t size, size_t align);
-void rattle_dealloc(void *old, size_t size, size_t align);
+memory rattle_realloc(void *old, size_t used, size_t size, size_t align);
+void rattle_dealloc(void *old);
 
 static bool is_refused(void) {
     if (left > 0) {
@@ -56,19 +55,21 @@ memory rattle_alloc(size_t size, size_t align) {
     return made;
 }
 
-void rattle_dealloc(void *old, size_t size, size_t align) {
+void rattle_dealloc(void *old) {
     front *at = (front *)old - 1;
-    CHECK(at->asked.size == size && at->asked.align == align);
+    CHECK(at->asked.align >= 1 && at->asked.align <= 16);
     live--;
     free(at);
 }
 
-memory rattle_realloc(void *old, size_t old_size, size_t size, size_t align) {
+memory rattle_realloc(void *old, size_t used, size_t size, size_t align) {
+    front *at = (front *)old - 1;
+    CHECK(at->asked.size >= used && size >= used && at->asked.align == align);
     memory made = rattle_alloc(size, align);
     if (made.had == 0)
         return made;
-    memcpy(made.at, old, old_size < size ? old_size : size);
-    rattle_dealloc(old, old_size, align);
+    memcpy(made.at, old, used);
+    rattle_dealloc(old);
     return made;
 }
 

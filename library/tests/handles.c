@@ -31,9 +31,10 @@ static void sessions_are_checked(void) {
     CHECK(is_verdict(&checker, 0, 0, 0, 2));
     CODE(give(&checker, end_of(9), &number), MOLD_DONE);
     CHECK(is_verdict(&checker, 0, 0, 9, 3));
-    CODE(mold_checker_ranges(&checker, ranges, 2, &count), MOLD_ROOM);
-    CHECK(count == 3 && ranges[0].first == 9);
-    CODE(mold_checker_ranges(&checker, NULL, 0, &count), MOLD_ROOM);
+    CODE(mold_checker_ranges(&checker, NULL, 0, &count), MOLD_DONE);
+    CHECK(count == 3);
+    CODE(mold_checker_ranges(&checker, ranges, 2, &count), MOLD_DONE);
+    CHECK(count == 3 && ranges[1].last == 5 && ranges[2].first == 9);
     CODE(mold_checker_ranges(&checker, ranges, 3, &count), MOLD_DONE);
     CHECK(count == 3 && ranges[0].first == 1 && ranges[0].last == 2);
     CHECK(ranges[1].first == 4 && ranges[1].last == 5 && ranges[2].first == 8 && ranges[2].last == 8);

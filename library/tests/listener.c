@@ -59,6 +59,7 @@ static void the_batch_is_lent(void) {
     CODE(mold_listener_message(&listener, SIZE_MAX, &lent[3]), MOLD_ABSENT);
     CHECK(lent[3].at == NULL);
     CODE(mold_listener_copy(&listener, 3, copy, 4, &size), MOLD_ABSENT);
+    CHECK(size == 99 && copy[0] == 7);
     CODE(mold_listener_copy(&listener, 1, copy, 2, &size), MOLD_ROOM);
     CHECK(size == 3 && copy[0] == 7);
     CODE(mold_listener_copy(&listener, 1, NULL, 0, &size), MOLD_ROOM);

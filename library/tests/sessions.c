@@ -18,7 +18,10 @@ static void a_session_is_published(void) {
     datagram room = of_length(64);
     uint64_t number = 99;
     size_t size = 99;
+    CODE(mold_publisher_datagram(&publisher, room.at, 63, &size), MOLD_ROOM);
+    CHECK(size == 64);
     CODE(mold_publisher_datagram(&publisher, room.at, 64, &size), MOLD_ABSENT);
+    CHECK(size == 0);
     CODE(mold_publisher_end(&publisher, room.at, 64, &size), MOLD_ABSENT);
     CODE(mold_publisher_heartbeat(&publisher, room.at, 64, &size), MOLD_DONE);
     HEX(room.at, size, SESSION_HEX "00000000000000010000");
@@ -51,7 +54,8 @@ static void buffers_that_are_too_small(void) {
     uint64_t number = 0;
     size_t size = 99;
     CODE(publish(&publisher, 1, 40, &number), MOLD_DONE);
-    CODE(mold_publisher_datagram(&publisher, room.at, 61, &size), MOLD_ROOM);
+    CODE(mold_publisher_datagram(&publisher, room.at, 63, &size), MOLD_ROOM);
+    CHECK(size == 64);
     CODE(mold_publisher_datagram(&publisher, NULL, 0, &size), MOLD_ROOM);
     CODE(mold_publisher_heartbeat(&publisher, room.at, 19, &size), MOLD_ROOM);
     CHECK(room.at[0] == 0);
@@ -247,8 +251,8 @@ static void plans_that_cannot_be(void) {
     memcpy(other.session, "SESSION002", 10);
     CODE(mold_server_datagram(&server, &zero, room.at, 64, &size), MOLD_BROKEN);
     CODE(mold_server_datagram(&server, &turned, room.at, 64, &size), MOLD_BROKEN);
-    CODE(mold_server_datagram(&server, &behind, room.at, 64, &size), MOLD_AHEAD);
-    CODE(mold_server_datagram(&server, &other, room.at, 64, &size), MOLD_WRONG_SESSION);
+    CODE(mold_server_datagram(&server, &behind, room.at, 64, &size), MOLD_BROKEN);
+    CODE(mold_server_datagram(&server, &other, room.at, 64, &size), MOLD_BROKEN);
     CHECK(zero.from == 0 && turned.from == 4 && behind.from == 2 && other.left == 1 && room.at[0] == 0);
     mold_free(&server);
     free(room.at);
@@ -268,6 +272,7 @@ static void a_publisher_serves(void) {
     CODE(mold_server_from_publisher(&publisher, 65), MOLD_BURST);
     CODE(answer(server, SESSION_HEX "00000000000000010001", room, &number), MOLD_BROKEN);
     CODE(mold_server_from_publisher(&publisher, 2), MOLD_DONE);
+    CODE(mold_server_from_publisher(&publisher, 0), MOLD_BROKEN);
     CODE(answer(server, SESSION_HEX "00000000000000010001", room, &number), MOLD_DONE);
     CHECK(number == 42 && room.at[22] == 1);
     CODE(answer(server, SESSION_HEX "00000000000000020001", room, &number), MOLD_AHEAD);

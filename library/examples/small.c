@@ -1,0 +1,58 @@
+/* The least feed handler: two lines and a server, all at ports of this machine, and for each message its number and how
+ * many bytes it has.
+ *
+ *     cc -O2 -I library library/examples/small.c library/out/libmold.a -o small
+ *     ./small "DEMO      " 26477 26478 26400 */
+#include <arpa/inet.h>
+#include <mold.h>
+#include <poll.h>
+#include <stdio.h>
+#include <stdlib.h>
+#include <string.h>
+
+/* A socket at a port, with an address that the words tell. */
+static int socket_at(const char *port, struct sockaddr_in *address) {
+    int made = socket(AF_INET, SOCK_DGRAM, 0);
+    memset(address, 0, sizeof *address);
+    address->sin_family = AF_INET;
+    address->sin_addr.s_addr = htonl(INADDR_LOOPBACK);
+    address->sin_port = htons((uint16_t)atoi(port));
+    return made;
+}
+
+static int listening_at(const char *port) {
+    struct sockaddr_in address;
+    int made = socket_at(port, &address);
+    return bind(made, (struct sockaddr *)&address, sizeof address) == 0 ? made : -1;
+}
+
+int main(int count, char **words) {
+    static uint8_t room[65507], request[20];
+    mold_listener listener = MOLD_EMPTY;
+    mold_told told = {0, 0, 0, 0, 0};
+    struct sockaddr_in server;
+    if (count != 5 || strlen(words[1]) != 10)
+        return 3;
+    struct pollfd from[3] = {{listening_at(words[2]), POLLIN, 0}, {listening_at(words[3]), POLLIN, 0},
+                             {socket_at(words[4], &server), POLLIN, 0}};
+    if (mold_listener_new(&listener, (const uint8_t *)words[1], 1, 1024) != MOLD_DONE)
+        return 3;
+    for (unsigned turn = 0; !mold_listener_finished(&listener); turn++) {
+        /* Asks where it is quiet, and else now and then. */
+        if ((poll(from, 3, 10) == 0 || turn % 50 == 0) && mold_listener_wanted(&listener, request))
+            sendto(from[MOLD_ANSWER].fd, request, sizeof request, 0, (struct sockaddr *)&server, sizeof server);
+        for (uint32_t line = MOLD_LINE_A; line <= MOLD_ANSWER; line++) {
+            ssize_t length = (from[line].revents & POLLIN) ? recv(from[line].fd, room, sizeof room, 0) : -1;
+            if (length >= 0 && mold_listener_take(&listener, line, room, (size_t)length, &told) != MOLD_DONE)
+                fprintf(stderr, "a datagram is refused\n");
+        }
+        for (size_t i = 0; i < mold_listener_count(&listener); i++) {
+            mold_bytes message = MOLD_NO_BYTES;
+            if (mold_listener_message(&listener, i, &message) == MOLD_DONE)
+                printf("%llu %zu\n", (unsigned long long)mold_listener_first(&listener) + i, message.length);
+        }
+        mold_listener_clear(&listener);
+    }
+    mold_free(&listener);
+    return 0;
+}

@@ -1,0 +1,171 @@
+// The library's listener beside the plain receiver of the benchmark: both take the same random datagrams, and have to
+// answer the same of each.
+//
+//     cd library/tests && c++ -std=c++17 -O2 compare.cpp ../out/libmold.a -o compare && ./compare 300000 1
+//
+// The words are how many datagrams there are, and the seed. Datagrams are of a session of drawn messages: data packets of
+// any front of it, heartbeats, ends, also false ones, other messages at a number, other sessions, cut and changed bytes.
+#include "../bench/plain.hpp"
+
+#include <cstdio>
+#include <cstdlib>
+#include <random>
+
+namespace {
+
+using Bytes = std::vector<std::uint8_t>;
+
+const std::uint8_t session[] = {'C', 'O', 'M', 'P', 'A', 'R', 'E', ' ', ' ', ' '};
+unsigned long checks, faults;
+unsigned long codes[33];
+
+void check(bool holds, const char *what, unsigned long place) {
+    checks++;
+    if (!holds) {
+        faults++;
+        std::printf("FAILED  datagram %lu: %s\n", place, what);
+    }
+}
+
+class Chance {
+public:
+    explicit Chance(unsigned long seed) : engine_(seed) {}
+
+    std::uint64_t below(std::uint64_t bound) { return engine_() % bound; }
+
+private:
+    std::mt19937_64 engine_;
+};
+
+/// Message `number` of the session: its length and bytes hang on its number.
+Bytes message_of(std::uint64_t number) {
+    std::mt19937 engine(static_cast<std::uint32_t>(number));
+    Bytes made(engine() % 4 == 0 ? 0 : engine() % 50);
+    for (std::uint8_t &byte : made)
+        byte = static_cast<std::uint8_t>(engine());
+    return made;
+}
+
+void put(Bytes &bytes, std::size_t at, std::uint64_t number, std::size_t length) {
+    for (std::size_t i = length; i-- > 0; number >>= 8)
+        bytes[at + i] = static_cast<std::uint8_t>(number);
+}
+
+Bytes packet_of(std::uint64_t sequence, std::uint16_t count) {
+    Bytes made(session, session + sizeof session);
+    made.resize(20);
+    put(made, 10, sequence, 8);
+    put(made, 18, count, 2);
+    if (count == 65535)
+        return made;
+    for (std::uint64_t i = 0; i < count; i++) {
+        const Bytes message = message_of(sequence + i);
+        made.resize(made.size() + 2);
+        put(made, made.size() - 2, message.size(), 2);
+        made.insert(made.end(), message.begin(), message.end());
+    }
+    return made;
+}
+
+/// A datagram near the number that comes next, most likely a true one.
+Bytes draw(Chance &chance, std::uint64_t next, std::uint64_t messages) {
+    const std::uint64_t back = chance.below(20), sequence = (next > back ? next - back : 1) + chance.below(30);
+    const std::uint64_t left = sequence <= messages ? messages + 1 - sequence : 0;
+    const auto count = static_cast<std::uint16_t>(std::min<std::uint64_t>(chance.below(12), left));
+    Bytes made = packet_of(std::min(sequence, messages + 1), count);
+    switch (chance.below(24)) {
+    case 0:
+        return packet_of(chance.below(4) == 0 ? sequence : messages + 1, 65535);
+    case 1:
+        made.resize(chance.below(made.size() + 1));
+        return made;
+    case 2:
+        made[chance.below(made.size())] ^= static_cast<std::uint8_t>(1 + chance.below(255));
+        return made;
+    case 3:
+        return packet_of(chance.below(2) == 0 ? 0 : UINT64_MAX - chance.below(3), static_cast<std::uint16_t>(chance.below(4)));
+    case 4:
+        made.push_back(0);
+        return made;
+    default:
+        return made;
+    }
+}
+
+/// A session that both follow.
+class Pair {
+public:
+    Pair(std::uint64_t next, std::uint32_t window) : plain_(session, next, window) {
+        check(mold_listener_new(&listener_, session, next, window) == MOLD_DONE, "a listener is made", 0);
+    }
+
+    Pair(const Pair &) = delete;
+    Pair &operator=(const Pair &) = delete;
+    ~Pair() { mold_free(&listener_); }
+
+    void take(std::uint32_t line, const Bytes &bytes, unsigned long place) {
+        mold_told told{}, other{};
+        plain::Batch batch;
+        const std::uint64_t first = plain_.next();
+        const std::uint32_t wanted = plain_.take(
+            line, bytes.data(), bytes.size(), other,
+            [&batch](std::uint64_t, const std::uint8_t *at, std::size_t length) { batch.push(at, length); });
+        const std::uint32_t code = mold_listener_take(&listener_, line, bytes.data(), bytes.size(), &told);
+        codes[code % 33]++;
+        check(code == wanted && told.detail == other.detail, "the code and its number", place);
+        check(told.handed == other.handed && told.kept == other.kept && told.beyond == other.beyond, "the counts", place);
+        compare_batch(batch, first, place);
+        compare_state(place);
+    }
+
+    std::uint64_t next() { return mold_listener_next(&listener_); }
+
+private:
+    void compare_batch(const plain::Batch &batch, std::uint64_t first, unsigned long place) {
+        const std::size_t count = mold_listener_count(&listener_);
+        check(count == batch.size() && mold_listener_first(&listener_) == (count > 0 ? first : 0), "the batch", place);
+        for (std::size_t i = 0; i < count && i < batch.size(); i++) {
+            mold_bytes message = MOLD_NO_BYTES;
+            check(mold_listener_message(&listener_, i, &message) == MOLD_DONE, "a message", place);
+            check(message.length == batch[i].length &&
+                      (message.length == 0 || std::memcmp(message.at, batch[i].at, message.length) == 0),
+                  "a message's bytes", place);
+        }
+        check(mold_listener_clear(&listener_) == MOLD_DONE, "the batch is cleared", place);
+    }
+
+    void compare_state(unsigned long place) {
+        check(mold_listener_next(&listener_) == plain_.next() && mold_listener_known(&listener_) == plain_.known() &&
+                  mold_listener_finished(&listener_) == plain_.finished(),
+              "how far it is", place);
+        for (std::uint32_t line = 0; line < 2; line++) {
+            mold_report report{};
+            const plain::Report &other = plain_.report(line);
+            check(mold_listener_report(&listener_, line, &report) == MOLD_DONE && report.datagrams == other.datagrams &&
+                      report.refused == other.refused && report.front == other.front,
+                  "the report of a line", place);
+        }
+    }
+
+    mold_listener listener_ = MOLD_EMPTY;
+    plain::Receiver<true> plain_;
+};
+
+} // namespace
+
+int main(int count, char **words) {
+    const unsigned long datagrams = count > 1 ? std::strtoul(words[1], nullptr, 10) : 300000;
+    Chance chance(count > 2 ? std::strtoul(words[2], nullptr, 10) : 1);
+    unsigned long place = 0;
+    while (place < datagrams) {
+        const std::uint32_t windows[] = {1, 4, 16, 100, 1024};
+        const std::uint64_t messages = chance.below(400), first = 1 + chance.below(3);
+        Pair pair(first, windows[chance.below(5)]);
+        for (std::uint64_t left = 4 * messages + 10; left > 0 && place < datagrams; left--)
+            pair.take(static_cast<std::uint32_t>(chance.below(3)), draw(chance, pair.next(), messages), ++place);
+    }
+    for (std::uint32_t code : {0, 1, 2, 3, 8, 9, 10, 11, 12, 13, 14})
+        check(codes[code] > 0, "a code never came", code);
+    std::printf("%lu checks, %lu failed\n", checks, faults);
+    return faults == 0 ? 0 : 1;
+}
