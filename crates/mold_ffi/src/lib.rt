@@ -9,6 +9,7 @@ mod free;
 mod handle;
 mod held;
 pub mod laws;
+mod lent;
 mod listener;
 mod listener_calls;
 mod listener_reads;
