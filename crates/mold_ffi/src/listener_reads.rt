@@ -41,8 +41,8 @@ pub extern "C" fn mold_listener_first(listener: &mut MoldHandle) -> u64
     }
 }
 
-/// Lends the message at place `i` of the batch, counted from 0, until the next call on this handle that takes,
-/// clears or frees. Nothing is written but on code 0.
+/// Lends the message at place `i` of the batch, counted from 0. It is valid until the next call on this handle.
+/// Nothing is written but on code 0.
 #[unsafe(no_mangle)]
 pub extern "C" fn mold_listener_message<'a>(
     listener: &'a mut MoldHandle,
