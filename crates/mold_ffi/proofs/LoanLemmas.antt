@@ -1,5 +1,6 @@
 -- Places that are written one by one, from the first on, with what a list has there.
-use Rattle.std.proofs.Common.{◌≡◌, ℕ, suc, zero, ◌+◌, ◌<◌, List, [], ◌∷◌, ◌++◌, map, length, take, drop, set, refl, sym, ap, ◌∙◌, subst, arith, lt-suc_self, take-suc, get_or}
+use Rattle.std.proofs.Common.{◌≡◌, ℕ, suc, zero, ◌+◌, ◌<◌, List, [], ◌∷◌, ◌++◌, map, length, take, drop, set}
+use Rattle.std.proofs.Common.{refl, sym, ap, ◌∙◌, subst, arith, lt-suc_self, take-suc, get_or}
 use Rattle.std.proofs.lemmas.List.{map-append, take_more_set, drop-set-lt, length-map, get_or-map}
 
 -- the front of a list and of what is left behind it

@@ -1,5 +1,6 @@
 -- What the calls on a checker answer.
-use Rattle.std.specs.Prelude.{◌≡◌, ◌⊎◌, ℕ, ◌+◌, min, List, [], ◌∷◌, length, map, take, drop, Option, None, Some, unwrap_or}
+use Rattle.std.specs.Prelude.{◌≡◌, ◌⊎◌, ℕ, ◌+◌, min, List, [], ◌∷◌, length}
+use Rattle.std.specs.Prelude.{map, take, drop, Option, None, Some, unwrap_or}
 use Rattle.mold_capture.specs.Refusal.{refusal}
 use Rattle.mold_capture.specs.Seen.{BringsNew, Seen, after}
 use Rattle.mold_capture.specs.Verdict.{IsWholeSeen, missing_in}

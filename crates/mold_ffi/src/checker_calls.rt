@@ -9,6 +9,7 @@ ghost use Rattle.mold_ffi.specs.declared.held.Held.TheVariants.{Checker as AChec
 
 use crate::code::{BROKEN, DONE, MEMORY};
 use crate::held::Held;
+use crate::lent::lend_checker;
 use crate::mold_handle::MoldHandle;
 use crate::range::{MoldRange, fill_places};
 use crate::told::code_of;
@@ -77,10 +78,7 @@ pub extern "C" fn mold_checker_verdict(checker: &mut MoldHandle, verdict: &mut M
         (result ≡ codes.broken) × (verdict.new ≡ verdict.old) }
     ensures same { checker.new.handle.value ≡ checker.old.handle.value }
 {
-    if !checker.live {
-        return BROKEN;
-    }
-    let Held::Checker(held) = checker.handle.lend() else {
+    let Some(held) = lend_checker(checker) else {
         return BROKEN;
     };
     match held.verdict() {
@@ -107,10 +105,7 @@ pub extern "C" fn mold_checker_ranges(
         (result ≡ codes.broken) × (ranges.new ≡ ranges.old) × (count.new ≡ count.old) }
     ensures same { checker.new.handle.value ≡ checker.old.handle.value }
 {
-    if !checker.live {
-        return BROKEN;
-    }
-    let Held::Checker(held) = checker.handle.lend() else {
+    let Some(held) = lend_checker(checker) else {
         return BROKEN;
     };
     match held.verdict() {

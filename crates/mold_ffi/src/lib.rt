@@ -13,6 +13,7 @@ mod handle;
 mod held;
 pub mod laws;
 mod lending;
+mod lent;
 mod listener;
 mod listener_calls;
 mod listener_reads;

@@ -9,7 +9,7 @@ ghost use Rattle.mold_ffi.specs.declared.held.Held.TheVariants.{Listener as ALis
 ghost use Rattle.mold_receiver.specs.Batch.{first_of};
 
 use crate::code::{ABSENT, BROKEN, DONE, ROOM};
-use crate::held::Held;
+use crate::lent::lend_listener;
 use crate::mold_handle::MoldHandle;
 use mold_receiver::Batch;
 
@@ -21,13 +21,10 @@ pub extern "C" fn mold_listener_count(listener: &mut MoldHandle) -> usize
     ensures broken { IsNoListener listener.old.handle.value → result ≡ 0 }
     ensures same { listener.new.handle.value ≡ listener.old.handle.value }
 {
-    if !listener.live {
-        return 0;
+    match lend_listener(listener) {
+        Some(held) => held.batch().len(),
+        None => 0,
     }
-    let Held::Listener(held) = listener.handle.lend() else {
-        return 0;
-    };
-    held.batch().len()
 }
 
 /// The number of the batch's first message, from 1; 0 where it has none, or the handle holds no listener.
@@ -38,17 +35,14 @@ pub extern "C" fn mold_listener_first(listener: &mut MoldHandle) -> u64
     ensures broken { IsNoListener listener.old.handle.value → result ≡ 0 }
     ensures same { listener.new.handle.value ≡ listener.old.handle.value }
 {
-    if !listener.live {
-        return 0;
+    match lend_listener(listener) {
+        Some(held) => held.batch().first().unwrap_or(0),
+        None => 0,
     }
-    let Held::Listener(held) = listener.handle.lend() else {
-        return 0;
-    };
-    held.batch().first().unwrap_or(0)
 }
 
-/// Lends the message at place `i` of the batch, counted from 0, until the next call on this handle that takes,
-/// clears or frees. Nothing is written but on code 0.
+/// Lends the message at place `i` of the batch, counted from 0. It is valid until the next call on this handle.
+/// Nothing is written but on code 0.
 #[unsafe(no_mangle)]
 pub extern "C" fn mold_listener_message<'a>(
     listener: &'a mut MoldHandle,
@@ -64,10 +58,7 @@ pub extern "C" fn mold_listener_message<'a>(
     ensures broken { IsNoListener listener.old.handle.value →
         (result ≡ codes.broken) × (message.new ≡ message.old) }
 {
-    if !listener.live {
-        return BROKEN;
-    }
-    let Held::Listener(held) = listener.handle.lend() else {
+    let Some(held) = lend_listener(listener) else {
         return BROKEN;
     };
     match held.batch().get(i) {
@@ -103,10 +94,7 @@ pub extern "C" fn mold_listener_copy(
         (result ≡ codes.broken) × (size.new ≡ size.old) × (buffer.new ≡ buffer.old) }
     ensures same { listener.new.handle.value ≡ listener.old.handle.value }
 {
-    if !listener.live {
-        return BROKEN;
-    }
-    let Held::Listener(held) = listener.handle.lend() else {
+    let Some(held) = lend_listener(listener) else {
         return BROKEN;
     };
     let Some(bytes) = held.batch().get(i) else {
@@ -151,11 +139,8 @@ pub extern "C" fn mold_listener_messages<'a>(
     ensures behind { drop result messages.new ≡ drop result messages.old }
     ensures broken { IsNoListener listener.old.handle.value → (result ≡ 0) × (messages.new ≡ messages.old) }
 {
-    if !listener.live {
-        return 0;
+    match lend_listener(listener) {
+        Some(held) => lend_messages(held.batch(), messages),
+        None => 0,
     }
-    let Held::Listener(held) = listener.handle.lend() else {
-        return 0;
-    };
-    lend_messages(held.batch(), messages)
 }

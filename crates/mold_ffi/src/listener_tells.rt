@@ -12,7 +12,7 @@ ghost use Rattle.mold_wire.specs.Request.{SpellsRequest};
 ghost use Rattle.mold_wire.specs.declared.request.Request.{Request};
 
 use crate::code::{BROKEN, DONE, LINE};
-use crate::held::Held;
+use crate::lent::lend_listener;
 use crate::mold_handle::MoldHandle;
 use crate::report::MoldReport;
 use mold_receiver::Line;
@@ -36,10 +36,7 @@ pub extern "C" fn mold_listener_next(listener: &mut MoldHandle) -> u64
     ensures broken { IsNoListener listener.old.handle.value → result ≡ 0 }
     ensures same { listener.new.handle.value ≡ listener.old.handle.value }
 {
-    if !listener.live {
-        return 0;
-    }
-    let Held::Listener(held) = listener.handle.lend() else {
+    let Some(held) = lend_listener(listener) else {
         return 0;
     };
     held.arbiter().receiver().next()
@@ -53,10 +50,7 @@ pub extern "C" fn mold_listener_known(listener: &mut MoldHandle) -> u64
     ensures broken { IsNoListener listener.old.handle.value → result ≡ 0 }
     ensures same { listener.new.handle.value ≡ listener.old.handle.value }
 {
-    if !listener.live {
-        return 0;
-    }
-    let Held::Listener(held) = listener.handle.lend() else {
+    let Some(held) = lend_listener(listener) else {
         return 0;
     };
     held.arbiter().receiver().known()
@@ -70,10 +64,7 @@ pub extern "C" fn mold_listener_finished(listener: &mut MoldHandle) -> bool
     ensures broken { IsNoListener listener.old.handle.value → IsFalse result }
     ensures same { listener.new.handle.value ≡ listener.old.handle.value }
 {
-    if !listener.live {
-        return false;
-    }
-    let Held::Listener(held) = listener.handle.lend() else {
+    let Some(held) = lend_listener(listener) else {
         return false;
     };
     held.arbiter().receiver().finished()
@@ -92,10 +83,7 @@ pub extern "C" fn mold_listener_wanted(listener: &mut MoldHandle, out: &mut [u8;
     ensures broken { IsNoListener listener.old.handle.value → IsFalse result × (out.new ≡ out.old) }
     ensures same { listener.new.handle.value ≡ listener.old.handle.value }
 {
-    if !listener.live {
-        return false;
-    }
-    let Held::Listener(held) = listener.handle.lend() else {
+    let Some(held) = lend_listener(listener) else {
         return false;
     };
     match held.arbiter().receiver().wanted() {
@@ -124,10 +112,7 @@ pub extern "C" fn mold_listener_report(
         (result ≡ codes.broken) × (report.new ≡ report.old) }
     ensures same { listener.new.handle.value ≡ listener.old.handle.value }
 {
-    if !listener.live {
-        return BROKEN;
-    }
-    let Held::Listener(held) = listener.handle.lend() else {
+    let Some(held) = lend_listener(listener) else {
         return BROKEN;
     };
     let Some(line) = line_of(line) else {

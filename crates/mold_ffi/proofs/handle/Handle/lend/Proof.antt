@@ -4,9 +4,9 @@ use Rattle.mold_ffi.proofs.Walking.{flft, fsep, Env, Calls, Loops, WpFn, Tables,
 use Rattle.mold_ffi.proofs.Walking.{‵, ◌⊛◌, some, at_ret, ◌$◌, ◌∵◌, !, qed, by, move, keep, use1, drop, split, join, pick, rewrite, fsplit, fsplit3, fjoin}
 use Rattle.mold_ffi.proofs.Walking.{suffices, frame, done, raw, later, await, group, fpack, whole, sub, look_in, stop, fld, load, of_opd, first, blocks, exec}
 use Rattle.mold_ffi.proofs.Walking.{returns, enter, addr, alloc_all, pass_all, free_all, look_at, get, through, sets, env, sets_last, owns, part_at, mem}
-use Rattle.mold_ffi.proofs.Walking.{cell_at, part_of, block_ptr, MutRef, mut_vals, mut_Tells, plain, mut_ref_to, heard, nothing, opens, triple_of, entered, says}
-use Rattle.mold_ffi.proofs.Walking.{Stays, stay_dropped, walk_of, ends_at, walked, walk_Meets, Goes-spent_ref, token, bare, no, follows, Part, lends_Part, after}
-use Rattle.mold_ffi.proofs.Walking.{D, R, B, τ, word, allocator_owns, box_out, box_in, Option, Some, is_some, true}
+use Rattle.mold_ffi.proofs.Walking.{cell_at, part_of, block_ptr, MutRef, mut_vals, mut_Tells, plain, mut_ref_to, heard, nothing, opens, triple_of, entered}
+use Rattle.mold_ffi.proofs.Walking.{Stays, stay_dropped, walk_of, ends_at, walked, walk_Meets, Goes-spent_ref, token, bare, no, follows, Part, lends_Part}
+use Rattle.mold_ffi.proofs.Walking.{D, R, B, τ, word, allocator_owns, box_out, box_in, Option, Some, is_some, true, after, says}
 use Rattle.mold_ffi.proofs.AsBox.{E, has}
 use Rattle.mold_ffi.specs.declared.held.Held.{Held}
 use Rattle.mold_ffi.specs.contracts.held.Held as held

@@ -1,0 +1,49 @@
+//! What a handle holds, lent to be read. The handle is as it was afterwards.
+
+ghost use Rattle.std.specs.Prelude.{◌≡◌, None, Some};
+ghost use Rattle.std.specs.Borrow.{sem};
+ghost use Rattle.std.specs.Io.BufRead.{Rests};
+ghost use Rattle.std.specs.Option.{option_copied};
+ghost use Rattle.mold_capture.specs.Seen.{Seen};
+ghost use Rattle.mold_ffi.specs.Checking.{IsNoChecker};
+ghost use Rattle.mold_ffi.specs.Hearing.{Hearing};
+ghost use Rattle.mold_ffi.specs.Listening.{IsNoListener};
+ghost use Rattle.mold_ffi.specs.contracts.mold_handle.MoldHandle.{the_row};
+ghost use Rattle.mold_ffi.specs.declared.held.Held.TheVariants.{Checker as AChecker, Listener as AListener};
+
+use crate::held::Held;
+use crate::listener::Listener;
+use crate::mold_handle::MoldHandle;
+use mold_capture::Checker;
+
+/// The listener that the handle holds; none where it holds none.
+pub(crate) fn lend_listener(handle: &mut MoldHandle) -> Option<&Listener>
+    ensures* after { sem 𝓛 (Rests the_row handle.entry (λ new. new.handle.value ≡ handle.old.handle.value)) }
+    ensures lent { (hearing : Hearing) → handle.old.handle.value ≡ Some (AListener hearing) →
+        option_copied result ≡ Some hearing }
+    ensures none { IsNoListener handle.old.handle.value → option_copied result ≡ None }
+{
+    if !handle.live {
+        return None;
+    }
+    let Held::Listener(held) = handle.handle.lend() else {
+        return None;
+    };
+    Some(held)
+}
+
+/// The checker that the handle holds; none where it holds none.
+pub(crate) fn lend_checker(handle: &mut MoldHandle) -> Option<&Checker>
+    ensures* after { sem 𝓛 (Rests the_row handle.entry (λ new. new.handle.value ≡ handle.old.handle.value)) }
+    ensures lent { (seen : Seen) → handle.old.handle.value ≡ Some (AChecker seen) →
+        option_copied result ≡ Some seen }
+    ensures none { IsNoChecker handle.old.handle.value → option_copied result ≡ None }
+{
+    if !handle.live {
+        return None;
+    }
+    let Held::Checker(held) = handle.handle.lend() else {
+        return None;
+    };
+    Some(held)
+}
