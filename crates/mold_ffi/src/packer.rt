@@ -111,7 +111,7 @@ pub extern "C" fn mold_packer_end(
     sequence: u64,
 ) -> u32
     ensures ended { IsLimit (length packer.old.buffer.now) → (result ≡ done)
-        × Packs packer.old packer.new (Ended (record { 0 = session.now }) sequence) }
+        × Packs packer.old packer.new (Ended (record { 0 = session.now }) sequence) × (packer.new.count ≡ 0) }
     ensures limit { ¬ IsLimit (length packer.old.buffer.now) → (result ≡ limit) × (packer.new ≡ packer.old) }
 {
     if !is_limit(packer.buffer.len()) {

@@ -5,4 +5,5 @@ pub returns-clause-ended : goal.returns-clause-ended
 returns-clause-ended c is_limit = (
   refl,
   record { holds = c.end_in-packer.ensures.held 0; limit = omega arith; behind = c.end_in-packer.ensures.behind },
+  refl,
 )
