@@ -1,12 +1,10 @@
 -- What is said by datagrams that are taken one after the other.
-use Rattle.std.proofs.Common.{◌≡◌, ℕ, suc, ◌+◌, arith, List, [], ◌∷◌, ◌++◌, length, None, sym, ap, ◌∙◌, subst, append_assoc, append-nil, All}
+use Rattle.std.proofs.Common.{◌≡◌, ℕ, suc, arith, List, [], ◌∷◌, ◌++◌, None, sym, ap, ◌∙◌, subst, append_assoc, append-nil, All}
 use Rattle.mold_wire.specs.Block.{IsBytes}
-use Rattle.mold_capture.specs.Consistent.{Consistent, Whole}
+use Rattle.mold_capture.specs.Consistent.{Consistent}
 use Rattle.mold_capture.specs.Refusal.{reason}
 use Rattle.mold_capture.specs.Seen.{Seen, after, seen_of}
-use Rattle.mold_capture.specs.Verdict.{IsWholeSeen}
-use Rattle.mold_ffi.specs.Checking.{AreTaken, TellsMissing, TellsWhole, said}
-use Rattle.mold_ffi.specs.declared.verdict.MoldVerdict.{MoldVerdict}
+use Rattle.mold_ffi.specs.Checking.{AreTaken, said}
 
 module _ (accepted : (list : List (List ℕ)) (bytes : List ℕ) → Consistent list → IsBytes bytes → reason list bytes ≡ None → Consistent (list ++ bytes ∷ []))
     (told : (list : List (List ℕ)) (bytes : List ℕ) → Consistent (list ++ bytes ∷ []) → seen_of (list ++ bytes ∷ []) ≡ after (seen_of list) bytes) where

@@ -23,5 +23,7 @@ mod range;
 mod report;
 mod server_calls;
 mod serving;
+#[cfg(test)]
+mod tests;
 mod told;
 mod verdict;
