@@ -6,6 +6,8 @@ mod answering;
 mod checker_calls;
 mod code;
 mod exchange;
+#[cfg(test)]
+mod exchange_tests;
 mod free;
 mod handle;
 mod held;
