@@ -8,6 +8,8 @@ mod code;
 #[cfg(test)]
 mod codec_tests;
 mod exchange;
+#[cfg(test)]
+mod exchange_tests;
 mod free;
 mod handle;
 mod held;
