@@ -1,12 +1,14 @@
-// How fast the library's listener is, against a plain receiver in C++ that does the same checks: once the plain one hands
-// its messages to a function where they lie, once it copies them into a batch first, as one has to that is asked for them.
+// How fast the library's listener is, against a plain receiver in C++ that does the same checks: once the plain one
+// hands its messages to a function where they lie, once it copies them into a batch first, as one has to that is asked
+// for them.
 //
 //     c++ -O2 -std=c++17 library/bench/bench.cpp library/out/libmold.a -pthread -o bench && ./bench
 //
-// A row is one kind of work. All do it by turns, each the same number of times, and the least time of a round counts, in
-// nanoseconds a datagram; of the plain ones that of the quicker store. With --brief there are few rounds, whose times say little. Each looks at the length
-// and the first byte of every message that is handed on, and their sums are compared. The last lines tell how many
-// datagrams a second one, two and four threads take, each with a listener of its own.
+// A row is one kind of work. All do it by turns, each the same number of times, and the least time of a round counts,
+// in nanoseconds a datagram; of the plain ones that of the quicker store. With --brief there are few rounds, whose
+// times say little. Each looks at the length and the first byte of every message that is handed on, and their sums are
+// compared. The last lines tell how many datagrams a second one, two and four threads take, each with a listener of its
+// own.
 #include "plain.hpp"
 
 #include <chrono>
@@ -259,8 +261,9 @@ void run_threads(int rounds) {
 int main(int count, char **words) {
     const bool brief = count > 1 && std::string(words[1]) == "--brief";
     const int rounds = brief ? 3 : 500;
-    std::printf("%-36s %10s %10s %10s %10s\n%-36s %10s %10s %10s %10s\n", "nanoseconds a datagram", "plain,", "plain,", "",
-                "library /", "", "function", "copied", "library", "copied");
+    const char *const line = "%-36s %10s %10s %10s %10s\n";
+    std::printf(line, "nanoseconds a datagram", "plain,", "plain,", "", "library /");
+    std::printf(line, "", "function", "copied", "library", "copied");
     for (const Work &work : {heartbeats(), in_order(1), in_order(10), in_order(30), repeated(), two_lines(), stored(),
                              never_empty(), never_empty_behind()})
         run_row(work, rounds);

@@ -1,16 +1,16 @@
-/* A feed handler: it hears the two lines of a feed, asks a re-request server for what both lost, and prints the messages
- * in order, a line each, as `mold listen` does.
+/* A feed handler: it hears the two lines of a feed, asks a re-request server for what both lost, and prints the
+ * messages in order, a line each, as `mold listen` does.
  *
  *     cc -O2 library/examples/handler.c library/out/libmold.a -o handler
  *     ./handler --session DEMO --a 239.192.1.1:26477 --b 239.192.1.2:26477 --interface 10.0.0.7 --server 10.0.0.9:26400
  *
- * Where the address of a line is a multicast group, it is joined on the interface. Other options: --next N, the number of
- * the first message (1); --window W, how many messages are stored above a gap (1024); --patience MS, how long a gap stands
- * before it is asked for (2), as the other line may fill it; --timeout MS, after which it is asked for again (50);
- * --quiet MS, after which it gives up where nothing comes (10000). Without --server nothing is asked for.
+ * Where the address of a line is a multicast group, it is joined on the interface. Other options: --next N, the number
+ * of the first message (1); --window W, how many messages are stored above a gap (1024); --patience MS, how long a gap
+ * stands before it is asked for (2), as the other line may fill it; --timeout MS, after which it is asked for again
+ * (50); --quiet MS, after which it gives up where nothing comes (10000). Without --server nothing is asked for.
  *
- * It ends when it has all of the session, with status 0, or when nothing came for too long, with status 1. At the end it
- * tells what came on each line. Refused datagrams are told on standard error. */
+ * It ends when it has all of the session, with status 0, or when nothing came for too long, with status 1. At the end
+ * it tells what came on each line. Refused datagrams are told on standard error. */
 #include "udp.h"
 
 enum { LINES = 3, AT_ONCE = 32 };
@@ -131,8 +131,8 @@ static int hear(struct handler *handler, uint32_t line) {
     return came;
 }
 
-/* Sends the request for what is missing, once its time has come. After an answer that brought something the rest is asked
- * for at once. */
+/* Sends the request for what is missing, once its time has come. After an answer that brought something the rest is
+ * asked for at once. */
 static void ask(struct handler *handler, bool answered) {
     uint8_t request[20] = {0};
     int64_t time = now();
