@@ -80,7 +80,7 @@ static struct options options_of(int count, char **words) {
     return read;
 }
 
-/* Prints the batch, and empties it. */
+/* Prints the messages that were handed on, and empties the batch. */
 static void print_batch(mold_listener *listener) {
     size_t count = mold_listener_count(listener);
     uint64_t first = mold_listener_first(listener);
@@ -105,8 +105,6 @@ static void take(struct handler *handler, uint32_t line, const uint8_t *bytes, s
     uint32_t code = mold_listener_take(&handler->listener, line, bytes, length, &told);
     if (code != MOLD_DONE)
         tell_refused(line, code, told.detail);
-    else if (told.handed > 0)
-        print_batch(&handler->listener);
 }
 
 /* Takes what has come on a line, many datagrams by one call of the system, and answers how many those were. */
@@ -128,6 +126,7 @@ static int hear(struct handler *handler, uint32_t line) {
     }
     for (int i = 0; i < came; i++)
         take(handler, line, room[i], heads[i].msg_len);
+    print_batch(&handler->listener);
     return came;
 }
 
