@@ -15,24 +15,25 @@
  *   5. Nothing that a call writes overlaps anything else that it is lent.
  *   6. What a call is lent is changed by nobody else while it lasts; a datagram stays as it is.
  *   7. One call at a time is made on a handle. Which thread makes it doesn't matter.
- *   8. A handle is not copied, begins as MOLD_EMPTY, and is written by nobody else than these functions. So are the
- *      fields of a packer, which begin as MOLD_PACKER, and those of a plan, which mold_server_plan writes.
+ *   8. A handle is not copied, begins as MOLD_EMPTY, and is written by nobody else than these functions. (It may be
+ *      moved: its bytes go to a new place, and MOLD_EMPTY to the old one.) So it is with the fields of a packer, which
+ *      begin as MOLD_PACKER, and those of a plan, which mold_server_plan writes.
  *   9. A bool is 0 or 1.
  *
- * HANDLES. A listener, a publisher, a server or a checker is a handle: 16 bytes in the caller's hands, beside memory that
- * the library takes. It begins as MOLD_EMPTY and holds nothing. mold_.._new makes it hold something, and mold_free makes
- * it hold nothing again, and gives the memory back. A handle that holds something has to be freed before it holds
+ * HANDLES. A listener, a publisher, a server or a checker is a handle: 16 bytes in the caller's hands, beside memory
+ * that the library takes. It begins as MOLD_EMPTY and holds nothing. mold_.._new makes it hold something, and mold_free
+ * makes it hold nothing again, and gives the memory back. A handle that holds something has to be freed before it holds
  * something else, and before it goes away. A call on a handle that holds nothing, or something of another kind, answers
  * MOLD_BROKEN and does nothing; one that answers no code then answers 0 or false.
  *
  * LENT BYTES. A mold_bytes that a listener's call answers lies in the listener's memory. It may be read until the next
- * call on that handle, and is never freed by the caller. All else is written to memory of the caller's own. What is lent
- * to a call may be thrown away when it returns: the library keeps copies.
+ * call on that handle, and is never freed by the caller. All else is written to memory of the caller's own. What is
+ * lent to a call may be thrown away when it returns: the library keeps copies.
  *
- * CODES. A call that may refuse answers a code: 0 where it is done, and else the first reason that applies, in the order
- * in which the call names them. After any code but 0 what the handle holds is as it was, and so are outputs, but for those
- * that the call names: a number that goes with the refusal is written, and where a call has such an output, a refusal
- * without a number, but MOLD_BROKEN, writes 0 to it. A code has one meaning for ever.
+ * CODES. A call that may refuse answers a code: 0 where it is done, and else the first reason that applies, in the
+ * order in which the call names them. After any code but 0 what the handle holds is as it was, and so are outputs, but
+ * for those that the call names: a number that goes with the refusal is written, and where a call has such an output, a
+ * refusal without a number, but MOLD_BROKEN, writes 0 to it. A code has one meaning for ever.
  *
  * NUMBERS. The messages of a session have the sequence numbers 1, 2, 3 and so on. Lengths and sizes are in bytes, and
  * numbers in structs are in the machine's own order. A session is any ten bytes. */
@@ -137,8 +138,8 @@ typedef struct mold_request {
 uint32_t mold_decode(const uint8_t *bytes, size_t length, mold_packet *packet);
 
 /* Does what mold_decode does, and writes to places[i] where message i of the packet lies, i from 0. Where the array has
- * less room than the packet has messages, the first ones are written. After a refusal, and behind the packet's messages,
- * the array is as it was. */
+ * less room than the packet has messages, the first ones are written. After a refusal, and behind the packet's
+ * messages, the array is as it was. */
 uint32_t mold_read(const uint8_t *bytes, size_t length, mold_packet *packet, mold_place *places, size_t room);
 
 /* Reads a request packet.
@@ -151,8 +152,8 @@ uint32_t mold_request_decode(const uint8_t *bytes, size_t length, mold_request *
 void mold_request_encode(const mold_request *request, uint8_t bytes[20]);
 
 /* A packet that is written, in memory of the caller's own: so far it is the first `used` bytes of `buffer`, of which
- * `limit` are lent. A packer is a plain struct, which is begun by MOLD_PACKER and never freed. Only these functions write
- * its fields; `buffer`, the bytes and `used` may be read at any time between calls. */
+ * `limit` are lent. A packer is a plain struct, which is begun by MOLD_PACKER and never freed. Only these functions
+ * write its fields; `buffer`, the bytes and `used` may be read at any time between calls. */
 typedef struct mold_packer {
     uint8_t *buffer;
     size_t limit;
@@ -174,8 +175,8 @@ bool mold_packer_fits(const mold_packer *packer, size_t length);
 /* Adds a message to a packet that was begun.
  *
  *   MOLD_BROKEN  the fields can't be a packer's
- *   MOLD_FULL    no packet is begun, or an end was written, or the message doesn't fit: with its two bytes of length the
- *                packet would be longer than the limit */
+ *   MOLD_FULL    no packet is begun, or an end was written, or the message doesn't fit: with its two bytes of length
+ *                the packet would be longer than the limit */
 uint32_t mold_packer_add(mold_packer *packer, const uint8_t *message, size_t length);
 
 /* Writes an end of session in place of what was begun. No message can be added to it.
@@ -248,8 +249,9 @@ enum {
  *   MOLD_MEMORY     memory was refused; the handle holds nothing */
 uint32_t mold_listener_new(mold_listener *listener, const uint8_t session[10], uint64_t next, uint32_t window);
 
-/* Takes a datagram that came on a line, or as an answer. What comes next in order is put behind the batch: the datagram's
- * own messages, and those that were stored. What lies above a gap is stored. What was there before is passed over.
+/* Takes a datagram that came on a line, or as an answer. What comes next in order is put behind the batch: the
+ * datagram's own messages, and those that were stored. What lies above a gap is stored. What was there before is passed
+ * over.
  *
  *   MOLD_DONE           *told says what it brought
  *   MOLD_BROKEN         the handle holds no listener
@@ -270,8 +272,8 @@ uint32_t mold_listener_new(mold_listener *listener, const uint8_t session[10], u
 uint32_t mold_listener_take(mold_listener *listener, uint32_t line, const uint8_t *bytes, size_t length,
                             mold_told *told);
 
-/* The batch: the messages that were handed on since the last mold_listener_clear, in order. Take them after a datagram or
- * after many; the batch is the listener's, and grows until it is cleared. */
+/* The batch: the messages that were handed on since the last mold_listener_clear, in order. Take them after a datagram
+ * or after many; the batch is the listener's, and grows until it is cleared. */
 
 /* How many messages the batch has. */
 size_t mold_listener_count(mold_listener *listener);
@@ -297,8 +299,8 @@ size_t mold_listener_messages(mold_listener *listener, mold_bytes *messages, siz
  *   MOLD_ROOM    the message is longer than the buffer: *size is its size, and the buffer is as it was */
 uint32_t mold_listener_copy(mold_listener *listener, size_t i, uint8_t *buffer, size_t room, size_t *size);
 
-/* Whether messages are missing. Then `request` has the 20 bytes to send to the re-request server: they ask for all that is
- * missing in front of the first stored message, 65,534 messages at most. Else `request` is as it was. */
+/* Whether messages are missing. Then `request` has the 20 bytes to send to the re-request server: they ask for all that
+ * is missing in front of the first stored message, 65,534 messages at most. Else `request` is as it was. */
 bool mold_listener_wanted(mold_listener *listener, uint8_t request[20]);
 
 /* The number of the message that is handed on next. */
@@ -340,8 +342,9 @@ uint32_t mold_publisher_new(mold_publisher *publisher, const uint8_t session[10]
  *   MOLD_MEMORY    memory was refused */
 uint32_t mold_publisher_publish(mold_publisher *publisher, const uint8_t *message, size_t length, uint64_t *number);
 
-/* Whether the messages that were not yet put in a datagram don't all fit one. A publisher that fills its datagrams takes
- * one after each message as long as this is so; one that must not wait takes one whenever a message was published. */
+/* Whether the messages that were not yet put in a datagram don't all fit one. A publisher that fills its datagrams
+ * takes one after each message as long as this is so; one that must not wait takes one whenever a message was
+ * published. */
 bool mold_publisher_is_full(mold_publisher *publisher);
 
 /* Writes a datagram to the front of a buffer, and its size to *size: it has as many messages as fit, from the first one
@@ -372,8 +375,8 @@ uint32_t mold_publisher_close(mold_publisher *publisher, uint64_t *number);
  *   MOLD_ABSENT  the session is not closed; *size is 0 */
 uint32_t mold_publisher_end(mold_publisher *publisher, uint8_t *buffer, size_t room, size_t *size);
 
-/* Writes the journal of what was published to the front of a buffer: the bytes of a journal's file of version 2, as `mold
- * serve` and mold_server_new read it. It has 27 bytes, and for each message two bytes and the message.
+/* Writes the journal of what was published to the front of a buffer: the bytes of a journal's file of version 2, as
+ * `mold serve` and mold_server_new read it. It has 27 bytes, and for each message two bytes and the message.
  *
  *   MOLD_BROKEN  the handle holds no publisher
  *   MOLD_ROOM    the buffer is too small: *size is how many bytes the journal has, and the buffer is as it was */
@@ -389,8 +392,9 @@ typedef struct mold_plan {
     uint8_t session[10];
 } mold_plan;
 
-/* From here on the publisher answers requests too, from the journal of what it has published by then, with at most `burst`
- * datagrams each, which have its own limit. Its handle goes as a server's in the calls below: mold_server_of(&publisher).
+/* From here on the publisher answers requests too, from the journal of what it has published by then, with at most
+ * `burst` datagrams each, which have its own limit. Its handle goes as a server's in the calls below:
+ * mold_server_of(&publisher).
  *
  *   MOLD_BROKEN  the handle holds no publisher, or one that answers requests already
  *   MOLD_BURST   burst is not 1 to 64
@@ -399,7 +403,12 @@ uint32_t mold_server_from_publisher(mold_publisher *publisher, uint16_t burst);
 
 /* A publisher's handle, as that of its server. */
 static inline mold_server *mold_server_of(mold_publisher *publisher) {
-    return (mold_server *)(void *)publisher;
+    void *handle = publisher;
+#ifdef __cplusplus
+    return static_cast<mold_server *>(handle);
+#else
+    return (mold_server *)handle;
+#endif
 }
 
 /* Makes a server of the bytes of a journal's file, of version 1 or 2, whose datagrams have at most `limit` bytes.
@@ -431,8 +440,8 @@ uint32_t mold_server_new(mold_server *server, size_t limit, uint16_t burst, cons
 uint32_t mold_server_answer(mold_server *server, const uint8_t *request, size_t length, uint8_t *buffer, size_t room,
                             uint64_t *number);
 
-/* Plans the whole answer to a request. It refuses what mold_server_answer refuses, but for MOLD_ROOM; *plan is as it was
- * then. A plan is a plain struct: it may be kept as long as the session is served, and thrown away at any time. */
+/* Plans the whole answer to a request. It refuses what mold_server_answer refuses, but for MOLD_ROOM; *plan is as it
+ * was then. A plan is a plain struct: it may be kept as long as the session is served, and thrown away at any time. */
 uint32_t mold_server_plan(mold_server *server, const uint8_t *request, size_t length, mold_plan *plan,
                           uint64_t *number);
 
@@ -467,8 +476,8 @@ typedef struct mold_verdict {
  *   MOLD_MEMORY  memory was refused; the handle holds nothing */
 uint32_t mold_checker_new(mold_checker *checker);
 
-/* Gives it a datagram, in any order. The session is that of the first one that is accepted. A datagram is refused exactly
- * where no session explains it together with those that were accepted before; then it is as if it had not come.
+/* Gives it a datagram, in any order. The session is that of the first one that is accepted. A datagram is refused
+ * exactly where no session explains it together with those that were accepted before; then it is as if it had not come.
  *
  *   MOLD_BROKEN         the handle holds no checker
  *   MOLD_SHORT, MOLD_BLOCK_CUT, MOLD_TRAILING
@@ -489,9 +498,9 @@ uint32_t mold_checker_take(mold_checker *checker, const uint8_t *bytes, size_t l
  *   MOLD_MEMORY  memory was refused */
 uint32_t mold_checker_verdict(mold_checker *checker, mold_verdict *verdict);
 
-/* Writes the longest ranges of missing numbers below the greatest number heard of, ascending, to the front of an array: the
- * first ones where it has too little room for all. *count is how many there are in all, as many as mold_checker_verdict
- * says. What stands behind them in the array is as it was.
+/* Writes the longest ranges of missing numbers below the greatest number heard of, ascending, to the front of an array:
+ * the first ones where it has too little room for all. *count is how many there are in all, as many as
+ * mold_checker_verdict says. What stands behind them in the array is as it was.
  *
  *   MOLD_BROKEN  the handle holds no checker
  *   MOLD_MEMORY  memory was refused; nothing is written */

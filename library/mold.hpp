@@ -2,7 +2,8 @@
 // comes. A class frees its handle when it goes away. None can be copied; one that was moved from is empty, and may be
 // opened again. Nothing here throws: each call answers a code, MOLD_DONE where it is done.
 //
-// A mold::Bytes is a view: a pointer and a length, as of std::span. What a listener lends is valid until the next call on it.
+// A mold::Bytes is a view: a pointer and a length, as of std::span. What a listener lends is valid until the next call
+// on it.
 #ifndef MOLD_HPP
 #define MOLD_HPP
 
@@ -62,8 +63,8 @@ private:
     std::size_t length_;
 };
 
-/// The name of a session: ten bytes. A shorter text is filled with spaces, as on the program's command line; of a longer
-/// one the first ten bytes count.
+/// The name of a session: ten bytes. A shorter text is filled with spaces, as on the program's command line; of a
+/// longer one the first ten bytes count.
 class Session {
 public:
     explicit Session(std::string_view text) noexcept {

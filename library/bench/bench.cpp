@@ -1,12 +1,14 @@
-// How fast the library's listener is, against a plain receiver in C++ that does the same checks: once the plain one hands
-// its messages to a function where they lie, once it copies them into a batch first, as one has to that is asked for them.
+// How fast the library's listener is, against a plain receiver in C++ that does the same checks: once the plain one
+// hands its messages to a function where they lie, once it copies them into a batch first, as one has to that is asked
+// for them.
 //
 //     c++ -O2 -std=c++17 library/bench/bench.cpp library/out/libmold.a -pthread -o bench && ./bench
 //
-// A row is one kind of work. All do it by turns, each the same number of times, and the least time of a round counts, in
-// nanoseconds a datagram; of the plain ones that of the quicker store. With --brief there are few rounds, whose times say little. Each looks at the length
-// and the first byte of every message that is handed on, and their sums are compared. The last lines tell how many
-// datagrams a second one, two and four threads take, each with a listener of its own.
+// A row is one kind of work. All do it by turns, each the same number of times, and the least time of a round counts,
+// in nanoseconds a datagram; of the plain ones that of the quicker store. With --brief there are few rounds, whose
+// times say little. Each looks at the length and the first byte of every message that is handed on, and their sums are
+// compared. The last lines tell how many datagrams a second one, two and four threads take, each with a listener of its
+// own.
 #include "plain.hpp"
 
 #include <chrono>
@@ -28,10 +30,11 @@ struct Arrival {
     std::uint32_t line;
 };
 
-/// A kind of work: datagrams that a new receiver takes in this order.
+/// A kind of work: datagrams that a new receiver takes in this order. What a batch has is looked at after so many.
 struct Work {
     std::string name;
     std::vector<Arrival> arrivals;
+    std::size_t at_once = 1;
 };
 
 std::vector<std::uint8_t> datagram(std::uint64_t sequence, std::size_t count, std::size_t length) {
@@ -57,6 +60,14 @@ Work in_order(std::size_t count) {
     Work work{"in order, " + std::to_string(count) + " x 40 bytes", {}};
     for (std::uint64_t i = 0; i < 1000; i++)
         work.arrivals.push_back({datagram(1 + i * count, count, 40), MOLD_LINE_A});
+    return work;
+}
+
+/// The same, where the system gave many datagrams at once.
+Work in_order_at_once(std::size_t count) {
+    Work work = in_order(count);
+    work.name += ", by 20 datagrams";
+    work.at_once = 20;
     return work;
 }
 
@@ -161,15 +172,18 @@ double by_batch(const Work &work, Sum &sum) {
     plain::Receiver<keeps_memory> receiver(session, 1, window);
     plain::Batch batch;
     mold_told told{};
+    std::size_t handed = 0, taken = 0;
     const Clock::time_point began = Clock::now();
     for (const Arrival &arrival : work.arrivals) {
         receiver.take(arrival.line, arrival.bytes.data(), arrival.bytes.size(), told,
                       [&batch](std::uint64_t, const std::uint8_t *at, std::size_t length) { batch.push(at, length); });
-        if (told.handed == 0)
+        handed += told.handed;
+        if (handed == 0 || ++taken < work.at_once)
             continue;
         for (std::size_t i = 0; i < batch.size(); i++)
             sum.add(batch[i].at, batch[i].length);
         batch.clear();
+        handed = taken = 0;
     }
     return since(began);
 }
@@ -190,14 +204,18 @@ double by_library(const Work &work, Sum &sum) {
     mold_listener listener = MOLD_EMPTY;
     std::vector<mold_bytes> room(64);
     mold_told told{};
+    std::size_t handed = 0, taken = 0;
     if (mold_listener_new(&listener, session, 1, window) != MOLD_DONE)
         stop("no listener");
     const Clock::time_point began = Clock::now();
     for (const Arrival &arrival : work.arrivals) {
         if (mold_listener_take(&listener, arrival.line, arrival.bytes.data(), arrival.bytes.size(), &told) != MOLD_DONE)
             stop("a datagram is refused");
-        if (told.handed > 0)
-            drain(listener, told.handed, room, sum);
+        handed += told.handed;
+        if (handed == 0 || ++taken < work.at_once)
+            continue;
+        drain(listener, handed, room, sum);
+        handed = taken = 0;
     }
     const double took = since(began);
     mold_free(&listener);
@@ -259,10 +277,11 @@ void run_threads(int rounds) {
 int main(int count, char **words) {
     const bool brief = count > 1 && std::string(words[1]) == "--brief";
     const int rounds = brief ? 3 : 500;
-    std::printf("%-36s %10s %10s %10s %10s\n%-36s %10s %10s %10s %10s\n", "nanoseconds a datagram", "plain,", "plain,", "",
-                "library /", "", "function", "copied", "library", "copied");
-    for (const Work &work : {heartbeats(), in_order(1), in_order(10), in_order(30), repeated(), two_lines(), stored(),
-                             never_empty(), never_empty_behind()})
+    const char *const line = "%-36s %10s %10s %10s %10s\n";
+    std::printf(line, "nanoseconds a datagram", "plain,", "plain,", "", "library /");
+    std::printf(line, "", "function", "copied", "library", "copied");
+    for (const Work &work : {heartbeats(), in_order(1), in_order(10), in_order(30), in_order_at_once(1), repeated(),
+                             two_lines(), stored(), never_empty(), never_empty_behind()})
         run_row(work, rounds);
     run_threads(brief ? 3 : 2000);
     return 0;

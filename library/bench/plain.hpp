@@ -1,7 +1,7 @@
-// A plain receiver in C++, for comparison: it does the work of the library's listener, with the same refusals in the same
-// order, the same window and the same counts of lines, as an engineer would write it who wants it fast. Nothing is proved
-// of it. What is handed on goes to a function, message by message. Its store is a ring of vectors, which either keep their
-// memory when a message leaves, or give it back: which is quicker hangs on the work.
+// A plain receiver in C++, for comparison: it does the work of the library's listener, with the same refusals in the
+// same order, the same window and the same counts of lines, as an engineer would write it who wants it fast. Nothing is
+// proved of it. What is handed on goes to a function, message by message. Its store is a ring of vectors, which either
+// keep their memory when a message leaves, or give it back: which is quicker hangs on the work.
 #ifndef PLAIN_HPP
 #define PLAIN_HPP
 
@@ -76,7 +76,8 @@ public:
 
     /// Takes a datagram of a line; `hand` gets the number, the bytes and the length of each message that comes next.
     template <class Hand>
-    std::uint32_t take(std::uint32_t line, const std::uint8_t *bytes, std::size_t length, mold_told &told, Hand &&hand) {
+    std::uint32_t take(std::uint32_t line, const std::uint8_t *bytes, std::size_t length, mold_told &told,
+                       Hand &&hand) {
         Packet packet;
         std::uint64_t detail = 0;
         const std::uint32_t code = judge(bytes, length, packet, detail);

@@ -1,17 +1,17 @@
-/* Says whether captures have one whole session: it reads classic pcap files, and gives the checker the payload of each UDP
- * datagram in them, as `mold check` does of datagrams.
+/* Says whether captures have one whole session: it reads classic pcap files, and gives the checker the payload of each
+ * UDP datagram in them, as `mold check` does of datagrams.
  *
  *     cc -O2 library/examples/check.c library/out/libmold.a -o check
  *     ./check [--port PORT] [--to ADDRESS] FILE..
  *
- * With --port and --to only datagrams to this port and to this address are taken; without them all are. Files of both byte
- * orders, with times in microseconds or nanoseconds, are read, of Ethernet with and without VLAN tags, raw IP and Linux
- * cooked captures of both versions. Of a datagram that was captured in part, or that IP cut into fragments, nothing is
- * known: it is skipped, and counted on standard error.
+ * With --port and --to only datagrams to this port and to this address are taken; without them all are. Files of both
+ * byte orders, with times in microseconds or nanoseconds, are read, of Ethernet with and without VLAN tags, raw IP and
+ * Linux cooked captures of both versions. Of a datagram that was captured in part, or that IP cut into fragments,
+ * nothing is known: it is skipped, and counted on standard error.
  *
- * It prints `datagrams N`, and `whole MESSAGES`, or `incomplete end END` and a line `missing FIRST LAST` for each range of
- * missing numbers, or `refused datagram K WHY NUMBER`. The status is 0 where all of the session is there, 1 where something
- * is missing, 2 where a datagram was refused, 3 where a file can't be read. */
+ * It prints `datagrams N`, and `whole MESSAGES`, or `incomplete end END` and a line `missing FIRST LAST` for each range
+ * of missing numbers, or `refused datagram K WHY NUMBER`. The status is 0 where all of the session is there, 1 where
+ * something is missing, 2 where a datagram was refused, 3 where a file can't be read. */
 #include "udp.h"
 
 struct options {
@@ -120,8 +120,8 @@ static bool skip_link(uint32_t link, struct part *part) {
     return type == 0x0800;
 }
 
-/* Goes behind the headers of IPv4 and UDP, and leaves the payload; false where it is no such datagram, or one that isn't
- * asked for. *whole is false where IP cut it. */
+/* Goes behind the headers of IPv4 and UDP, and leaves the payload; false where it is no such datagram, or one that
+ * isn't asked for. *whole is false where IP cut it. */
 static bool skip_headers(const struct options *options, struct part *part, bool *whole) {
     if (part->length < 20 || part->at[0] >> 4 != 4 || part->at[9] != 17)
         return false;

@@ -3,17 +3,17 @@
  *     cc -O2 library/examples/exchange.c library/out/libmold.a -o exchange
  *     ./exchange --session DEMO --a 239.192.1.1:26477 --b 239.192.1.2:26477 --bind 0.0.0.0:26400 --journal day.journal
  *
- * Messages come as lines of hexadecimal digits on standard input, as `mold publish` reads them, and go out on both lines
- * at once: what has come together goes in one datagram, as far as it fits. A heartbeat goes out in each second without a
- * datagram. Requests are answered meanwhile. Where the input ends, the session is closed, and an end of session goes out
- * four times a second, until no request came for --linger MS (2000).
+ * Messages come as lines of hexadecimal digits on standard input, as `mold publish` reads them, and go out on both
+ * lines at once: what has come together goes in one datagram, as far as it fits. A heartbeat goes out in each second
+ * without a datagram. Requests are answered meanwhile. Where the input ends, the session is closed, and an end of
+ * session goes out four times a second, until no request came for --linger MS (2000).
  *
  * Other options: --limit L, the most bytes of a datagram (1400); --burst B, the most datagrams of an answer (4);
  * --save N, after how many messages the journal is saved each time (1000000); --interface ADDRESS, by which groups are
  * sent to. The journal is saved at the end too. It is written to a new file, which then takes the place of the old one.
  *
- * The last line is `published MESSAGES datagrams D answered R failed F`. The status is 0, or 2 where a line was no message:
- * that is told on standard error, and the session goes on. */
+ * The last line is `published MESSAGES datagrams D answered R failed F`. The status is 0, or 2 where a line was no
+ * message: that is told on standard error, and the session goes on. */
 #include "udp.h"
 
 enum { INPUT = 1 << 16, LONGEST = 1 << 18 };

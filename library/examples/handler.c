@@ -1,16 +1,16 @@
-/* A feed handler: it hears the two lines of a feed, asks a re-request server for what both lost, and prints the messages
- * in order, a line each, as `mold listen` does.
+/* A feed handler: it hears the two lines of a feed, asks a re-request server for what both lost, and prints the
+ * messages in order, a line each, as `mold listen` does.
  *
  *     cc -O2 library/examples/handler.c library/out/libmold.a -o handler
  *     ./handler --session DEMO --a 239.192.1.1:26477 --b 239.192.1.2:26477 --interface 10.0.0.7 --server 10.0.0.9:26400
  *
- * Where the address of a line is a multicast group, it is joined on the interface. Other options: --next N, the number of
- * the first message (1); --window W, how many messages are stored above a gap (1024); --patience MS, how long a gap stands
- * before it is asked for (2), as the other line may fill it; --timeout MS, after which it is asked for again (50);
- * --quiet MS, after which it gives up where nothing comes (10000). Without --server nothing is asked for.
+ * Where the address of a line is a multicast group, it is joined on the interface. Other options: --next N, the number
+ * of the first message (1); --window W, how many messages are stored above a gap (1024); --patience MS, how long a gap
+ * stands before it is asked for (2), as the other line may fill it; --timeout MS, after which it is asked for again
+ * (50); --quiet MS, after which it gives up where nothing comes (10000). Without --server nothing is asked for.
  *
- * It ends when it has all of the session, with status 0, or when nothing came for too long, with status 1. At the end it
- * tells what came on each line. Refused datagrams are told on standard error. */
+ * It ends when it has all of the session, with status 0, or when nothing came for too long, with status 1. At the end
+ * it tells what came on each line. Refused datagrams are told on standard error. */
 #include "udp.h"
 
 enum { LINES = 3, AT_ONCE = 32 };
@@ -80,7 +80,7 @@ static struct options options_of(int count, char **words) {
     return read;
 }
 
-/* Prints the batch, and empties it. */
+/* Prints the messages that were handed on, and empties the batch. */
 static void print_batch(mold_listener *listener) {
     size_t count = mold_listener_count(listener);
     uint64_t first = mold_listener_first(listener);
@@ -105,8 +105,6 @@ static void take(struct handler *handler, uint32_t line, const uint8_t *bytes, s
     uint32_t code = mold_listener_take(&handler->listener, line, bytes, length, &told);
     if (code != MOLD_DONE)
         tell_refused(line, code, told.detail);
-    else if (told.handed > 0)
-        print_batch(&handler->listener);
 }
 
 /* Takes what has come on a line, many datagrams by one call of the system, and answers how many those were. */
@@ -128,11 +126,12 @@ static int hear(struct handler *handler, uint32_t line) {
     }
     for (int i = 0; i < came; i++)
         take(handler, line, room[i], heads[i].msg_len);
+    print_batch(&handler->listener);
     return came;
 }
 
-/* Sends the request for what is missing, once its time has come. After an answer that brought something the rest is asked
- * for at once. */
+/* Sends the request for what is missing, once its time has come. After an answer that brought something the rest is
+ * asked for at once. */
 static void ask(struct handler *handler, bool answered) {
     uint8_t request[20] = {0};
     int64_t time = now();

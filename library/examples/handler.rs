@@ -1,11 +1,11 @@
-//! A feed handler in Rust, without cargo: it hears two lines, asks a re-request server for what both lost, and prints the
-//! messages in order, as `handler.c` does.
+//! A feed handler in Rust, without cargo: it hears two lines, asks a re-request server for what both lost, and prints
+//! the messages in order, as `handler.c` does.
 //!
 //!     rustc -O --edition 2021 library/examples/handler.rs -L library/out -l static=mold -o handler-rs
 //!     ./handler-rs DEMO 127.0.0.1:26477 127.0.0.1:26478 127.0.0.1:26400
 //!
-//! The words are the session, the addresses of line A and line B, and that of the server. It ends when it has all of the
-//! session, with status 0, or when nothing came for ten seconds, with status 1.
+//! The words are the session, the addresses of line A and line B, and that of the server. It ends when it has all of
+//! the session, with status 0, or when nothing came for ten seconds, with status 1.
 
 use std::io::{self, ErrorKind, Write};
 use std::net::UdpSocket;
@@ -91,7 +91,8 @@ impl std::fmt::Display for Refused {
     }
 }
 
-/// A listener. That each call takes `&mut self` keeps the duties: one call at a time, and what is lent ends with the next.
+/// A listener. That each call takes `&mut self` keeps the duties: one call at a time, and what is lent ends with the
+/// next.
 struct Listener(sys::Listener);
 
 impl Listener {

@@ -172,7 +172,8 @@ static inline datagram five_messages(void) {
     return made;
 }
 
-static inline uint32_t server_new(mold_server *server, size_t limit, uint16_t burst, datagram journal, uint64_t *number) {
+static inline uint32_t server_new(mold_server *server, size_t limit, uint16_t burst, datagram journal,
+                                  uint64_t *number) {
     uint32_t code = mold_server_new(server, limit, burst, journal.at, journal.length, number);
     free(journal.at);
     return code;

@@ -3,8 +3,9 @@
 //
 //     cd library/tests && c++ -std=c++17 -O2 compare.cpp ../out/libmold.a -o compare && ./compare 300000 1
 //
-// The words are how many datagrams there are, and the seed. Datagrams are of a session of drawn messages: data packets of
-// any front of it, heartbeats, ends, also false ones, other messages at a number, other sessions, cut and changed bytes.
+// The words are how many datagrams there are, and the seed. Datagrams are of a session of drawn messages: data packets
+// of any front of it, heartbeats, ends, also false ones, other messages at a number, other sessions, cut and changed
+// bytes.
 #include "../bench/plain.hpp"
 
 #include <cstdio>
@@ -83,7 +84,7 @@ Bytes draw(Chance &chance, std::uint64_t next, std::uint64_t messages) {
         made[chance.below(made.size())] ^= static_cast<std::uint8_t>(1 + chance.below(255));
         return made;
     case 3:
-        return packet_of(chance.below(2) == 0 ? 0 : UINT64_MAX - chance.below(3), static_cast<std::uint16_t>(chance.below(4)));
+        return packet_of(back % 2 == 0 ? 0 : UINT64_MAX - chance.below(3), static_cast<std::uint16_t>(back % 4));
     case 4:
         made.push_back(0);
         return made;
@@ -113,7 +114,8 @@ public:
         const std::uint32_t code = mold_listener_take(&listener_, line, bytes.data(), bytes.size(), &told);
         codes[code % 33]++;
         check(code == wanted && told.detail == other.detail, "the code and its number", place);
-        check(told.handed == other.handed && told.kept == other.kept && told.beyond == other.beyond, "the counts", place);
+        check(told.handed == other.handed && told.kept == other.kept && told.beyond == other.beyond, "the counts",
+              place);
         compare_batch(batch, first, place);
         compare_state(place);
     }
