@@ -56,15 +56,16 @@ impl Arbiter {
         ensures batch { OnErr result (batch.new ≡ batch.old) }
     {
         match self.receiver.accept(bytes, batch) {
-            Ok(Accepted {
-                taken:
-                    Taken {
+            Ok(
+                Accepted {
+                    taken: Taken {
                         handed,
                         kept,
                         beyond,
                     },
-                top,
-            }) => {
+                    top,
+                },
+            ) => {
                 self.reports.note_taken(line, top);
                 Ok(Taken {
                     handed,

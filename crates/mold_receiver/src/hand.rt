@@ -51,12 +51,7 @@ fn push_messages(
 
 // Adds the messages from a slot on up to the first empty one, and tells that one; `next` is the number of the
 // first slot.
-fn push_held(
-    batch: &mut Batch,
-    next: u64,
-    slots: &Slots,
-    start: usize,
-) -> Result<usize, AllocError>
+fn push_held(batch: &mut Batch, next: u64, slots: &Slots, start: usize) -> Result<usize, AllocError>
     requires follows { Follows batch.old (next + start) }
     requires counted { next + start < 2 ^ 64 }
     requires numbered { AreNumbered slots.now next }

@@ -253,11 +253,13 @@ impl Receiver {
         let top = self.check(&packet)?;
         match self.take_packet(&packet, top, batch) {
             // Field by field: a copy of the whole waits for what was just written in parts.
-            Ok(Taken {
-                handed,
-                kept,
-                beyond,
-            }) => Ok(Accepted {
+            Ok(
+                Taken {
+                    handed,
+                    kept,
+                    beyond,
+                },
+            ) => Ok(Accepted {
                 taken: Taken {
                     handed,
                     kept,
