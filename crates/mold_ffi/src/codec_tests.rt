@@ -72,15 +72,15 @@ fn messages_fill_lent_memory(rt: HostRuntime) {
         is_open: false,
     };
     let codes = [
-        mold_packer_add(&mut packer, &[2; 20]),
+        mold_packer_add(&mut packer, b"ABCDEFGHIJKLMNOPQRST"),
         mold_packer_start(&mut packer, b"SESSION001", 2),
-        mold_packer_add(&mut packer, &[2; 20]),
-        mold_packer_add(&mut packer, &[3; 20]),
+        mold_packer_add(&mut packer, b"ABCDEFGHIJKLMNOPQRST"),
+        mold_packer_add(&mut packer, b"abcdefghijklmnopqrst"),
         mold_packer_add(&mut packer, &[]),
     ];
     assert!(rt; codes == [FULL, DONE, DONE, DONE, FULL]);
     assert!(rt; packer.used == 64 && packer.count == 2);
     let wanted =
-        b"SESSION001\0\0\0\0\0\0\0\x02\0\x02\0\x14\x02\x02\x02\x02\x02\x02\x02\x02\x02\x02\x02\x02\x02\x02\x02\x02\x02\x02\x02\x02\0\x14\x03\x03\x03\x03\x03\x03\x03\x03\x03\x03\x03\x03\x03\x03\x03\x03\x03\x03\x03\x03";
+        b"SESSION001\0\0\0\0\0\0\0\x02\0\x02\0\x14ABCDEFGHIJKLMNOPQRST\0\x14abcdefghijklmnopqrst";
     assert!(rt; buffer == *wanted);
 }

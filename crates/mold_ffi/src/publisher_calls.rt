@@ -5,7 +5,8 @@ ghost use Rattle.mold_wire.specs.Packer.{IsLimit};
 ghost use Rattle.mold_wire.specs.Packing.{Fits};
 ghost use Rattle.mold_session.specs.Publisher.{unsent_of, next_datagram, next_heartbeat, next_end, after_datagram};
 ghost use Rattle.mold_ffi.specs.Codes as codes;
-ghost use Rattle.mold_ffi.specs.Publishing.{IsNoPublisher, opened, holding, Publishes, Sends, Closes, Saves, GivesServer};
+ghost use Rattle.mold_ffi.specs.Publishing.{IsNoPublisher, opened, holding, Publishes, Sends, Closes, Saves};
+ghost use Rattle.mold_ffi.specs.Publishing.{GivesServer};
 ghost use Rattle.mold_ffi.specs.declared.exchange.Exchange.{Exchange as AnExchange};
 
 use crate::code::{BROKEN, DONE, LIMIT, MEMORY};

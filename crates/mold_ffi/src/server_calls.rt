@@ -115,8 +115,8 @@ pub extern "C" fn mold_server_plan(
 }
 
 /// Writes the next datagram of a plan, and moves the plan behind its messages; where nothing is left of the plan there
-/// is none. A plan of another session, or of messages that the journal doesn't have, is broken. Buffer and `size` are as
-/// for a publisher's datagram.
+/// is none. A plan of another session, or of messages that the journal doesn't have, is broken. Buffer and `size` are
+/// as for a publisher's datagram.
 #[unsafe(no_mangle)]
 pub extern "C" fn mold_server_datagram(
     server: &mut MoldHandle,

@@ -4,7 +4,8 @@ ghost use Rattle.std.specs.Prelude.{◌≡◌, ◌⊎◌, Option, Some, IfOk, If
 ghost use Rattle.mold_wire.specs.Packer.{IsLimit};
 ghost use Rattle.mold_ffi.specs.Codes as codes;
 ghost use Rattle.mold_ffi.specs.Publishing.{IsBurst};
-ghost use Rattle.mold_ffi.specs.Serving.{IsOfFile, IsFault, Answers, Plans, Serves, file_code, file_number, with_serving};
+ghost use Rattle.mold_ffi.specs.Serving.{IsOfFile, IsFault, Answers, Plans, Serves, file_code, file_number};
+ghost use Rattle.mold_ffi.specs.Serving.{with_serving};
 ghost use Rattle.mold_ffi.specs.declared.held.Held.{Held as AHeld};
 ghost use Rattle.mold_ffi.specs.declared.held.Held.TheVariants.{Server as AServer};
 

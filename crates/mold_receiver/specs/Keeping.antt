@@ -1,5 +1,6 @@
 -- What the parts of the receiver find where a packet's messages join the store.
-use Rattle.std.specs.Prelude.{ℕ, suc, Bool, ◌&&◌, nat_lt, is_none, List, [], ◌∷◌, length, Some, slice_set, if◌then◌else◌}
+use Rattle.std.specs.Prelude.{ℕ, suc, Bool, ◌&&◌, nat_lt, is_none, List, [], ◌∷◌, length, Some, slice_set}
+use Rattle.std.specs.Prelude.{if◌then◌else◌}
 use Rattle.std.specs.List.{filter}
 use Rattle.mold_receiver.specs.Slots.{Slot, slot_at}
 use Rattle.mold_receiver.specs.Store.{Message, numbered}

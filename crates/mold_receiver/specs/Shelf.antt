@@ -1,5 +1,6 @@
 -- A gap store whose messages lie in bytes that they share.
-use Rattle.std.specs.Prelude.{◌≡◌, ℕ, ◌-◌, ◌+◌, ◌<◌, ◌≤◌, ◌^◌, List, [], ◌∷◌, ◌++◌, Option, None, Some, length, take, drop, slice_get}
+use Rattle.std.specs.Prelude.{◌≡◌, ℕ, ◌-◌, ◌+◌, ◌<◌, ◌≤◌, ◌^◌, List, [], ◌∷◌, ◌++◌, Option, None, Some, length, take}
+use Rattle.std.specs.Prelude.{drop, slice_get}
 use Rattle.std.specs.Option.{option_flatten}
 use Rattle.mold_receiver.specs.declared.span.Span.{Span}
 use Rattle.mold_receiver.specs.declared.shelf.Shelf.{Shelf}

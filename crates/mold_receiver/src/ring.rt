@@ -3,7 +3,8 @@
 ghost use Rattle.std.specs.Prelude.{◌≡◌, ◌+◌, ◌<◌, ◌≤◌, ◌^◌, ◌++◌, ◌∷◌, [], length, drop, replicate, slice_set, IfOk};
 ghost use Rattle.std.specs.Prelude.{None, Some};
 ghost use Rattle.mold_receiver.specs.declared.span.Span.{Span};
-ghost use Rattle.mold_receiver.specs.Shelf.{AreNoneFrom, AreOrdered, closed_up, joined_length, moved_to, size_of, span_at};
+ghost use Rattle.mold_receiver.specs.Shelf.{AreNoneFrom, AreOrdered, closed_up, joined_length, moved_to, size_of};
+ghost use Rattle.mold_receiver.specs.Shelf.{span_at};
 
 use crate::span::Span;
 use circular_buffer::HeapCircularBuffer;

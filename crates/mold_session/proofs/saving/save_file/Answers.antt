@@ -12,7 +12,8 @@ loop-message-init g c =
       saves = saves_none (g.K.Sink.held c.args.sink.now) (head_2 c.args.session.0 c.args.closed (length messages))
           messages c.into_iter-message-iterator.result c.keep.new.self
           (c.into_iter-message-iterator.ensures.into_iter_gives ∙ c.iter-message-items.ensures)
-          (c.keep.ensures ∙ ap (λ (t : List ℕ). t ++ c.head.result) c.new-buffer.ensures ∙ c.head.ensures.head ∙ ap (head_2 c.args.session.0 c.args.closed) c.len.ensures);
+          (c.keep.ensures ∙ ap (λ (t : List ℕ). t ++ c.head.result) c.new-buffer.ensures ∙ c.head.ensures.head
+          ∙ ap (head_2 c.args.session.0 c.args.closed) c.len.ensures);
       counted = refl;
     }
 

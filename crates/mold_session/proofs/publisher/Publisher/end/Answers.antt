@@ -25,7 +25,13 @@ returns c =
       record {
         after = tt;
         lent = subst (λ (p : PublisherState). Lends (next_end p) (Some bytes)) c.self.view_is lent;
-        within = omega (arith, c.bytes.ensures.within, ap (λ (p : PackerState). p.limit) c.end.ensures, c.self.invariant.0, ap (λ (p : PublisherState). p.limit) c.self.view_is);
+        within = omega (
+          arith,
+          c.bytes.ensures.within,
+          ap (λ (p : PackerState). p.limit) c.end.ensures,
+          c.self.invariant.0,
+          ap (λ (p : PublisherState). p.limit) c.self.view_is,
+        );
         truth = subst (λ (p : PublisherState). TellsTruth p.journal bytes) c.self.view_is truth;
       },
     )
