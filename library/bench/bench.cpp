@@ -1,6 +1,6 @@
 // How fast the library's listener is, against a plain receiver in C++ that does the same checks: once the plain one
-// hands its messages to a function where they lie, once it copies them into a batch first, as one has to that is asked
-// for them.
+// hands its messages to a function where they lie, and is compiled into its user; once it has the calls of the library,
+// and copies them into a batch first, as one has to that is asked for them.
 //
 //     c++ -O2 -std=c++17 library/bench/bench.cpp library/out/libmold.a -pthread -o bench && ./bench
 //
@@ -166,67 +166,69 @@ double by_function(const Work &work, Sum &sum) {
     return since(began);
 }
 
-/// The time of a round in which the plain receiver copies messages into a batch.
-template <bool keeps_memory>
-double by_batch(const Work &work, Sum &sum) {
-    plain::Receiver<keeps_memory> receiver(session, 1, window);
-    plain::Batch batch;
-    mold_told told{};
-    std::size_t handed = 0, taken = 0;
-    const Clock::time_point began = Clock::now();
-    for (const Arrival &arrival : work.arrivals) {
-        receiver.take(arrival.line, arrival.bytes.data(), arrival.bytes.size(), told,
-                      [&batch](std::uint64_t, const std::uint8_t *at, std::size_t length) { batch.push(at, length); });
-        handed += told.handed;
-        if (handed == 0 || ++taken < work.at_once)
-            continue;
-        for (std::size_t i = 0; i < batch.size(); i++)
-            sum.add(batch[i].at, batch[i].length);
-        batch.clear();
-        handed = taken = 0;
+/// The library's listener, by the names of the plain one.
+class Library {
+public:
+    Library() {
+        if (mold_listener_new(&listener_, session, 1, window) != MOLD_DONE)
+            stop("no listener");
     }
-    return since(began);
-}
 
-/// Takes a batch of the library, all messages by one call.
-void drain(mold_listener &listener, std::size_t count, std::vector<mold_bytes> &room, Sum &sum) {
-    if (count > room.size())
-        room.resize(count);
-    if (mold_listener_messages(&listener, room.data(), room.size()) != count)
-        stop("fewer messages than there are");
-    for (std::size_t i = 0; i < count; i++)
-        sum.add(room[i].at, room[i].length);
-    mold_listener_clear(&listener);
-}
+    Library(const Library &) = delete;
+    Library &operator=(const Library &) = delete;
+    ~Library() { mold_free(&listener_); }
 
-/// The time of a round of the library.
-double by_library(const Work &work, Sum &sum) {
-    mold_listener listener = MOLD_EMPTY;
+    std::uint32_t take(std::uint32_t line, const std::uint8_t *bytes, std::size_t length, mold_told &told) {
+        return mold_listener_take(&listener_, line, bytes, length, &told);
+    }
+
+    std::size_t messages(mold_bytes *array, std::size_t room) {
+        return mold_listener_messages(&listener_, array, room);
+    }
+
+    void clear() { mold_listener_clear(&listener_); }
+
+private:
+    mold_listener listener_ = MOLD_EMPTY;
+};
+
+template <bool keeps_memory>
+struct Plain : plain::Listener<keeps_memory> {
+    Plain() : plain::Listener<keeps_memory>(session, 1, window) {}
+};
+
+/// The time of a round in which messages are asked for, all by one call, and the batch is emptied.
+template <class Listener>
+double by_batch(const Work &work, Sum &sum) {
+    Listener listener;
     std::vector<mold_bytes> room(64);
     mold_told told{};
     std::size_t handed = 0, taken = 0;
-    if (mold_listener_new(&listener, session, 1, window) != MOLD_DONE)
-        stop("no listener");
     const Clock::time_point began = Clock::now();
     for (const Arrival &arrival : work.arrivals) {
-        if (mold_listener_take(&listener, arrival.line, arrival.bytes.data(), arrival.bytes.size(), &told) != MOLD_DONE)
+        if (listener.take(arrival.line, arrival.bytes.data(), arrival.bytes.size(), told) != MOLD_DONE)
             stop("a datagram is refused");
         handed += told.handed;
         if (handed == 0 || ++taken < work.at_once)
             continue;
-        drain(listener, handed, room, sum);
+        if (handed > room.size())
+            room.resize(handed);
+        if (listener.messages(room.data(), room.size()) != handed)
+            stop("fewer messages than there are");
+        for (std::size_t i = 0; i < handed; i++)
+            sum.add(room[i].at, room[i].length);
+        listener.clear();
         handed = taken = 0;
     }
-    const double took = since(began);
-    mold_free(&listener);
-    return took;
+    return since(began);
 }
 
 // ---- Tables ----
 
 void run_row(const Work &work, int rounds) {
     using Round = double (*)(const Work &, Sum &);
-    const Round rounds_of[] = {by_function<true>, by_function<false>, by_batch<true>, by_batch<false>, by_library};
+    const Round rounds_of[] = {by_function<true>, by_function<false>, by_batch<Plain<true>>, by_batch<Plain<false>>,
+                               by_batch<Library>};
     const std::size_t columns[] = {0, 0, 1, 1, 2};
     double least[] = {1e18, 1e18, 1e18};
     for (int round = 0; round < rounds; round++) {
@@ -253,7 +255,7 @@ double in_threads(unsigned threads, int rounds) {
         started.emplace_back([&work, rounds] {
             Sum sum;
             for (int round = 0; round < rounds; round++)
-                by_library(work, sum);
+                by_batch<Library>(work, sum);
         });
     for (std::thread &thread : started)
         thread.join();
