@@ -1,6 +1,6 @@
 // How fast the library's listener is, against a plain receiver in C++ that does the same checks: once the plain one
-// hands its messages to a function where they lie, once it copies them into a batch first, as one has to that is asked
-// for them.
+// hands its messages to a function where they lie, and is compiled into its user; once it has the calls of the library,
+// and copies them into a batch first, as one has to that is asked for them.
 //
 //     c++ -O2 -std=c++17 library/bench/bench.cpp library/out/libmold.a -pthread -o bench && ./bench
 //
@@ -8,12 +8,14 @@
 // in nanoseconds a datagram; of the plain ones that of the quicker store. With --brief there are few rounds, whose
 // times say little. Each looks at the length and the first byte of every message that is handed on, and their sums are
 // compared. The last lines tell how many datagrams a second one, two and four threads take, each with a listener of its
-// own.
+// own: by the clock, which wants a machine with nothing else to do, and by the processor time of the threads.
 #include "plain.hpp"
 
+#include <atomic>
 #include <chrono>
 #include <cstdio>
 #include <cstdlib>
+#include <ctime>
 #include <string>
 #include <thread>
 
@@ -166,67 +168,69 @@ double by_function(const Work &work, Sum &sum) {
     return since(began);
 }
 
-/// The time of a round in which the plain receiver copies messages into a batch.
-template <bool keeps_memory>
-double by_batch(const Work &work, Sum &sum) {
-    plain::Receiver<keeps_memory> receiver(session, 1, window);
-    plain::Batch batch;
-    mold_told told{};
-    std::size_t handed = 0, taken = 0;
-    const Clock::time_point began = Clock::now();
-    for (const Arrival &arrival : work.arrivals) {
-        receiver.take(arrival.line, arrival.bytes.data(), arrival.bytes.size(), told,
-                      [&batch](std::uint64_t, const std::uint8_t *at, std::size_t length) { batch.push(at, length); });
-        handed += told.handed;
-        if (handed == 0 || ++taken < work.at_once)
-            continue;
-        for (std::size_t i = 0; i < batch.size(); i++)
-            sum.add(batch[i].at, batch[i].length);
-        batch.clear();
-        handed = taken = 0;
+/// The library's listener, by the names of the plain one.
+class Library {
+public:
+    Library() {
+        if (mold_listener_new(&listener_, session, 1, window) != MOLD_DONE)
+            stop("no listener");
     }
-    return since(began);
-}
 
-/// Takes a batch of the library, all messages by one call.
-void drain(mold_listener &listener, std::size_t count, std::vector<mold_bytes> &room, Sum &sum) {
-    if (count > room.size())
-        room.resize(count);
-    if (mold_listener_messages(&listener, room.data(), room.size()) != count)
-        stop("fewer messages than there are");
-    for (std::size_t i = 0; i < count; i++)
-        sum.add(room[i].at, room[i].length);
-    mold_listener_clear(&listener);
-}
+    Library(const Library &) = delete;
+    Library &operator=(const Library &) = delete;
+    ~Library() { mold_free(&listener_); }
 
-/// The time of a round of the library.
-double by_library(const Work &work, Sum &sum) {
-    mold_listener listener = MOLD_EMPTY;
+    std::uint32_t take(std::uint32_t line, const std::uint8_t *bytes, std::size_t length, mold_told &told) {
+        return mold_listener_take(&listener_, line, bytes, length, &told);
+    }
+
+    std::size_t messages(mold_bytes *array, std::size_t room) {
+        return mold_listener_messages(&listener_, array, room);
+    }
+
+    void clear() { mold_listener_clear(&listener_); }
+
+private:
+    mold_listener listener_ = MOLD_EMPTY;
+};
+
+template <bool keeps_memory>
+struct Plain : plain::Listener<keeps_memory> {
+    Plain() : plain::Listener<keeps_memory>(session, 1, window) {}
+};
+
+/// The time of a round in which messages are asked for, all by one call, and the batch is emptied.
+template <class Listener>
+double by_batch(const Work &work, Sum &sum) {
+    Listener listener;
     std::vector<mold_bytes> room(64);
     mold_told told{};
     std::size_t handed = 0, taken = 0;
-    if (mold_listener_new(&listener, session, 1, window) != MOLD_DONE)
-        stop("no listener");
     const Clock::time_point began = Clock::now();
     for (const Arrival &arrival : work.arrivals) {
-        if (mold_listener_take(&listener, arrival.line, arrival.bytes.data(), arrival.bytes.size(), &told) != MOLD_DONE)
+        if (listener.take(arrival.line, arrival.bytes.data(), arrival.bytes.size(), told) != MOLD_DONE)
             stop("a datagram is refused");
         handed += told.handed;
         if (handed == 0 || ++taken < work.at_once)
             continue;
-        drain(listener, handed, room, sum);
+        if (handed > room.size())
+            room.resize(handed);
+        if (listener.messages(room.data(), room.size()) != handed)
+            stop("fewer messages than there are");
+        for (std::size_t i = 0; i < handed; i++)
+            sum.add(room[i].at, room[i].length);
+        listener.clear();
         handed = taken = 0;
     }
-    const double took = since(began);
-    mold_free(&listener);
-    return took;
+    return since(began);
 }
 
 // ---- Tables ----
 
 void run_row(const Work &work, int rounds) {
     using Round = double (*)(const Work &, Sum &);
-    const Round rounds_of[] = {by_function<true>, by_function<false>, by_batch<true>, by_batch<false>, by_library};
+    const Round rounds_of[] = {by_function<true>, by_function<false>, by_batch<Plain<true>>, by_batch<Plain<false>>,
+                               by_batch<Library>};
     const std::size_t columns[] = {0, 0, 1, 1, 2};
     double least[] = {1e18, 1e18, 1e18};
     for (int round = 0; round < rounds; round++) {
@@ -244,31 +248,65 @@ void run_row(const Work &work, int rounds) {
     std::fflush(stdout);
 }
 
-/// How many datagrams a second so many threads take, each with a listener of its own.
-double in_threads(unsigned threads, int rounds) {
-    const Work work = in_order(10);
-    std::vector<std::thread> started;
-    const Clock::time_point began = Clock::now();
-    for (unsigned i = 0; i < threads; i++)
-        started.emplace_back([&work, rounds] {
-            Sum sum;
-            for (int round = 0; round < rounds; round++)
-                by_library(work, sum);
-        });
-    for (std::thread &thread : started)
-        thread.join();
-    return 1e9 * threads * rounds * static_cast<double>(work.arrivals.size()) / since(began);
+/// How many datagrams a second are taken, by the clock and by the processor time that each thread used.
+struct Rates {
+    double by_clock = 0, by_processors = 0;
+};
+
+/// The processor time that this thread used, in nanoseconds.
+double processor_time() {
+    timespec time{};
+    if (clock_gettime(CLOCK_THREAD_CPUTIME_ID, &time) != 0)
+        stop("no processor time");
+    return 1e9 * static_cast<double>(time.tv_sec) + static_cast<double>(time.tv_nsec);
 }
 
-void run_threads(int rounds) {
-    double alone = 0;
-    std::printf("\n%-36s %21s %21s\n", "threads", "datagrams a second", "by one thread");
+/// What so many threads take that begin together, each with a listener of its own.
+Rates in_threads(const Work &work, unsigned threads, int rounds) {
+    std::atomic<unsigned> ready{0};
+    std::atomic<bool> go{false};
+    std::vector<std::thread> started;
+    std::vector<double> used(threads);
+    for (unsigned i = 0; i < threads; i++)
+        started.emplace_back([&work, &ready, &go, &time = used[i], rounds] {
+            Sum sum;
+            by_batch<Library>(work, sum);
+            ready++;
+            while (!go.load())
+                std::this_thread::yield();
+            const double began = processor_time();
+            for (int round = 0; round < rounds; round++)
+                by_batch<Library>(work, sum);
+            time = processor_time() - began;
+        });
+    while (ready.load() < threads)
+        std::this_thread::yield();
+    const Clock::time_point began = Clock::now();
+    go.store(true);
+    for (std::thread &thread : started)
+        thread.join();
+    const double took = since(began), datagrams = 1e9 * rounds * static_cast<double>(work.arrivals.size());
+    Rates rates{threads * datagrams / took, 0};
+    for (double time : used)
+        rates.by_processors += datagrams / time;
+    return rates;
+}
+
+/// Of many short runs the quickest counts: on a busy machine the processors are seldom all free.
+void run_threads(int runs) {
+    const Work work = in_order(10);
+    Rates alone;
+    std::printf("\n%-20s %17s %17s %17s %10s\n", "threads", "datagrams/s", "by one", "by processors", "by one");
     for (unsigned threads : {1u, 2u, 4u}) {
-        double most = 0;
-        for (int i = 0; i < 5; i++)
-            most = std::max(most, in_threads(threads, rounds));
+        Rates most;
+        for (int run = 0; run < runs; run++) {
+            const Rates rates = in_threads(work, threads, 100);
+            most.by_clock = std::max(most.by_clock, rates.by_clock);
+            most.by_processors = std::max(most.by_processors, rates.by_processors);
+        }
         alone = threads == 1 ? most : alone;
-        std::printf("%-36u %21.0f %21.2f\n", threads, most, most / alone);
+        std::printf("%-20u %17.0f %17.2f %17.0f %10.2f\n", threads, most.by_clock, most.by_clock / alone.by_clock,
+                    most.by_processors, most.by_processors / alone.by_processors);
     }
 }
 
@@ -283,6 +321,6 @@ int main(int count, char **words) {
     for (const Work &work : {heartbeats(), in_order(1), in_order(10), in_order(30), in_order_at_once(1), repeated(),
                              two_lines(), stored(), never_empty(), never_empty_behind()})
         run_row(work, rounds);
-    run_threads(brief ? 3 : 2000);
+    run_threads(brief ? 3 : 200);
     return 0;
 }

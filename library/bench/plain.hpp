@@ -267,6 +267,35 @@ private:
     Report reports_[2];
 };
 
+/// A receiver whose messages are asked for, with the calls of the library: it copies them into a batch, and its calls
+/// are calls, as those of any library that is compiled by itself.
+template <bool keeps_memory>
+class Listener {
+public:
+    Listener(const std::uint8_t *session, std::uint64_t next, std::uint32_t window)
+        : receiver_(session, next, window) {}
+
+    [[gnu::noinline]] std::uint32_t take(std::uint32_t line, const std::uint8_t *bytes, std::size_t length,
+                                         mold_told &told) {
+        const auto copy = [this](std::uint64_t, const std::uint8_t *at, std::size_t size) { batch_.push(at, size); };
+        return receiver_.take(line, bytes, length, told, copy);
+    }
+
+    /// Lends the first messages of the batch, as many as the array has room for.
+    [[gnu::noinline]] std::size_t messages(mold_bytes *array, std::size_t room) const {
+        const std::size_t count = std::min(room, batch_.size());
+        for (std::size_t i = 0; i < count; i++)
+            array[i] = batch_[i];
+        return count;
+    }
+
+    [[gnu::noinline]] void clear() { batch_.clear(); }
+
+private:
+    Receiver<keeps_memory> receiver_;
+    Batch batch_;
+};
+
 } // namespace plain
 
 #endif
