@@ -31,9 +31,10 @@
  * lent to a call may be thrown away when it returns: the library keeps copies.
  *
  * CODES. A call that may refuse answers a code: 0 where it is done, and else the first reason that applies, in the
- * order in which the call names them. After any code but 0 what the handle holds is as it was, and so are outputs, but
- * for those that the call names: a number that goes with the refusal is written, and where a call has such an output, a
- * refusal without a number, but MOLD_BROKEN, writes 0 to it. A code has one meaning for ever.
+ * order in which the call names them. After any code but 0 what the handle holds is as it was, but that the report of a
+ * line counts a datagram that is refused on it. Outputs are as they were, but for those that the call names: where it
+ * has one for a number, the number that goes with the refusal is written to it, or 0 where there is none; MOLD_BROKEN
+ * writes nothing, and what else writes nothing says so. A code has one meaning for ever.
  *
  * NUMBERS. The messages of a session have the sequence numbers 1, 2, 3 and so on. Lengths and sizes are in bytes, and
  * numbers in structs are in the machine's own order. A session is any ten bytes. */
@@ -59,7 +60,7 @@ enum {
     MOLD_FULL = 5,            /* no room is left in the packet */
     MOLD_BROKEN = 6,          /* a handle that is empty, of another kind or in use; or fields that can't be */
     MOLD_MEMORY = 7,          /* memory was refused */
-    MOLD_WRONG_SESSION = 8,   /* a packet, a request or a plan of another session */
+    MOLD_WRONG_SESSION = 8,   /* a packet or a request of another session */
     MOLD_SEQUENCE_ZERO = 9,   /* the sequence number 0, which no message has */
     MOLD_PAST_LAST = 10,      /* a packet whose numbers go above the greatest, 18446744073709551615 */
     MOLD_END_CONFLICT = 11,   /* another end of the session than the one that was told */
