@@ -15,7 +15,7 @@ use Rattle.std.proofs.lemmas.Map.Keys.{sorted_head, sorted_tail}
 use Rattle.std.proofs.lemmas.Map.Views.{All-found}
 use Rattle.std.proofs.lemmas.Option.{none-some, same_Some}
 use Rattle.std.specs.Cmp.{nat_cmp_is, nat_cmp_total}
-use Rattle.mold_ranges.specs.Ranges.{Range, range, ranges, joined}
+use Rattle.mold_rule.specs.Ranges.{Range, range, ranges, joined}
 use Rattle.mold_capture.specs.declared.run.Run.{Run}
 use Rattle.mold_capture.specs.Runs.{Runs, pairs_of, HasRun, AreRuns, Covers}
 use Rattle.mold_capture.specs.Verdict.{lacks, gap, gaps}

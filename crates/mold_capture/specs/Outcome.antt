@@ -1,7 +1,7 @@
 -- What a check of datagrams tells.
 use Rattle.std.specs.Prelude.{◌≡◌, ◌⊎◌, ℕ, ◌+◌, ◌<◌, List, [], take, length, slice_index_or, Option, Some, Result}
 use Rattle.std.specs.Prelude.{MatchResult}
-use Rattle.mold_ranges.specs.Ranges.{Range}
+use Rattle.mold_rule.specs.Ranges.{Range}
 use Rattle.mold_capture.specs.Consistent.{Consistent, Whole}
 use Rattle.mold_capture.specs.Refusal.{reason}
 use Rattle.mold_capture.specs.Seen.{seen_of}

@@ -2,7 +2,7 @@
 use Rattle.std.specs.Prelude.{◌≡◌, ℕ, ◌+◌, ◌-◌, ◌<◌, ◌≤◌, Bool, nat_lt, is_none, List, [], ◌∷◌, ◌++◌, length, map}
 use Rattle.std.specs.Prelude.{Some, if◌then◌else◌}
 use Rattle.std.specs.FinMap as finite
-use Rattle.mold_ranges.specs.Ranges as lacking
+use Rattle.mold_rule.specs.Ranges as lacking
 use Rattle.mold_capture.specs.Consistent.{Consistent, Whole}
 use Rattle.mold_capture.specs.Seen.{Pairs, Seen, seen_of}
 use Rattle.mold_capture.specs.declared.run.Run.{Run}

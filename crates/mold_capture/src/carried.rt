@@ -4,7 +4,7 @@ ghost use Rattle.std.specs.Prelude.{◌≡◌, ◌+◌, ◌-◌, ◌<◌, ◌≤
 ghost use Rattle.std.specs.Prelude.{OnErr};
 ghost use Rattle.std.specs.FinMap as finite;
 ghost use Rattle.std.specs.Ordering.{nat_cmp};
-ghost use Rattle.mold_ranges.specs.Ranges as lacking;
+ghost use Rattle.mold_rule.specs.Ranges as lacking;
 ghost use Rattle.mold_capture.specs.Refusal.{conflict, told};
 ghost use Rattle.mold_rule.specs.Refusals.{conflict_at};
 ghost use Rattle.mold_capture.specs.Seen.{BringNew, pairs_with};
@@ -17,8 +17,8 @@ use crate::missing::find_gaps;
 use crate::run::{Run, is_free};
 use crate::verdict::Range;
 use mold_messages::MessageList;
-use mold_ranges::laws::ranges_walk_law;
 use mold_rule::Refusal as Reason;
+use mold_rule::laws::ranges_walk_law;
 use mold_wire::Blocks;
 use std::alloc::{AllocError, Global};
 use std::collections::BTreeMap;

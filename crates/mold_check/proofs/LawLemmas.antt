@@ -8,7 +8,7 @@ use Rattle.std.proofs.lemmas.List.{get_or-append-add, take-append-le, take_all}
 use Rattle.std.proofs.lemmas.List.Elements.{All-head, All-tail}
 use Rattle.std.proofs.lemmas.Option.{none-some, same_Some}
 use Rattle.mold_wire.specs.Block.{IsBytes}
-use Rattle.mold_ranges.specs.Ranges as lacking
+use Rattle.mold_rule.specs.Ranges as lacking
 use Rattle.mold_rule.specs.declared.refusal.Refusal.{Refusal as Reason}
 use Rattle.mold_capture.specs.Consistent.{Consistent, Whole}
 use Rattle.mold_capture.specs.Outcome.{Outcome, whole, incomplete, refused, IsOutcome}
@@ -18,7 +18,7 @@ use Rattle.mold_capture.specs.Verdict.{IsWholeSeen, lacks, missing_in}
 use Rattle.mold_check.specs.CheckLines.{one_behind, outcome_at, outcome_from, outcome_of, outcome_or}
 use Rattle.mold_check.proofs.VerdictLemmas.{NoneLacks, is_whole, whole_at}
 
--- what the laws of `mold_capture` and `mold_ranges` say
+-- what the laws of `mold_capture` and `mold_rule` state
 pub record CaptureLaws : Type 0 where
   pub none : Consistent []
   pub accepted : (list : List (List ℕ)) (bytes : List ℕ) → Consistent list → IsBytes bytes →

@@ -14,7 +14,7 @@ use Rattle.mold_capture.specs.declared.verdict.Verdict.{Verdict}
 use Rattle.mold_devices.specs.Devices.{AppendsFront, one_more}
 use Rattle.mold_devices.specs.declared.fault.CommandFault.{CommandFault}
 use Rattle.mold_devices.specs.Lines.{lines_of, GivesLine}
-use Rattle.mold_ranges.specs.Ranges as lacking
+use Rattle.mold_rule.specs.Ranges as lacking
 use Rattle.mold_rule.specs.declared.refusal.Refusal.{Refusal as Reason}
 use Rattle.mold_text.specs.Line.{behind_space, joined, line_of}
 use Rattle.mold_text.specs.Text.{refused_line}

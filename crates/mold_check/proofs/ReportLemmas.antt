@@ -6,7 +6,7 @@ use Rattle.std.specs.Prelude.{Result, Ok, Err, IsErr, IsErrAnd, IfErr}
 use Rattle.mold_devices.specs.Devices.{AppendsFront, Counts, one_more}
 use Rattle.mold_devices.specs.declared.fault.CommandFault.{CommandFault}
 use Rattle.mold_devices.specs.declared.fault.CommandFault.TheVariants as fault
-use Rattle.mold_ranges.specs.Ranges as lacking
+use Rattle.mold_rule.specs.Ranges as lacking
 use Rattle.mold_capture.specs.Verdict.{ranges_of}
 use Rattle.mold_capture.specs.declared.verdict.Range.{Range}
 use Rattle.mold_devices.specs.Faults.{CountsSink, CountsSinkFault}

@@ -4,7 +4,7 @@ use Rattle.std.proofs.Common.{add-one, inl, inr}
 use Rattle.std.specs.Prelude.{Option, None, Some, is_none}
 use Rattle.std.specs.FinMap as finite
 use Rattle.std.proofs.lemmas.Bool.{cases_eq, eq-eqb, ne_eqb, true≢false}
-use Rattle.mold_ranges.specs.Ranges as lacking
+use Rattle.mold_rule.specs.Ranges as lacking
 use Rattle.mold_capture.specs.Outcome.{whole, incomplete, outcome_in}
 use Rattle.mold_capture.specs.Seen.{Seen, Pairs}
 use Rattle.mold_capture.specs.Verdict.{IsVerdict, IsWholeSeen, lacks, missing_in}
@@ -12,7 +12,7 @@ use Rattle.mold_capture.specs.declared.verdict.Verdict.{Verdict}
 use Rattle.mold_capture.specs.declared.verdict.Verdict.TheVariants.{Whole as IsWhole, Incomplete}
 use Rattle.mold_check.specs.CheckLines.{outcome_at}
 
--- where each number is there, none is lacking, as the law of `mold_ranges` says
+-- where each number is there, none is lacking, as the law of `mold_rule` says
 abbrev pub NoneLacks : Type 0
 NoneLacks = (test : ℕ → Bool) (low count : ℕ) →
     ((number : ℕ) → low ≤ number → number < low + count → test number ≡ false) → lacking.lacking test low count ≡ 0

@@ -9,7 +9,7 @@ use Rattle.mold_capture.specs.Seen.{Seen, after, seen_of}
 use Rattle.mold_capture.specs.Verdict.{lacks, missing_in}
 use Rattle.mold_devices.specs.Devices.{one_more}
 use Rattle.mold_devices.specs.Lines.{lines_of}
-use Rattle.mold_ranges.specs.Ranges as lacking
+use Rattle.mold_rule.specs.Ranges as lacking
 use Rattle.mold_rule.specs.declared.refusal.Refusal.{Refusal as Reason}
 use Rattle.mold_text.specs.Line.{joined, line_of}
 use Rattle.mold_text.specs.Text.{refused_line}

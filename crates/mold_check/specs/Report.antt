@@ -2,7 +2,7 @@
 use Rattle.std.specs.Prelude.{ℕ, ◌-◌, List, [], ◌∷◌, ◌++◌, length, map, slice_index_or, codes, decimal, Option}
 use Rattle.std.specs.Prelude.{None, Some}
 use Rattle.std.specs.List.{flat_map}
-use Rattle.mold_ranges.specs.Ranges.{Range}
+use Rattle.mold_rule.specs.Ranges.{Range}
 use Rattle.mold_text.specs.Line.{line_of}
 use Rattle.mold_text.specs.Text.{refusal_words, refused_line}
 use Rattle.mold_capture.specs.Outcome.{Outcome, whole, incomplete, refused, IsOutcome}

@@ -8,7 +8,7 @@ ghost use Rattle.mold_capture.specs.Outcome.{IsOutcome};
 ghost use Rattle.mold_check.specs.CheckLines.{datagrams_of, outcome_of};
 
 use mold_capture::laws::{after_law, reason_law, whole_is_one_law};
-use mold_ranges::laws::lacking_law;
+use mold_rule::laws::lacking_law;
 
 /// The outcome that is computed of datagrams is what `mold_capture` calls one: so `mold check` tells the same of
 /// datagrams, whether they are files or lines. It is so of all lines, whatever bytes they are.

@@ -12,7 +12,7 @@ ghost use Rattle.mold_devices.specs.Faults.{CountsSink};
 use crate::report::tell_verdict;
 use mold_capture::{Checker, Reason};
 use mold_devices::{CommandFault, Sink, send};
-use mold_ranges::laws::lacking_law;
+use mold_rule::laws::lacking_law;
 use mold_text::{Word, push_line, push_line_with, push_refusal};
 use std::alloc::{AllocError, Global};
 

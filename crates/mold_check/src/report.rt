@@ -9,7 +9,7 @@ ghost use Rattle.mold_check.specs.Report.{Checked, counts_line, incomplete_line,
 ghost use Rattle.mold_check.specs.Report.{missing_text, outcome_status, outcome_text, report};
 ghost use Rattle.mold_devices.specs.Devices.{AppendsFront};
 ghost use Rattle.mold_devices.specs.Faults.{CountsSink};
-ghost use Rattle.mold_ranges.specs.Ranges as lacking;
+ghost use Rattle.mold_rule.specs.Ranges as lacking;
 ghost use Rattle.mold_text.specs.Text.{refusal_words, refused_line};
 
 use crate::datagrams::{lend_bytes, sorted_datagrams};

@@ -4,7 +4,7 @@ use Rattle.std.specs.Prelude.{map, take, drop, Option, None, Some, unwrap_or}
 use Rattle.mold_capture.specs.Refusal.{refusal}
 use Rattle.mold_capture.specs.Seen.{BringsNew, Seen, after}
 use Rattle.mold_capture.specs.Verdict.{IsWholeSeen, missing_in}
-use Rattle.mold_ranges.specs.Ranges as missing
+use Rattle.mold_rule.specs.Ranges as missing
 use Rattle.mold_rule.specs.declared.refusal.Refusal.{Refusal}
 use Rattle.mold_ffi.specs.Codes.{done, memory, refused_code, refused_detail}
 use Rattle.mold_ffi.specs.declared.held.Held.{Held}

@@ -13,7 +13,7 @@ use Rattle.mold_wire.specs.Reading.{reading}
 use Rattle.mold_wire.specs.declared.packet.Body.{Body}
 use Rattle.mold_wire.specs.declared.packet.Body.TheVariants.{Data, End}
 use Rattle.mold_wire.specs.declared.packet.Packet.{Packet}
-use Rattle.mold_ranges.specs.Ranges.{lacking}
+use Rattle.mold_rule.specs.Ranges.{lacking}
 use Rattle.mold_rule.specs.declared.refusal.Refusal.{Refusal as Refused}
 use Rattle.mold_receiver.specs.Gap.{HandsOn, IsTakenInGap, Took, messages_from}
 use Rattle.mold_receiver.specs.Receive.{data_packet, decide, handed_on, receive_read, reception, refusal, view_after}

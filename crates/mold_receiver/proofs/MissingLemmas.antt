@@ -5,7 +5,7 @@ use Rattle.std.specs.Prelude.{Option, None, Some, is_none, is_some}
 use Rattle.std.specs.Cmp.{unsigned_tied, nat_cmp_total}
 use Rattle.std.specs.FinMap as finite
 use Rattle.std.proofs.lemmas.Bool.{cases_eq, cond-true, cond-false, eq-eqb, ne_eqb}
-use Rattle.mold_ranges.specs.Ranges.{lacking}
+use Rattle.mold_rule.specs.Ranges.{lacking}
 use Rattle.mold_receiver.specs.Store.{Message, Store}
 use Rattle.mold_receiver.specs.View.{View, IsWellFormed}
 use Rattle.mold_receiver.specs.Wanted.{lacks, missing}

@@ -3,7 +3,7 @@ use Rattle.std.specs.Prelude.{◌≡◌, true, ℕ, zero, suc, ◌+◌, ◌-◌,
 use Rattle.std.specs.Prelude.{is_some, is_none, ◌==◌, if◌then◌else◌}
 use Rattle.std.specs.FinMap as finite
 use Rattle.mold_wire.specs.declared.request.Request.{Request}
-use Rattle.mold_ranges.specs.Ranges.{Range, ranges}
+use Rattle.mold_rule.specs.Ranges.{Range, ranges}
 use Rattle.mold_receiver.specs.Store.{Message, Store}
 use Rattle.mold_receiver.specs.View.{View}
 

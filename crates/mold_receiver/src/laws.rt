@@ -9,6 +9,7 @@ ghost use Rattle.mold_wire.specs.Packet.{Spells, messages_of, top_of};
 ghost use Rattle.mold_wire.specs.declared.packet.Packet.{Packet};
 ghost use Rattle.mold_wire.specs.declared.request.Request.{Request};
 ghost use Rattle.mold_wire.specs.declared.session.Session.{Session};
+ghost use Rattle.mold_rule.specs.Ranges.{lacking, size};
 ghost use Rattle.mold_rule.specs.declared.refusal.Refusal.TheVariants.{Memory};
 ghost use Rattle.mold_receiver.specs.Batch.{Handed, Follows, followed_by};
 ghost use Rattle.mold_wire.specs.Truth.{Carries, IsTruePacket};
@@ -18,10 +19,8 @@ ghost use Rattle.mold_receiver.specs.Store.{Message, available};
 ghost use Rattle.mold_receiver.specs.View.{View, IsWellFormed, fresh};
 ghost use Rattle.mold_receiver.specs.Wanted.{IsGap, gap_end, gaps, lacks, missing, wanted};
 ghost use Rattle.mold_receiver.specs.Gap.{IsTakenInGap};
-ghost use Rattle.mold_ranges.specs.Ranges.{lacking, size};
 
-use mold_ranges::laws::{lacking_law, ranges_size_law};
-use mold_rule::laws::{cause_law, refusal_law};
+use mold_rule::laws::{cause_law, lacking_law, ranges_size_law, refusal_law};
 use mold_wire::laws::{reading_law, true_packet_law};
 
 /// The new `next` of a packet that is taken is the least number from the old one on that is lacking in what

@@ -4,7 +4,7 @@ use Rattle.std.proofs.Common.{length, length-drop, length-take, length-append, t
 use Rattle.std.proofs.Common.{sym, ap, ◌∙◌, inl, inr, arith, sum_by}
 use Rattle.std.proofs.lemmas.Bool.{cond-true, cond-false, ne_eqb, cases_eq, eq-eqb}
 use Rattle.std.proofs.lemmas.List.Sums.{sum_by-cons}
-use Rattle.mold_ranges.specs.Ranges.{Range, size}
+use Rattle.mold_rule.specs.Ranges.{Range, size}
 use Rattle.mold_receiver.specs.Store.{Message}
 use Rattle.mold_rounds.specs.Rounds.{asks, asks_within, brought, carried, messages_in, nameless}
 use Rattle.mold_session.specs.Answer.{from_number}

@@ -3,7 +3,7 @@ use Rattle.std.proofs.Common.{◌≡◌, ◌∙◌, ap, ℕ, T, List, [], ◌∷
 use Rattle.std.specs.Prelude.{is_none, ◌-◌, length}
 use Rattle.std.specs.Ordering.{nat_cmp}
 use Rattle.std.specs.FinMap as finite
-use Rattle.mold_ranges.specs.Ranges.{ranges}
+use Rattle.mold_rule.specs.Ranges.{ranges}
 use Rattle.mold_receiver.specs.Store.{Message}
 use Rattle.mold_receiver.specs.Wanted.{missing}
 use Rattle.mold_rounds.specs.Examples.{five, heard, twenty}

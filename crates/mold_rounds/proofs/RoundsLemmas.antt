@@ -6,7 +6,7 @@ use Rattle.std.proofs.lemmas.List.{drop-drop, drop-take}
 use Rattle.std.proofs.lemmas.List.Sums.{sum_by-cons}
 use Rattle.std.specs.Prelude.{Option, None, Some, is_none, is_some}
 use Rattle.std.specs.FinMap as finite
-use Rattle.mold_ranges.specs.Ranges.{Range, range, ranges}
+use Rattle.mold_rule.specs.Ranges.{Range, range, ranges}
 use Rattle.mold_receiver.specs.Gap.{Took}
 use Rattle.mold_receiver.specs.Store.{Message}
 use Rattle.mold_receiver.specs.View.{View}

@@ -1,6 +1,6 @@
 -- How many requests a receiver needs from a server that answers with so many datagrams of so many bytes.
 use Rattle.std.specs.Prelude.{ℕ, zero, suc, List, [], length, take, drop, sum_by, ◌==◌, if◌then◌else◌}
-use Rattle.mold_ranges.specs.Ranges.{Range}
+use Rattle.mold_rule.specs.Ranges.{Range}
 use Rattle.mold_receiver.specs.Store.{Message}
 use Rattle.mold_receiver.specs.View.{View}
 use Rattle.mold_receiver.specs.Wanted.{gaps}

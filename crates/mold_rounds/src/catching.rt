@@ -8,9 +8,9 @@ ghost use Rattle.mold_rounds.specs.Rounds.{rounds};
 
 use crate::memory::Memory;
 use crate::rounding::take_round;
-use mold_ranges::laws::ranges_walk_law;
 use mold_receiver::laws::{followed_law, wanted_law};
 use mold_receiver::{Batch, Receiver};
+use mold_rule::laws::ranges_walk_law;
 use mold_session::{Journal, Server};
 
 /// Catches a receiver up with the journal of its session: while something is wanted, a request for it goes to

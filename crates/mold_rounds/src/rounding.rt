@@ -11,9 +11,9 @@ ghost use Rattle.mold_session.specs.Answer.{planned};
 ghost use Rattle.mold_session.specs.Server.{IsServer, counted};
 
 use crate::memory::Memory;
-use mold_ranges::laws::ranges_walk_law;
 use mold_receiver::laws::{followed_law, round_law, wanted_law};
 use mold_receiver::{Batch, Receiver, Refused};
+use mold_rule::laws::ranges_walk_law;
 use mold_session::laws::{
     answer_not_empty_law, answered_law, first_part_law, packing_law, planned_law,
 };

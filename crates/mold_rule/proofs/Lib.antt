@@ -1,1 +1,4 @@
 pub mod RefusalLemmas
+pub mod RangeLemmas
+pub mod LongestLemmas
+pub mod LackingLemmas

@@ -1,2 +1,3 @@
 pub mod Held
+pub mod Ranges
 pub mod Refusals

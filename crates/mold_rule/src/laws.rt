@@ -1,7 +1,11 @@
-//! What holds of the rule, for all packets. Each law is a function that does nothing: its contract is the law.
+//! What holds of the rule for all packets, and of the ranges for any missing numbers. Each law is a function
+//! that does nothing: its contract is the law.
 
-ghost use Rattle.std.specs.Prelude.{◌≡◌, ℕ, List, Option, None, Some};
+ghost use Rattle.std.specs.Prelude.{◌≡◌, ◌⊎◌, ◌+◌, ◌<◌, ◌≤◌, ◌∷◌, [], true, false, Bool, ℕ, suc, List, Option};
+ghost use Rattle.std.specs.Prelude.{None, Some, slice_get};
+ghost use Rattle.std.specs.List.{sum_by};
 ghost use Rattle.mold_wire.specs.declared.packet.Packet.{Packet};
+ghost use Rattle.mold_rule.specs.Ranges.{Range, IsLongest, lacking, range, ranges, size};
 ghost use Rattle.mold_rule.specs.Refusals.{IsAdmitted, refusal_of};
 ghost use Rattle.mold_rule.specs.declared.refusal.Refusal.TheVariants.{Memory};
 
@@ -20,4 +24,55 @@ pub fn refusal_law()
 pub fn cause_law()
     ensures { (session : Option (List ℕ)) (known : ℕ) (ended differs : Option ℕ) (p : Packet) →
         refusal_of session known ended differs p ≡ Some Memory → ⊥ }
+{}
+
+/// The ranges are just the longest ones of lacking numbers, in ascending order, with a number between each
+/// two of them.
+pub fn ranges_law()
+    ensures longest { (lacks : ℕ → Bool) (low count i : ℕ) (r : Range) →
+        slice_get (ranges lacks low count) i ≡ Some r → IsLongest lacks low (low + count) r }
+    ensures each { (lacks : ℕ → Bool) (low count : ℕ) (r : Range) →
+        IsLongest lacks low (low + count) r → (i : ℕ) × (slice_get (ranges lacks low count) i ≡ Some r) }
+    ensures ascending { (lacks : ℕ → Bool) (low count i j : ℕ) (r s : Range) →
+        slice_get (ranges lacks low count) i ≡ Some r → slice_get (ranges lacks low count) j ≡ Some s →
+        i < j → r.last + 1 < s.first }
+{}
+
+/// How the ranges are found by walking over the numbers: those that are there are passed over, and those
+/// that are lacking, up to one that is there or to the end, are the first range. What else is lacking
+/// doesn't matter.
+pub fn ranges_walk_law()
+    ensures none { (lacks : ℕ → Bool) (low : ℕ) → ranges lacks low 0 ≡ [] }
+    ensures skip { (lacks : ℕ → Bool) (low count more : ℕ) →
+        ((number : ℕ) → low ≤ number → number < low + count → lacks number ≡ false) →
+        ranges lacks low (count + more) ≡ ranges lacks (low + count) more }
+    ensures run { (lacks : ℕ → Bool) (low count more : ℕ) →
+        ((number : ℕ) → low ≤ number → number < low + suc count → lacks number ≡ true) →
+        (more ≡ 0) ⊎ (lacks (low + suc count) ≡ false) →
+        ranges lacks low (suc count + more) ≡ range low (low + count) ∷ ranges lacks (low + suc count) more }
+    ensures same { (lacks other : ℕ → Bool) (low count : ℕ) →
+        ((number : ℕ) → low ≤ number → number < low + count → lacks number ≡ other number) →
+        ranges lacks low count ≡ ranges other low count }
+{}
+
+/// The sizes of the ranges are together how many numbers are lacking.
+#[tactic(auto, using(crate::proofs::RangeLemmas::ranges_size))]
+pub fn ranges_size_law()
+    ensures { (lacks : ℕ → Bool) (low count : ℕ) →
+        sum_by size (ranges lacks low count) ≡ lacking lacks low count }
+{}
+
+/// How many numbers are lacking is counted in parts: all where each is lacking, none where each is there.
+pub fn lacking_law()
+    ensures parts { (lacks : ℕ → Bool) (low count more : ℕ) →
+        lacking lacks low (count + more) ≡ lacking lacks low count + lacking lacks (low + count) more }
+    ensures all { (lacks : ℕ → Bool) (low count : ℕ) →
+        ((number : ℕ) → low ≤ number → number < low + count → lacks number ≡ true) →
+        lacking lacks low count ≡ count }
+    ensures none { (lacks : ℕ → Bool) (low count : ℕ) →
+        ((number : ℕ) → low ≤ number → number < low + count → lacks number ≡ false) →
+        lacking lacks low count ≡ 0 }
+    ensures same { (lacks other : ℕ → Bool) (low count : ℕ) →
+        ((number : ℕ) → low ≤ number → number < low + count → lacks number ≡ other number) →
+        lacking lacks low count ≡ lacking other low count }
 {}

@@ -1,5 +1,5 @@
-//! Which downstream packets are refused, by what is known of their session, and why: the one rule of a receiver
-//! and of a checker of captured datagrams.
+//! The one rule of a receiver and of a checker of captured datagrams: which downstream packets are refused, by
+//! what is known of their session, and which ranges of sequence numbers are missing.
 #![tactic(auto)]
 
 mod header;

@@ -1,6 +1,6 @@
 use Rattle.std.proofs.Common.{◌+◌, ◌++◌, ℕ, List, ◌∷◌, ap, sym, subst, ◌∙◌, arith, append_assoc}
 use Rattle.std.specs.List.{All}
-use Rattle.mold_ranges.specs.Ranges as lacking
+use Rattle.mold_rule.specs.Ranges as lacking
 use Rattle.mold_capture.specs.declared.run.Run.{Run}
 use Rattle.mold_capture.specs.declared.verdict.Range.{Range}
 use Rattle.mold_capture.specs.Runs.{HasRun}

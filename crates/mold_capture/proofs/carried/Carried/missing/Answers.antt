@@ -1,7 +1,7 @@
 use Rattle.std.proofs.Common.{◌≡◌, ℕ, ◌-◌, ◌<◌, ◌≤◌, List, subst, sym, ◌∙◌, ap}
 use Rattle.std.specs.FinMap as finite
 use Rattle.std.specs.Prelude.{Some}
-use Rattle.mold_ranges.specs.Ranges as lacking
+use Rattle.mold_rule.specs.Ranges as lacking
 use Rattle.mold_capture.specs.Runs.{carried}
 use Rattle.mold_capture.specs.Seen.{Pairs}
 use Rattle.mold_capture.specs.Verdict.{lacks}

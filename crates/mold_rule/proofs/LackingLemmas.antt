@@ -1,6 +1,6 @@
 -- How many numbers are lacking, counted in parts.
 use Rattle.std.proofs.Common.{◌≡◌, ℕ, zero, suc, ◌+◌, ◌<◌, ◌≤◌, Bool, true, false, cond, refl, ap, ◌∙◌, arith}
-use Rattle.mold_ranges.specs.Ranges.{lacking}
+use Rattle.mold_rule.specs.Ranges.{lacking}
 
 pub lacking_parts : (lacks : ℕ → Bool) (low count more : ℕ) →
     lacking lacks low (count + more) ≡ lacking lacks low count + lacking lacks (low + count) more

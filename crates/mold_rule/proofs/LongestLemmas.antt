@@ -3,7 +3,7 @@ use Rattle.std.proofs.Common.{◌≡◌, ℕ, zero, suc, ◌+◌, ◌-◌, ◌<�
 use Rattle.std.proofs.Common.{ap, subst, ◌∙◌, inl, inr, arith}
 use Rattle.std.specs.Prelude.{Option, None, Some, slice_get}
 use Rattle.std.proofs.lemmas.Bool.{true≢false, cases_eq, cases_lt, cases_Bool, cond-true, cond-false, eq-eqb, ne_eqb}
-use Rattle.mold_ranges.specs.Ranges.{Range, IsLongest, joined, range, ranges}
+use Rattle.mold_rule.specs.Ranges.{Range, IsLongest, joined, range, ranges}
 
 none_some : {r : Range} → ◌≡◌ {A = Option Range} None (Some r) → ⊥
 none_some e = cc

@@ -1,5 +1,5 @@
-use Rattle.mold_ranges.proofs.LackingLemmas.{all_lacking, lacking_parts, lacking_same, none_lacking}
-use Rattle.mold_ranges.proofs.laws.lacking_law.Goals as goal
+use Rattle.mold_rule.proofs.LackingLemmas.{all_lacking, lacking_parts, lacking_same, none_lacking}
+use Rattle.mold_rule.proofs.laws.lacking_law.Goals as goal
 
 pub returns-clause-parts : goal.returns-clause-parts
 returns-clause-parts c = lacking_parts

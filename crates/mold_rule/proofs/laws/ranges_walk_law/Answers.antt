@@ -1,5 +1,5 @@
-use Rattle.mold_ranges.proofs.RangeLemmas.{ranges_none, ranges_run, ranges_same, ranges_skip}
-use Rattle.mold_ranges.proofs.laws.ranges_walk_law.Goals as goal
+use Rattle.mold_rule.proofs.RangeLemmas.{ranges_none, ranges_run, ranges_same, ranges_skip}
+use Rattle.mold_rule.proofs.laws.ranges_walk_law.Goals as goal
 
 pub returns-clause-none : goal.returns-clause-none
 returns-clause-none c = ranges_none

@@ -1,5 +1,5 @@
-use Rattle.mold_ranges.proofs.LongestLemmas.{longest_among, ranges_ascend, ranges_longest}
-use Rattle.mold_ranges.proofs.laws.ranges_law.Goals as goal
+use Rattle.mold_rule.proofs.LongestLemmas.{longest_among, ranges_ascend, ranges_longest}
+use Rattle.mold_rule.proofs.laws.ranges_law.Goals as goal
 
 pub returns-clause-longest : goal.returns-clause-longest
 returns-clause-longest c = ranges_longest

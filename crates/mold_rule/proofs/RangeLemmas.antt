@@ -5,8 +5,8 @@ use Rattle.std.specs.Prelude.{Some, slice_get}
 use Rattle.std.specs.List.{sum_by}
 use Rattle.std.proofs.lemmas.Bool.{true≢false, cases_eq, cases_Bool, cond-true, cond-false, eq-eqb, ne_eqb}
 use Rattle.std.proofs.lemmas.List.Sums.{sum_by-cons}
-use Rattle.mold_ranges.specs.Ranges.{Range, joined, lacking, range, ranges, size}
-use Rattle.mold_ranges.proofs.LongestLemmas.{are_longest}
+use Rattle.mold_rule.specs.Ranges.{Range, joined, lacking, range, ranges, size}
+use Rattle.mold_rule.proofs.LongestLemmas.{are_longest}
 
 pub ranges_none : (lacks : ℕ → Bool) (low : ℕ) → ranges lacks low 0 ≡ []
 unfolding ranges
