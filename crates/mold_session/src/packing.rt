@@ -1,8 +1,13 @@
 //! Messages of a journal put into one datagram.
 
+ghost use Rattle.std.specs.Prelude.{◌≡◌, ◌+◌, ◌≤◌, ◌<◌, length};
 ghost use Rattle.mold_wire.specs.Packer.{IsLimit};
+ghost use Rattle.mold_session.specs.Answer.{IsPlan};
 ghost use Rattle.mold_session.specs.Packing.{HasPacked};
+ghost use Rattle.mold_session.specs.Serving.{HasPackedNext};
 
+use crate::journal::Journal;
+use crate::plan::Plan;
 use mold_messages::MessageIterator;
 use mold_wire::laws::{front_law, packet_length_law};
 use mold_wire::{Packer, Session};
@@ -30,4 +35,18 @@ pub fn pack_front(
         count += 1;
     }
     count
+}
+
+/// Packs the next datagram of a plan and returns how many messages it has.
+pub fn pack_next(packer: &mut Packer, journal: &Journal, plan: &Plan) -> u64
+    requires limit { IsLimit packer.old.limit }
+    requires longest { journal.now.max_message + 22 ≤ packer.old.limit }
+    requires to { plan.now.to ≤ length journal.now.messages + 1 }
+    ensures { HasPackedNext packer.old packer.new journal.now plan.now result }
+{
+    front_law();
+    packet_length_law();
+    let from = plan.from();
+    let messages = journal.iter_from(from - 1);
+    pack_front(packer, plan.session(), from, messages, plan.to() - from)
 }

@@ -10,9 +10,10 @@ ghost use Rattle.mold_session.specs.Server.{IsServer, server_refusal, asking, pl
 ghost use Rattle.mold_session.specs.Truthful.{TellsTruth};
 ghost use Rattle.mold_session.specs.declared.error.ServerError.{ServerError};
 
-use crate::asking::{asked, pack_next};
+use crate::asking::asked;
 use crate::error::{AnswerError, ServerError};
 use crate::journal::Journal;
+use crate::packing::pack_next;
 use crate::plan::Plan;
 use mold_wire::laws::{front_law, packet_length_law, true_packet_law};
 use mold_wire::{MAX_LIMIT, MESSAGE_OVERHEAD, MIN_LIMIT, Packer};

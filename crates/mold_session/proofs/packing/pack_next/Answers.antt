@@ -1,5 +1,5 @@
 use Rattle.mold_session.proofs.ServingLemmas.{packed_next}
-use Rattle.mold_session.proofs.asking.pack_next.Goals as goal
+use Rattle.mold_session.proofs.packing.pack_next.Goals as goal
 
 pub returns : goal.returns
 returns c =
