@@ -4,6 +4,7 @@ use Rattle.std.specs.Box.{boxed_slice_items}
 use Rattle.mold_wire.specs.Packet.{messages_of}
 use Rattle.mold_wire.specs.Packer.{Begun, Nothing, Open, Ended, PackerState, IsLimit, SpellsBegun}
 use Rattle.mold_wire.specs.Reading.{reading}
+use Rattle.mold_wire.specs.declared.header.TheConstants.{HEADER_LENGTH}
 use Rattle.mold_wire.specs.declared.packer.Packer.TheInside.{Inside}
 use Rattle.mold_wire.specs.declared.packet.Packet.{Packet}
 use Rattle.mold_wire.specs.declared.error.DecodeError.{DecodeError}
@@ -54,4 +55,4 @@ pub record Holds (fields : Fields) (begun : Begun) : Type 0 where
 pub record CanHold (limit used count : ℕ) (is_open : Bool) : Type 0 where
   pub is_limit : IsLimit limit
   pub within : used ≤ limit
-  pub laid : is_open ≡ true → 20 + 2 * count ≤ used
+  pub laid : is_open ≡ true → HEADER_LENGTH + 2 * count ≤ used

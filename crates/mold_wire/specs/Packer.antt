@@ -2,6 +2,7 @@
 use Rattle.std.specs.Prelude.{◌≡◌, ℕ, ◌+◌, ◌≤◌, List, [], ◌∷◌, ◌++◌}
 use Rattle.mold_wire.specs.Packet.{Spells}
 use Rattle.mold_wire.specs.Packing.{packet_length, Fits}
+use Rattle.mold_wire.specs.declared.limits.TheConstants.{MAX_LIMIT, MIN_LIMIT}
 use Rattle.mold_wire.specs.declared.session.Session.{Session}
 use Rattle.mold_wire.specs.declared.packet.Packet.{Packet}
 use Rattle.mold_wire.specs.declared.packet.Body.{Body}
@@ -18,9 +19,9 @@ pub record PackerState : Type 0 where
   pub limit : ℕ
   pub begun : Begun
 
--- the limits that a packer may have, in bytes; the last is the greatest payload of UDP over IPv4
+-- the limits that a packer may have, in bytes
 abbrev pub IsLimit : ℕ → Type 0
-IsLimit limit = (64 ≤ limit) × (limit ≤ 65507)
+IsLimit limit = (MIN_LIMIT ≤ limit) × (limit ≤ MAX_LIMIT)
 
 -- an open packet is a heartbeat until it has a message
 abbrev pub body_with : List (List ℕ) → Body

@@ -3,6 +3,7 @@ use Rattle.std.specs.Prelude.{◌≡◌, ℕ, ◌+◌, ◌<◌, ◌^◌, List, [
 use Rattle.std.specs.List.{AllByRecursion}
 use Rattle.mold_wire.specs.Block.{IsMessage, blocks}
 use Rattle.mold_wire.specs.Header.{header_bytes}
+use Rattle.mold_wire.specs.declared.header.TheConstants.{END_OF_SESSION}
 use Rattle.mold_wire.specs.declared.packet.Packet.{Packet}
 use Rattle.mold_wire.specs.declared.packet.Body.{Body}
 use Rattle.mold_wire.specs.declared.packet.Body.TheVariants.{Data, Heartbeat, End}
@@ -13,19 +14,19 @@ messages_of (Data messages) = messages
 messages_of Heartbeat = []
 messages_of End = []
 
--- the message count of the header: 0 is a heartbeat, 65535 the end of the session
+-- the message count of the header: 0 is a heartbeat, `END_OF_SESSION` the end of the session
 abbrev pub count_of : Body → ℕ
 count_of (Data messages) = length messages
 count_of Heartbeat = 0
-count_of End = 65535
+count_of End = END_OF_SESSION
 
 -- how many blocks a message count states: none where it says that the session ends
 abbrev pub stated_blocks : ℕ → ℕ
-stated_blocks count = if count == 65535 then 0 else count
+stated_blocks count = if count == END_OF_SESSION then 0 else count
 
--- a data packet has 1 to 65,534 messages
+-- a data packet has 1 to `MAX_COUNT` messages
 abbrev pub IsBody : Body → Type 0
-IsBody (Data messages) = (0 < length messages) × (length messages < 65535) × AllByRecursion IsMessage messages
+IsBody (Data messages) = (0 < length messages) × (length messages < END_OF_SESSION) × AllByRecursion IsMessage messages
 IsBody Heartbeat = Unit {0}
 IsBody End = Unit {0}
 

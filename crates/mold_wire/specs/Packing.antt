@@ -2,10 +2,11 @@
 -- longest front is, `IsFront` says; `front` computes it, and that the two agree is `laws::front_law`.
 use Rattle.std.specs.Prelude.{◌≡◌, ℕ, zero, suc, ◌+◌, ◌-◌, ◌≤◌, List, [], ◌∷◌, ◌++◌, length, sum_by, nat_le}
 use Rattle.std.specs.Prelude.{if◌then◌else◌}
+use Rattle.mold_wire.specs.declared.header.TheConstants.{HEADER_LENGTH}
 
 -- the bytes of a packet with these messages: a header, and for each message two and its length
 unfoldable pub packet_length : List (List ℕ) → ℕ
-packet_length messages = 20 + sum_by (λ message. 2 + length message) messages
+packet_length messages = HEADER_LENGTH + sum_by (λ message. 2 + length message) messages
 
 -- a packet with these messages keeps the limit
 abbrev pub Fits : ℕ → List (List ℕ) → Type 0

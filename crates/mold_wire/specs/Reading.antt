@@ -4,6 +4,7 @@ use Rattle.std.specs.Prelude.{ℕ, zero, suc, ◌+◌, ◌-◌, List, [], ◌∷
 use Rattle.std.specs.Prelude.{if◌then◌else◌, Result, Ok, Err}
 use Rattle.byteorder.specs.Endian.{big_number}
 use Rattle.mold_wire.specs.Packet.{stated_blocks}
+use Rattle.mold_wire.specs.declared.header.TheConstants.{END_OF_SESSION, HEADER_LENGTH}
 use Rattle.mold_wire.specs.declared.packet.Packet.{Packet}
 use Rattle.mold_wire.specs.declared.packet.Body.{Body}
 use Rattle.mold_wire.specs.declared.packet.Body.TheVariants.{Data, Heartbeat, End}
@@ -26,7 +27,7 @@ blocks_at (suc number) bytes =
 
 -- what a message count makes of the messages that were read
 abbrev pub body_of : ℕ → List (List ℕ) → Body
-body_of count messages = if count == 0 then Heartbeat else (if count == 65535 then End else Data messages)
+body_of count messages = if count == 0 then Heartbeat else (if count == END_OF_SESSION then End else Data messages)
 
 -- a packet of so many bytes by its header and by what its blocks gave
 abbrev pub packet_from : List ℕ → ℕ → ℕ → ℕ → Result (List (List ℕ) × List ℕ) ℕ → Result Packet DecodeError
@@ -39,7 +40,7 @@ packet_from session sequence count len (Err index) = Err (BlockCut index)
 -- the packet that the bytes spell, or their fault
 unfoldable pub reading : List ℕ → Result Packet DecodeError
 reading bytes =
-    if nat_lt (length bytes) 20
+    if nat_lt (length bytes) HEADER_LENGTH
     then Err (Short (length bytes))
     else packet_from (take 10 bytes) (big_number 8 (drop 10 bytes)) (big_number 2 (drop 18 bytes)) (length bytes)
-    (blocks_at (stated_blocks (big_number 2 (drop 18 bytes))) (drop 20 bytes))
+    (blocks_at (stated_blocks (big_number 2 (drop 18 bytes))) (drop HEADER_LENGTH bytes))

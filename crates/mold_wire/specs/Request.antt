@@ -2,6 +2,7 @@
 use Rattle.std.specs.Prelude.{◌≡◌, ℕ, ◌<◌, ◌^◌, List, length, take, drop, ◌==◌, if◌then◌else◌, Result, Ok, Err}
 use Rattle.byteorder.specs.Endian.{big_number}
 use Rattle.mold_wire.specs.Header.{header_bytes}
+use Rattle.mold_wire.specs.declared.header.TheConstants.{HEADER_LENGTH}
 use Rattle.mold_wire.specs.declared.request.Request.{Request}
 use Rattle.mold_wire.specs.declared.error.RequestError.{RequestError}
 use Rattle.mold_wire.specs.declared.error.RequestError.TheVariants.{RequestLength}
@@ -23,12 +24,12 @@ pub record SpellsRequest (request : Request) (bytes : List ℕ) : Type 0 where
 
 -- what is wrong with the bytes, by the name and the number of the refusal
 abbrev pub RequestFaultAt : RequestError → List ℕ → Type 0
-RequestFaultAt (RequestLength len) bytes = (length bytes ≡ 20 → ⊥) × (len ≡ length bytes)
+RequestFaultAt (RequestLength len) bytes = (length bytes ≡ HEADER_LENGTH → ⊥) × (len ≡ length bytes)
 
 -- the request that the bytes spell, or their fault
 unfoldable pub request_reading : List ℕ → Result Request RequestError
 request_reading bytes =
-    if length bytes == 20
+    if length bytes == HEADER_LENGTH
     then Ok (record {
       session = record { 0 = take 10 bytes };
       sequence = big_number 8 (drop 10 bytes);

@@ -3,6 +3,7 @@ use Rattle.std.specs.Prelude.{◌≡◌, ℕ, ◌+◌, ◌-◌, ◌<◌, ◌≤�
 use Rattle.std.specs.Prelude.{if◌then◌else◌}
 use Rattle.std.specs.List.{slice_get}
 use Rattle.mold_wire.specs.Packet.{Spells, messages_of}
+use Rattle.mold_wire.specs.declared.limits.TheConstants.{MAX_NUMBER}
 use Rattle.mold_wire.specs.declared.packet.Packet.{Packet}
 use Rattle.mold_wire.specs.declared.session.Session.{Session}
 use Rattle.mold_wire.specs.declared.packet.Body.{Body}
@@ -33,7 +34,7 @@ IsTrueBody End sequence published closed = (closed ≡ true) × (sequence ≡ le
 
 -- the packet is true of a session that has published these messages and is closed or not
 pub record IsTruePacket (packet : Packet) (published : List (List ℕ)) (closed : Bool) : Type 0 where
-  pub few : length published < 18446744073709551615
+  pub few : length published < MAX_NUMBER
   pub said : IsTrueBody packet.body packet.sequence published closed
 
 -- the bytes spell no packet of the session

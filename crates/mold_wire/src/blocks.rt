@@ -2,11 +2,12 @@
 
 ghost use Rattle.std.specs.Prelude.{◌≡◌, ◌<◌, length, List, ℕ, slice_get};
 ghost use Rattle.std.specs.Option.{option_copied};
+ghost use Rattle.mold_wire.specs.declared.header.TheConstants.{END_OF_SESSION};
 
 use crate::messages::Messages;
 use std::marker::Model;
 
-/// The messages of a data packet, 1 to 65,534 of them, where they lie in the datagram. Nothing is
+/// The messages of a data packet, 1 to `MAX_COUNT` of them, where they lie in the datagram. Nothing is
 /// copied: a message is a slice of the datagram, and lives as long as it. There is no `is_empty`, since
 /// there is always a message.
 #[derive(Clone, Debug, Drop)]
@@ -18,12 +19,13 @@ pub struct Blocks<'a> {
 impl<'a> Model for Blocks<'a> {
     ghost use Rattle.std.specs.Prelude.{ℕ, List, ◌<◌};
     ghost use Rattle.mold_wire.specs.Block.{messages_at, AreBlocks};
+    ghost use Rattle.mold_wire.specs.declared.header.TheConstants.{END_OF_SESSION};
 
     ghost Value = { List (List ℕ) };
 
     ghost view = { λ b. messages_at b.count b.bytes.now };
 
-    ghost invariant = { λ b. (0 < b.count) × (b.count < 65535) × AreBlocks b.count b.bytes.now };
+    ghost invariant = { λ b. (0 < b.count) × (b.count < END_OF_SESSION) × AreBlocks b.count b.bytes.now };
 }
 
 impl<'a> Blocks<'a> {
@@ -31,17 +33,17 @@ impl<'a> Blocks<'a> {
 
     pub(crate) fn new(count: u16, bytes: &'a [u8]) -> Blocks<'a>
         requires some { 0 < count }
-        requires few { count < 65535 }
+        requires few { count < END_OF_SESSION }
         requires spelled { AreBlocks count bytes.now }
         ensures { result ≡ messages_at count bytes.entry.now }
     {
         Blocks { count, bytes }
     }
 
-    /// How many messages there are: 1 to 65,534.
+    /// How many messages there are: 1 to `MAX_COUNT`.
     pub fn len(&self) -> u16
         ensures length { result ≡ length self.now }
-        ensures range { (0 < length self.now) × (length self.now < 65535) }
+        ensures range { (0 < length self.now) × (length self.now < END_OF_SESSION) }
     {
         self.count
     }

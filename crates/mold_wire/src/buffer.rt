@@ -5,6 +5,7 @@ ghost use Rattle.std.specs.Prelude.{length, take, drop, IsTrue, []};
 ghost use Rattle.mold_wire.specs.Block.{block};
 ghost use Rattle.mold_wire.specs.Buffer.{over, Holds, CanHold};
 ghost use Rattle.mold_wire.specs.Header.{recounted};
+ghost use Rattle.mold_wire.specs.declared.header.TheConstants.{END_OF_SESSION, HEADER_LENGTH};
 ghost use Rattle.mold_wire.specs.Packer.{Begun, Open, Ended, IsLimit, HasRoom, with_message};
 
 use crate::block::{LENGTH_BYTES, put_block};
@@ -14,12 +15,12 @@ use crate::session::Session;
 
 // What a packet takes at least: a header, and the length of each message.
 fn least_length(count: u16) -> usize
-    ensures { result ≡ 20 + 2 * count }
+    ensures { result ≡ HEADER_LENGTH + 2 * count }
 {
     HEADER_LENGTH + LENGTH_BYTES * usize::from(count)
 }
 
-/// Whether a datagram may have so many bytes: 64 to 65,507.
+/// Whether a datagram's limit may be this: `MIN_LIMIT` to `MAX_LIMIT`.
 pub fn is_limit(limit: usize) -> bool
     ensures { IsTrue result ↔ IsLimit limit }
 {
@@ -56,7 +57,7 @@ pub fn fits_in(buffer: &[u8], used: usize, is_open: bool, len: usize) -> bool
 /// how many it takes.
 pub fn start_in(buffer: &mut [u8], session: Session, sequence: u64) -> usize
     requires { IsLimit (length buffer.old) }
-    ensures used { result ≡ 20 }
+    ensures used { result ≡ HEADER_LENGTH }
     ensures held { Holds (over buffer.new result 0 true) (Open session sequence []) }
     ensures behind { drop result buffer.new ≡ drop result buffer.old }
 {
@@ -73,8 +74,8 @@ pub fn start_in(buffer: &mut [u8], session: Session, sequence: u64) -> usize
 /// in the header's count. The answer is how many bytes the packet takes then.
 pub fn add_in(buffer: &mut [u8], used: usize, count: u16, message: &[u8]) -> usize
     requires limit { IsLimit (length buffer.old) }
-    requires header { 20 ≤ used }
-    requires few { count < 65535 }
+    requires header { HEADER_LENGTH ≤ used }
+    requires few { count < END_OF_SESSION }
     requires room { used + (2 + length message.now) ≤ length buffer.old }
     ensures used { result ≡ used + (2 + length message.now) }
     ensures written { buffer.new ≡ recounted (count + 1) (take used buffer.old)
@@ -92,7 +93,7 @@ pub fn add_in(buffer: &mut [u8], used: usize, count: u16, message: &[u8]) -> usi
 /// Makes the front of the buffer an end packet, and leaves the bytes behind it. The answer is how many it takes.
 pub fn end_in(buffer: &mut [u8], session: Session, sequence: u64) -> usize
     requires { IsLimit (length buffer.old) }
-    ensures used { result ≡ 20 }
+    ensures used { result ≡ HEADER_LENGTH }
     ensures held { (count : ℕ) → Holds (over buffer.new result count false) (Ended session sequence) }
     ensures behind { drop result buffer.new ≡ drop result buffer.old }
 {

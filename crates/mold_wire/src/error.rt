@@ -5,7 +5,7 @@ use thiserror::Error;
 /// Why a datagram spells no downstream packet. At most one of these applies to any bytes.
 #[derive(Clone, Copy, Debug, PartialEq, Eq, Hash, Error)]
 pub enum DecodeError {
-    /// Fewer than the 20 bytes of a header; the length in bytes.
+    /// Fewer bytes than a header has; the length in bytes.
     #[error("a packet has at least 20 bytes, and this one has {len}")]
     Short { len: usize },
     /// The message count promises more whole blocks than there are; the index of the first block,
@@ -20,7 +20,7 @@ pub enum DecodeError {
 /// Why bytes spell no request packet.
 #[derive(Clone, Copy, Debug, PartialEq, Eq, Hash, Error)]
 pub enum RequestError {
-    /// Another length than the 20 bytes of a request; the length in bytes.
+    /// Another length than a request's, which is a header's; the length in bytes.
     #[error("a request has 20 bytes, and this one has {len}")]
     RequestLength { len: usize },
 }
@@ -28,7 +28,7 @@ pub enum RequestError {
 /// Why a packer is not made.
 #[derive(Clone, Copy, Debug, PartialEq, Eq, Error)]
 pub enum PackerError {
-    /// A limit outside 64 to 65,507 bytes.
+    /// A limit that is not `MIN_LIMIT` to `MAX_LIMIT`.
     #[error("a datagram's limit is 64 to 65,507 bytes")]
     Limit,
     /// The memory for a datagram was refused.

@@ -2,6 +2,7 @@
 
 ghost use Rattle.std.specs.Prelude.{◌≡◌, ◌≤◌, ◌<◌, length, drop, MatchOption};
 ghost use Rattle.mold_wire.specs.Header.{IsHeaderAndRest, recounted};
+ghost use Rattle.mold_wire.specs.declared.header.TheConstants.{HEADER_LENGTH};
 
 use crate::session::{SESSION_LENGTH, Session};
 use byteorder::{BigEndian, ByteOrder};
@@ -34,7 +35,7 @@ pub(crate) struct Header {
 impl Header {
     // The header at the front, and what follows it; none where there is no whole header.
     pub(crate) fn split(bytes: &[u8]) -> Option<(Header, &[u8])>
-        ensures { MatchOption result (length bytes.now < 20)
+        ensures { MatchOption result (length bytes.now < HEADER_LENGTH)
             (λ found. IsHeaderAndRest found.0 bytes.now found.1.now) }
     {
         if bytes.len() < HEADER_LENGTH {
@@ -55,8 +56,8 @@ impl Header {
 
     // Writes the header at the front of the bytes, and leaves what is behind it.
     pub(crate) fn put(self, out: &mut [u8])
-        requires { 20 ≤ length out.old }
-        ensures { IsHeaderAndRest self out.new (drop 20 out.old) }
+        requires { HEADER_LENGTH ≤ length out.old }
+        ensures { IsHeaderAndRest self out.new (drop HEADER_LENGTH out.old) }
     {
         let (name, numbers) = out.split_at_mut(SESSION_LENGTH);
         let (sequence, count) = numbers.split_at_mut(SEQUENCE_LENGTH);
@@ -68,7 +69,7 @@ impl Header {
 
 // Writes the message count in a header that stands there, and leaves the rest.
 pub(crate) fn put_count(packet: &mut [u8], count: u16)
-    requires { 20 ≤ length packet.old }
+    requires { HEADER_LENGTH ≤ length packet.old }
     ensures { packet.new ≡ recounted count packet.old }
 {
     let (_, behind) = packet.split_at_mut(COUNT_AT);

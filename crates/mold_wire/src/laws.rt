@@ -13,10 +13,23 @@ ghost use Rattle.mold_wire.specs.Request.{IsRequest, SpellsRequest, RequestFault
 ghost use Rattle.mold_wire.specs.Truth.{Carries, IsTruePacket, published_at};
 ghost use Rattle.mold_wire.specs.declared.error.DecodeError.{DecodeError};
 ghost use Rattle.mold_wire.specs.declared.error.RequestError.{RequestError};
+ghost use Rattle.mold_wire.specs.declared.header.TheConstants.{END_OF_SESSION, HEADER_LENGTH};
+ghost use Rattle.mold_wire.specs.declared.limits.TheConstants.{MAX_COUNT, MAX_LIMIT, MAX_NUMBER, MESSAGE_OVERHEAD};
+ghost use Rattle.mold_wire.specs.declared.limits.TheConstants.{MIN_LIMIT};
 ghost use Rattle.mold_wire.specs.declared.packet.Body.TheVariants.{Data};
 ghost use Rattle.mold_wire.specs.declared.packet.Packet.{Packet};
 ghost use Rattle.mold_wire.specs.declared.request.Request.{Request};
 ghost use Rattle.mold_wire.specs.declared.session.Session.{Session};
+
+/// The numbers that the standard fixes, and the limits of datagrams, written out.
+pub fn constants_law()
+    ensures header { HEADER_LENGTH ≡ 20 }
+    ensures alone { MESSAGE_OVERHEAD ≡ 22 }
+    ensures end { END_OF_SESSION ≡ 65535 }
+    ensures count { MAX_COUNT ≡ 65534 }
+    ensures number { MAX_NUMBER ≡ 18446744073709551615 }
+    ensures limits { (MIN_LIMIT ≡ 64) × (MAX_LIMIT ≡ 65507) }
+{}
 
 /// Each packet and each request has one spelling, and no two of either kind share one.
 #[tactic(auto, using(crate::proofs::SpellingLemmas::one_spelling))]
@@ -61,11 +74,11 @@ pub fn spelling_length_law()
     ensures packet { (packet : Packet) (bytes : List ℕ) →
         Spells packet bytes → length bytes ≡ packet_length (messages_of packet.body) }
     ensures request { (request : Request) (bytes : List ℕ) →
-        SpellsRequest request bytes → length bytes ≡ 20 }
+        SpellsRequest request bytes → length bytes ≡ HEADER_LENGTH }
     ensures fits { (packet : Packet) (bytes : List ℕ) (limit : ℕ) →
         Spells packet bytes → Fits limit (messages_of packet.body) → length bytes ≤ limit }
     ensures most { (limit : ℕ) (messages : List (List ℕ)) →
-        limit ≤ 65507 → Fits limit messages → length messages ≤ 32743 }
+        limit ≤ MAX_LIMIT → Fits limit messages → length messages ≤ 32743 }
 {}
 
 /// Where a message stands: its data are the bytes behind the header, the blocks before it and the two of
@@ -78,17 +91,17 @@ pub fn message_place_law()
 {}
 
 /// The bytes of a packet, message by message; what `Packer::fits` looks for is that the packet fits with
-/// the message. A message of 22 bytes less than the limit fits alone, and no longer one does.
+/// the message. A message of `MESSAGE_OVERHEAD` bytes less than the limit fits alone, and no longer one does.
 #[tactic(auto, using(crate::proofs::PackingLemmas::packet_lengths))]
 pub fn packet_length_law()
-    ensures none { packet_length [] ≡ 20 }
+    ensures none { packet_length [] ≡ HEADER_LENGTH }
     ensures one_more { (messages : List (List ℕ)) (message : List ℕ) →
         packet_length (messages ++ message ∷ []) ≡ packet_length messages + (2 + length message) }
     ensures room { (limit : ℕ) (session : Session) (sequence : ℕ) (messages : List (List ℕ))
         (message : List ℕ) → HasRoom limit (Open session sequence messages) (length message)
         ↔ Fits limit (messages ++ message ∷ []) }
     ensures alone { (limit : ℕ) (message : List ℕ) →
-        (length message + 22 ≤ limit) ↔ Fits limit (message ∷ []) }
+        (length message + MESSAGE_OVERHEAD ≤ limit) ↔ Fits limit (message ∷ []) }
 {}
 
 /// `front` is the one longest front, wherever the limit leaves room for a header. A front is the longest
@@ -98,7 +111,7 @@ pub fn packet_length_law()
 #[tactic(auto, using(crate::proofs::FrontLemmas::front_is))]
 pub fn front_law()
     ensures front { (limit : ℕ) (messages : List (List ℕ)) (most : ℕ) →
-        20 ≤ limit → IsFront limit messages most (front limit messages most) }
+        HEADER_LENGTH ≤ limit → IsFront limit messages most (front limit messages most) }
     ensures only { (limit : ℕ) (messages : List (List ℕ)) (most : ℕ) (found : List (List ℕ)) →
         IsFront limit messages most found → found ≡ front limit messages most }
     ensures stops { (limit : ℕ) (messages : List (List ℕ)) (most : ℕ) (found behind : List (List ℕ)) →
@@ -121,7 +134,7 @@ pub fn front_law()
 /// behind it.
 pub fn true_stays_law()
     ensures published { (packet : Packet) (published : List (List ℕ)) (message : List ℕ) →
-        length published < 18446744073709551614 → IsTruePacket packet published false →
+        length published < MAX_NUMBER - 1 → IsTruePacket packet published false →
         IsTruePacket packet (published ++ message ∷ []) false }
     ensures closed { (packet : Packet) (published : List (List ℕ)) →
         IsTruePacket packet published false → IsTruePacket packet published true }
@@ -143,7 +156,7 @@ pub fn true_packet_law()
         (number : ℕ) (message : List ℕ) → IsTruePacket packet published closed →
         Carries packet number message → published_at published number ≡ Some message }
     ensures piece { (packet : Packet) (published behind : List (List ℕ)) (closed : Bool) →
-        length published < 18446744073709551615 → 1 ≤ packet.sequence →
+        length published < MAX_NUMBER → 1 ≤ packet.sequence →
         packet.body ≡ Data (messages_of packet.body) →
         drop (packet.sequence - 1) published ≡ messages_of packet.body ++ behind →
         IsTruePacket packet published closed }

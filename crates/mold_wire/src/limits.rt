@@ -1,7 +1,7 @@
-//! How long datagrams may be.
+//! How long datagrams may be, how many messages one has, and how high numbers go.
 
 use crate::block::LENGTH_BYTES;
-use crate::header::HEADER_LENGTH;
+use crate::header::{END_OF_SESSION, HEADER_LENGTH};
 
 /// The least limit of a datagram, in bytes.
 pub const MIN_LIMIT: usize = 64;
@@ -11,3 +11,10 @@ pub const MAX_LIMIT: usize = 65507;
 
 /// The bytes of a datagram beside a message that stands alone in it: a header and the message's length.
 pub const MESSAGE_OVERHEAD: usize = HEADER_LENGTH + LENGTH_BYTES;
+
+/// The most messages of a packet, and the most that a receiver asks for at once: one less than the message
+/// count of an end packet.
+pub const MAX_COUNT: u16 = END_OF_SESSION - 1;
+
+/// The greatest sequence number.
+pub const MAX_NUMBER: u64 = u64::MAX;

@@ -26,7 +26,7 @@ pub enum Body<'a> {
     Data(Blocks<'a>),
     /// Message count 0: no messages.
     Heartbeat,
-    /// Message count 65535: the end of the session, no messages.
+    /// Message count `END_OF_SESSION`: the end of the session, no messages.
     End,
 }
 
@@ -35,7 +35,7 @@ impl Packet<'_> {
 
     /// The number behind the packet's last message: the sequence number plus the number of messages,
     /// and for a heartbeat or an end packet the sequence number. None exactly where that is above
-    /// 18446744073709551615.
+    /// `MAX_NUMBER`.
     pub fn top(&self) -> Option<u64>
         ensures { SomeIff result (top_of self.now < 2 ^ 64) (top_of self.now) }
     {

@@ -35,7 +35,7 @@ fn read_request(bytes: &[u8]) -> Result<Request, RequestError>
 }
 
 impl Request {
-    /// Reads the request that the bytes of a datagram spell. Any 20 bytes spell one.
+    /// Reads the request that the bytes of a datagram spell. Any bytes as long as a header spell one.
     pub fn decode(bytes: &[u8]) -> Result<Request, RequestError>
         // What is read is spelled so, and what is refused has the fault.
         ensures spelled { IfOk result (λ request. SpellsRequest request bytes.now) }
@@ -49,7 +49,7 @@ impl Request {
         read_request(bytes)
     }
 
-    /// The 20 bytes that spell the request.
+    /// The bytes that spell the request.
     pub fn encode(&self) -> [u8; 20]
         ensures { SpellsRequest self.now result }
     {
