@@ -1,6 +1,7 @@
 -- The answer to a request: the first packets of the packing of what was asked, and what a plan still sends of it.
 use Rattle.std.specs.Prelude.{◌≡◌, ◌⊎◌, ℕ, ◌+◌, ◌-◌, ◌<◌, ◌≤◌, min, List, ◌∷◌, length, take, drop}
 use Rattle.std.specs.List.{AllByRecursion}
+use Rattle.mold_wire.specs.declared.limits.TheConstants.{MESSAGE_OVERHEAD}
 use Rattle.mold_wire.specs.declared.session.Session.{Session}
 use Rattle.mold_wire.specs.declared.packet.Packet.{Packet}
 use Rattle.mold_wire.specs.declared.request.Request.{Request}
@@ -62,7 +63,7 @@ planned published limit plan =
 
 -- each message fits a datagram by itself
 abbrev pub FitAlone : ℕ → List (List ℕ) → Type 0
-FitAlone limit messages = AllByRecursion (λ message. length message + 22 ≤ limit) messages
+FitAlone limit messages = AllByRecursion (λ message. length message + MESSAGE_OVERHEAD ≤ limit) messages
 
 -- the first of some packets is a data packet of this number with some message
 pub record HasFirst (session : Session) (number : ℕ) (packets : List Packet) : Type 0 where

@@ -1,6 +1,7 @@
 -- What a file gives: the messages of its blocks, and why it is no journal, where it is none.
 use Rattle.std.specs.Prelude.{◌≡◌, ◌⊎◌, ℕ, List, [], ◌++◌, length, Option, None, Some}
 use Rattle.mold_wire.specs.Block.{blocks}
+use Rattle.mold_wire.specs.declared.block.TheConstants.{MAX_MESSAGE}
 use Rattle.mold_session.specs.FileFault.{IsBehind1, IsBehind2, BlockFault, JournalFault}
 use Rattle.mold_session.specs.Journal.{AreMessages}
 use Rattle.mold_session.specs.Loading.{SpellsFile}
@@ -13,14 +14,14 @@ use Rattle.mold_session.specs.declared.loading.FileHead.{FileHead}
 pub record HasBlocks (bytes : List ℕ) (messages : List (List ℕ)) (rest : List ℕ) : Type 0 where
   pub behind : List ℕ
   pub head : IsBehind1 bytes behind ⊎ IsBehind2 bytes behind
-  pub listed : AreMessages 65535 messages
+  pub listed : AreMessages MAX_MESSAGE messages
   pub parts : behind ≡ blocks messages ++ rest
 
 -- the same, and the rest is refused
 pub record AreBefore (bytes : List ℕ) (messages : List (List ℕ)) (error : FileError) : Type 0 where
   pub rest : List ℕ
   pub front : HasBlocks bytes messages rest
-  pub fault : BlockFault 65535 (length messages) rest error
+  pub fault : BlockFault MAX_MESSAGE (length messages) rest error
 
 -- the messages of a file with this fault: none where its head is refused, and else those of the whole blocks before
 -- the fault
@@ -40,7 +41,7 @@ StandBefore bytes messages Write = ⊥
 -- these messages stand before the fault
 abbrev pub Gives : List ℕ → List (List ℕ) → Option FileError → Type 0
 Gives bytes messages None = (head : FileHead) × SpellsFile head messages head.stated bytes
-Gives bytes messages (Some error) = JournalFault 65535 bytes error × StandBefore bytes messages error
+Gives bytes messages (Some error) = JournalFault MAX_MESSAGE bytes error × StandBefore bytes messages error
 
 -- what bytes give as a file whose messages may have any length
 pub record FileContents (bytes : List ℕ) : Type 0 where

@@ -2,6 +2,7 @@
 use Rattle.std.specs.Prelude.{◌≡◌, ℕ, ◌+◌, Bool, true, false, List, ◌∷◌, ◌++◌, length, sum_by, codes, Option}
 use Rattle.std.specs.Io.KnownBytes.{Appends}
 use Rattle.mold_wire.specs.Block.{be64, blocks}
+use Rattle.mold_wire.specs.declared.block.TheConstants.{MAX_MESSAGE}
 use Rattle.mold_wire.specs.declared.session.Session.{Session}
 use Rattle.mold_devices.specs.Devices.{AppendsFront}
 use Rattle.mold_session.specs.Journal.{AreMessages}
@@ -26,16 +27,16 @@ head_1 session = magic_1 ++ session
 abbrev pub head_2 : List ℕ → Bool → ℕ → List ℕ
 head_2 session closed count = magic_2 ++ (session ++ (closed_byte closed ∷ be64 count))
 
--- the bytes are the file of version 1 of these messages, of which there are at most 18446744073709551614
+-- the bytes are the file of version 1 of these messages, of which there are at most `MAX_MESSAGES`
 pub record SpellsJournal (session : Session) (messages : List (List ℕ)) (bytes : List ℕ) : Type 0 where
   pub named : length session.0 ≡ 10
-  pub listed : AreMessages 65535 messages
+  pub listed : AreMessages MAX_MESSAGE messages
   pub spelled : bytes ≡ head_1 session.0 ++ blocks messages
 
 -- the same of version 2
 pub record SpellsJournal2 (session : Session) (messages : List (List ℕ)) (closed : Bool) (bytes : List ℕ) : Type 0 where
   pub named : length session.0 ≡ 10
-  pub listed : AreMessages 65535 messages
+  pub listed : AreMessages MAX_MESSAGE messages
   pub spelled : bytes ≡ head_2 session.0 closed (length messages) ++ blocks messages
 
 -- how many bytes that are: 27, and for each message two and its length

@@ -3,6 +3,7 @@ use Rattle.std.specs.Prelude.{◌≡◌, ◌⊎◌, ℕ, ◌+◌, ◌<◌, ◌�
 use Rattle.std.specs.List.{AllByRecursion}
 use Rattle.byteorder.specs.Endian.{big_number}
 use Rattle.mold_wire.specs.Block.{blocks}
+use Rattle.mold_wire.specs.declared.limits.TheConstants.{MAX_NUMBER}
 use Rattle.mold_devices.specs.declared.fault.ReadFault.{ReadFault}
 use Rattle.mold_devices.specs.declared.fault.ReadFault.TheVariants as reading
 use Rattle.mold_session.specs.File.{magic_1, magic_2}
@@ -10,6 +11,7 @@ use Rattle.mold_session.specs.Journal.{IsWithin}
 use Rattle.mold_session.specs.declared.error.FileError.{FileError}
 use Rattle.mold_session.specs.declared.error.FileError.TheVariants.{TooLong, Memory, BadMagic, Short, BlockCut, Read}
 use Rattle.mold_session.specs.declared.error.FileError.TheVariants.{Write, Full, CountDiffers, BadFlag}
+use Rattle.mold_session.specs.declared.journal.TheConstants.{MAX_MESSAGES}
 
 -- the bytes are, or begin, a file of version 2
 abbrev pub IsVersion2 : List ℕ → Type 0
@@ -39,11 +41,11 @@ pub record IsCut (most : ℕ) (rest : List ℕ) : Type 0 where
 
 -- why what follows so many blocks is refused: a message would be one too many, or is too long, or is cut
 abbrev pub BlockFault : ℕ → ℕ → List ℕ → FileError → Type 0
-BlockFault most count rest Full = (0 < length rest) × (18446744073709551614 ≤ count)
+BlockFault most count rest Full = (0 < length rest) × (MAX_MESSAGES ≤ count)
 BlockFault most count rest (TooLong len) =
-    (count < 18446744073709551614) × (2 ≤ length rest) × (big_number 2 rest ≡ len) × (most < len)
+    (count < MAX_MESSAGES) × (2 ≤ length rest) × (big_number 2 rest ≡ len) × (most < len)
 BlockFault most count rest (BlockCut number) =
-    (count < 18446744073709551614) × (number ≡ count + 1) × IsCut most rest
+    (count < MAX_MESSAGES) × (number ≡ count + 1) × IsCut most rest
 BlockFault most count rest _ = ⊥
 
 -- behind some whole blocks, of at most so many bytes each, the rest is refused
@@ -65,7 +67,7 @@ pub record IsMiscounted (most : ℕ) (bytes : List ℕ) (count found : ℕ) : Ty
   pub head : IsBehind2 bytes behind
   pub messages : List (List ℕ)
   pub each : AllByRecursion (IsWithin most) messages
-  pub few : length messages < 18446744073709551615
+  pub few : length messages < MAX_NUMBER
   pub parts : behind ≡ blocks messages
   pub stated : count ≡ big_number 8 (drop 19 bytes)
   pub counted : found ≡ length messages

@@ -2,9 +2,11 @@
 use Rattle.std.specs.Prelude.{ℕ, zero, suc, ◌≤◌, ◌<◌, Bool, List, [], ◌∷◌, ◌++◌, length, nat_lt, ◌==◌}
 use Rattle.std.specs.Prelude.{if◌then◌else◌, slice_get, Option, None, Some}
 use Rattle.std.specs.List.{AllByRecursion}
+use Rattle.mold_wire.specs.declared.limits.TheConstants.{MAX_NUMBER}
 use Rattle.mold_wire.specs.declared.session.Session.{Session}
 use Rattle.mold_session.specs.declared.error.AppendError.{AppendError}
 use Rattle.mold_session.specs.declared.error.AppendError.TheVariants.{Closed, TooLong, Full}
+use Rattle.mold_session.specs.declared.journal.TheConstants.{MAX_MESSAGES}
 
 -- the session, how long a message may be, the messages from number 1 on, and whether no more may come
 pub record JournalState : Type 0 where
@@ -17,9 +19,9 @@ pub record JournalState : Type 0 where
 abbrev pub IsWithin : ℕ → List ℕ → Type 0
 IsWithin most message = length message ≤ most
 
--- messages that a journal may have: at most 18446744073709551614 of them, none too long
+-- messages that a journal may have: at most `MAX_MESSAGES` of them, none too long
 pub record AreMessages (most : ℕ) (messages : List (List ℕ)) : Type 0 where
-  pub few : length messages < 18446744073709551615
+  pub few : length messages < MAX_NUMBER
   pub each : AllByRecursion (IsWithin most) messages
 
 abbrev pub IsJournal : JournalState → Type 0
@@ -35,7 +37,7 @@ abbrev pub append_refusal : JournalState → List ℕ → Option AppendError
 append_refusal journal message =
     if journal.closed then Some Closed
     else if nat_lt journal.max_message (length message) then Some (TooLong (length message))
-    else if length journal.messages == 18446744073709551614 then Some Full
+    else if length journal.messages == MAX_MESSAGES then Some Full
     else None
 
 -- the journal with one more message behind the others

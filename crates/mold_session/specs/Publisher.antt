@@ -1,12 +1,14 @@
 -- A publisher as its users see it, and which packets it sends.
 use Rattle.std.specs.Prelude.{◌≡◌, ℕ, ◌+◌, ◌≤◌, true, false, List, length, drop, ◌==◌}
 use Rattle.std.specs.Prelude.{if◌then◌else◌, Option, None, Some}
+use Rattle.mold_wire.specs.declared.limits.TheConstants.{MESSAGE_OVERHEAD}
 use Rattle.mold_wire.specs.declared.packet.Packet.{Packet}
 use Rattle.mold_wire.specs.declared.packet.Body.TheVariants.{Data, Heartbeat, End}
 use Rattle.mold_wire.specs.Packet.{Spells}
 use Rattle.mold_wire.specs.Packer.{IsLimit}
 use Rattle.mold_wire.specs.Packing.{front}
 use Rattle.mold_session.specs.Journal.{JournalState, IsJournal, appended}
+use Rattle.mold_session.specs.declared.journal.TheConstants.{MAX_MESSAGES}
 
 -- the journal of what was published, the limit of a datagram, and how many messages were put in one
 pub record PublisherState : Type 0 where
@@ -17,7 +19,7 @@ pub record PublisherState : Type 0 where
 -- what holds of every publisher
 pub record IsPublisher (publisher : PublisherState) : Type 0 where
   pub limited : IsLimit publisher.limit
-  pub longest : publisher.journal.max_message + 22 ≡ publisher.limit
+  pub longest : publisher.journal.max_message + MESSAGE_OVERHEAD ≡ publisher.limit
   pub journaled : IsJournal publisher.journal
   pub published : publisher.sent ≤ length publisher.journal.messages
   pub finished : publisher.journal.closed ≡ true → publisher.sent ≡ length publisher.journal.messages
@@ -72,7 +74,7 @@ closed publisher = record publisher { journal = record publisher.journal { close
 pub record MayPublish (publisher : PublisherState) (message : List ℕ) : Type 0 where
   pub unclosed : publisher.journal.closed ≡ false
   pub short : length message ≤ publisher.journal.max_message
-  pub number : length publisher.journal.messages ≡ 18446744073709551614 → ⊥
+  pub number : length publisher.journal.messages ≡ MAX_MESSAGES → ⊥
 
 -- what is lent spells the packet, and nothing is lent where there is none
 abbrev pub Lends : Option Packet → Option (List ℕ) → Type 0

@@ -2,11 +2,13 @@
 use Rattle.std.specs.Prelude.{◌≡◌, ℕ, ◌+◌, ◌<◌, List, [], ◌++◌, length, Option, unwrap_or}
 use Rattle.std.specs.Io.KnownBytes.{Consumes, IsAtEnd}
 use Rattle.mold_wire.specs.Block.{block, blocks}
+use Rattle.mold_wire.specs.declared.block.TheConstants.{MAX_MESSAGE}
 use Rattle.mold_session.specs.FileFault.{BlockFault}
 use Rattle.mold_session.specs.Journal.{AreMessages, IsWithin}
 use Rattle.mold_session.specs.Loading.{head_spelling, IsStated}
 use Rattle.mold_session.specs.declared.error.FileError.{FileError}
 use Rattle.mold_session.specs.declared.error.FileError.TheVariants.{CountDiffers}
+use Rattle.mold_session.specs.declared.journal.TheConstants.{MAX_MESSAGES}
 use Rattle.mold_session.specs.declared.loading.FileHead.{FileHead}
 
 -- a reader of a file: its head, how many messages were read, the last of them, and the bytes that are read and not
@@ -21,7 +23,7 @@ pub record ReaderState : Type 0 where
 pub record HasRead (known left : Option (List ℕ)) (reader : ReaderState) (messages : List (List ℕ)) : Type 0 where
   pub named : length reader.head.session.0 ≡ 10
   pub said : IsStated reader.head.closed reader.head.stated
-  pub listed : AreMessages 65535 messages
+  pub listed : AreMessages MAX_MESSAGE messages
   pub counted : reader.count ≡ length messages
   pub consumed : Consumes known left
       (head_spelling reader.head.session.0 reader.head.closed reader.head.stated ++ blocks messages)
@@ -29,9 +31,9 @@ pub record HasRead (known left : Option (List ℕ)) (reader : ReaderState) (mess
 -- one message more was read
 pub record ReadsNext (known left : Option (List ℕ)) (old new : ReaderState) : Type 0 where
   pub same : new.head ≡ old.head
-  pub few : old.count < 18446744073709551614
+  pub few : old.count < MAX_MESSAGES
   pub counted : new.count ≡ old.count + 1
-  pub within : IsWithin 65535 new.message
+  pub within : IsWithin MAX_MESSAGE new.message
   pub consumed : Consumes known left (block new.message)
 
 -- no message is left, and the file states no number of them or this one
@@ -52,4 +54,4 @@ CountFault stated read error = ⊥
 -- why what follows the messages that were read is refused: its first block, or their number where nothing follows
 abbrev pub RestFault : Option ℕ → ℕ → List ℕ → FileError → Type 0
 RestFault stated read rest (CountDiffers count found) = (rest ≡ []) × Misstates stated read count found
-RestFault stated read rest error = BlockFault 65535 read rest error
+RestFault stated read rest error = BlockFault MAX_MESSAGE read rest error

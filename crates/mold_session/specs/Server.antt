@@ -4,6 +4,7 @@ use Rattle.std.specs.Prelude.{List, ◌∷◌, length, Option, None, Some, Resul
 use Rattle.std.specs.Str.{bytes_eq}
 use Rattle.mold_wire.specs.declared.error.RequestError.{RequestError}
 use Rattle.mold_wire.specs.declared.error.RequestError.TheVariants as fault
+use Rattle.mold_wire.specs.declared.limits.TheConstants.{MAX_LIMIT, MAX_NUMBER, MESSAGE_OVERHEAD, MIN_LIMIT}
 use Rattle.mold_wire.specs.declared.packet.Packet.{Packet}
 use Rattle.mold_wire.specs.declared.request.Request.{Request}
 use Rattle.mold_wire.specs.Packet.{Spells}
@@ -16,6 +17,7 @@ use Rattle.mold_session.specs.declared.error.AnswerError.TheVariants.{RequestLen
 use Rattle.mold_session.specs.declared.error.AnswerError.TheVariants.{EmptyRequest, Ahead}
 use Rattle.mold_session.specs.declared.error.ServerError.{ServerError}
 use Rattle.mold_session.specs.declared.error.ServerError.TheVariants.{Limit, Burst}
+use Rattle.mold_session.specs.declared.server.TheConstants.{MAX_BURST}
 
 -- the limit of a datagram, how long a journal's messages may be, how many datagrams answer one request at most, and
 -- how many requests were answered
@@ -28,16 +30,16 @@ pub record ServerState : Type 0 where
 -- what holds of every server
 pub record IsServer (server : ServerState) : Type 0 where
   pub limited : IsLimit server.limit
-  pub longest : server.max_message + 22 ≤ server.limit
+  pub longest : server.max_message + MESSAGE_OVERHEAD ≤ server.limit
   pub some : 1 ≤ server.burst
-  pub few : server.burst ≤ 64
+  pub few : server.burst ≤ MAX_BURST
   pub counted : server.answered < 2 ^ 64
 
 -- why a server is not made, the first reason of several; none where only memory may be wanting
 abbrev pub server_refusal : ℕ → ℕ → ℕ → Option ServerError
 server_refusal limit max_message burst =
-    if not (nat_le 64 limit && nat_le limit 65507 && nat_le (max_message + 22) limit) then Some Limit
-    else if not (nat_le 1 burst && nat_le burst 64) then Some Burst
+    if not (nat_le MIN_LIMIT limit && nat_le limit MAX_LIMIT && nat_le (max_message + MESSAGE_OVERHEAD) limit) then Some Limit
+    else if not (nat_le 1 burst && nat_le burst MAX_BURST) then Some Burst
     else None
 
 -- why a request is not answered, the first reason of several
@@ -90,7 +92,7 @@ pub record SpellsAnswer (journal : JournalState) (server : ServerState) (asked l
 
 -- the server with one more request answered, where one was; the count stays at its limit
 abbrev pub counted : ServerState → ServerState
-counted server = record server { answered = min 18446744073709551615 (server.answered + 1) }
+counted server = record server { answered = min MAX_NUMBER (server.answered + 1) }
 
 abbrev pub counted_if : Bool → ServerState → ServerState
 counted_if answered server = if answered then counted server else server

@@ -1,5 +1,6 @@
 -- What a publisher or a server lends: a packet of the session that is true of its journal.
 use Rattle.std.specs.Prelude.{◌≡◌, ℕ, ◌+◌, ◌≤◌, List, length}
+use Rattle.mold_wire.specs.declared.limits.TheConstants.{MESSAGE_OVERHEAD}
 use Rattle.mold_wire.specs.declared.packet.Packet.{Packet}
 use Rattle.mold_wire.specs.Packet.{Spells}
 use Rattle.mold_wire.specs.Truth.{IsTruePacket}
@@ -18,4 +19,4 @@ pub record MayAnswer (journal : JournalState) (limit : ℕ) : Type 0 where
   pub journaled : IsJournal journal
   pub named : length journal.session.0 ≡ 10
   pub limited : IsLimit limit
-  pub room : journal.max_message + 22 ≤ limit
+  pub room : journal.max_message + MESSAGE_OVERHEAD ≤ limit

@@ -1,6 +1,7 @@
 -- A file of either version, written again in version 2.
 use Rattle.std.specs.Prelude.{◌≡◌, ◌⊎◌, ℕ, Bool, true, false, List, length, if◌then◌else◌, Option, None, Some, Result}
 use Rattle.std.specs.Prelude.{Ok, Err, IfSome}
+use Rattle.mold_wire.specs.declared.block.TheConstants.{MAX_MESSAGE}
 use Rattle.mold_wire.specs.declared.session.Session.{Session}
 use Rattle.mold_devices.specs.Devices.{one_more}
 use Rattle.mold_session.specs.File.{SpellsJournal, SpellsJournal2, AppendsFile, AppendsFileFront}
@@ -44,7 +45,7 @@ pub record BeginsUpgrade (known old new : Option (List ℕ)) (close : Bool) : Ty
 -- a sink that fails leaves a beginning, and each other refusal is that of the file
 abbrev pub RefusesUpgrade : Option (List ℕ) → Option (List ℕ) → Option (List ℕ) → Bool → FileError → Type 0
 RefusesUpgrade known old new close Write = BeginsUpgrade known old new close
-RefusesUpgrade known old new close error = Refuses (JournalFault 65535) known error
+RefusesUpgrade known old new close error = Refuses (JournalFault MAX_MESSAGE) known error
 
 -- the sink failed once more where `Write` is answered, and else it didn't
 abbrev pub CountsSaveFault : ℕ → ℕ → FileError → Type 0

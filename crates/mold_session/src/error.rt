@@ -12,7 +12,7 @@ pub enum AppendError {
     /// The message is longer than the journal's messages may be; its length in bytes.
     #[error("a message of {len} bytes is too long")]
     TooLong { len: usize },
-    /// The session has 18446744073709551614 messages, and no number is left.
+    /// The session has `MAX_MESSAGES` messages, and no number is left.
     #[error("the session has no number left for a message")]
     Full,
     /// A growth was refused.
@@ -23,7 +23,7 @@ pub enum AppendError {
 /// Why a publisher is not made.
 #[derive(Clone, Copy, Debug, PartialEq, Eq, Error)]
 pub enum PublisherError {
-    /// A limit outside 64 to 65,507 bytes.
+    /// A limit that is not `MIN_LIMIT` to `MAX_LIMIT`.
     #[error("a datagram's limit is 64 to 65,507 bytes")]
     Limit,
     /// The memory for a datagram was refused.
@@ -42,11 +42,11 @@ pub struct Unsent {
 /// Why a server is not made. Where several apply, the first of them is answered.
 #[derive(Clone, Copy, Debug, PartialEq, Eq, Error)]
 pub enum ServerError {
-    /// A limit outside 64 to 65,507 bytes, or one that the longest message doesn't fit with the 22 bytes
-    /// of a header and a length.
+    /// A limit that is not `MIN_LIMIT` to `MAX_LIMIT`, or is less than `MESSAGE_OVERHEAD` above the longest
+    /// message.
     #[error("a datagram's limit is 64 to 65,507 bytes, and 22 more than a message has")]
     Limit,
-    /// A burst outside 1 to 64 datagrams.
+    /// A burst that is not 1 to `MAX_BURST` datagrams.
     #[error("a request is answered by at most 1 to 64 datagrams")]
     Burst,
     /// The memory for a datagram was refused.
@@ -57,7 +57,7 @@ pub enum ServerError {
 /// Why a request is not answered. Where several apply, the first of them is answered.
 #[derive(Clone, Copy, Debug, PartialEq, Eq, Hash, Error)]
 pub enum AnswerError {
-    /// Not the 20 bytes of a request packet; how many there are.
+    /// Not as many bytes as a request packet has; how many there are.
     #[error("a request of {len} bytes, not of 20")]
     RequestLength { len: usize },
     /// A request for messages of another session.
@@ -101,7 +101,7 @@ pub enum FileError {
     /// The byte at 18 of version 2, which says whether the session is closed, is neither 0 nor 1.
     #[error("the byte {byte} says neither open nor closed")]
     BadFlag { byte: u8 },
-    /// Bytes follow message 18446744073709551614, the last that may have a number.
+    /// Bytes follow message `MAX_MESSAGES`, the last that may have a number.
     #[error("the journal goes on behind the last number")]
     Full,
     /// The file has a message that is longer than the journal's may be; its length in bytes.

@@ -20,12 +20,12 @@ use crate::loading::load_file;
 use crate::saving::{HEAD_LENGTH, put_file, save_file};
 use mold_devices::{Sink, Source};
 use mold_messages::{MessageIterator, MessageList};
-use mold_wire::{LENGTH_BYTES, Session};
+use mold_wire::{LENGTH_BYTES, MAX_NUMBER, Session};
 use std::alloc::Global;
 use std::marker::Model;
 
-/// The most messages that a session may have.
-pub const MAX_MESSAGES: u64 = 18446744073709551614;
+/// The most messages that a session may have: the number that follows the last one has 64 bits, too.
+pub const MAX_MESSAGES: u64 = MAX_NUMBER - 1;
 
 /// The journal of a session: its messages, the first of which has number 1. It is open until it is
 /// closed, and only then takes messages.
@@ -38,7 +38,7 @@ pub struct Journal {
 }
 
 impl Model for Journal {
-    ghost use Rattle.std.specs.Prelude.{◌<◌};
+    ghost use Rattle.std.specs.Prelude.{◌<◌, ◌^◌};
     ghost use Rattle.mold_session.specs.Journal.{JournalState, AreMessages};
 
     ghost Value = { JournalState };
@@ -50,7 +50,7 @@ impl Model for Journal {
       closed = j.closed;
     } };
 
-    ghost invariant = { λ j. (j.max_message < 65536) × AreMessages j.max_message j.list.messages };
+    ghost invariant = { λ j. (j.max_message < 2 ^ 16) × AreMessages j.max_message j.list.messages };
 }
 
 impl Journal {

@@ -8,6 +8,8 @@ ghost use Rattle.std.specs.List.{AllByRecursion};
 ghost use Rattle.mold_wire.specs.Block.{IsBytes};
 ghost use Rattle.mold_wire.specs.Packet.{Spells, spelling_of};
 ghost use Rattle.mold_wire.specs.Packing.{front};
+ghost use Rattle.mold_wire.specs.declared.block.TheConstants.{MAX_MESSAGE};
+ghost use Rattle.mold_wire.specs.declared.header.TheConstants.{HEADER_LENGTH};
 ghost use Rattle.mold_wire.specs.declared.packet.Packet.{Packet};
 ghost use Rattle.mold_wire.specs.declared.session.Session.{Session};
 ghost use Rattle.mold_wire.specs.declared.request.Request.{Request};
@@ -20,6 +22,8 @@ ghost use Rattle.mold_session.specs.Contents.{FileContents, Gives, IsFront};
 ghost use Rattle.mold_session.specs.File.{SpellsJournal, SpellsJournal2};
 ghost use Rattle.mold_session.specs.FileFault.{JournalFault};
 ghost use Rattle.mold_session.specs.declared.error.FileError.{FileError};
+ghost use Rattle.mold_session.specs.declared.journal.TheConstants.{MAX_MESSAGES};
+ghost use Rattle.mold_session.specs.declared.server.TheConstants.{MAX_BURST};
 ghost use Rattle.mold_session.specs.Publisher.{IsPublisher, MayPublish, PublisherState, after_datagram, closed};
 ghost use Rattle.mold_session.specs.Publisher.{next_datagram, next_end, next_heartbeat, published};
 ghost use Rattle.mold_session.specs.Truthful.{MayAnswer, TellsTruth};
@@ -31,6 +35,12 @@ use mold_wire::laws::{
     front_law, one_spelling_law, packet_length_law, reading_law, spelling_length_law,
     true_packet_law,
 };
+
+/// The limits of a session, written out.
+pub fn constants_law()
+    ensures messages { MAX_MESSAGES ≡ 18446744073709551614 }
+    ensures burst { MAX_BURST ≡ 64 }
+{}
 
 /// How messages are packed: none give no packet, and where the longest front that fits has a message, it
 /// is the first packet's, and what is behind it is packed from the next number on.
@@ -45,7 +55,7 @@ pub fn packing_law()
 
 /// Which messages the first packet of an answer has: of at most so many the longest front that fits.
 pub fn first_part_law()
-    ensures { (limit count : ℕ) (messages : List (List ℕ)) → 20 ≤ limit →
+    ensures { (limit count : ℕ) (messages : List (List ℕ)) → HEADER_LENGTH ≤ limit →
         first_part limit (take count messages) ≡ front limit messages count }
 {
     front_law();
@@ -92,8 +102,8 @@ pub fn answered_law()
 }
 
 /// The answer to a request has a first packet, with at least one message, where the number asked is a
-/// message's, at least one message is asked for, and no message is longer than 22 bytes less than the
-/// limit; so it is of a journal and of a server that may answer from it.
+/// message's, at least one message is asked for, and no message is longer than `MESSAGE_OVERHEAD` bytes less
+/// than the limit; so it is of a journal and of a server that may answer from it.
 pub fn answer_not_empty_law()
     ensures first { (published : List (List ℕ)) (session : Session) (limit number count burst : ℕ) →
         FitAlone limit published → 1 ≤ number → number ≤ length published → 1 ≤ count → 1 ≤ burst →
@@ -146,17 +156,17 @@ pub fn one_file_law()
     ensures one_version { (one other : Session) (messages others : List (List ℕ)) (closed : Bool)
         (bytes : List ℕ) → SpellsJournal one messages bytes → ¬ SpellsJournal2 other others closed bytes }
     ensures no_fault { (most : ℕ) (session : Session) (messages : List (List ℕ)) (bytes : List ℕ)
-        (error : FileError) → most ≤ 65535 → SpellsJournal session messages bytes →
+        (error : FileError) → most ≤ MAX_MESSAGE → SpellsJournal session messages bytes →
         AllByRecursion (IsWithin most) messages → ¬ JournalFault most bytes error }
     ensures no_fault_2 { (most : ℕ) (session : Session) (messages : List (List ℕ)) (closed : Bool)
-        (bytes : List ℕ) (error : FileError) → most ≤ 65535 → SpellsJournal2 session messages closed bytes →
+        (bytes : List ℕ) (error : FileError) → most ≤ MAX_MESSAGE → SpellsJournal2 session messages closed bytes →
         AllByRecursion (IsWithin most) messages → ¬ JournalFault most bytes error }
 {}
 
 /// A file has one fault: no bytes have two for the same bound. So what `Journal::load` refuses a file with is, `Read`
 /// and `Memory` aside, all that it may refuse it with.
 pub fn one_fault_law()
-    ensures { (most : ℕ) (bytes : List ℕ) (one other : FileError) → most ≤ 65535 →
+    ensures { (most : ℕ) (bytes : List ℕ) (one other : FileError) → most ≤ MAX_MESSAGE →
         JournalFault most bytes one → JournalFault most bytes other → one ≡ other }
 {}
 

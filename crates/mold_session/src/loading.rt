@@ -4,12 +4,14 @@ ghost use Rattle.std.specs.Prelude.{◌≡◌, ◌<◌, ◌≤◌, ◌^◌, ◌�
 ghost use Rattle.std.specs.Bool.{OnTrue, OnFalse};
 ghost use Rattle.std.specs.Io.KnownBytes.{Consumes, IsAtEnd, prepend_known};
 ghost use Rattle.mold_wire.specs.Block.{be64, blocks};
+ghost use Rattle.mold_wire.specs.declared.limits.TheConstants.{MAX_NUMBER};
 ghost use Rattle.mold_devices.specs.Faults.{CountsRead};
 ghost use Rattle.mold_session.specs.FileFault.{BlockFault, BlocksFault, JournalFault};
 ghost use Rattle.mold_session.specs.Journal.{AreMessages};
 ghost use Rattle.mold_session.specs.Loading.{work_left, ReadsNumbers, NumbersFault, ReadsHead, SpellsFile};
 ghost use Rattle.mold_session.specs.Loading.{TakesMessage, TakesBlock, Refuses, CountsLoad, IsOfHead};
 ghost use Rattle.mold_session.specs.Reader.{CountFault};
+ghost use Rattle.mold_session.specs.declared.journal.TheConstants.{MAX_MESSAGES};
 
 use crate::error::FileError;
 use crate::journal::MAX_MESSAGES;
@@ -157,11 +159,11 @@ pub fn next_block<S: Source>(
     most: u16,
     count: u64,
 ) -> Result<bool, FileError>
-    requires { count < 18446744073709551615 }
+    requires { count < MAX_NUMBER }
     ensures taken { IfOk result (λ more. OnTrue more (TakesBlock most
         (prepend_known piece.old (S.left source.old)) (prepend_known piece.new (S.left source.new))
         list.old.messages list.new.messages)) }
-    ensures few { IfOk result (λ more. OnTrue more (count < 18446744073709551614)) }
+    ensures few { IfOk result (λ more. OnTrue more (count < MAX_MESSAGES)) }
     ensures end { IfOk result (λ more. OnFalse more (IsAtEnd (prepend_known piece.old (S.left source.old)))) }
     ensures spent { IfOk result (λ more. OnFalse more (IsAtEnd (prepend_known piece.new (S.left source.new)))) }
     ensures same { IfOk result (λ more. OnFalse more (list.new ≡ list.old)) }

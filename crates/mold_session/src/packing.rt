@@ -2,6 +2,7 @@
 
 ghost use Rattle.std.specs.Prelude.{◌≡◌, ◌+◌, ◌≤◌, ◌<◌, length};
 ghost use Rattle.mold_wire.specs.Packer.{IsLimit};
+ghost use Rattle.mold_wire.specs.declared.limits.TheConstants.{MESSAGE_OVERHEAD};
 ghost use Rattle.mold_session.specs.Answer.{IsPlan};
 ghost use Rattle.mold_session.specs.Packing.{HasPacked};
 ghost use Rattle.mold_session.specs.Serving.{HasPackedNext};
@@ -40,7 +41,7 @@ pub fn pack_front(
 /// Packs the next datagram of a plan and returns how many messages it has.
 pub fn pack_next(packer: &mut Packer, journal: &Journal, plan: &Plan) -> u64
     requires limit { IsLimit packer.old.limit }
-    requires longest { journal.now.max_message + 22 ≤ packer.old.limit }
+    requires longest { journal.now.max_message + MESSAGE_OVERHEAD ≤ packer.old.limit }
     requires to { plan.now.to ≤ length journal.now.messages + 1 }
     ensures { HasPackedNext packer.old packer.new journal.now plan.now result }
 {

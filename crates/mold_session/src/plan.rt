@@ -47,7 +47,7 @@ impl Plan {
 
     /// What is left of an answer, from numbers that a caller kept; none where `from` is 0 or above `to`. Any
     /// `left` is taken: how many datagrams a plan may have is for its server to say, which makes plans of at
-    /// most 64.
+    /// most `MAX_BURST`.
     pub fn resumed(session: Session, from: u64, to: u64, left: u16) -> Option<Plan>
         ensures some { IsSome result ↔ IsPlan (record { session = session; from = from; to = to; left = left }) }
         ensures made { IfSome result (λ plan.
@@ -89,7 +89,7 @@ impl Plan {
         self.to
     }
 
-    /// How many datagrams may still come, 0 to 64.
+    /// How many datagrams may still come, at most `MAX_BURST`.
     pub fn left(&self) -> u16
         ensures { result ≡ self.now.left }
     {

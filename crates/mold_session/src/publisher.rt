@@ -5,6 +5,7 @@ ghost use Rattle.std.specs.Prelude.{IfErr, IfSome, IfNone, IsOk, OnOk, OnErr, Is
 ghost use Rattle.std.specs.Option.{option_copied};
 ghost use Rattle.mold_wire.specs.Packer.{IsLimit};
 ghost use Rattle.mold_wire.specs.Packing.{Fits};
+ghost use Rattle.mold_wire.specs.declared.limits.TheConstants.{MESSAGE_OVERHEAD};
 ghost use Rattle.mold_session.specs.Journal.{append_refusal};
 ghost use Rattle.mold_session.specs.Publisher.{IsPublisher, unsent_of, next_datagram, next_heartbeat, next_end};
 ghost use Rattle.mold_session.specs.Publisher.{after_datagram, published, closed, Lends};
@@ -51,10 +52,10 @@ impl Publisher {
     ghost use Rattle.mold_session.specs.contracts.publisher.Publisher.{the_row};
 
     /// A publisher of an open session without messages, whose datagrams have at most `limit` bytes and
-    /// whose messages at most 22 fewer. It reserves the limit once.
+    /// whose messages at most `MESSAGE_OVERHEAD` fewer. It reserves the limit once.
     pub fn new(alloc: Global, session: Session, limit: usize) -> Result<Publisher, PublisherError>
         ensures made { IfOk result (λ publisher. publisher ≡ record {
-          journal = record { session = session; max_message = limit - 22; messages = []; closed = false };
+          journal = record { session = session; max_message = limit - MESSAGE_OVERHEAD; messages = []; closed = false };
           limit = limit;
           sent = 0;
         }) }

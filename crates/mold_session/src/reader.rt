@@ -12,6 +12,7 @@ use crate::loading::{FileHead, check_count, next_block, read_head};
 use crate::piece::Piece;
 use mold_devices::Source;
 use mold_messages::MessageList;
+use mold_wire::MAX_MESSAGE;
 use std::alloc::Global;
 use std::marker::Model;
 
@@ -29,6 +30,7 @@ pub struct JournalReader {
 
 impl Model for JournalReader {
     ghost use Rattle.std.specs.Prelude.{◌<◌, [], slice_index_or};
+    ghost use Rattle.mold_wire.specs.declared.limits.TheConstants.{MAX_NUMBER};
     ghost use Rattle.mold_session.specs.Reader.{ReaderState};
 
     ghost Value = { ReaderState };
@@ -40,7 +42,7 @@ impl Model for JournalReader {
       rest = r.piece;
     } };
 
-    ghost invariant = { λ r. r.count < 18446744073709551615 };
+    ghost invariant = { λ r. r.count < MAX_NUMBER };
 }
 
 impl JournalReader {
@@ -105,7 +107,7 @@ impl JournalReader {
             &mut self.last,
             &mut self.piece,
             source,
-            u16::MAX,
+            MAX_MESSAGE,
             self.count,
         )? {
             check_count(self.head.stated, self.count)?;

@@ -2,6 +2,7 @@
 
 ghost use Rattle.std.specs.Prelude.{◌≡◌, ◌<◌, ◌≤◌, ◌^◌, ◌++◌, length, OnOk, OnErr};
 ghost use Rattle.mold_wire.specs.Block.{be16, block};
+ghost use Rattle.mold_wire.specs.declared.block.TheConstants.{MAX_MESSAGE};
 ghost use Rattle.mold_devices.specs.Devices.{AppendsFront, Counts};
 ghost use Rattle.mold_session.specs.File.{head_2, file_length, AppendsFile, AppendsFileFront};
 ghost use Rattle.mold_session.specs.Journal.{AreMessages};
@@ -67,7 +68,7 @@ pub fn save_file<K: Sink>(
     list: &MessageList,
     sink: &mut K,
 ) -> Result<(), DeviceFault>
-    requires { AreMessages 65535 list.now.messages }
+    requires { AreMessages MAX_MESSAGE list.now.messages }
     ensures whole { OnOk result (AppendsFile (K.held sink.old) (K.held sink.new) session list.now.messages closed) }
     ensures front { OnErr result
         (AppendsFileFront (K.held sink.old) (K.held sink.new) session list.now.messages closed) }
@@ -83,7 +84,7 @@ pub fn save_file<K: Sink>(
 
 /// Writes the file of version 2 of these messages at the front of the bytes, and answers its length.
 pub fn put_file(bytes: &mut [u8], session: Session, closed: bool, list: &MessageList) -> usize
-    requires messages { AreMessages 65535 list.now.messages }
+    requires messages { AreMessages MAX_MESSAGE list.now.messages }
     requires room { file_length list.now.messages ≤ length bytes.old }
     ensures put { PutsFile bytes.old bytes.new session list.now.messages closed result }
     ensures size { result ≡ file_length list.now.messages }

@@ -115,7 +115,7 @@ impl Server {
         self.max_message
     }
 
-    /// How many requests were answered, by `answer` or `plan`; it stays at 18446744073709551615. A refused
+    /// How many requests were answered, by `answer` or `plan`; it stays at `MAX_NUMBER`. A refused
     /// one is not counted.
     pub fn answered(&self) -> u64
         ensures { result ≡ self.now.answered }

@@ -9,6 +9,7 @@ use crate::error::FileError;
 use crate::loading::load_file;
 use crate::saving::save_file;
 use mold_devices::{Sink, Source};
+use mold_wire::MAX_MESSAGE;
 use std::alloc::Global;
 
 /// What was upgraded.
@@ -49,7 +50,7 @@ pub fn upgrade<S: Source, K: Sink>(
     ensures read_failures { CountsLoad (S.failed source.old) (S.failed source.new) result }
     ensures write_failures { CountsSave (K.failed sink.old) (K.failed sink.new) result }
 {
-    let (head, list) = load_file(alloc, u16::MAX, source)?;
+    let (head, list) = load_file(alloc, MAX_MESSAGE, source)?;
     let closed = head.closed || close;
     let messages = list.len() as u64;
     let Ok(()) = save_file(head.session, closed, &list, sink) else {

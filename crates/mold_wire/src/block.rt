@@ -8,6 +8,9 @@ use byteorder::{BigEndian, ByteOrder};
 /// How many bytes say a block's length; they stand before its data and don't count themselves.
 pub const LENGTH_BYTES: usize = 2;
 
+/// The longest message, in bytes: the greatest number that a block's length has room for.
+pub const MAX_MESSAGE: u16 = u16::MAX;
+
 // The data of the block at the front and what follows it, or none where no whole block stands there.
 pub(crate) fn split_block(bytes: &[u8]) -> Option<(&[u8], &[u8])>
     ensures { MatchOption result (BeginsNoBlock bytes.now)

@@ -13,6 +13,7 @@ ghost use Rattle.mold_wire.specs.Request.{IsRequest, SpellsRequest, RequestFault
 ghost use Rattle.mold_wire.specs.Truth.{Carries, IsTruePacket, published_at};
 ghost use Rattle.mold_wire.specs.declared.error.DecodeError.{DecodeError};
 ghost use Rattle.mold_wire.specs.declared.error.RequestError.{RequestError};
+ghost use Rattle.mold_wire.specs.declared.block.TheConstants.{MAX_MESSAGE};
 ghost use Rattle.mold_wire.specs.declared.header.TheConstants.{END_OF_SESSION, HEADER_LENGTH};
 ghost use Rattle.mold_wire.specs.declared.limits.TheConstants.{MAX_COUNT, MAX_LIMIT, MAX_NUMBER, MESSAGE_OVERHEAD};
 ghost use Rattle.mold_wire.specs.declared.limits.TheConstants.{MIN_LIMIT};
@@ -25,6 +26,7 @@ ghost use Rattle.mold_wire.specs.declared.session.Session.{Session};
 pub fn constants_law()
     ensures header { HEADER_LENGTH ≡ 20 }
     ensures alone { MESSAGE_OVERHEAD ≡ 22 }
+    ensures message { MAX_MESSAGE ≡ 65535 }
     ensures end { END_OF_SESSION ≡ 65535 }
     ensures count { MAX_COUNT ≡ 65534 }
     ensures number { MAX_NUMBER ≡ 18446744073709551615 }

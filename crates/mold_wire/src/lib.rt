@@ -16,7 +16,7 @@ mod reading;
 mod request;
 mod session;
 
-pub use block::LENGTH_BYTES;
+pub use block::{LENGTH_BYTES, MAX_MESSAGE};
 pub use blocks::Blocks;
 pub use buffer::{add_in, can_hold, end_in, fits_in, is_limit, start_in};
 pub use error::{DecodeError, PackerError, RequestError};

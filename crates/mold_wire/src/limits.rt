@@ -16,5 +16,5 @@ pub const MESSAGE_OVERHEAD: usize = HEADER_LENGTH + LENGTH_BYTES;
 /// count of an end packet.
 pub const MAX_COUNT: u16 = END_OF_SESSION - 1;
 
-/// The greatest sequence number.
+/// The greatest sequence number. A count of 64 bits that would pass it stays there.
 pub const MAX_NUMBER: u64 = u64::MAX;
