@@ -4,6 +4,7 @@ use Rattle.std.specs.Prelude.{slice_get, map, is_some, if◌then◌else◌}
 use Rattle.std.specs.FinMap as finite
 use Rattle.std.specs.Option.{option_flatten, option_map}
 use Rattle.mold_receiver.specs.Store.{Message, Store}
+use Rattle.mold_receiver.specs.declared.receiver.TheConstants.{MAX_WINDOW}
 
 -- a slot, which is empty or has a message
 abbrev pub Slot : Type 0
@@ -42,7 +43,7 @@ held_bytes (Some message ∷ slots) = length message + held_bytes slots
 -- all from a place on, have none
 pub record AreSlots (slots : List Slot) (capacity count clear reach : ℕ) : Type 0 where
   pub some : 0 < length slots
-  pub few : length slots ≤ 65536
+  pub few : length slots ≤ MAX_WINDOW
   pub full : length slots ≡ capacity
   pub counted : count ≡ count_held slots
   pub empty : (i : ℕ) → i < clear → slot_at slots i ≡ None

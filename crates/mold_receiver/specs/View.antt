@@ -6,6 +6,7 @@ use Rattle.std.specs.Ordering.{nat_cmp}
 use Rattle.mold_wire.specs.declared.session.Session.{Session}
 use Rattle.mold_receiver.specs.Slots.{Slot, store_of}
 use Rattle.mold_receiver.specs.Store.{Message, Store}
+use Rattle.mold_receiver.specs.declared.receiver.TheConstants.{MAX_WINDOW}
 
 pub record View : Type 0 where
   -- the session that it receives
@@ -69,4 +70,4 @@ view_over session next known ended slots =
 
 -- the windows that a receiver may have
 abbrev pub IsWindow : ℕ → Type 0
-IsWindow window = (1 ≤ window) × (window ≤ 65536)
+IsWindow window = (1 ≤ window) × (window ≤ MAX_WINDOW)

@@ -2,6 +2,7 @@
 use Rattle.std.specs.Prelude.{◌≡◌, true, ℕ, zero, suc, ◌+◌, ◌-◌, ◌<◌, ◌≤◌, ◌⊎◌, min, Bool, List, Option, None, Some}
 use Rattle.std.specs.Prelude.{is_some, is_none, ◌==◌, if◌then◌else◌}
 use Rattle.std.specs.FinMap as finite
+use Rattle.mold_wire.specs.declared.limits.TheConstants.{MAX_COUNT}
 use Rattle.mold_wire.specs.declared.request.Request.{Request}
 use Rattle.mold_rule.specs.Ranges.{Range, ranges}
 use Rattle.mold_receiver.specs.Store.{Message, Store}
@@ -22,7 +23,7 @@ abbrev pub wanted : View → Option Request
 wanted v =
     if v.next == v.known
     then None
-    else Some (record { session = v.session; sequence = v.next; count = min 65534 (gap_end v - v.next) })
+    else Some (record { session = v.session; sequence = v.next; count = min MAX_COUNT (gap_end v - v.next) })
 
 -- how many messages below `known` it lacks
 abbrev pub missing : View → ℕ

@@ -8,7 +8,7 @@ pub enum ReceiverError {
     /// The first message of a session has number 1, so none has number 0.
     #[error("the next message can't have number 0")]
     NextZero,
-    /// A window outside 1 to 65,536 messages.
+    /// A window that is not 1 to `MAX_WINDOW` messages.
     #[error("a window is 1 to 65,536 messages")]
     Window,
     /// The memory for the window was refused.

@@ -4,6 +4,7 @@ ghost use Rattle.std.specs.Prelude.{◌≡◌, ◌↔◌, ◌+◌, ◌<◌, ◌�
 ghost use Rattle.mold_receiver.specs.Keeping.{filled, fresh};
 ghost use Rattle.mold_receiver.specs.Shelf.{IsKept, slots_on};
 ghost use Rattle.mold_wire.specs.Block.{blocks as packed};
+ghost use Rattle.mold_wire.specs.declared.header.TheConstants.{END_OF_SESSION};
 
 use crate::shelf::Shelf;
 use crate::span::Span;
@@ -30,7 +31,7 @@ fn has_fresh(shelf: &Shelf, first: u64, blocks: &Blocks<'_>) -> bool
 fn mark_blocks(shelf: &mut Shelf, first: u64, begin: usize, blocks: &Blocks<'_>) -> u32
     requires kept { IsKept shelf.old }
     requires numbered { first + length blocks.now < 2 ^ 64 }
-    requires few { length blocks.now < 65535 }
+    requires few { length blocks.now < END_OF_SESSION }
     requires behind { shelf.old.used ≤ begin }
     requires there { drop begin shelf.old.bytes.items ≡ packed blocks.now }
     ensures kept { IsKept shelf.new }
@@ -66,7 +67,7 @@ pub(crate) fn keep_fresh(
 ) -> Result<u32, AllocError>
     requires kept { IsKept shelf.old }
     requires numbered { first + length blocks.now < 2 ^ 64 }
-    requires few { length blocks.now < 65535 }
+    requires few { length blocks.now < END_OF_SESSION }
     ensures kept { IsKept shelf.new }
     ensures filled { OnOk result (slots_on shelf.new ≡ filled (slots_on shelf.old) first blocks.now) }
     ensures count { IfOk result (λ count. count ≡ length (fresh (slots_on shelf.old) first blocks.now)) }

@@ -6,6 +6,7 @@ ghost use Rattle.std.specs.Prelude.{false, List, ℕ, Option, None, Some, Ok, Er
 ghost use Rattle.std.specs.FinMap as finite;
 ghost use Rattle.std.specs.List.{sum_by};
 ghost use Rattle.mold_wire.specs.Packet.{Spells, messages_of, top_of};
+ghost use Rattle.mold_wire.specs.declared.limits.TheConstants.{MAX_COUNT, MAX_NUMBER};
 ghost use Rattle.mold_wire.specs.declared.packet.Packet.{Packet};
 ghost use Rattle.mold_wire.specs.declared.request.Request.{Request};
 ghost use Rattle.mold_wire.specs.declared.session.Session.{Session};
@@ -19,9 +20,15 @@ ghost use Rattle.mold_receiver.specs.Store.{Message, available};
 ghost use Rattle.mold_receiver.specs.View.{View, IsWellFormed, fresh};
 ghost use Rattle.mold_receiver.specs.Wanted.{IsGap, gap_end, gaps, lacks, missing, wanted};
 ghost use Rattle.mold_receiver.specs.Gap.{IsTakenInGap};
+ghost use Rattle.mold_receiver.specs.declared.receiver.TheConstants.{MAX_WINDOW};
 
 use mold_rule::laws::{cause_law, lacking_law, ranges_size_law, refusal_law};
 use mold_wire::laws::{reading_law, true_packet_law};
+
+/// The greatest window, written out.
+pub fn constants_law()
+    ensures { MAX_WINDOW ≡ 65536 }
+{}
 
 /// The new `next` of a packet that is taken is the least number from the old one on that is lacking in what
 /// is available, and what is handed on is what is available there, in order.
@@ -71,7 +78,7 @@ pub fn honest_stays_law()
     ensures closed { (v : View) (published : List Message) →
         IsHonest v published false → IsHonest v published true }
     ensures fresh { (session : Session) (next window : ℕ) (published : List Message) (closed : Bool) →
-        1 ≤ next → next ≤ length published + 1 → length published < 18446744073709551615 →
+        1 ≤ next → next ≤ length published + 1 → length published < MAX_NUMBER →
         IsHonest (fresh session next window) published closed }
 {}
 
@@ -98,7 +105,7 @@ pub fn through_law()
 /// exactly where nothing below `known` is lacking.
 pub fn wanted_law()
     ensures asks { (v : View) (r : Request) → wanted v ≡ Some r →
-        (r.session ≡ v.session) × (r.sequence ≡ v.next) × (r.count ≡ min 65534 (gap_end v - v.next)) }
+        (r.session ≡ v.session) × (r.sequence ≡ v.next) × (r.count ≡ min MAX_COUNT (gap_end v - v.next)) }
     ensures gap { (v : View) (r : Request) → IsWellFormed v → wanted v ≡ Some r → IsGap v (gap_end v) }
     ensures none { (v : View) → wanted v ≡ None → v.next ≡ v.known }
 {}

@@ -5,6 +5,7 @@ ghost use Rattle.std.specs.Prelude.{Err, IfOk, IfErr, OnOk, OnErr};
 ghost use Rattle.std.specs.FinMap as finite;
 ghost use Rattle.mold_wire.specs.Packet.{IsBody, messages_of, top_of};
 ghost use Rattle.mold_wire.specs.Reading.{reading};
+ghost use Rattle.mold_wire.specs.declared.header.TheConstants.{END_OF_SESSION};
 ghost use Rattle.mold_wire.specs.declared.packet.Body.TheVariants.{Data};
 ghost use Rattle.mold_receiver.specs.Batch.{Follows, followed_by};
 ghost use Rattle.mold_receiver.specs.Handing.{HasNext};
@@ -23,15 +24,12 @@ use crate::hand::hand_on;
 use crate::slots::Slots;
 use crate::taken::{Accepted, Taken};
 use mold_rule::{Refusal as Refused, check_header};
-use mold_wire::{Blocks, Body, Packet, Request, Session, decode};
+use mold_wire::{Blocks, Body, MAX_COUNT, Packet, Request, Session, decode};
 use std::alloc::{AllocError, Global};
 use std::marker::Model;
 
-/// The greatest window.
+/// The greatest window, in messages.
 pub const MAX_WINDOW: u32 = 65536;
-
-/// The most messages that a request asks for.
-const MOST_WANTED: u64 = 65534;
 
 // How many of a packet's messages lie behind the window, by its top and the number of its messages.
 fn count_beyond(next: u64, window: usize, top: u64, count: u16) -> u32
@@ -145,7 +143,7 @@ impl Receiver {
         batch: &mut Batch,
     ) -> Result<Taken, AllocError>
         requires packet { HasNext batch.old self.old.next first top blocks.now }
-        requires few { length blocks.now < 65535 }
+        requires few { length blocks.now < END_OF_SESSION }
         requires end { past_end self.old.ended (Data blocks.now) top ≡ None }
         ensures taken { IfOk result
             (λ taken. HasTakenPacket self.old (data_packet self.old.session first blocks.now) self.new taken) }
@@ -328,7 +326,7 @@ impl Receiver {
         self.slots.held()
     }
 
-    /// How many numbers from `next` on it stores messages for, 1 to 65,536.
+    /// How many numbers from `next` on it stores messages for, 1 to `MAX_WINDOW`.
     pub fn window(&self) -> u32
         ensures window { result ≡ self.now.window }
         ensures range { IsWindow self.now.window }
@@ -337,7 +335,7 @@ impl Receiver {
     }
 
     /// The request for what is lacking: from `next` on to below the first stored message, or to below
-    /// `known` where nothing is stored, but for no more than 65,534. None where nothing is lacking.
+    /// `known` where nothing is stored, but for no more than `MAX_COUNT`. None where nothing is lacking.
     pub fn wanted(&self) -> Option<Request>
         ensures wanted { result ≡ wanted self.now }
         ensures well_formed { IsWellFormed self.now }
@@ -345,7 +343,7 @@ impl Receiver {
         if self.next == self.known {
             return None;
         }
-        let most = (self.known - self.next).min(MOST_WANTED);
+        let most = (self.known - self.next).min(MAX_COUNT as u64);
         let count = self.slots.first_held(most as usize);
         Some(Request {
             session: self.session,

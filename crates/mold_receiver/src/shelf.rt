@@ -7,19 +7,21 @@ ghost use Rattle.std.specs.Option.{option_copied};
 ghost use Rattle.mold_receiver.specs.Keeping.{is_fresh, put_fresh};
 ghost use Rattle.mold_receiver.specs.Shelf.{IsKept, joined, message_in, slots_on};
 ghost use Rattle.mold_receiver.specs.Slots.{slot_at, count_held, IsFirstHeld};
+ghost use Rattle.mold_receiver.specs.declared.receiver.TheConstants.{MAX_WINDOW};
+ghost use Rattle.mold_receiver.specs.declared.shelf.TheConstants.{LEAST_WASTE, WASTE_OF_A_SLOT};
 
 use crate::ring::{advance, close_up, empty_ring, span_in, write};
 use crate::span::Span;
 use circular_buffer::HeapCircularBuffer;
 use std::alloc::{AllocError, Global};
 
-// The most bytes: a place is a number of 32 bits.
+// The most bytes: an offset is a number of 32 bits.
 const MOST_BYTES: usize = u32::MAX as usize;
 
-// So many bytes that belong to no message are borne at least.
+// Packing never starts below this much waste, in bytes that belong to no message.
 const LEAST_WASTE: usize = 65536;
 
-// So many are borne for each slot that packing walks.
+// Nor below this much for each slot that packing walks.
 const WASTE_OF_A_SLOT: usize = 32;
 
 // How many slots from the front have no message when one is written into a slot.
@@ -51,7 +53,7 @@ impl Shelf {
     /// Empty slots, as many as the window, and no bytes.
     pub(crate) fn new(alloc: Global, window: u32) -> Result<Shelf, AllocError>
         requires some { 0 < window }
-        requires few { window ≤ 65536 }
+        requires few { window ≤ MAX_WINDOW }
         ensures kept { IfOk result (λ shelf. IsKept shelf) }
         ensures empty { IfOk result (λ shelf. slots_on shelf ≡ replicate window None) }
     {
@@ -69,7 +71,7 @@ impl Shelf {
     pub(crate) fn len(&self) -> usize
         requires { IsKept self.now }
         ensures length { result ≡ length (slots_on self.now) }
-        ensures range { (0 < length (slots_on self.now)) × (length (slots_on self.now) ≤ 65536) }
+        ensures range { (0 < length (slots_on self.now)) × (length (slots_on self.now) ≤ MAX_WINDOW) }
     {
         self.ring.len()
     }
@@ -202,7 +204,7 @@ impl Shelf {
         ensures kept { IsKept self.new }
         ensures same { slots_on self.new ≡ slots_on self.old }
         ensures borne { OnOk result (length self.new.bytes.items - self.new.used ≤
-            max (max 65536 (32 * self.new.reach)) self.new.used) }
+            max (max LEAST_WASTE (WASTE_OF_A_SLOT * self.new.reach)) self.new.used) }
     {
         let walk = WASTE_OF_A_SLOT * self.reach;
         let borne = LEAST_WASTE.max(walk).max(self.used);

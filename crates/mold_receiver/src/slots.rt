@@ -4,6 +4,8 @@ ghost use Rattle.std.specs.Prelude.{◌≡◌, ◌+◌, ◌^◌, ◌<◌, ◌≤
 ghost use Rattle.std.specs.Option.{option_copied};
 ghost use Rattle.mold_receiver.specs.Keeping.{filled, fresh};
 ghost use Rattle.mold_receiver.specs.Slots.{slot_at, count_held, IsFirstHeld};
+ghost use Rattle.mold_receiver.specs.declared.receiver.TheConstants.{MAX_WINDOW};
+ghost use Rattle.mold_wire.specs.declared.header.TheConstants.{END_OF_SESSION};
 
 use crate::keep::keep_fresh;
 use crate::shelf::Shelf;
@@ -34,7 +36,7 @@ impl Slots {
     /// Empty slots, as many as the window.
     pub(crate) fn new(alloc: Global, window: u32) -> Result<Slots, AllocError>
         requires some { 0 < window }
-        requires few { window ≤ 65536 }
+        requires few { window ≤ MAX_WINDOW }
         ensures { IfOk result (λ slots. slots ≡ replicate window None) }
     {
         let shelf = Shelf::new(alloc, window)?;
@@ -43,7 +45,7 @@ impl Slots {
 
     pub(crate) fn len(&self) -> usize
         ensures length { result ≡ length self.now }
-        ensures range { (0 < length self.now) × (length self.now ≤ 65536) }
+        ensures range { (0 < length self.now) × (length self.now ≤ MAX_WINDOW) }
     {
         self.shelf.len()
     }
@@ -73,7 +75,7 @@ impl Slots {
         blocks: &Blocks<'_>,
     ) -> Result<u32, AllocError>
         requires numbered { first + length blocks.now < 2 ^ 64 }
-        requires few { length blocks.now < 65535 }
+        requires few { length blocks.now < END_OF_SESSION }
         ensures filled { OnOk result (self.new ≡ filled self.old first blocks.now) }
         ensures count { IfOk result (λ kept. kept ≡ length (fresh self.old first blocks.now)) }
         ensures needed { OnErr result (0 < length (fresh self.old first blocks.now)) }

@@ -3,6 +3,7 @@ use Rattle.std.specs.Prelude.{◌≡◌, ◌≤◌, ◌<◌, ◌^◌, ℕ, Bool,
 use Rattle.std.specs.Prelude.{Option, None, Some}
 use Rattle.std.specs.Str.{bytes_eq}
 use Rattle.mold_wire.specs.Packet.{top_of}
+use Rattle.mold_wire.specs.declared.limits.TheConstants.{MAX_NUMBER}
 use Rattle.mold_wire.specs.declared.packet.Packet.{Packet}
 use Rattle.mold_wire.specs.declared.packet.Body.{Body}
 use Rattle.mold_wire.specs.declared.packet.Body.TheVariants.{Data, Heartbeat, End}
@@ -23,7 +24,7 @@ abbrev pub sequence_zero : Packet → Option Refusal
 sequence_zero p = refuse_if (p.sequence == 0) SequenceZero
 
 abbrev pub past_last : Packet → Option Refusal
-past_last p = refuse_if (nat_lt 18446744073709551615 (top_of p)) PastLast
+past_last p = refuse_if (nat_lt MAX_NUMBER (top_of p)) PastLast
 
 -- an end packet, and another end is known
 abbrev pub end_conflict : Body → ℕ → Option ℕ → Option Refusal

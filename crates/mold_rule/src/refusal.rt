@@ -15,7 +15,7 @@ pub enum Refusal {
     /// The sequence number is 0, which no message has.
     #[error("the sequence number is 0")]
     SequenceZero,
-    /// The number behind the packet's last message is above 18446744073709551615.
+    /// The packet's top is above `MAX_NUMBER`.
     #[error("the packet's numbers end above 18446744073709551615")]
     PastLast,
     /// An end packet whose number isn't the end that an earlier one told.
