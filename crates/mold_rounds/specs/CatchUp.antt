@@ -12,6 +12,7 @@ use Rattle.mold_session.specs.Answer.{answer}
 use Rattle.mold_session.specs.Journal.{JournalState}
 use Rattle.mold_session.specs.Server.{ServerState}
 use Rattle.mold_wire.specs.Truth.{published_at}
+use Rattle.mold_wire.specs.declared.limits.TheConstants.{MAX_COUNT, MAX_NUMBER}
 use Rattle.mold_wire.specs.declared.packet.Packet.{Packet}
 
 -- the message with a number: the stored one, or else the published one
@@ -29,12 +30,12 @@ caught_up v = record v { next = v.known; store = finite.empty }
 -- a server that answered so many requests more; the count stays at its limit
 abbrev pub counted_by : ServerState → ℕ → ServerState
 counted_by server count =
-    record server { answered = server.answered + min count (18446744073709551615 - server.answered) }
+    record server { answered = server.answered + min count (MAX_NUMBER - server.answered) }
 
--- the answer to the request for what is wanted: from `next` on to the end of the gap, 65,534 messages at most
+-- the answer to the request for what is wanted: from `next` on to the end of the gap, `MAX_COUNT` messages at most
 abbrev pub round_answer : View → List Message → ℕ → ℕ → List Packet
 round_answer v published limit burst =
-    answer published v.session limit v.next (min 65534 (gap_end v - v.next)) burst
+    answer published v.session limit v.next (min MAX_COUNT (gap_end v - v.next)) burst
 
 -- a view that took packets one after the other
 unfoldable pub views_after : View → List Packet → View

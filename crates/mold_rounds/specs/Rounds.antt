@@ -8,6 +8,7 @@ use Rattle.mold_session.specs.Answer.{between}
 use Rattle.mold_session.specs.Datagrams.{packing}
 use Rattle.mold_wire.specs.Packet.{messages_of}
 use Rattle.mold_wire.specs.Packing.{front}
+use Rattle.mold_wire.specs.declared.limits.TheConstants.{MAX_COUNT}
 use Rattle.mold_wire.specs.declared.packet.Packet.{Packet}
 use Rattle.mold_wire.specs.declared.session.Session.{Session}
 
@@ -20,16 +21,16 @@ abbrev pub nameless : Session
 nameless = record { 0 = [] }
 
 -- how many messages the answer to one request brings of those that are lacking: a request asks for at most
--- 65,534 of them, and gets the first `burst` packets of their packing
+-- `MAX_COUNT` of them, and gets the first `burst` packets of their packing
 abbrev pub brought : ℕ → ℕ → List Message → ℕ
-brought limit burst messages = carried (take burst (packing limit nameless 1 (take 65534 messages)))
+brought limit burst messages = carried (take burst (packing limit nameless 1 (take MAX_COUNT messages)))
 
 -- how many requests bring messages that are lacking one after the other, at most so many: one, and those for
 -- what its answer leaves; none where no message comes
 unfoldable pub asks_within : ℕ → ℕ → ℕ → List Message → ℕ
 asks_within limit burst zero messages = 0
 asks_within limit burst (suc most) messages =
-    if length (front limit messages 65534) == 0
+    if length (front limit messages MAX_COUNT) == 0
     then 0
     else suc (asks_within limit burst most (drop (brought limit burst messages) messages))
 

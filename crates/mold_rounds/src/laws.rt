@@ -8,6 +8,8 @@ ghost use Rattle.mold_rounds.specs.Examples.{five, heard, twenty};
 ghost use Rattle.mold_rounds.specs.Rounds.{asks, brought, carried, nameless, rounds};
 ghost use Rattle.mold_session.specs.Datagrams.{packing};
 ghost use Rattle.mold_wire.specs.Packing.{front};
+ghost use Rattle.mold_wire.specs.declared.header.TheConstants.{HEADER_LENGTH};
+ghost use Rattle.mold_wire.specs.declared.limits.TheConstants.{MAX_COUNT};
 ghost use Rattle.mold_wire.specs.declared.session.Session.{Session};
 
 use mold_receiver::laws::missing_law;
@@ -19,12 +21,12 @@ use mold_wire::laws::front_law;
 /// the packets of an answer carry doesn't depend on their session and their numbers.
 pub fn asks_law()
     ensures none { (limit burst : ℕ) (messages : List Message) →
-        length (front limit messages 65534) ≡ 0 → asks limit burst messages ≡ 0 }
-    ensures more { (limit burst : ℕ) (messages : List Message) → 20 ≤ limit → 1 ≤ burst →
-        0 < length (front limit messages 65534) →
+        length (front limit messages MAX_COUNT) ≡ 0 → asks limit burst messages ≡ 0 }
+    ensures more { (limit burst : ℕ) (messages : List Message) → HEADER_LENGTH ≤ limit → 1 ≤ burst →
+        0 < length (front limit messages MAX_COUNT) →
         asks limit burst messages ≡ suc (asks limit burst (drop (brought limit burst messages) messages)) }
-    ensures some { (limit burst : ℕ) (messages : List Message) → 20 ≤ limit → 1 ≤ burst →
-        0 < length (front limit messages 65534) → 0 < brought limit burst messages }
+    ensures some { (limit burst : ℕ) (messages : List Message) → HEADER_LENGTH ≤ limit → 1 ≤ burst →
+        0 < length (front limit messages MAX_COUNT) → 0 < brought limit burst messages }
     ensures few { (limit burst : ℕ) (messages : List Message) → asks limit burst messages ≤ length messages }
     ensures any { (limit burst sequence : ℕ) (session : Session) (messages : List Message) →
         carried (take burst (packing limit session sequence messages))
