@@ -10,3 +10,4 @@ pub mod Handing
 pub mod Honest
 pub mod Gap
 pub mod Arbiter
+pub mod Fresh

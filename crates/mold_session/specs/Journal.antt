@@ -1,5 +1,5 @@
 -- A journal as its users see it, and what is appended to it.
-use Rattle.std.specs.Prelude.{ℕ, zero, suc, ◌≤◌, ◌<◌, Bool, List, [], ◌∷◌, ◌++◌, length, nat_lt, ◌==◌}
+use Rattle.std.specs.Prelude.{ℕ, zero, suc, ◌≤◌, ◌<◌, Bool, false, List, [], ◌∷◌, ◌++◌, length, nat_lt, ◌==◌}
 use Rattle.std.specs.Prelude.{if◌then◌else◌, slice_get, Option, None, Some}
 use Rattle.std.specs.List.{AllByRecursion}
 use Rattle.mold_wire.specs.declared.limits.TheConstants.{MAX_NUMBER}
@@ -14,6 +14,11 @@ pub record JournalState : Type 0 where
   pub max_message : ℕ
   pub messages : List (List ℕ)
   pub closed : Bool
+
+-- an open journal without messages
+abbrev pub fresh_journal : Session → ℕ → JournalState
+fresh_journal session max_message =
+    record { session = session; max_message = max_message; messages = []; closed = false }
 
 -- a message of at most so many bytes
 abbrev pub IsWithin : ℕ → List ℕ → Type 0

@@ -1,5 +1,5 @@
 -- A publisher as its users see it, and which packets it sends.
-use Rattle.std.specs.Prelude.{◌≡◌, ℕ, ◌+◌, ◌≤◌, true, false, List, length, drop, ◌==◌}
+use Rattle.std.specs.Prelude.{◌≡◌, ℕ, ◌+◌, ◌-◌, ◌≤◌, true, false, List, length, drop, ◌==◌}
 use Rattle.std.specs.Prelude.{if◌then◌else◌, Option, None, Some}
 use Rattle.mold_wire.specs.declared.limits.TheConstants.{MESSAGE_OVERHEAD}
 use Rattle.mold_wire.specs.declared.packet.Packet.{Packet}
@@ -7,7 +7,8 @@ use Rattle.mold_wire.specs.declared.packet.Body.TheVariants.{Data, Heartbeat, En
 use Rattle.mold_wire.specs.Packet.{Spells}
 use Rattle.mold_wire.specs.Packer.{IsLimit}
 use Rattle.mold_wire.specs.Packing.{front}
-use Rattle.mold_session.specs.Journal.{JournalState, IsJournal, appended}
+use Rattle.mold_wire.specs.declared.session.Session.{Session}
+use Rattle.mold_session.specs.Journal.{JournalState, IsJournal, appended, fresh_journal}
 use Rattle.mold_session.specs.declared.journal.TheConstants.{MAX_MESSAGES}
 
 -- the journal of what was published, the limit of a datagram, and how many messages were put in one
@@ -15,6 +16,11 @@ pub record PublisherState : Type 0 where
   pub journal : JournalState
   pub limit : ℕ
   pub sent : ℕ
+
+-- the publisher of an open session without messages
+abbrev pub fresh_publisher : Session → ℕ → PublisherState
+fresh_publisher session limit =
+    record { journal = fresh_journal session (limit - MESSAGE_OVERHEAD); limit = limit; sent = 0 }
 
 -- what holds of every publisher
 pub record IsPublisher (publisher : PublisherState) : Type 0 where

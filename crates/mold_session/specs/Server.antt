@@ -27,6 +27,11 @@ pub record ServerState : Type 0 where
   pub burst : ℕ
   pub answered : ℕ
 
+-- a server that has answered nothing yet
+abbrev pub fresh_server : ℕ → ℕ → ℕ → ServerState
+fresh_server limit max_message burst =
+    record { limit = limit; max_message = max_message; burst = burst; answered = 0 }
+
 -- what holds of every server
 pub record IsServer (server : ServerState) : Type 0 where
   pub limited : IsLimit server.limit
@@ -38,7 +43,8 @@ pub record IsServer (server : ServerState) : Type 0 where
 -- why a server is not made, the first reason of several; none where only memory may be wanting
 abbrev pub server_refusal : ℕ → ℕ → ℕ → Option ServerError
 server_refusal limit max_message burst =
-    if not (nat_le MIN_LIMIT limit && nat_le limit MAX_LIMIT && nat_le (max_message + MESSAGE_OVERHEAD) limit) then Some Limit
+    if not (nat_le MIN_LIMIT limit && nat_le limit MAX_LIMIT && nat_le (max_message + MESSAGE_OVERHEAD) limit)
+    then Some Limit
     else if not (nat_le 1 burst && nat_le burst MAX_BURST) then Some Burst
     else None
 

@@ -1,6 +1,6 @@
 //! The messages of a session, in the order in which they were published.
 
-ghost use Rattle.std.specs.Prelude.{◌≡◌, ◌+◌, ◌<◌, ◌≤◌, [], true, false, None, length, drop, take, ◌-◌, unwrap_or};
+ghost use Rattle.std.specs.Prelude.{◌≡◌, ◌+◌, ◌<◌, ◌≤◌, true, false, None, length, drop, take, ◌-◌, unwrap_or};
 ghost use Rattle.std.specs.Prelude.{IfOk};
 ghost use Rattle.std.specs.Prelude.{IfErr, IfSome, IfNone, OnOk, OnErr, ◌⊎◌};
 ghost use Rattle.std.specs.Io.KnownBytes.{IsAtEnd};
@@ -9,7 +9,7 @@ ghost use Rattle.mold_messages.specs.Listed.{byte_count};
 ghost use Rattle.mold_devices.specs.Devices.{Counts};
 ghost use Rattle.mold_session.specs.File.{SpellsJournal, SpellsJournal2, AppendsFile, AppendsFileFront, file_length};
 ghost use Rattle.mold_session.specs.FileFault.{JournalFault};
-ghost use Rattle.mold_session.specs.Journal.{IsJournal, message_numbered, append_refusal, appended};
+ghost use Rattle.mold_session.specs.Journal.{IsJournal, message_numbered, append_refusal, appended, fresh_journal};
 ghost use Rattle.mold_session.specs.Loading.{Refuses, CountsLoad};
 ghost use Rattle.mold_session.specs.Putting.{PutsFile};
 ghost use Rattle.mold_session.specs.declared.error.AppendError.{AppendError};
@@ -57,7 +57,7 @@ impl Journal {
     /// An open journal without messages, whose messages may have up to `max_message` bytes. It takes no
     /// memory yet.
     pub fn new(alloc: Global, session: Session, max_message: u16) -> Journal
-        ensures { result ≡ record { session = session; max_message = max_message; messages = []; closed = false } }
+        ensures { result ≡ fresh_journal session max_message }
     {
         Journal {
             session,

@@ -1,14 +1,13 @@
 //! The publisher of a session.
 
-ghost use Rattle.std.specs.Prelude.{◌≡◌, ◌↔◌, ◌+◌, ◌-◌, ◌≤◌, [], true, false, None, Err, length, unwrap_or, not, IfOk};
+ghost use Rattle.std.specs.Prelude.{◌≡◌, ◌↔◌, ◌+◌, ◌-◌, ◌≤◌, true, false, None, Err, length, unwrap_or, not, IfOk};
 ghost use Rattle.std.specs.Prelude.{IfErr, IfSome, IfNone, IsOk, OnOk, OnErr, IsTrue};
 ghost use Rattle.std.specs.Option.{option_copied};
 ghost use Rattle.mold_wire.specs.Packer.{IsLimit};
 ghost use Rattle.mold_wire.specs.Packing.{Fits};
-ghost use Rattle.mold_wire.specs.declared.limits.TheConstants.{MESSAGE_OVERHEAD};
 ghost use Rattle.mold_session.specs.Journal.{append_refusal};
 ghost use Rattle.mold_session.specs.Publisher.{IsPublisher, unsent_of, next_datagram, next_heartbeat, next_end};
-ghost use Rattle.mold_session.specs.Publisher.{after_datagram, published, closed, Lends};
+ghost use Rattle.mold_session.specs.Publisher.{after_datagram, fresh_publisher, published, closed, Lends};
 ghost use Rattle.mold_session.specs.Truthful.{TellsTruth};
 ghost use Rattle.mold_session.specs.declared.error.AppendError.{AppendError};
 ghost use Rattle.mold_session.specs.declared.error.PublisherError.{PublisherError};
@@ -54,11 +53,7 @@ impl Publisher {
     /// A publisher of an open session without messages, whose datagrams have at most `limit` bytes and
     /// whose messages at most `MESSAGE_OVERHEAD` fewer. It reserves the limit once.
     pub fn new(alloc: Global, session: Session, limit: usize) -> Result<Publisher, PublisherError>
-        ensures made { IfOk result (λ publisher. publisher ≡ record {
-          journal = record { session = session; max_message = limit - MESSAGE_OVERHEAD; messages = []; closed = false };
-          limit = limit;
-          sent = 0;
-        }) }
+        ensures made { IfOk result (λ publisher. publisher ≡ fresh_publisher session limit) }
         ensures ok { IsOk result → IsLimit limit }
         ensures limit { (result ≡ Err PublisherError.Limit) ↔ (¬ IsLimit limit) }
     {

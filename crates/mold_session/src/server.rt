@@ -6,7 +6,8 @@ ghost use Rattle.std.specs.Option.{OnSome};
 ghost use Rattle.mold_wire.specs.Packet.{Spells};
 ghost use Rattle.mold_session.specs.Answer.{IsPlan, IsSpent, next_part, next_packet, moved};
 ghost use Rattle.mold_session.specs.Journal.{IsJournal};
-ghost use Rattle.mold_session.specs.Server.{IsServer, server_refusal, asking, planning, SpellsAnswer, counted_if};
+ghost use Rattle.mold_session.specs.Server.{IsServer, fresh_server, server_refusal, asking, planning, SpellsAnswer};
+ghost use Rattle.mold_session.specs.Server.{counted_if};
 ghost use Rattle.mold_session.specs.Truthful.{TellsTruth};
 ghost use Rattle.mold_session.specs.declared.error.ServerError.{ServerError};
 
@@ -71,12 +72,7 @@ impl Server {
         max_message: u16,
         burst: u16,
     ) -> Result<Server, ServerError>
-        ensures made { IfOk result (λ server. server ≡ record {
-          limit = limit;
-          max_message = max_message;
-          burst = burst;
-          answered = 0;
-        }) }
+        ensures made { IfOk result (λ server. server ≡ fresh_server limit max_message burst) }
         ensures ok { OnOk result (server_refusal limit max_message burst ≡ None) }
         ensures refused { IfErr result (λ error.
             error ≡ unwrap_or (server_refusal limit max_message burst) ServerError.Memory) }

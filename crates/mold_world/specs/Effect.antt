@@ -13,7 +13,7 @@ use Rattle.mold_wire.specs.declared.session.Session.{Session}
 use Rattle.mold_receiver.specs.Arbiter.{arbitrates}
 use Rattle.mold_receiver.specs.Batch.{Handed, followed_by, handed_from}
 use Rattle.mold_receiver.specs.Receive.{Reception, receive}
-use Rattle.mold_receiver.specs.View.{fresh}
+use Rattle.mold_receiver.specs.Fresh.{fresh_arbitration}
 use Rattle.mold_receiver.specs.Wanted.{wanted}
 use Rattle.mold_rule.specs.declared.refusal.Refusal.{Refusal as Refused}
 use Rattle.mold_session.specs.Answer.{answer}
@@ -130,13 +130,7 @@ noised w receiver way bytes (Some place) false = giving w receiver place way byt
 -- book is cut to the messages before
 abbrev pub renewed : PlaceState → ℕ → PlaceState
 renewed place next = record {
-  arbitration = record {
-    view = fresh place.arbitration.view.session next place.arbitration.view.window;
-    reports = record {
-      a = record { datagrams = 0; refused = 0; front = next };
-      b = record { datagrams = 0; refused = 0; front = next };
-    };
-  };
+  arbitration = fresh_arbitration place.arbitration.view.session next place.arbitration.view.window;
   book = handed_from place.book.first (take (next - 1) place.book.messages);
 }
 

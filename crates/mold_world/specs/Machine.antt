@@ -3,6 +3,7 @@
 -- numbers that it gets there.
 use Rattle.std.specs.Prelude.{◌≡◌, ℕ, ◌+◌, ◌-◌, ◌<◌, ◌≤◌, List, [], ◌∷◌, ◌++◌, length, take, Some, Bool, true, false}
 use Rattle.std.specs.Prelude.{◌==◌, if◌then◌else◌, slice_get}
+use Rattle.mold_session.specs.declared.journal.TheConstants.{MAX_MESSAGES}
 use Rattle.mold_wire.specs.Packet.{Spells}
 use Rattle.mold_wire.specs.Truth.{Carries, IsTruePacket}
 use Rattle.mold_wire.specs.declared.packet.Packet.{Packet}
@@ -72,7 +73,7 @@ pub record IsSaid (machine : Machine) (bytes : List ℕ) : Type 0 where
 -- of just this book was sent; a restart is at a number that was reached.
 abbrev pub IsAllowed : Machine → Step → Type 0
 IsAllowed machine (Publish message) =
-    (machine.closed ≡ false) × (length machine.published < 18446744073709551614)
+    (machine.closed ≡ false) × (length machine.published < MAX_MESSAGES)
 IsAllowed machine Close = Unit {0}
 IsAllowed machine (Send bytes) = IsSaid machine bytes
 IsAllowed machine (Deliver receiver messages ended) =

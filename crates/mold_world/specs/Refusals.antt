@@ -4,6 +4,8 @@ use Rattle.std.specs.Prelude.{if◌then◌else◌, slice_get, position}
 use Rattle.std.specs.Option.{option_map}
 use Rattle.mold_receiver.specs.Receive.{IsCopied}
 use Rattle.mold_receiver.specs.Wanted.{wanted}
+use Rattle.mold_receiver.specs.declared.receiver.TheConstants.{MAX_WINDOW}
+use Rattle.mold_wire.specs.declared.limits.TheConstants.{MAX_LIMIT, MIN_LIMIT}
 use Rattle.mold_wire.specs.declared.request.Request.{Request as Asked}
 use Rattle.mold_world.specs.Event.{Happening}
 use Rattle.mold_world.specs.Effect.{effect}
@@ -11,6 +13,7 @@ use Rattle.mold_world.specs.declared.event.EventOf.TheVariants.{Publish, Datagra
 use Rattle.mold_world.specs.declared.event.EventOf.TheVariants.{Request, Ask, Deliver, Noise, Restart}
 use Rattle.mold_world.specs.World.{PlaceState, WorldState}
 use Rattle.mold_session.specs.Publisher.{next_end, next_heartbeat}
+use Rattle.mold_session.specs.declared.server.TheConstants.{MAX_BURST}
 use Rattle.mold_session.specs.declared.error.AppendError.{AppendError}
 use Rattle.mold_session.specs.declared.error.AppendError.TheVariants as append
 use Rattle.mold_world.specs.declared.report.Report.{Report}
@@ -21,13 +24,13 @@ use Rattle.mold_world.specs.declared.report.WorldError.TheVariants.{Layer as Ref
 
 -- a datagram's limit, a burst and a window that there may be
 abbrev pub is_limit : ℕ → Bool
-is_limit limit = nat_le 64 limit && nat_le limit 65507
+is_limit limit = nat_le MIN_LIMIT limit && nat_le limit MAX_LIMIT
 
 abbrev pub is_burst : ℕ → Bool
-is_burst burst = nat_le 1 burst && nat_le burst 64
+is_burst burst = nat_le 1 burst && nat_le burst MAX_BURST
 
 abbrev pub is_window : ℕ → Bool
-is_window window = nat_le 1 window && nat_le window 65536
+is_window window = nat_le 1 window && nat_le window MAX_WINDOW
 
 -- why a world is not made, the first reason of several, and of several windows the first; none where only
 -- memory may be wanting

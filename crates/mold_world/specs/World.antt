@@ -1,10 +1,10 @@
 -- The world as its users see it: a publisher, a re-request server, everything that they ever sent, and
 -- receivers behind an arbiter of two lines, each with the book of what it handed on.
-use Rattle.std.specs.Prelude.{◌≡◌, ℕ, ◌-◌, ◌≤◌, List, [], length, map, false}
+use Rattle.std.specs.Prelude.{◌≡◌, ℕ, ◌≤◌, List, [], length, map}
 use Rattle.mold_receiver.specs.Arbiter.{Arbitration}
 use Rattle.mold_receiver.specs.Batch.{Handed}
-use Rattle.mold_receiver.specs.View.{fresh}
-use Rattle.mold_session.specs.Publisher.{PublisherState}
+use Rattle.mold_receiver.specs.Fresh.{fresh_arbitration}
+use Rattle.mold_session.specs.Publisher.{PublisherState, fresh_publisher}
 use Rattle.mold_wire.specs.Packer.{IsLimit}
 use Rattle.mold_wire.specs.declared.session.Session.{Session}
 
@@ -25,24 +25,14 @@ pub record WorldState : Type 0 where
 -- a receiver that begins with the session's first message
 abbrev pub place_at : Session → ℕ → PlaceState
 place_at session window = record {
-  arbitration = record {
-    view = fresh session 1 window;
-    reports = record {
-      a = record { datagrams = 0; refused = 0; front = 1 };
-      b = record { datagrams = 0; refused = 0; front = 1 };
-    };
-  };
+  arbitration = fresh_arbitration session 1 window;
   book = record { first = 0; messages = [] };
 }
 
 -- the world at the start: nothing is published and nothing sent, and there is a receiver for each window
 abbrev pub beginning : Session → ℕ → ℕ → ℕ → List ℕ → WorldState
 beginning session limit server_limit burst windows = record {
-  publisher = record {
-    journal = record { session = session; max_message = limit - 22; messages = []; closed = false };
-    limit = limit;
-    sent = 0;
-  };
+  publisher = fresh_publisher session limit;
   server_limit = server_limit;
   burst = burst;
   sent = [];

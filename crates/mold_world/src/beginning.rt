@@ -69,5 +69,6 @@ pub(crate) fn make_places(
 pub(crate) fn has_name(session: Session)
     ensures { length session.0 ≡ 10 }
 {
+    // The prover knows the length of an array where it is read.
     let _name = session.0;
 }

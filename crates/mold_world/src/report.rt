@@ -48,13 +48,13 @@ pub enum WorldError {
     /// A growth was refused.
     #[error("out of memory")]
     Memory,
-    /// No world is made with a limit outside 64 to 65,507 bytes, or a server's below the publisher's.
+    /// No world is made with a limit that is not `MIN_LIMIT` to `MAX_LIMIT`, or a server's below the publisher's.
     #[error("a datagram's limit is 64 to 65,507 bytes, and the server's no less than the publisher's")]
     BadLimit,
-    /// No world is made with a window outside 1 to 65,536 messages; the first receiver with such a window.
+    /// No world is made with a window that is not 1 to `MAX_WINDOW` messages; the first receiver with such a window.
     #[error("the window of receiver {r} is not 1 to 65,536 messages")]
     BadWindow { r: usize },
-    /// No world is made with a burst outside 1 to 64 datagrams.
+    /// No world is made with a burst that is not 1 to `MAX_BURST` datagrams.
     #[error("a request is answered by at most 1 to 64 datagrams")]
     BadBurst,
 }

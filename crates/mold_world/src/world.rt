@@ -54,8 +54,9 @@ impl Model for World {
 impl World {
     /// An open session without messages; `limit` is the publisher's and `server_limit` the server's most
     /// bytes of a datagram, `burst` the most datagrams of an answer, and there is a receiver from message 1
-    /// on for each window. Refused are, in this order: a limit outside 64 to 65,507 or a server's below the
-    /// publisher's, a burst outside 1 to 64, the first window outside 1 to 65,536, and want of memory.
+    /// on for each window. Refused are, in this order: a limit that is not `MIN_LIMIT` to `MAX_LIMIT` or a
+    /// server's below the publisher's, a burst that is not 1 to `MAX_BURST`, the first window that is not 1 to
+    /// `MAX_WINDOW`, and want of memory.
     pub fn new(
         alloc: Global,
         session: Session,
@@ -110,6 +111,7 @@ impl World {
     fn keep(&self)
         ensures { IsWorld self.now }
     {
+        // The prover knows the invariant of a type where a field is read.
         let _ = &self.parts;
     }
 

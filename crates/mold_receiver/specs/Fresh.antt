@@ -1,0 +1,17 @@
+-- An arbiter that begins.
+use Rattle.std.specs.Prelude.{ℕ}
+use Rattle.mold_wire.specs.declared.session.Session.{Session}
+use Rattle.mold_receiver.specs.Arbiter.{Arbitration}
+use Rattle.mold_receiver.specs.View.{fresh}
+use Rattle.mold_receiver.specs.declared.line.LineReport.{LineReport}
+
+-- the report of a line on which nothing came
+abbrev pub fresh_report : ℕ → LineReport
+fresh_report next = record { datagrams = 0; refused = 0; front = next }
+
+-- the arbitration of a receiver that begins at `next`: nothing came on either line
+abbrev pub fresh_arbitration : Session → ℕ → ℕ → Arbitration
+fresh_arbitration session next window = record {
+  view = fresh session next window;
+  reports = record { a = fresh_report next; b = fresh_report next };
+}
