@@ -32,7 +32,7 @@ IsStreamed (Dump order) = ⊥
 -- what is printed for the whole input
 abbrev pub text : Order → List ℕ → List ℕ
 text (Show requests) input = show_text requests input
-text (Pack order) input = pack_text order input
+text (Pack order) input = pack_text (record { 0 = order.session }) order.limit input
 text (Sim order) input = sim_text (sim_start order) input
 text (Check folder) input = []
 text CheckLines input = check_text input
@@ -46,7 +46,7 @@ text (Dump order) input = []
 -- the status: 0 done, 2 something was refused
 abbrev pub status : Order → List ℕ → ℕ
 status (Show requests) input = show_status requests input
-status (Pack order) input = pack_status order input
+status (Pack order) input = pack_status (record { 0 = order.session }) order.limit input
 status (Sim order) input = sim_status (sim_start order) input
 status (Check folder) input = 0
 status CheckLines input = check_status input

@@ -5,13 +5,14 @@ ghost use Rattle.std.specs.Io.KnownBytes.{Appends};
 ghost use Rattle.mold_commands.specs.Command.{IsStreamed, sim_start, text, status};
 ghost use Rattle.mold_devices.specs.Devices.{AppendsFront};
 ghost use Rattle.mold_devices.specs.Faults.{CountsCommand};
+ghost use Rattle.mold_session.specs.Publisher.{fresh_publisher};
 
 use mold_check::check_lines;
 use mold_devices::{CommandFault, Sink, Source, run_lines};
-use mold_show::{Pack, Show};
+use mold_show::{Pack, PackOptions, Show};
 use mold_sim::Sim;
 use mold_wire::Session;
-use mold_words::{Order, SimOrder};
+use mold_words::{Order, PackOrder, SimOrder};
 use std::alloc::{AllocError, Global};
 
 /// Does what an order that reads lines says with the whole input of the source, and answers the status: 0 done, 2
@@ -36,9 +37,10 @@ pub fn run_command<S: Source, K: Sink>(
         Order::Show { request } => {
             run_lines(alloc, &mut Show::new(alloc, *request), source, sink)
         }
-        Order::Pack(order) => run_lines(alloc, &mut Pack::new(alloc, order)?, source, sink),
+        Order::Pack(order) => run_lines(alloc, &mut pack_of(alloc, order)?, source, sink),
         Order::Sim(order) => run_lines(alloc, &mut sim_of(alloc, order)?, source, sink),
         Order::CheckLines => check_lines(alloc, source, sink),
+        // The contract requires an order that reads lines.
         Order::Check { folder: _ }
         | Order::Publish(_)
         | Order::Serve(_)
@@ -47,6 +49,18 @@ pub fn run_command<S: Source, K: Sink>(
         | Order::Upgrade(_)
         | Order::Dump(_) => unreachable!(),
     }
+}
+
+// The command of an order to pack.
+fn pack_of(alloc: Global, order: &PackOrder) -> Result<Pack, AllocError>
+    ensures { IfOk result (λ pack.
+        pack ≡ fresh_publisher (record { 0 = order.now.session }) order.now.limit) }
+{
+    let options = PackOptions {
+        session: Session(order.session),
+        limit: order.limit,
+    };
+    Pack::new(alloc, options)
 }
 
 // The command of an order to simulate.

@@ -12,8 +12,9 @@ use Rattle.mold_wire.specs.Block.{IsBytes, be16, block, blocks}
 use Rattle.mold_devices.specs.Lines.{lines_of, onto_first}
 use Rattle.mold_session.specs.Contents.{FileContents}
 use Rattle.mold_session.specs.File.{head_1, head_2}
-use Rattle.mold_session.specs.Journal.{IsWithin, JournalState, append_refusal, appended}
+use Rattle.mold_session.specs.Journal.{IsWithin, JournalState, append_refusal, appended, fresh_journal}
 use Rattle.mold_session.specs.Loading.{SpellsFile}
+use Rattle.mold_wire.specs.declared.limits.TheConstants.{MESSAGE_OVERHEAD}
 use Rattle.mold_session.specs.declared.error.AppendError.{AppendError}
 use Rattle.mold_session.specs.declared.error.AppendError.TheVariants.{Closed, TooLong, Full}
 use Rattle.mold_session.specs.declared.error.FileError.{FileError}
@@ -21,7 +22,7 @@ use Rattle.mold_session.specs.declared.loading.FileHead.{FileHead}
 use Rattle.mold_publish.specs.Publishing.{PublishedLines, line_outcome, lines_published, published_from, unless_refused}
 use Rattle.mold_publish.specs.declared.line_refusal.LineRefusal.{LineRefusal}
 use Rattle.mold_text.specs.Line.{joined}
-use Rattle.mold_show.specs.Dump.{dump_text, dumped, fault_line, fresh, message_line, message_lines}
+use Rattle.mold_show.specs.Dump.{dump_text, dumped, fault_line, message_line, message_lines}
 
 -- ---- lines of digits
 
@@ -169,11 +170,11 @@ whole_text law head messages bytes contents count spelled all =
 pub dump_published : OneContents → (head : FileHead) (messages : List (List ℕ)) (bytes : List ℕ)
     (contents : FileContents bytes) (limit count : ℕ) → IsBytes bytes → SpellsFile head messages head.stated bytes →
     AllByRecursion (IsWithin (limit - 22)) messages → length messages ≤ count →
-    lines_published (fresh head.session limit) (lines_of (dump_text 1 count contents))
-    ≡ record { journal = record (fresh head.session limit) { messages = messages }; refused = None }
+    lines_published (fresh_journal head.session (limit - MESSAGE_OVERHEAD)) (lines_of (dump_text 1 count contents))
+    ≡ record { journal = record (fresh_journal head.session (limit - MESSAGE_OVERHEAD)) { messages = messages }; refused = None }
 dump_published law head messages bytes contents limit count are spelled within all =
-    ap (λ (t : List ℕ). lines_published (fresh head.session limit) (lines_of t))
+    ap (λ (t : List ℕ). lines_published (fresh_journal head.session (limit - MESSAGE_OVERHEAD)) (lines_of t))
     (whole_text law head messages bytes contents count spelled all)
-    ∙ ap (lines_published (fresh head.session limit)) (printed_lines messages)
-    ∙ all_published messages (fresh head.session limit) refl (file_bytes bytes head messages head.stated are spelled) within
+    ∙ ap (lines_published (fresh_journal head.session (limit - MESSAGE_OVERHEAD))) (printed_lines messages)
+    ∙ all_published messages (fresh_journal head.session (limit - MESSAGE_OVERHEAD)) refl (file_bytes bytes head messages head.stated are spelled) within
     (omega (arith, file_few bytes head messages head.stated spelled))

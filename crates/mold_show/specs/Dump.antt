@@ -1,12 +1,10 @@
 -- What `mold dump` prints of a file.
-use Rattle.std.specs.Prelude.{◌≡◌, ℕ, ◌-◌, List, [], ◌∷◌, ◌++◌, take, drop, Bool, false, ◌&&◌, nat_le, nat_lt}
+use Rattle.std.specs.Prelude.{◌≡◌, ℕ, ◌-◌, List, [], ◌∷◌, ◌++◌, take, drop, Bool, ◌&&◌, nat_le, nat_lt}
 use Rattle.std.specs.Prelude.{if◌then◌else◌, Option, None, Some, ⊤}
 use Rattle.std.specs.List.{flat_map}
 use Rattle.hex.specs.Hex.{encode_lower}
-use Rattle.mold_wire.specs.declared.session.Session.{Session}
 use Rattle.mold_refusals.specs.Words.{file_fault_words}
 use Rattle.mold_session.specs.Contents.{FileContents}
-use Rattle.mold_session.specs.Journal.{JournalState}
 use Rattle.mold_session.specs.Loading.{CountsLoadFault}
 use Rattle.mold_session.specs.declared.error.FileError.{FileError}
 use Rattle.mold_session.specs.declared.error.FileError.TheVariants.{Memory, Read}
@@ -67,7 +65,3 @@ ended_line ended = fault_line ended
 abbrev pub CountsEnd : ℕ → ℕ → Option FileError → Type 0
 CountsEnd old new None = new ≡ old
 CountsEnd old new (Some error) = CountsLoadFault old new error
-
--- a session of this name and limit without messages
-abbrev pub fresh : Session → ℕ → JournalState
-fresh session limit = record { session = session; max_message = limit - 22; messages = []; closed = false }

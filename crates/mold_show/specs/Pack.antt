@@ -1,10 +1,10 @@
 -- What `mold pack` prints for its input.
-use Rattle.std.specs.Prelude.{ℕ, ◌+◌, ◌-◌, List, [], ◌++◌, false, length, Option, None, Some}
+use Rattle.std.specs.Prelude.{ℕ, ◌+◌, List, ◌++◌, length, Option, None, Some}
 use Rattle.mold_devices.specs.Lines.{lines_of}
 use Rattle.mold_devices.specs.Turns.{Printing}
 use Rattle.mold_session.specs.Journal.{JournalState}
-use Rattle.mold_session.specs.Publisher.{PublisherState}
-use Rattle.mold_words.specs.declared.pack_order.PackOrder.{PackOrder}
+use Rattle.mold_session.specs.Publisher.{PublisherState, fresh_publisher}
+use Rattle.mold_wire.specs.declared.session.Session.{Session}
 use Rattle.mold_show.specs.Packets.{packet_line, packet_lines}
 use Rattle.mold_publish.specs.Publishing.{lines_published, packed_status, refused_text}
 use Rattle.mold_publish.specs.Sending.{all_but_last, end_packet, packets_behind}
@@ -26,23 +26,10 @@ pack_printing publisher = record {
   status = λ input. packed_status (lines_published publisher.journal (lines_of input)).refused;
 }
 
--- the publisher of a session that begins
-abbrev pub beginning : PackOrder → PublisherState
-beginning order = record {
-  journal = record {
-    session = record { 0 = order.session };
-    max_message = order.limit - 22;
-    messages = [];
-    closed = false;
-  };
-  limit = order.limit;
-  sent = 0;
-}
-
 -- what is printed for the whole input: the lines up to the first that is refused are the messages of the
 -- session, the first of which has number 1
-unfoldable pub pack_text : PackOrder → List ℕ → List ℕ
-pack_text order input = (pack_printing (beginning order)).text input
+unfoldable pub pack_text : Session → ℕ → List ℕ → List ℕ
+pack_text session limit input = (pack_printing (fresh_publisher session limit)).text input
 
-unfoldable pub pack_status : PackOrder → List ℕ → ℕ
-pack_status order input = (pack_printing (beginning order)).status input
+unfoldable pub pack_status : Session → ℕ → List ℕ → ℕ
+pack_status session limit input = (pack_printing (fresh_publisher session limit)).status input

@@ -5,8 +5,10 @@
 mod dump;
 pub mod laws;
 mod pack;
+mod pack_options;
 mod show;
 
 pub use dump::dump_file;
 pub use pack::Pack;
+pub use pack_options::PackOptions;
 pub use show::Show;

@@ -1,19 +1,17 @@
 //! `mold pack`: messages given as lines of hexadecimal digits, printed as the packets of a session.
 
 ghost use Rattle.std.specs.Prelude.{◌≡◌, ◌++◌, length, take, IfOk, OnErr, OnOk};
-ghost use Rattle.mold_show.specs.Pack.{beginning};
 ghost use Rattle.mold_publish.specs.Sending.{end_packet};
 ghost use Rattle.mold_show.specs.Packets.{line_of_some, packet_line};
-ghost use Rattle.mold_session.specs.Publisher.{after_datagram, closed, next_datagram};
+ghost use Rattle.mold_session.specs.Publisher.{after_datagram, closed, fresh_publisher, next_datagram};
 
+use crate::pack_options::PackOptions;
 use mold_devices::{LineCommand, Lines, ReadFault, Source, Turn};
 use mold_publish::{Filled, fill, push_line_refused};
 use mold_session::Publisher;
 use mold_session::laws::packing_law;
 use mold_text::{Word, push_line};
-use mold_wire::Session;
 use mold_wire::laws::{front_law, packet_length_law};
-use mold_words::PackOrder;
 use std::alloc::{AllocError, Global};
 use std::marker::Model;
 
@@ -37,6 +35,7 @@ fn push_end(out: &mut Vec<u8>, publisher: &mut Publisher) -> Result<(), AllocErr
     ensures kept { OnErr result (take (length out.old.items) out.new.items ≡ out.old.items) }
     ensures closed { publisher.new ≡ closed publisher.old }
 {
+    // Every message was sent, so the session closes.
     let _ = publisher.close();
     match publisher.end() {
         Some(end) => push_line(out, &[Word::Digits(end)]),
@@ -64,12 +63,12 @@ impl Model for Pack {
 
 impl Pack {
     /// A session without messages. It takes the memory of a datagram.
-    pub fn new(alloc: Global, order: &PackOrder) -> Result<Pack, AllocError>
-        ensures { IfOk result (λ pack. pack ≡ beginning order.now) }
+    pub fn new(alloc: Global, options: PackOptions) -> Result<Pack, AllocError>
+        ensures { IfOk result (λ pack. pack ≡ fresh_publisher options.session options.limit) }
     {
         packet_length_law();
-        // The limit of an order is in its range, so only memory can be wanting.
-        let Ok(publisher) = Publisher::new(alloc, Session(order.session), order.limit) else {
+        // The limit is in its range, so an error means that memory is refused.
+        let Ok(publisher) = Publisher::new(alloc, options.session, options.limit) else {
             return Err(AllocError);
         };
         Ok(Pack {
