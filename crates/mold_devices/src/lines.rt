@@ -31,6 +31,7 @@ impl Model for Lines {
     ghost use Rattle.std.specs.Prelude.{◌<◌, length};
     ghost use Rattle.std.specs.Option.{ForSome};
     ghost use Rattle.mold_devices.specs.Lines.{LineState, line_in, rest_in};
+    ghost use Rattle.mold_devices.specs.declared.lines.TheConstants.{PIECE};
 
     ghost Value = { LineState };
 
@@ -39,7 +40,7 @@ impl Model for Lines {
       rest = rest_in l.inside l.piece.value;
     } };
 
-    ghost invariant = { λ l. ForSome l.inside (λ len. (len < length l.piece.value) × (len < 65536)) };
+    ghost invariant = { λ l. ForSome l.inside (λ len. (len < length l.piece.value) × (len < PIECE)) };
 }
 
 impl Lines {
