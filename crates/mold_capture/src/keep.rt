@@ -49,6 +49,7 @@ pub(crate) fn add_all(
     if let Err(_) = keep_all(kept, blocks) {
         return Err(Reason::Memory);
     }
+    // For the prover: `len` bounds the number of messages, as `put_run` needs it.
     let _len = kept.len();
     match put_run(runs, first, Run { start, count }) {
         Ok(()) => Ok(()),
@@ -84,6 +85,7 @@ fn add_message(
     let len = kept.len();
     let (first, run) = grown_run(runs, since, len, number);
     kept.push(message)?;
+    // For the prover, as in `add_all`.
     let _len = kept.len();
     match put_run(runs, first, run) {
         Ok(()) => Ok(()),

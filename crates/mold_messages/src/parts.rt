@@ -86,6 +86,8 @@ impl PartList {
 
     /// Copies bytes behind the others, of which `mark` makes messages, and tells where they begin. An error
     /// comes where a growth is refused; all is then as before.
+    // Inlined, as `mark` is: both are called for each packet that a receiver delivers, and return through memory
+    // otherwise.
     #[inline(always)]
     pub fn append(&mut self, bytes: &[u8]) -> Result<usize, AllocError>
         ensures begin { IfOk result (λ begin. begin ≡ length self.old.bytes) }
@@ -101,6 +103,7 @@ impl PartList {
 
     /// Makes the bytes from `start` up to `end` a message behind the last one, in whose bytes it must not
     /// begin. An error comes where a growth is refused; all is then as before.
+    // Inlined: see `append`.
     #[inline(always)]
     pub fn mark(&mut self, start: usize, end: usize) -> Result<(), AllocError>
         requires behind { self.old.end ≤ start }

@@ -39,6 +39,7 @@ fn find_conflict(slots: &Slots, next: u64, first: u64, blocks: &Blocks<'_>) -> O
 
 /// The least number from `next` on at which the packet and the store have different messages. Where nothing
 /// is stored, or the packet lies wholly below `next`, its messages aren't looked at.
+// On the way of each datagram: see `receiver.rt` on `inline(always)`.
 #[inline(always)]
 pub(crate) fn conflict_of(slots: &Slots, next: u64, packet: &Packet<'_>, top: u64) -> Option<u64>
     requires { top_of packet.now ≡ top }

@@ -1,5 +1,8 @@
 //! The receiver.
 
+// `#[inline(always)]` marks what is on the way of each datagram. The compiler's own choice puts calls there, which
+// return structs through memory: a third of the time of a datagram with one message.
+
 ghost use Rattle.std.specs.Prelude.{◌≡◌, ◌↔◌, IsTrue, ◌⊎◌, [], ◌+◌, ◌-◌, ◌<◌, ◌≤◌, ◌^◌, min, length, Some, None, Ok};
 ghost use Rattle.std.specs.Prelude.{Err, IfOk, IfErr, OnOk, OnErr};
 ghost use Rattle.std.specs.FinMap as finite;

@@ -233,6 +233,7 @@ impl Shelf {
 
     /// Moves on by so many slots: the first ones are dropped, and empty ones follow the last. Where no slot
     /// has a message, they stay as they are.
+    // On the way of each datagram: see `receiver.rt` on `inline(always)`.
     #[inline(always)]
     pub(crate) fn skip(&mut self, count: usize)
         requires kept { IsKept self.old }

@@ -15,6 +15,9 @@ use std::marker::Model;
 
 /// As many slots as a receiver's window, each empty or with a message. Slot i is for the number `next + i`,
 /// so the slots move on with `next`. They are made once; afterwards only messages take memory.
+// `Slots` only forwards to `Shelf`, and they are two types for the prover. The invariant of a type holds before and
+// after each call that takes it. `Shelf` has none, and its contracts state `IsKept` where it holds, so its methods
+// can call one another while it does not hold for a moment.
 #[derive(Debug, Drop)]
 pub(crate) struct Slots {
     shelf: Shelf,
@@ -86,6 +89,7 @@ impl Slots {
 
     /// Moves on by so many slots: the first ones are dropped, and empty ones follow the last. Where no slot
     /// has a message, they stay as they are.
+    // On the way of each datagram: see `receiver.rt` on `inline(always)`.
     #[inline(always)]
     pub(crate) fn skip(&mut self, count: usize)
         requires { count ≤ length self.old }

@@ -52,6 +52,7 @@ pub fn take_next(
         Ok(_) => Ok(true),
         Err(error) => match error {
             Refused::Memory => Err(Memory),
+            // The datagram is true of the session, so no other refusal applies.
             _ => unreachable!(),
         },
     }

@@ -13,7 +13,8 @@ pub const SESSION_LENGTH: usize = 10;
 #[derive(Clone, Copy, Debug, PartialEq, Eq, Hash)]
 pub struct Session(pub [u8; SESSION_LENGTH]);
 
-// Whether ten bytes are ten others. It compares two numbers in place of them.
+// Whether ten bytes are ten others. It compares two numbers in place of them. Inlined, since a call costs more than
+// both comparisons.
 #[inline(always)]
 fn same_name(name: &[u8], other: &[u8]) -> bool
     requires name { length name.now ≡ 10 }
@@ -28,6 +29,7 @@ fn same_name(name: &[u8], other: &[u8]) -> bool
 
 impl Session {
     /// Whether another session has the same name, as `==` says, in less time: it is asked of each datagram.
+    // Inlined, as `same_name` is.
     #[inline(always)]
     pub fn is_same(&self, other: &Session) -> bool
         ensures { result ≡ bytes_eq self.now.0 other.now.0 }
