@@ -3,6 +3,7 @@ use Rattle.std.specs.Prelude.{◌≡◌, ℕ, ◌<◌, ◌≤◌, List, length, 
 use Rattle.std.specs.List.{All, Contains}
 use Rattle.mold_wire.specs.Packet.{Spells}
 use Rattle.mold_wire.specs.Truth.{Carries, IsTruePacket}
+use Rattle.mold_wire.specs.declared.limits.TheConstants.{MAX_NUMBER}
 use Rattle.mold_wire.specs.declared.packet.Packet.{Packet}
 use Rattle.mold_wire.specs.declared.packet.Body.TheVariants.{End}
 
@@ -16,7 +17,7 @@ pub record IsSaidBy (session : List ℕ) (messages : List (List ℕ)) (bytes : L
 
 -- the session with this name and these messages explains each datagram
 pub record Explains (session : List ℕ) (messages list : List (List ℕ)) : Type 0 where
-  pub few : length messages < 18446744073709551615
+  pub few : length messages < MAX_NUMBER
   pub each : All (IsSaidBy session messages) list
 
 -- some session explains the datagrams

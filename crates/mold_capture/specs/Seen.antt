@@ -7,6 +7,7 @@ use Rattle.std.specs.Option.{option_map, option_or}
 use Rattle.std.specs.Ordering.{nat_cmp}
 use Rattle.mold_wire.specs.Packet.{messages_of, top_of}
 use Rattle.mold_wire.specs.Reading.{reading}
+use Rattle.mold_wire.specs.declared.limits.TheConstants.{MAX_NUMBER}
 use Rattle.mold_wire.specs.declared.packet.Packet.{Packet}
 use Rattle.mold_wire.specs.declared.packet.Body.{Body}
 use Rattle.mold_wire.specs.declared.packet.Body.TheVariants.{Data, Heartbeat, End}
@@ -113,7 +114,7 @@ BringsNew seen bytes = (after seen bytes).pairs ≡ seen.pairs → ⊥
 -- below it
 pub record IsSound (seen : Seen) : Type 0 where
   pub first : 1 ≤ seen.known
-  pub last : seen.known ≤ 18446744073709551615
+  pub last : seen.known ≤ MAX_NUMBER
   pub ended : (number : ℕ) → seen.ended ≡ Some number → number ≡ seen.known
   pub carried : (number : ℕ) (message : List ℕ) → finite.get seen.pairs number ≡ Some message →
       (1 ≤ number) × (number < seen.known)

@@ -1,5 +1,5 @@
 -- What `mold check -` prints for its input, whose lines are datagrams in hexadecimal digits.
-use Rattle.std.specs.Prelude.{ℕ, suc, zero, ◌-◌, ◌^◌, ◌==◌, min, List, [], ◌∷◌, ◌++◌, length, map, codes, decimal}
+use Rattle.std.specs.Prelude.{ℕ, suc, zero, ◌==◌, min, List, [], ◌∷◌, ◌++◌, length, map, codes, decimal}
 use Rattle.std.specs.Prelude.{Option, None, Some, Result, Ok, Err, if◌then◌else◌}
 use Rattle.hex.specs.Hex.{decode_of}
 use Rattle.hex.specs.declared.error.FromHexError.{FromHexError}
@@ -13,6 +13,7 @@ use Rattle.mold_rule.specs.Ranges as lacking
 use Rattle.mold_rule.specs.declared.refusal.Refusal.{Refusal as Reason}
 use Rattle.mold_text.specs.Line.{joined, line_of}
 use Rattle.mold_text.specs.Text.{refused_line}
+use Rattle.mold_wire.specs.declared.limits.TheConstants.{MAX_NUMBER}
 use Rattle.mold_check.specs.Report.{outcome_status, outcome_text}
 
 -- ---- the outcome of datagrams, as a function
@@ -82,7 +83,7 @@ names_of lines = map (λ line. line_name line.0) lines
 
 -- how many datagrams there are; a count stands at its limit once it is there
 abbrev pub count_line : ℕ → List ℕ
-count_line count = line_of (codes "datagrams" ∷ decimal (min count (2 ^ 64 - 1)) ∷ [])
+count_line count = line_of (codes "datagrams" ∷ decimal (min count MAX_NUMBER) ∷ [])
 
 -- what is told of the lines with these names: the outcome of the datagrams in front of the first line that is no
 -- hexadecimal where it refuses one, and else that line, if there is one

@@ -2,6 +2,9 @@
 
 ghost use Rattle.std.specs.Prelude.{◌≡◌, ◌≤◌, ◌++◌, length, take, IfOk, OnErr};
 ghost use Rattle.mold_sim.specs.Sim.{sim_beginning, told};
+ghost use Rattle.mold_receiver.specs.declared.receiver.TheConstants.{MAX_WINDOW};
+ghost use Rattle.mold_session.specs.declared.server.TheConstants.{MAX_BURST};
+ghost use Rattle.mold_wire.specs.declared.limits.TheConstants.{MAX_LIMIT, MIN_LIMIT};
 
 use crate::reading::read_line;
 use crate::refusal::push_error;
@@ -80,13 +83,13 @@ impl Sim {
         window: u32,
         receivers: usize,
     ) -> Result<Sim, AllocError>
-        requires limit { 64 ≤ limit }
+        requires limit { MIN_LIMIT ≤ limit }
         requires server_limit { limit ≤ server_limit }
-        requires greatest { server_limit ≤ 65507 }
+        requires greatest { server_limit ≤ MAX_LIMIT }
         requires some_burst { 1 ≤ burst }
-        requires burst { burst ≤ 64 }
+        requires burst { burst ≤ MAX_BURST }
         requires some_window { 1 ≤ window }
-        requires window { window ≤ 65536 }
+        requires window { window ≤ MAX_WINDOW }
         requires some_receiver { 1 ≤ receivers }
         requires receivers { receivers ≤ 8 }
         ensures { IfOk result (λ sim. sim ≡ sim_beginning session limit server_limit burst window receivers) }

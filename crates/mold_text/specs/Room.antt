@@ -1,5 +1,5 @@
 -- Room for lines of words.
-use Rattle.std.specs.Prelude.{ℕ, ◌+◌, ◌*◌, List, [], ◌∷◌, length}
+use Rattle.std.specs.Prelude.{ℕ, ◌+◌, ◌*◌, List, [], ◌∷◌, length, min}
 use Rattle.mold_text.specs.declared.word.Word.{Word}
 use Rattle.mold_text.specs.declared.word.Word.TheVariants.{Text, Number, LongNumber, Digits, Message}
 
@@ -19,3 +19,7 @@ words_room (word ∷ words) = (word_room word + 1) + words_room words
 -- how many bytes a line of these words has at most
 abbrev pub line_room : List Word → ℕ
 line_room words = words_room words + 1
+
+-- a count of bytes as the code has it: it stays at the greatest number of 64 bits
+abbrev pub counted : ℕ → ℕ
+counted room = min room 18446744073709551615

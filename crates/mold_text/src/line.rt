@@ -1,10 +1,10 @@
 //! Lines of words.
 
-ghost use Rattle.std.specs.Prelude.{◌≡◌, ◌++◌, ◌+◌, ◌≤◌, length, map, min, take, OnErr, OnOk};
+ghost use Rattle.std.specs.Prelude.{◌≡◌, ◌++◌, ◌+◌, ◌≤◌, length, map, take, OnErr, OnOk};
 ghost use Rattle.std.specs.List.{flat_map};
 ghost use Rattle.mold_digits.specs.Writing.{IsWritten};
 ghost use Rattle.mold_text.specs.Line.{behind_space, joined, line_of, word_text};
-ghost use Rattle.mold_text.specs.Room.{line_room, words_room};
+ghost use Rattle.mold_text.specs.Room.{counted, line_room, words_room};
 
 use crate::word::{Word, word_room, write_word};
 use std::alloc::AllocError;
@@ -13,7 +13,7 @@ use std::alloc::AllocError;
 // that is greater.
 #[inline(always)]
 fn words_room(words: &[Word<'_>]) -> usize
-    ensures { result ≡ min (words_room words.now) 18446744073709551615 }
+    ensures { result ≡ counted (words_room words.now) }
 {
     let mut room = 0usize;
     for word in words {
@@ -103,7 +103,7 @@ fn push_words(out: &mut Vec<u8>, words: &[Word<'_>], others: &[Word<'_>]) -> Res
 /// How many bytes a line of these words has at most, or the greatest number where that is greater.
 #[inline(always)]
 pub fn line_room(words: &[Word<'_>]) -> usize
-    ensures { result ≡ min (line_room words.now) 18446744073709551615 }
+    ensures { result ≡ counted (line_room words.now) }
 {
     words_room(words).saturating_add(1)
 }

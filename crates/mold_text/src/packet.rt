@@ -1,6 +1,7 @@
 //! The lines of a packet.
 
 ghost use Rattle.std.specs.Prelude.{◌≡◌, ◌++◌, ◌<◌, ◌^◌, length, take, OnErr, OnOk, codes};
+ghost use Rattle.mold_wire.specs.declared.header.TheConstants.{END_OF_SESSION};
 ghost use Rattle.mold_text.specs.Text.{message_line, messages_text, packet_text, counted_line, numbered_line};
 
 use crate::line::push_line;
@@ -26,7 +27,7 @@ fn push_message(out: &mut Vec<u8>, number: u128, message: &[u8]) -> Result<(), A
 // The messages are numbered from `first` on, beyond 64 bits too.
 #[tactic(auto, unfolding(crate::specs::Text::messages_text))]
 fn push_messages(out: &mut Vec<u8>, first: u64, blocks: &Blocks<'_>) -> Result<(), AllocError>
-    requires { length blocks.now < 65535 }
+    requires { length blocks.now < END_OF_SESSION }
     ensures text { OnOk result (out.new.items ≡ out.old.items ++ messages_text first blocks.now) }
     ensures kept { OnErr result (take (length out.old.items) out.new.items ≡ out.old.items) }
 {

@@ -1,9 +1,9 @@
 //! A word of a line.
 
-ghost use Rattle.std.specs.Prelude.{◌≡◌, ◌+◌, ◌*◌, ◌≤◌, length, min};
+ghost use Rattle.std.specs.Prelude.{◌≡◌, ◌+◌, ◌*◌, ◌≤◌, length};
 ghost use Rattle.mold_digits.specs.Writing.{IsWritten};
 ghost use Rattle.mold_text.specs.Line.{message_digits, word_text};
-ghost use Rattle.mold_text.specs.Room.{word_room};
+ghost use Rattle.mold_text.specs.Room.{counted, word_room};
 
 use mold_digits::{
     MOST_DIGITS, MOST_LONG_DIGITS, write_bytes, write_long_number, write_number, write_text,
@@ -27,7 +27,7 @@ pub enum Word<'a> {
 /// How many bytes the word has at most, or the greatest number where that is greater.
 #[inline(always)]
 pub(crate) fn word_room(word: &Word<'_>) -> usize
-    ensures { result ≡ min (word_room word.now) 18446744073709551615 }
+    ensures { result ≡ counted (word_room word.now) }
 {
     match word {
         Word::Text(text) => text.len(),
