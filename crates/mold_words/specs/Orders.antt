@@ -11,6 +11,9 @@ use Rattle.mold_words.specs.Wanted.{Place, Wanted, check_lines_wanted, check_wan
 use Rattle.mold_words.specs.Wanted.{loop_wanted, pack_wanted, publish_wanted, serve_wanted, show_wanted, sim_wanted}
 use Rattle.mold_words.specs.Wanted.{upgrade_wanted}
 use Rattle.mold_words.specs.Words.{mold_app}
+use Rattle.mold_words.specs.declared.options.TheConstants.{MOST_BURST, MOST_TURNS, MOST_WINDOW}
+use Rattle.mold_words.specs.declared.options.TheConstants.{USUAL_LIMIT, USUAL_TURNS, USUAL_WINDOW}
+use Rattle.mold_wire.specs.declared.limits.TheConstants.{MAX_LIMIT, MAX_NUMBER, MIN_LIMIT}
 
 -- `clap` finds no fault in the words
 abbrev pub AreTaken : List Text → Type 0
@@ -36,16 +39,16 @@ number_in name usual least most rows = number_or usual least most (first_of name
 -- the most bytes of a packet; the messages that a receiver looks ahead; the most packets that answer a request;
 -- how many turns are made
 abbrev pub limit_in : Text → List Row → Option ℕ
-limit_in name rows = number_in name 1400 64 65507 rows
+limit_in name rows = number_in name USUAL_LIMIT MIN_LIMIT MAX_LIMIT rows
 
 abbrev pub window_in : List Row → Option ℕ
-window_in rows = number_in (codes "window") 1024 1 65536 rows
+window_in rows = number_in (codes "window") USUAL_WINDOW 1 MOST_WINDOW rows
 
 abbrev pub burst_in : List Row → Option ℕ
-burst_in rows = number_in (codes "burst") 1 1 64 rows
+burst_in rows = number_in (codes "burst") 1 1 MOST_BURST rows
 
 abbrev pub turns_in : List Row → Option ℕ
-turns_in rows = number_in (codes "turns") 1000 1 1000000 rows
+turns_in rows = number_in (codes "turns") USUAL_TURNS 1 MOST_TURNS rows
 
 -- what is printed is written at once
 abbrev pub live_in : List Row → Bool
@@ -243,8 +246,8 @@ dump_of rows =
     (λ journal. option_and_then
     (λ from. option_and_then
     (λ count. Some (dump_wanted (record { journal = journal; from = from; count = count })))
-    (number_in (codes "count") 18446744073709551615 0 18446744073709551615 rows))
-    (number_in (codes "from") 1 1 18446744073709551615 rows))
+    (number_in (codes "count") MAX_NUMBER 0 MAX_NUMBER rows))
+    (number_in (codes "from") 1 1 MAX_NUMBER rows))
     (first_of (codes "journal") rows)
 
 -- what the command of this name says with the options found

@@ -3,6 +3,7 @@
 ghost use Rattle.std.specs.Prelude.{◌≡◌, ◌≤◌, true};
 ghost use Rattle.std.specs.List.{list_all};
 ghost use Rattle.mold_words.specs.Values.{is_character};
+ghost use Rattle.mold_words.specs.declared.options.TheConstants.{MOST_BURST, MOST_WINDOW};
 
 use crate::address::Address;
 
@@ -13,7 +14,7 @@ pub struct ListenOrder {
     pub session: [u8; 10],
     /// The number of the first message that is printed, 1 to 9,223,372,036,854,775,807.
     pub next: u64,
-    /// The receiver's window in messages, 1 to 65,536.
+    /// The receiver's window in messages, 1 to `MAX_WINDOW`.
     pub window: u32,
     /// Where line A comes to.
     pub a: Address,
@@ -21,7 +22,7 @@ pub struct ListenOrder {
     pub b: Address,
     /// Where requests go to.
     pub server: Address,
-    /// The most packets that answer a request, 1 to 64.
+    /// The most packets that answer a request, 1 to `MAX_BURST`.
     pub burst: u16,
     /// The most turns that are made, 1 to 1,000,000.
     pub turns: u32,
@@ -31,7 +32,7 @@ pub struct ListenOrder {
     pub report: bool,
     ghost named: { list_all is_character session ≡ true },
     ghost first: { (1 ≤ next) × (next ≤ 9223372036854775807) },
-    ghost windowed: { (1 ≤ window) × (window ≤ 65536) },
-    ghost bursting: { (1 ≤ burst) × (burst ≤ 64) },
+    ghost windowed: { (1 ≤ window) × (window ≤ MOST_WINDOW) },
+    ghost bursting: { (1 ≤ burst) × (burst ≤ MOST_BURST) },
     ghost turning: { (1 ≤ turns) × (turns ≤ 1000000) },
 }

@@ -3,6 +3,7 @@
 ghost use Rattle.std.specs.Prelude.{◌≡◌, ◌≤◌, true};
 ghost use Rattle.std.specs.List.{list_all};
 ghost use Rattle.mold_words.specs.Values.{is_character};
+ghost use Rattle.mold_words.specs.declared.options.TheConstants.{MOST_BURST, MOST_WINDOW};
 
 use crate::limits::Limits;
 
@@ -13,9 +14,9 @@ pub struct LoopOrder {
     pub session: [u8; 10],
     /// How long packets may be.
     pub limits: Limits,
-    /// The receiver's window in messages, 1 to 65,536.
+    /// The receiver's window in messages, 1 to `MAX_WINDOW`.
     pub window: u32,
-    /// The most packets that answer a request, 1 to 64.
+    /// The most packets that answer a request, 1 to `MAX_BURST`.
     pub burst: u16,
     /// Each so many-th data packet is not sent on line A, up to 1,000; 0 leaves none out.
     pub drop_a: u32,
@@ -26,8 +27,8 @@ pub struct LoopOrder {
     /// Whether what came on each line is told before the last line.
     pub report: bool,
     ghost named: { list_all is_character session ≡ true },
-    ghost windowed: { (1 ≤ window) × (window ≤ 65536) },
-    ghost bursting: { (1 ≤ burst) × (burst ≤ 64) },
+    ghost windowed: { (1 ≤ window) × (window ≤ MOST_WINDOW) },
+    ghost bursting: { (1 ≤ burst) × (burst ≤ MOST_BURST) },
     ghost dropping: { (drop_a ≤ 1000) × (drop_b ≤ 1000) },
     ghost turning: { (1 ≤ turns) × (turns ≤ 1000000) },
 }

@@ -8,6 +8,8 @@ ghost use Rattle.mold_words.specs.Orders.{address_in, burst_in, flag_in, has_no_
 ghost use Rattle.mold_words.specs.Orders.{limits_in, live_in, number_in, report_in, session_in, turns_in, window_in};
 ghost use Rattle.mold_words.specs.Values.{is_character};
 ghost use Rattle.mold_words.specs.Wanted.{address_view};
+ghost use Rattle.mold_words.specs.declared.options.TheConstants.{MOST_BURST, MOST_WINDOW};
+ghost use Rattle.mold_wire.specs.declared.limits.TheConstants.{MAX_LIMIT, MIN_LIMIT};
 
 use crate::address::Address;
 use crate::addresses::address_of;
@@ -18,15 +20,21 @@ use clap::ArgMatches;
 use mold_wire::{MAX_LIMIT, MIN_LIMIT};
 use std::alloc::Global;
 
-/// What holds where an option is not given.
+// What holds where an option is not given.
 const USUAL_LIMIT: u64 = 1400;
 
 const USUAL_WINDOW: u64 = 1024;
 
 const USUAL_TURNS: u64 = 1000;
 
-/// The most turns.
+// The most turns.
 const MOST_TURNS: u64 = 1_000_000;
+
+// The greatest window and the greatest burst. This crate depends on neither receiver nor server, so they are
+// named here, too; the crates that make a receiver and a server of an order prove that it takes no greater ones.
+const MOST_WINDOW: u64 = 65536;
+
+const MOST_BURST: u64 = 64;
 
 /// The text of an option that has one.
 pub(crate) fn required_in<'a>(
@@ -107,7 +115,7 @@ pub(crate) fn limit_in(options: &ArgMatches<'_>, name: &'static str) -> Result<u
     ensures value { MatchResult result
         (λ number. limit_in name.now (rows_of (found_of options.now)) ≡ Some number)
         (LacksValue (limit_in name.now (rows_of (found_of options.now)))) }
-    ensures within { IfOk result (λ number. (64 ≤ number) × (number ≤ 65507)) }
+    ensures within { IfOk result (λ number. (MIN_LIMIT ≤ number) × (number ≤ MAX_LIMIT)) }
 {
     Ok(number_in(
         options,
@@ -123,9 +131,9 @@ pub(crate) fn window_in(options: &ArgMatches<'_>) -> Result<u32, NoOrder>
     ensures value { MatchResult result
         (λ number. window_in (rows_of (found_of options.now)) ≡ Some number)
         (LacksValue (window_in (rows_of (found_of options.now)))) }
-    ensures within { IfOk result (λ number. (1 ≤ number) × (number ≤ 65536)) }
+    ensures within { IfOk result (λ number. (1 ≤ number) × (number ≤ MOST_WINDOW)) }
 {
-    Ok(number_in(options, "window", USUAL_WINDOW, 1, 65536)? as u32)
+    Ok(number_in(options, "window", USUAL_WINDOW, 1, MOST_WINDOW)? as u32)
 }
 
 /// The most packets that answer a request.
@@ -133,9 +141,9 @@ pub(crate) fn burst_in(options: &ArgMatches<'_>) -> Result<u16, NoOrder>
     ensures value { MatchResult result
         (λ number. burst_in (rows_of (found_of options.now)) ≡ Some number)
         (LacksValue (burst_in (rows_of (found_of options.now)))) }
-    ensures within { IfOk result (λ number. (1 ≤ number) × (number ≤ 64)) }
+    ensures within { IfOk result (λ number. (1 ≤ number) × (number ≤ MOST_BURST)) }
 {
-    Ok(number_in(options, "burst", 1, 1, 64)? as u16)
+    Ok(number_in(options, "burst", 1, 1, MOST_BURST)? as u16)
 }
 
 /// How many turns are made.

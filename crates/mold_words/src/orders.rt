@@ -22,6 +22,7 @@ use crate::sim_order::SimOrder;
 use crate::types::Order;
 use crate::upgrade_order::UpgradeOrder;
 use clap::ArgMatches;
+use mold_wire::MAX_NUMBER;
 use std::alloc::Global;
 
 /// The greatest number that a listener may begin with.
@@ -113,8 +114,8 @@ fn dump_order(alloc: Global, options: &ArgMatches<'_>) -> Result<Order, NoOrder>
         (λ order. dump_of (rows_of (found_of options.now)) ≡ Some (view order))
         (LacksOrder (dump_of (rows_of (found_of options.now)))) }
 {
-    let from = number_in(options, "from", 1, 1, u64::MAX)?;
-    let count = number_in(options, "count", u64::MAX, 0, u64::MAX)?;
+    let from = number_in(options, "from", 1, 1, MAX_NUMBER)?;
+    let count = number_in(options, "count", MAX_NUMBER, 0, MAX_NUMBER)?;
     let journal = string_in(alloc, options, "journal")?;
     Ok(Order::Dump(DumpOrder {
         journal,

@@ -3,6 +3,7 @@
 ghost use Rattle.std.specs.Prelude.{◌≡◌, ◌≤◌, true};
 ghost use Rattle.std.specs.List.{list_all};
 ghost use Rattle.mold_words.specs.Values.{is_character};
+ghost use Rattle.mold_wire.specs.declared.limits.TheConstants.{MAX_LIMIT, MIN_LIMIT};
 
 use crate::address::Address;
 
@@ -11,7 +12,7 @@ use crate::address::Address;
 pub struct PublishOrder {
     /// The session's name in characters 20 to 7E, spaces behind the ones that were given.
     pub session: [u8; 10],
-    /// The most bytes that a packet has, 64 to 65,507.
+    /// The most bytes that a packet has, `MIN_LIMIT` to `MAX_LIMIT`.
     pub limit: usize,
     /// Where line A goes to.
     pub a: Address,
@@ -24,7 +25,7 @@ pub struct PublishOrder {
     /// How many end packets are sent, up to 1,000.
     pub ends: u32,
     ghost named: { list_all is_character session ≡ true },
-    ghost limited: { (64 ≤ limit) × (limit ≤ 65507) },
+    ghost limited: { (MIN_LIMIT ≤ limit) × (limit ≤ MAX_LIMIT) },
     ghost beating: { beats ≤ 1000 },
     ghost ending: { ends ≤ 1000 },
 }

@@ -1,6 +1,8 @@
 //! What `serve` is told.
 
 ghost use Rattle.std.specs.Prelude.{◌≤◌};
+ghost use Rattle.mold_words.specs.declared.options.TheConstants.{MOST_BURST};
+ghost use Rattle.mold_wire.specs.declared.limits.TheConstants.{MAX_LIMIT, MIN_LIMIT};
 
 use crate::address::Address;
 
@@ -9,9 +11,9 @@ use crate::address::Address;
 pub struct ServeOrder {
     /// The name of the journal's file.
     pub journal: String,
-    /// The most bytes that a packet has, 64 to 65,507.
+    /// The most bytes that a packet has, `MIN_LIMIT` to `MAX_LIMIT`.
     pub limit: usize,
-    /// The most packets that answer a request, 1 to 64.
+    /// The most packets that answer a request, 1 to `MAX_BURST`.
     pub burst: u16,
     /// Where requests come to.
     pub bind: Address,
@@ -19,7 +21,7 @@ pub struct ServeOrder {
     pub turns: u32,
     /// Whether what a turn printed is written at its end, and not gathered.
     pub live: bool,
-    ghost limited: { (64 ≤ limit) × (limit ≤ 65507) },
-    ghost bursting: { (1 ≤ burst) × (burst ≤ 64) },
+    ghost limited: { (MIN_LIMIT ≤ limit) × (limit ≤ MAX_LIMIT) },
+    ghost bursting: { (1 ≤ burst) × (burst ≤ MOST_BURST) },
     ghost turning: { (1 ≤ turns) × (turns ≤ 1000000) },
 }

@@ -3,6 +3,7 @@
 ghost use Rattle.std.specs.Prelude.{◌≡◌, ◌≤◌, true};
 ghost use Rattle.std.specs.List.{list_all};
 ghost use Rattle.mold_words.specs.Values.{is_character};
+ghost use Rattle.mold_words.specs.declared.options.TheConstants.{MOST_BURST, MOST_WINDOW};
 
 use crate::limits::Limits;
 
@@ -13,14 +14,14 @@ pub struct SimOrder {
     pub session: [u8; 10],
     /// How long packets may be.
     pub limits: Limits,
-    /// The window of each receiver in messages, 1 to 65,536.
+    /// The window of each receiver in messages, 1 to `MAX_WINDOW`.
     pub window: u32,
     /// How many receivers there are, 1 to 8.
     pub receivers: usize,
-    /// The most packets that answer a request, 1 to 64.
+    /// The most packets that answer a request, 1 to `MAX_BURST`.
     pub burst: u16,
     ghost named: { list_all is_character session ≡ true },
-    ghost windowed: { (1 ≤ window) × (window ≤ 65536) },
+    ghost windowed: { (1 ≤ window) × (window ≤ MOST_WINDOW) },
     ghost received: { (1 ≤ receivers) × (receivers ≤ 8) },
-    ghost bursting: { (1 ≤ burst) × (burst ≤ 64) },
+    ghost bursting: { (1 ≤ burst) × (burst ≤ MOST_BURST) },
 }
