@@ -1,5 +1,6 @@
 pub mod Store
 pub mod View
+pub mod Origin
 pub mod Receive
 pub mod Wanted
 pub mod Batch

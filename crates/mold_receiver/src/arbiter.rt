@@ -3,10 +3,12 @@
 ghost use Rattle.std.specs.Prelude.{◌≡◌, ◌-◌, ◌≤◌, None, Some, IfOk, IfErr, OnErr};
 ghost use Rattle.mold_receiver.specs.Arbiter.{HasArbitrated, HasRefused, report_on};
 ghost use Rattle.mold_receiver.specs.Batch.{Follows};
+ghost use Rattle.mold_receiver.specs.Origin.{line_of};
 ghost use Rattle.mold_receiver.specs.Receive.{IsRefusedFor};
 
 use crate::batch::Batch;
 use crate::line::{Line, LineReport, LineReports};
+use crate::origin::Origin;
 use crate::receiver::Receiver;
 use crate::taken::{Accepted, Taken};
 use mold_rule::Refusal as Refused;
@@ -43,19 +45,26 @@ impl Arbiter {
         Arbiter { receiver, reports }
     }
 
-    /// Takes a datagram that came on a line, as the receiver does, and notes in the line's report that it
-    /// was taken or refused; want of memory changes no report. The batch must be empty or end just before
-    /// the receiver's `next`.
+    /// Takes a datagram as the receiver does. If it came on a line, that line's report counts it as taken or
+    /// refused; an allocation that fails changes no report. The batch must be empty or end just before the
+    /// receiver's `next`.
     #[inline(always)]
-    pub fn take(&mut self, line: Line, bytes: &[u8], batch: &mut Batch) -> Result<Taken, Refused>
+    pub fn take_from(
+        &mut self,
+        origin: Origin,
+        bytes: &[u8],
+        batch: &mut Batch,
+    ) -> Result<Taken, Refused>
         requires { Follows batch.old self.old.view.next }
         ensures taken { IfOk result
-            (λ taken. HasArbitrated (Some line) self.old bytes.now batch.old self.new batch.new taken) }
+            (λ taken. HasArbitrated (line_of origin) self.old bytes.now batch.old self.new batch.new taken) }
         ensures refused { IfErr result
-            (λ refused. HasRefused (Some line) self.old bytes.now self.new refused) }
+            (λ refused. HasRefused (line_of origin) self.old bytes.now self.new refused) }
         ensures batch { OnErr result (batch.new ≡ batch.old) }
     {
         match self.receiver.accept(bytes, batch) {
+            // For the optimizer: `Taken` is rebuilt field by field. A copy of the whole struct waits until its
+            // fields, which were written just before, have reached memory.
             Ok(
                 Accepted {
                     taken: Taken {
@@ -66,7 +75,9 @@ impl Arbiter {
                     top,
                 },
             ) => {
-                self.reports.note_taken(line, top);
+                if let Origin::Line(line) = origin {
+                    self.reports.note_taken(line, top);
+                }
                 Ok(Taken {
                     handed,
                     kept,
@@ -74,14 +85,30 @@ impl Arbiter {
                 })
             }
             Err(refused) => {
-                self.reports.note_refused(line, refused);
+                if let Origin::Line(line) = origin {
+                    self.reports.note_refused(line, refused);
+                }
                 Err(refused)
             }
         }
     }
 
-    /// Takes a datagram that came as the answer to a request, as the receiver does. It is on no line, so no
-    /// report changes. The batch must be empty or end just before the receiver's `next`.
+    /// Takes a datagram that came on a line, as `take_from` does.
+    #[inline(always)]
+    pub fn take(&mut self, line: Line, bytes: &[u8], batch: &mut Batch) -> Result<Taken, Refused>
+        requires { Follows batch.old self.old.view.next }
+        ensures taken { IfOk result
+            (λ taken. HasArbitrated (Some line) self.old bytes.now batch.old self.new batch.new taken) }
+        ensures refused { IfErr result
+            (λ refused. HasRefused (Some line) self.old bytes.now self.new refused) }
+        ensures batch { OnErr result (batch.new ≡ batch.old) }
+    {
+        self.take_from(Origin::Line(line), bytes, batch)
+    }
+
+    /// Takes a datagram that a re-request server sent, as `take_from` does. It is on no line, so no report
+    /// changes.
+    #[inline(always)]
     pub fn take_answer(&mut self, bytes: &[u8], batch: &mut Batch) -> Result<Taken, Refused>
         requires { Follows batch.old self.old.view.next }
         ensures taken { IfOk result
@@ -91,7 +118,7 @@ impl Arbiter {
         ensures same { OnErr result (self.new ≡ self.old) }
         ensures batch { OnErr result (batch.new ≡ batch.old) }
     {
-        self.receiver.take(bytes, batch)
+        self.take_from(Origin::Response, bytes, batch)
     }
 
     /// What came on a line.
