@@ -301,7 +301,7 @@ fn failure_at_each_receive_of_an_answer(rt: HostRuntime) -> Result<(), Fail> {
     Ok(())
 }
 
-/// `tests/growths` refuses each growth in turn.
+/// `tests/out-of-memory` refuses each growth in turn.
 #[test]
 fn a_refused_growth_leaves_a_beginning(rt: HostRuntime) -> Result<(), Fail> {
     let mut listener = with_gap(rt.alloc(), None)?;

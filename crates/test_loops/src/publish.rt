@@ -1,5 +1,5 @@
 //! What no clause says: the worked example over a port in memory, each send, read and write failing in turn,
-//! and growths that `tests/growths` refuses.
+//! and growths that `tests/out-of-memory` refuses.
 
 ghost use Rattle.std.specs.Prelude.{◌≡◌, [], false, IfOk};
 

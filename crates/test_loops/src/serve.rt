@@ -364,7 +364,7 @@ fn fault_of(failed: bool) -> CommandFault {
     }
 }
 
-/// `tests/growths` refuses each growth in turn.
+/// `tests/out-of-memory` refuses each growth in turn.
 #[test]
 fn a_refused_growth_leaves_a_beginning(rt: HostRuntime) -> Result<(), Fail> {
     let mut fixture = make_fixture(rt.alloc(), 1, &EXAMPLE)?;

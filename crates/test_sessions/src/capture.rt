@@ -1,5 +1,5 @@
 //! The lists of the examples by their names, which reason comes first, and what is left after a growth was
-//! refused: `tests/growths` refuses each growth of the tests that are made for it. Each kind of comparison stands
+//! refused: `tests/out-of-memory` refuses each growth of the tests that are made for it. Each kind of comparison stands
 //! once, and what is owned is lent: the proof of a test grows with both.
 
 use mold_capture::{Checker, Memory, Range, Reason, Verdict, check};

@@ -1,5 +1,5 @@
 //! The receiver's examples by their names, each public call on its happy path, and what is left after a growth
-//! was refused. `tests/growths` refuses each growth of the tests that are made for it.
+//! was refused. `tests/out-of-memory` refuses each growth of the tests that are made for it.
 
 use crate::comparisons::{same_message, same_number, same_truth};
 use crate::reception::{

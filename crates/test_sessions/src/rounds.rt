@@ -1,4 +1,4 @@
-//! The worked examples by their names, and what is left after a growth was refused. `tests/growths` refuses each
+//! The worked examples by their names, and what is left after a growth was refused. `tests/out-of-memory` refuses each
 //! growth of the test that is made for it.
 
 ghost use Rattle.std.specs.Prelude.{IsTrue};

@@ -1,5 +1,5 @@
 //! Each public call on its happy path, the examples of a journal and a publisher, and what is left after a growth
-//! was refused. `tests/growths` refuses each growth of the tests that are made for it.
+//! was refused. `tests/out-of-memory` refuses each growth of the tests that are made for it.
 
 use crate::comparisons::{same_bytes, same_number, same_truth};
 use mold_session::{AppendError, Journal, Publisher, PublisherError, Unsent};

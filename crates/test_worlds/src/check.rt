@@ -1,5 +1,5 @@
 //! The folders of the example and the lists of the checker, by what is printed; names and their order; writes
-//! that fail, and growths that `tests/growths` refuses.
+//! that fail, and growths that `tests/out-of-memory` refuses.
 
 use mold_check::{Entry, check_entries};
 use mold_devices::{CommandFault, MemorySink, Sink};

@@ -1,6 +1,6 @@
 //! The world: its examples, by `apply` and by `run`, and why it is not made. Where a growth is refused nothing
 //! changes, and a second call does what the first was to do: each test passes whichever growth is refused, and
-//! `tests/growths` refuses each.
+//! `tests/out-of-memory` refuses each.
 
 use crate::world_checks::{
     expect, expect_all, expect_end, expect_receiver, expect_report, expect_sent, expect_session,

@@ -1,12 +1,12 @@
-"""UDP on this machine, for tests/long-run and tests/growths: each process of theirs has an address of its own, so that
-ports of others are no matter to it. The table of the system tells what a program has taken."""
+"""Peers of the program over UDP on this machine, for tests/long-run and fault_injection.py. Each process has its own
+loopback address, so the ports of other processes don't matter. /proc/net/udp shows what the program has received."""
 import os
 import socket
 import time
 
-import apart
-import calls
-import draws
+import generators
+import model
+import processes
 
 LINE_A, LINE_B, SERVER, OWN = 9001, 9002, 9003, 9004
 ASKING, FEEDING, PUBLISHED_A, PUBLISHED_B = 9005, 9006, 9007, 9008
@@ -97,25 +97,25 @@ def publish_to(words, some_bytes, own):
     for it in own:
         arrived(it)
     came = [[], []]
-    with calls.running([*words, "--a", addresses[0], "--b", addresses[1]], some_bytes) as process:
+    with processes.running([*words, "--a", addresses[0], "--b", addresses[1]], some_bytes) as process:
         while process.poll() is None:
             for it, heard in zip(own, came):
                 heard += arrived(it)
             time.sleep(PAUSE)
-        outcome = calls.finish(process)
+        outcome = processes.finish(process)
     return outcome, [heard + arrived(it) for it, heard in zip(own, came)]
 
 
 def ask_server(words, requests, own):
     """The outcome of `serve` with so many turns, and what it sent."""
     arrived(own)
-    with calls.running([*words, "--bind", f"{own_host()}:{SERVER}", "--turns", str(len(requests))]) as process:
+    with processes.running([*words, "--bind", f"{own_host()}:{SERVER}", "--turns", str(len(requests))]) as process:
         feed, came = Feed(process, own), []
         if await_ports(process, [SERVER]):
             for it in requests:
                 feed.send(it, SERVER)
                 came += feed.collect()
-        outcome = calls.finish(process)
+        outcome = processes.finish(process)
     return outcome, [it for it, _ in came + feed.collect()]
 
 
@@ -137,7 +137,7 @@ class Listening:
 
     def hear(self, way, datagram):
         self.heard.append((way, datagram))
-        self.view = apart.hear(self.view, datagram, [])
+        self.view = model.hear(self.view, datagram, [])
 
     def look(self):
         """Takes the requests that came. Each is one that is wanted now, or was before the last datagram."""
@@ -154,7 +154,7 @@ class Listening:
         self.feed.own.sendto(self.beat(), (own_host(), LINE_A))
 
     def beat(self):
-        return apart.spelling(apart.Packet("heartbeat", self.view.session, 1))
+        return model.spelling(model.Packet("heartbeat", self.view.session, 1))
 
     def tell(self, way, datagram):
         """Tells a datagram."""
@@ -182,9 +182,9 @@ class Listening:
         while self.view.wanted():
             first, count = self.view.next, min(self.view.wanted().count, MOST_TOLD)
             messages = tuple(b"%d" % (it % 10) for it in range(first, first + count))
-            self.tell(b"a", apart.spelling(apart.Packet("data", self.view.session, first, messages)))
+            self.tell(b"a", model.spelling(model.Packet("data", self.view.session, first, messages)))
         if not self.view.is_finished():
-            self.tell(b"b", apart.spelling(apart.Packet("end", self.view.session, self.view.known)))
+            self.tell(b"b", model.spelling(model.Packet("end", self.view.session, self.view.known)))
 
 
 def tell_listener(words, view, items, own):
@@ -192,11 +192,11 @@ def tell_listener(words, view, items, own):
     arrived(own)
     ports = {"a": LINE_A, "b": LINE_B, "server": OWN}
     addresses = [f"--{name}={own_host()}:{port}" for name, port in ports.items()]
-    with calls.running([*words, *addresses, "--turns", "1000000"]) as process:
+    with processes.running([*words, *addresses, "--turns", "1000000"]) as process:
         listening = Listening(process, own, view)
         if await_ports(process, [LINE_A, LINE_B]):
             for way, datagram in items:
-                if draws.told(listening.view, way, datagram):
+                if generators.told(listening.view, way, datagram):
                     listening.tell(way, datagram)
             listening.bring_to_end()
-        return calls.finish(process), listening
+        return processes.finish(process), listening

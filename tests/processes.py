@@ -1,4 +1,4 @@
-"""Calls of a program, for the scripts beside this file: its streams are files, so that no pipe can fill."""
+"""Runs a program, for the scripts beside this file. Its streams are files, so no pipe can fill up."""
 import os
 import shutil
 import subprocess

@@ -1,8 +1,8 @@
-/* Put before the C library by LD_PRELOAD: it counts the calls of one kind that a program makes, and refuses the one
- * whose number REFUSE_AT says, counted from 1, and with REFUSE_ALL all after it too. REFUSE names the kind: growth of
- * memory, read, write, receive, send or wait. With REFUSE_BYTES a read or write moves one byte. The file
- * REFUSE_COUNTS, of sizeof(struct counts) bytes, gets the counts, however the program ends. tests/growths and
- * tests/failures call it. */
+/* A library for LD_PRELOAD that makes calls of the system fail. FAULT names the kind of call: allocation, read, write,
+ * receive, send or wait. The call with the number FAULT_AT fails, counted from 1; with FAULT_ALL every later call of
+ * that kind fails too. With FAULT_SINGLE_BYTES each read or write moves one byte. The counts are written to the file
+ * FAULT_COUNTS, of sizeof(struct counts) bytes, however the program ends. tests/out-of-memory and tests/io-errors use
+ * it. */
 #define _GNU_SOURCE
 #include <dirent.h>
 #include <dlfcn.h>
@@ -17,30 +17,30 @@
 #include <sys/socket.h>
 #include <unistd.h>
 
-/* `own` are those of the refused that the program itself asked for, and not a library for it. */
-static struct counts { uint64_t met, refused, own; } nowhere, *counts;
+/* `own` counts the failed calls that the program made itself, and not a library for it. */
+static struct counts { uint64_t calls, failed, own; } no_counts, *counts;
 static const char *kind;
 static uint64_t at;
-static int all, single;
-static uintptr_t first, behind;
+static int all, single_bytes;
+static uintptr_t code_begin, code_end;
 
-/* The loader tells the program itself first. */
-static int note_program(struct dl_phdr_info *info, size_t size, void *nothing) {
+/* The loader lists the program itself first. */
+static int note_program(struct dl_phdr_info *info, size_t size, void *unused) {
     for (int i = 0; i < info->dlpi_phnum; i++)
         if (info->dlpi_phdr[i].p_type == PT_LOAD && info->dlpi_phdr[i].p_flags & PF_X) {
-            first = info->dlpi_addr + info->dlpi_phdr[i].p_vaddr;
-            behind = first + info->dlpi_phdr[i].p_memsz;
+            code_begin = info->dlpi_addr + info->dlpi_phdr[i].p_vaddr;
+            code_end = code_begin + info->dlpi_phdr[i].p_memsz;
         }
     return 1;
 }
 
 static void begin(void) {
-    const char *number = getenv("REFUSE_AT"), *path = getenv("REFUSE_COUNTS");
-    kind = getenv("REFUSE");
-    counts = &nowhere;
+    const char *number = getenv("FAULT_AT"), *path = getenv("FAULT_COUNTS");
+    kind = getenv("FAULT");
+    counts = &no_counts;
     at = number ? strtoull(number, NULL, 10) : 0;
-    all = getenv("REFUSE_ALL") != NULL;
-    single = getenv("REFUSE_BYTES") != NULL;
+    all = getenv("FAULT_ALL") != NULL;
+    single_bytes = getenv("FAULT_SINGLE_BYTES") != NULL;
     dl_iterate_phdr(note_program, NULL);
     int file = path ? open(path, O_RDWR) : -1;
     void *shared = file < 0 ? MAP_FAILED : mmap(NULL, sizeof *counts, PROT_READ | PROT_WRITE, MAP_SHARED, file, 0);
@@ -49,20 +49,20 @@ static void begin(void) {
     if (file >= 0) close(file);
 }
 
-static int is_refused(const char *asked, int error, void *caller) {
+static int fails(const char *called, int error, void *caller) {
     if (!counts) begin();
-    if (!kind || strcmp(kind, asked)) return 0;
-    uint64_t number = ++counts->met;
+    if (!kind || strcmp(kind, called)) return 0;
+    uint64_t number = ++counts->calls;
     if (!at || number < at || (number > at && !all)) return 0;
-    counts->refused++;
-    counts->own += (uintptr_t)caller >= first && (uintptr_t)caller < behind;
+    counts->failed++;
+    counts->own += (uintptr_t)caller >= code_begin && (uintptr_t)caller < code_end;
     errno = error;
     return 1;
 }
 
-#define REFUSED(kind, error) is_refused(kind, error, __builtin_return_address(0))
-#define NO_MEMORY REFUSED("growth", ENOMEM)
-#define FAILS(kind) REFUSED(kind, EIO)
+#define FAILS_WITH(kind, error) fails(kind, error, __builtin_return_address(0))
+#define NO_MEMORY FAILS_WITH("allocation", ENOMEM)
+#define FAILS(kind) FAILS_WITH(kind, EIO)
 #define NEXT(name) static typeof(&name) next; if (!next) next = (typeof(&name))dlsym(RTLD_NEXT, #name)
 
 void *malloc(size_t size) { NEXT(malloc); return NO_MEMORY ? NULL : next(size); }
@@ -74,25 +74,25 @@ int posix_memalign(void **new, size_t to, size_t size) {
     return NO_MEMORY ? ENOMEM : next(new, to, size);
 }
 
-static size_t moved(size_t size) { return single && size ? 1 : size; }
+static size_t moved(size_t size) { return single_bytes && size ? 1 : size; }
 
-ssize_t read(int file, void *place, size_t size) {
+ssize_t read(int file, void *buffer, size_t size) {
     NEXT(read);
-    return FAILS("read") ? -1 : next(file, place, moved(size));
+    return FAILS("read") ? -1 : next(file, buffer, moved(size));
 }
-ssize_t getdents64(int folder, void *place, size_t size) {
+ssize_t getdents64(int folder, void *buffer, size_t size) {
     NEXT(getdents64);
-    return FAILS("read") ? -1 : next(folder, place, size);
+    return FAILS("read") ? -1 : next(folder, buffer, size);
 }
-/* What tells of a fault is spared. */
+/* Standard error never fails: the program reports the fault there. */
 ssize_t write(int file, const void *bytes, size_t size) {
     NEXT(write);
     return file != STDERR_FILENO && FAILS("write") ? -1 : next(file, bytes, moved(size));
 }
 ssize_t __write(int file, const void *bytes, size_t size) { return write(file, bytes, size); }
-ssize_t recvfrom(int port, void *place, size_t size, int how, struct sockaddr *from, socklen_t *length) {
+ssize_t recvfrom(int port, void *buffer, size_t size, int how, struct sockaddr *from, socklen_t *length) {
     NEXT(recvfrom);
-    return FAILS("receive") ? -1 : next(port, place, size, how, from, length);
+    return FAILS("receive") ? -1 : next(port, buffer, size, how, from, length);
 }
 ssize_t sendto(int port, const void *bytes, size_t size, int how, const struct sockaddr *to, socklen_t length) {
     NEXT(sendto);

@@ -1,11 +1,11 @@
-"""Inputs for `mold`, drawn from a seed, for tests/long-run: numbers at their edges, packets and files that are cut and
-changed, scripts whose events mostly make sense."""
+"""Generators of random inputs for `mold`, by a seed, for tests/long-run: numbers at the edges of their ranges,
+truncated and changed packets and files, scripts whose events mostly make sense."""
 from dataclasses import dataclass
 
-import apart
+import model
 
 EDGES = [0, 1, 2, 3, 4, 63, 64, 65534, 65535, 65536, (1 << 32) - 1, 1 << 32, (1 << 63) - 1, 1 << 63]
-EDGES += [apart.GREATEST - it for it in range(4)]
+EDGES += [model.GREATEST - it for it in range(4)]
 COUNTS = [0, 1, 2, 3, 255, 256, 32743, 65533, 65534, 65535]
 LIMITS = [64, 65, 66, 85, 100, 1400, 65507]
 WINDOWS = [1, 2, 3, 4, 5, 8, 64, 1024, 65535, 65536]
@@ -92,19 +92,19 @@ def damaged(chance, some_bytes):
 def packet(chance, session, sequence):
     kind = chance.choice(["heartbeat", "data", "data", "data", "end"])
     messages = [message(chance) for _ in range(chance.choice([1, 1, 2, 3, 9]))] if kind == "data" else []
-    return apart.Packet(kind, session, sequence, tuple(messages))
+    return model.Packet(kind, session, sequence, tuple(messages))
 
 
 def great_datagram(chance):
     """One of those that no network carries."""
     messages = chance.choice([65534 * [b""], [bytes(65535)], 3 * [bytes(65534), b"A"], 65533 * [b""]])
-    return apart.spelling(apart.Packet("data", NAME.encode(), number(chance), tuple(messages)))
+    return model.spelling(model.Packet("data", NAME.encode(), number(chance), tuple(messages)))
 
 
 def datagram(chance):
     if has(chance, 0.002):
         return great_datagram(chance)
-    drawn = apart.spelling(packet(chance, some_session(chance), number(chance)))
+    drawn = model.spelling(packet(chance, some_session(chance), number(chance)))
     if has(chance, 0.2):
         drawn = drawn[:18] + chance.choice(COUNTS).to_bytes(2, "big") + drawn[20:]
     return damaged(chance, drawn) if has(chance, 0.4) else drawn
@@ -113,7 +113,7 @@ def datagram(chance):
 def request(chance, session, behind):
     """The bytes of a request to a journal whose next message has the number `behind`."""
     sequence = chance.choice([0, 1, behind - 1, behind, number(chance), chance.randint(1, behind)])
-    asked = apart.Request(session, max(sequence, 0), chance.choice(COUNTS + [1, 2, 3, 4, 5])).spelling()
+    asked = model.Request(session, max(sequence, 0), chance.choice(COUNTS + [1, 2, 3, 4, 5])).spelling()
     return damaged(chance, asked) if has(chance, 0.15) else asked
 
 
@@ -130,7 +130,7 @@ def option_words(chance, options):
     words = []
     for name in chance.sample(sorted(options), len(options)):
         value = options[name]
-        if value == apart.DEFAULTS.get(name) and has(chance, 0.5):
+        if value == model.DEFAULTS.get(name) and has(chance, 0.5):
             continue
         text = str(value)
         if isinstance(value, int) and has(chance, 0.2):
@@ -266,7 +266,7 @@ def sim(chance):
     options["receivers"] = chance.choice([1, 1, 2, 3, 8])
     limits = options["limit"], options["server-limit"]
     numbers = options["window"], options["receivers"], options["burst"]
-    world = apart.make_world(apart.padded(options["session"]), limits, *numbers)
+    world = model.make_world(model.padded(options["session"]), limits, *numbers)
     items = []
     for _ in range(chance.choice([5, 30, 120])):
         line = script_line(chance, world)
@@ -274,8 +274,8 @@ def sim(chance):
             line = other_line(chance, line)
         items.append((line,))
         try:
-            apart.run_line(world, line)
-        except apart.Refused:
+            model.run_line(world, line)
+        except model.Refused:
             pass
     return case_of(chance, options, items)
 
@@ -286,16 +286,16 @@ def captured(chance, session, messages):
     first = chance.randint(1, behind)
     carried = messages[first - 1 : first - 1 + chance.choice([1, 2, 5, 99])]
     if has(chance, 0.15):
-        sequence = chance.choice([first, behind, number(chance), apart.GREATEST - chance.randrange(3)])
-        drawn = apart.spelling(packet(chance, session, sequence))
+        sequence = chance.choice([first, behind, number(chance), model.GREATEST - chance.randrange(3)])
+        drawn = model.spelling(packet(chance, session, sequence))
         return damaged(chance, drawn) if has(chance, 0.3) else drawn
     if has(chance, 0.02):
         return datagram(chance)
     if has(chance, 0.08):
         carried = [chance.choice([it, b"another"]) for it in carried]
     if carried and has(chance, 0.8):
-        return apart.spelling(apart.Packet("data", session, first, tuple(carried)))
-    return apart.spelling(apart.Packet("heartbeat", session, first))
+        return model.spelling(model.Packet("data", session, first, tuple(carried)))
+    return model.spelling(model.Packet("heartbeat", session, first))
 
 
 def entry_name(chance):
@@ -309,9 +309,9 @@ def capture(chance):
     messages = [message(chance) for _ in range(chance.choice([0, 1, 3, 12]))]
     datagrams = [captured(chance, session, messages) for _ in range(chance.choice([0, 1, 3, 8]))]
     if has(chance, 0.6):
-        datagrams.append(apart.spelling(apart.Packet("end", session, len(messages) + 1)))
+        datagrams.append(model.spelling(model.Packet("end", session, len(messages) + 1)))
     if messages and has(chance, 0.5):
-        datagrams += [apart.spelling(it) for it in apart.packing(chance.choice([64, 100, 1400]), session, 1, messages)]
+        datagrams += [model.spelling(it) for it in model.packing(chance.choice([64, 100, 1400]), session, 1, messages)]
     return datagrams
 
 
@@ -335,9 +335,9 @@ def file(chance):
         messages.append(bytes(chance.choice([4096, 65534, 65535])))
     session = chance.choice([NAME.encode(), chance.randbytes(10)])
     if has(chance, 0.4):
-        drawn = apart.old_journal_file(session, messages)
+        drawn = model.old_journal_file(session, messages)
     else:
-        drawn = apart.journal_file(session, messages, has(chance, 0.5))
+        drawn = model.journal_file(session, messages, has(chance, 0.5))
         if has(chance, 0.1):
             drawn = drawn[:19] + number(chance).to_bytes(8, "big") + drawn[27:]
         if has(chance, 0.03):
@@ -354,7 +354,7 @@ def dump(chance):
     first, count = chance.choice([1, 2, 9, max(1, number(chance))]), chance.choice([0, 1, 5, number(chance)])
     drawn = {"from": first, "count": count}
     options = {name: value for name, value in drawn.items() if has(chance, 0.6)}
-    given = {name: options.get(name, apart.DEFAULTS[name]) for name in drawn}
+    given = {name: options.get(name, model.DEFAULTS[name]) for name in drawn}
     return Case(given, [(file(chance),)], option_words(chance, options))
 
 
@@ -385,17 +385,17 @@ def serve(chance):
 def told(view, way, datagram):
     """The view of a listener that is told a datagram; none where it isn't: behind its end, an answer where it doesn't
     ask, or one of numbers so far off that it couldn't be brought to its end."""
-    now = apart.hear(view, datagram, [])
+    now = model.hear(view, datagram, [])
     is_heard = not view.is_finished() and (way != b"answer" or view.wanted())
     return now if is_heard and now.known <= now.next + FARTHEST else None
 
 
 def text_of_value(chance, name):
     """A text for an option's value, which mostly is one."""
-    kind = apart.VALUES[name]
-    if kind == apart.NAME:
+    kind = model.VALUES[name]
+    if kind == model.NAME:
         return chance.choice(["none", "nothing", "not there"])
-    texts = {"session": SESSIONS, apart.ADDRESS: ADDRESSES}.get(kind, NO_NUMBERS)
+    texts = {"session": SESSIONS, model.ADDRESS: ADDRESSES}.get(kind, NO_NUMBERS)
     if has(chance, 0.1):
         return chance.choice(texts)
     if not isinstance(kind, tuple):
@@ -408,12 +408,12 @@ def text_of_value(chance, name):
 
 def words(chance):
     """Words of a command's options. One that has to be there may be left out, and one of another command be there."""
-    command = chance.choice(sorted(apart.COMMANDS))
-    names = [it for it in apart.COMMANDS[command].split() if it not in apart.DEFAULTS or has(chance, 0.6)]
+    command = chance.choice(sorted(model.COMMANDS))
+    names = [it for it in model.COMMANDS[command].split() if it not in model.DEFAULTS or has(chance, 0.6)]
     if has(chance, 0.05):
         names.remove(chance.choice(names))
     if has(chance, 0.05):
-        names.append(chance.choice(sorted(set(apart.VALUES) - set(names))))
+        names.append(chance.choice(sorted(set(model.VALUES) - set(names))))
     values = {name: text_of_value(chance, name) for name in chance.sample(names, len(names))}
     drawn = []
     for name, text in values.items():
@@ -428,14 +428,14 @@ def listen(chance):
     """Datagrams on two lines and as answers, some of which no publisher sends."""
     options = {"session": session_text(chance), "next": chance.choice([1, 1, 1, 2, 65534, (1 << 63) - 1])}
     options |= {"window": chance.choice(WINDOWS), "burst": chance.choice(BURSTS)}
-    session = apart.padded(options["session"])
-    view, items = apart.fresh(session, options["next"], options["window"]), []
+    session = model.padded(options["session"])
+    view, items = model.fresh(session, options["next"], options["window"]), []
     for _ in range(chance.choice([1, 4, 12])):
         sequence = chance.choice([view.next, view.next, view.known])
         sequence += chance.choice(FAR) if has(chance, 0.01) else chance.choice([-2, -1, 0, 0, 0, 1, 2, 3, 60])
-        if has(chance, 0.05) or not 0 <= sequence <= apart.GREATEST:
-            sequence = chance.choice([0, apart.GREATEST])
-        drawn = apart.spelling(packet(chance, session if has(chance, 0.95) else some_session(chance), sequence))
+        if has(chance, 0.05) or not 0 <= sequence <= model.GREATEST:
+            sequence = chance.choice([0, model.GREATEST])
+        drawn = model.spelling(packet(chance, session if has(chance, 0.95) else some_session(chance), sequence))
         drawn = damaged(chance, drawn) if has(chance, 0.1) else drawn
         items.append((chance.choice([b"a", b"a", b"b", b"b", b"answer"]), drawn))
         view = told(view, *items[-1]) or view

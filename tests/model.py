@@ -1,8 +1,8 @@
-"""What `mold` prints, written apart from it: from docs/PROTOCOL.md and docs/FORMATS.md alone, in another language, over
-whole lists of messages and datagrams. `tests/foreign` and `tests/long-run` compare the program with it.
+"""An independent model of what `mold` prints. It was written from docs/PROTOCOL.md and docs/FORMATS.md alone, over
+whole lists of messages and datagrams. `tests/mutations` and `tests/long-run` compare the program with it.
 
-Each command is a function of its options and of all its input. It answers the text and the status; what else comes of
-a command, as a file or datagrams, stands behind them. A refusal within is raised, as the text that is printed of it.
+Each command is a function of its options and its whole input. It returns the text and the status, and after them what
+else the command makes, as a file or datagrams. A refusal inside is raised as the text that is printed for it.
 """
 import binascii
 import re

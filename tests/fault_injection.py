@@ -1,0 +1,237 @@
+"""Small calls of the program, and the library that makes calls of the system fail in them, for tests/out-of-memory and
+tests/io-errors."""
+import os
+import shutil
+import struct
+import subprocess
+import threading
+from dataclasses import dataclass, field
+
+import model
+import processes
+import udp_peers
+
+S = b"SESSION001"
+HEX = S.hex().encode()
+OLD = model.old_journal_file(S, [b"AB", b""])
+MESSAGES = b"4142\n\n43\n"
+LINES = b"".join(b"%02d" % it * 20 + b"\n" for it in range(1, 6))
+# The status of a program that reports a fault.
+FAULT = 3
+# How often a call over sockets is tried before it counts as failed: a busy system may delay datagrams.
+TRIES = 3
+# Calls with the same ports run one after the other. Their sockets stay open: otherwise a program that has just been
+# started could bind one of them.
+TURNS, BOUND = {}, {}
+
+
+@dataclass
+class Call:
+    """A call of the program. An argument @name is a file in the call's own folder."""
+
+    name: str
+    arguments: list
+    given: bytes = b""
+    # The files that exist before the call, and those that it makes.
+    files: dict = field(default_factory=dict)
+    made: tuple = ()
+    # What runs beside it, and the ports that this binds. It returns the datagrams that arrived there.
+    beside: object = None
+    ports: tuple = ()
+    # The status if nothing fails.
+    status: int = 0
+    # The kinds of system calls that it certainly makes.
+    devices: tuple = ("read", "write")
+
+
+@dataclass
+class Room:
+    """What a run with faults needs: the library, the kind of call that fails, a folder and the file of counts."""
+
+    library: str
+    kind: str
+    folder: str
+
+    def counts_file(self):
+        return f"{self.folder}.counts"
+
+    def environment(self, number, is_all=False, is_single=False):
+        added = {"LD_PRELOAD": self.library, "FAULT": self.kind, "FAULT_AT": str(number)}
+        added |= {"FAULT_COUNTS": self.counts_file()} | ({"FAULT_ALL": "1"} if is_all else {})
+        return os.environ | added | ({"FAULT_SINGLE_BYTES": "1"} if is_single else {})
+
+    def counts(self):
+        """Of the last run: how many calls of the kind it made, how many failed, how many of these are the program's."""
+        return struct.unpack("QQQ", processes.content_of(self.counts_file()))
+
+    def clear(self):
+        processes.put(self.counts_file(), bytes(24))
+
+
+def data(first, *messages):
+    return model.spelling(model.Packet("data", S, first, messages))
+
+
+def has_ended(process):
+    """Waits for at most a millisecond, and returns whether a program has ended."""
+    try:
+        return process.wait(0.001) is not None
+    except subprocess.TimeoutExpired:
+        return False
+
+
+def receive_lines(process, own):
+    """The datagrams that a publisher sends on its lines."""
+    received = [[] for _ in own]
+    is_over = False
+    while not is_over:
+        is_over = has_ended(process)
+        for socket, datagrams in zip(own, received):
+            datagrams += [it for it, _ in udp_peers.arrived(socket)]
+    return received
+
+
+def request_messages(process, own):
+    """Requests two messages from a server again and again, and returns its responses."""
+    request = model.Request(S, 1, 2).spelling()
+    while not has_ended(process):
+        own[0].sendto(request, (udp_peers.own_host(), udp_peers.SERVER))
+    return [[it for it, _ in udp_peers.arrived(own[0])]]
+
+
+def feed(process, own):
+    """Sends message 3 on line A, the end of session on line B, and messages 1 and 2 in response to requests."""
+    host = udp_peers.own_host()
+    while not has_ended(process):
+        own[0].sendto(data(3, b"C"), (host, udp_peers.LINE_A))
+        own[0].sendto(model.spelling(model.Packet("end", S, 4)), (host, udp_peers.LINE_B))
+        for _, sender in udp_peers.arrived(own[1]):
+            own[1].sendto(data(1, b"AB", b""), sender)
+    return []
+
+
+def address(port):
+    return f"{udp_peers.own_host()}:{port}"
+
+
+def calls_of_files():
+    upgrade = ["upgrade", "--journal", "@old", "--to", "@new", "--close"]
+    folder = {"b.pkt": data(1, b"AB", b""), "a.pkt": model.spelling(model.Packet("end", S, 5)), "c.txt": b""}
+    conflict = {"b.pkt": data(2, b"X"), "a.pkt": data(2, b"Y")}
+    return [
+        Call("check", ["check", "@"], files=folder, status=1),
+        Call("check, refused", ["check", "@"], files=conflict, status=2),
+        Call("upgrade", upgrade, files={"old": OLD}, made=("new",)),
+        Call("upgrade over a file", upgrade, files={"old": OLD, "new": b"what was there"}, made=("new",)),
+        Call("upgrade, refused", upgrade, files={"old": OLD[:-1]}, made=("new",), status=2),
+        Call("dump", ["dump", "--journal", "@old"], files={"old": OLD}),
+        Call("dump, refused", ["dump", "--journal", "@old"], files={"old": OLD[:-1]}, status=2),
+    ]
+
+
+def calls_over_ports():
+    limits = ["--limit", "64"]
+    loop = ["loop", "--session", "SESSION001", *limits, "--server-limit", "64", "--window", "4"]
+    loop += ["--drop-a", "2", "--drop-b", "2"]
+    publish = ["publish", "--session", "SESSION001", *limits, "--journal", "@new"]
+    publish += ["--a", address(udp_peers.PUBLISHED_A), "--b", address(udp_peers.PUBLISHED_B)]
+    published = (udp_peers.PUBLISHED_A, udp_peers.PUBLISHED_B)
+    serve = ["serve", "--journal", "@old", *limits, "--bind", address(udp_peers.SERVER), "--turns", "2"]
+    listen = ["listen", "--session", "SESSION001", "--window", "4", "--turns", "1000"]
+    listen += ["--a", address(udp_peers.LINE_A), "--b", address(udp_peers.LINE_B), "--server", address(udp_peers.OWN)]
+    sends, answers = ("read", "write", "send"), ("read", "write", "receive", "send")
+    hears, former = ("write", "receive", "send", "wait"), {"new": b"what was there"}
+    return [
+        Call("loop", loop, LINES, devices=answers),
+        Call("publish", publish, MESSAGES, {}, ("new",), receive_lines, published, 0, sends),
+        Call("publish over a file", publish, MESSAGES, former, ("new",), receive_lines, published, 0, sends),
+        Call("serve", serve, b"", {"old": OLD}, (), request_messages, (udp_peers.ASKING,), 0, answers),
+        Call("serve, refused", serve, b"", {"old": OLD[:-1]}, status=2),
+        Call("listen", listen, b"", {}, (), feed, (udp_peers.FEEDING, udp_peers.OWN), 0, hears),
+    ]
+
+
+def all_calls():
+    examples = os.path.join(processes.TOP, "examples")
+    packets, script = (processes.content_of(os.path.join(examples, it)) for it in ("packets.hex", "two-receivers.sim"))
+    pack = ["pack", "--session", "SESSION001", "--limit", "64"]
+    sim = ["sim", "--session", "SESSION001", "--limit", "64", "--server-limit", "64", "--window", "4"]
+    captured = HEX + b"0000000000000001000100024142\n\n" + HEX + b"0000000000000005ffff\n"
+    return [
+        Call("show", ["show"], packets, status=2),
+        Call("show, two-messages", ["show"], HEX + b"00000000000000010002000241420000\n"),
+        Call("show --request", ["show", "--request"], HEX + b"00000000000000010002\n" + HEX + b"\n", status=2),
+        Call("pack", pack, LINES),
+        Call("pack, pack-two-messages", pack, b"4142\n\n"),
+        Call("pack, refused", pack, MESSAGES + b"4\n", status=2),
+        Call("sim", sim, script, status=2),
+        Call("check of lines", ["check", "-"], captured, status=1),
+        Call("check of lines, refused", ["check", "-"], b"\n" + HEX + b"\n", status=2),
+        *calls_of_files(),
+        *calls_over_ports(),
+        Call("help", ["--help"], devices=("write",)),
+        Call("help of a command", ["listen", "--help"], devices=("write",)),
+        Call("the version", ["--version"], devices=("write",)),
+        Call("a usage fault", ["pack", "--session", "SESSION001", "--limit", "63"], status=FAULT, devices=()),
+        Call("an address fault", ["serve", "--journal", "x", "--bind", "nowhere"], status=FAULT, devices=()),
+        Call("a fault of reading", ["check", "@none"], status=FAULT, devices=()),
+    ]
+
+
+def run(mold, call, room, environment, own):
+    """The outcome of a call, with the files that it made and the datagrams that it sent."""
+    shutil.rmtree(room.folder, ignore_errors=True)
+    os.mkdir(room.folder)
+    for name, content in call.files.items():
+        processes.put(os.path.join(room.folder, name), content)
+    room.clear()
+    arguments = [os.path.join(room.folder, it[1:]) if it.startswith("@") else it for it in call.arguments]
+    for socket in own:
+        udp_peers.arrived(socket)
+    with processes.running([mold, *arguments], call.given, environment) as process:
+        received = call.beside(process, own) if call.beside else []
+        outcome = processes.finish(process)
+    names = (*call.files, *call.made)
+    outcome.made = {name: processes.content_of(os.path.join(room.folder, name)) for name in names}
+    outcome.made |= {f"port {index}": datagrams for index, datagrams in enumerate(received)}
+    return outcome
+
+
+def is_prefix(call, name, got, full):
+    """Whether a file or a port's datagrams are as before the call, or a prefix of what it makes if nothing fails."""
+    if got == call.files.get(name):
+        return True
+    if name in call.files and name not in call.made or full is None:
+        return False
+    return full[: len(got)] == got
+
+
+def in_turn(mold, call, room, try_all):
+    """What `try_all` reports of a call, once no other call has its ports. It gets the outcome with no fault."""
+    key = call.ports or call.name
+    with TURNS.setdefault(key, threading.Lock()):
+        if key not in BOUND:
+            BOUND[key] = [udp_peers.bound(it) for it in call.ports]
+        full = run(mold, call, room, room.environment(0), BOUND[key])
+        if full.status != call.status:
+            return f"it ends with status {full.status} and {full.errors[:200]!r} if nothing fails", ""
+        return try_all(full, BOUND[key])
+
+
+def built_library(folder):
+    """The library that makes calls fail, or none if there is no C compiler."""
+    compiler = next(filter(None, map(shutil.which, ("cc", "gcc", "clang"))), None)
+    if not compiler:
+        return None
+    library = os.path.join(folder, "inject_faults.so")
+    source = os.path.join(processes.TOP, "tests", "inject_faults.c")
+    subprocess.run([compiler, "-O1", "-shared", "-fPIC", "-o", library, source, "-ldl"], check=True)
+    return library
+
+
+def report(name, tried, lock):
+    """Runs a check, prints a line for it, and returns whether it passed."""
+    why, said = tried()
+    with lock:
+        print(f"FAILED  {name}: {why}" if why else f"passed  {name}: {said}", flush=True)
+    return not why
