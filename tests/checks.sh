@@ -1,10 +1,10 @@
-# Checks that are counted, for the scripts beside this file. It is read by `.`, with `scratch` set to
-# a folder that the script may fill.
+# Checks that are counted, for the scripts beside this file. They read it with `.`, with `scratch` set to a folder that
+# they may fill.
 
 passed=0
 failed=0
 
-# Runs a check, a function that is true where all is well and else prints why not. It gets no input.
+# Runs a check, a function that succeeds, or prints why not and fails. It gets no input.
 check() {
     name=$1
     shift
@@ -18,7 +18,21 @@ check() {
     fi
 }
 
-# Whether a file holds what another one does, which is `what`.
+# Runs the checks of a script, in their order: its functions whose names begin with `test_`. The title of a check is the
+# rest of the name, in words, after a prefix that all of them have. With names, only the checks with one of them in their
+# own names run.
+check_each() {
+    script=$1 prefix=$2
+    shift 2
+    sed -n 's/^test_\([a-z0-9_]*\)() {$/\1/p' "$script" >"$scratch/checks"
+    while IFS= read -r title; do
+        if [ $# -eq 0 ] || printf '%s\n' "$title" | grep -q "$(printf '%s\n' "$@")"; then
+            check "$prefix: $(printf '%s' "$title" | tr _ ' ')" "test_$title"
+        fi
+    done <"$scratch/checks"
+}
+
+# Whether the file GOT is the same as the file WANTED. WHAT names it.
 is_same() {
     what=$1 got=$2 wanted=$3
     [ "$(sha256sum <"$got")" = "$(sha256sum <"$wanted")" ] && return
@@ -30,15 +44,15 @@ is_same() {
     return 1
 }
 
-# Whether a status is the wanted one.
+# Whether a status is the expected one.
 is_status() {
     [ "$1" -eq "$2" ] && return
     printf 'the status is %s, and should be %s\n' "$1" "$2"
     return 1
 }
 
-# Prints the counts as a last line, and answers whether nothing failed.
-tell_counts() {
+# Prints the counts as the last line, and succeeds if nothing failed.
+print_counts() {
     printf '%s passed, %s failed\n' "$passed" "$failed"
     [ "$failed" -eq 0 ]
 }
