@@ -1,0 +1,113 @@
+"""The parts of the gate, each named once, for tests/gate.py and tests/changed.py."""
+import fnmatch
+import os
+import re
+import shlex
+import shutil
+from dataclasses import dataclass
+
+TOP = os.path.dirname(os.path.dirname(os.path.realpath(__file__)))
+# The documents whose command lines are run.
+DOCUMENTS = ("README.md", "docs/USING.md", "docs/TROUBLESHOOTING.md", "docs/LIBRARY.md")
+# The crates at the top of the program and of the library.
+PROGRAM, LIBRARY = "mold_cmd", "mold_ffi"
+COMPILERS = ("cc", "gcc", "clang")
+
+
+@dataclass(frozen=True)
+class Part:
+    """A command of the gate, which runs at the top of the repository or in a folder of it."""
+
+    command: str
+    # Patterns of the files that it reads, beside its script in tests/ and the modules there.
+    reads: tuple = ()
+    # The crate at the top of what it runs: it is run if that crate or one below it changed.
+    crate: str = ""
+    # Whether it runs the program out/mold, which has to be built before.
+    runs_program: bool = False
+    needs_compiler: bool = False
+    folder: str = "."
+    # Whether its last line is 'N passed, M failed'. Otherwise its status counts.
+    is_counted: bool = True
+
+    def words(self):
+        return shlex.split(self.command)
+
+    def described(self):
+        return self.command if self.folder == "." else f"{self.command}, in {self.folder}"
+
+    def script(self):
+        """The script in tests/ that it runs, if any."""
+        return next((word for word in self.words() if word.startswith("tests/")), "")
+
+    def is_possible(self):
+        return not self.needs_compiler or any(map(shutil.which, COMPILERS))
+
+
+def over_program(command, *reads, crate=PROGRAM, needs_compiler=False):
+    return Part(command, reads, crate, True, needs_compiler)
+
+
+RT_CI = Part("rt ci")
+# Builds the program over kept proofs, and runs it on an empty input.
+BUILD = Part("rt run -- show", folder=f"crates/{PROGRAM}", is_counted=False)
+EDITS = Part("tests/edits --proved")
+# Parts that need no program. They run one after the other.
+WITHOUT_PROGRAM = (
+    Part("tests/changed-test", ("tests/run",)),
+    Part("tests/links", ("*.md",)),
+    Part("tests/edits-test", ("tests/edits",)),
+)
+# Lanes of parts that run side by side; the parts of a lane run one after the other. The first lane has fixed ports and
+# makes the library, and its parts mostly wait. Each process of the second lane has a loopback address of its own.
+LANES = (
+    (
+        over_program("tests/program-checks", "try", "mold", "examples/*", "tests/checks.sh", "tests/table*",
+                     "tests/udp-sessions"),
+        over_program("tests/library", "library/*", "install.sh", "tests/udp-sessions", crate=LIBRARY,
+                     needs_compiler=True),
+        over_program("tests/documents " + " ".join(DOCUMENTS), *DOCUMENTS, "examples/*", "install.sh"),
+    ),
+    (
+        over_program("tests/out-of-memory", "examples/*", "tests/inject_faults.c"),
+        over_program("tests/io-errors", "examples/*", "tests/inject_faults.c", needs_compiler=True),
+        over_program("tests/mutations", "examples/packets.*", "tests/table*"),
+        # A longer run, with other seeds, is no part of the gate.
+        over_program("tests/long-run gate 200"),
+    ),
+    (
+        Part("sh tests/launcher", ("mold", "tests/checks.sh")),
+        over_program("tests/manual", "docs/mold.1", "completions/*"),
+        over_program("tests/install", "install.sh", "mold", "docs/mold.1", "completions/*", "LICENSE*", "library/*",
+                     "tests/checks.sh"),
+    ),
+)
+
+
+def parts():
+    """All parts but the proofs and the edits, in their order."""
+    return [*WITHOUT_PROGRAM, *(part for lane in LANES for part in lane)]
+
+
+def files_read(script):
+    """A script of tests/, the modules that it imports, and those that they import."""
+    found, new = set(), {script}
+    while new:
+        found |= new
+        new = {module for path in new for module in imported(path)} - found
+    return found
+
+
+def imported(path):
+    """The modules of tests/ that a script imports; none if it is no file."""
+    if not os.path.isfile(f"{TOP}/{path}"):
+        return []
+    with open(f"{TOP}/{path}", encoding="utf-8") as file:
+        modules = (f"tests/{name}.py" for name in re.findall(r"^import (\w+)$", file.read(), re.M))
+        return [it for it in modules if os.path.isfile(f"{TOP}/{it}")]
+
+
+def is_reader(part, paths):
+    """Whether a part reads one of these files, by its patterns or its script."""
+    own = files_read(part.script()) if part.script() else set()
+    return any(path in own or any(fnmatch.fnmatch(path, it) for it in part.reads) for path in paths)
