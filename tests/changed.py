@@ -12,8 +12,8 @@ import subprocess
 
 import parts
 
-# The folders of a crate that only its own edits read.
-EDITS = ("wrong/", "must-fail/")
+# The folders of a crate with its edits.
+WRONG, MUST_FAIL = "wrong/", "must-fail/"
 
 
 def git(*words):
@@ -52,13 +52,17 @@ def crate_of(path):
     return (found[1], found[2]) if found else ("", path)
 
 
+def in_order(crates, names):
+    return [name for name in crates if name in names]
+
+
 def affected(crates, changed):
     """The changed crates and those above them, in the order of crates.txt."""
     found = set(changed)
     for name, uses in crates.items():
         if found & set(uses):
             found.add(name)
-    return [name for name in crates if name in found]
+    return in_order(crates, found)
 
 
 def has_files(crate, pattern):
@@ -83,12 +87,12 @@ def proofs(names, checked):
             yield parts.Part("rt test", folder=f"crates/{name}", is_counted=False)
 
 
-def edits(checked, touched):
-    """The edits of some crates; in `must-fail` only those of crates with a changed file, since each costs a check."""
-    names = [name for name in touched if has_files(name, "must-fail/*.edit")]
+def edits(with_must_fail, with_wrong):
+    """The edits of some crates in `must-fail`, each of which costs a check, and of others in `wrong`."""
+    names = [name for name in with_must_fail if has_files(name, "must-fail/*.edit")]
     if names:
         yield parts.Part(f"rt must-fail {' '.join(names)}")
-    names = [name for name in checked if has_files(name, "wrong/*.edit")]
+    names = [name for name in with_wrong if has_files(name, "wrong/*.edit")]
     if names:
         yield parts.Part(f"{parts.EDITS.command} {' '.join(names)}")
 
@@ -134,17 +138,18 @@ def count_of_edits(part):
 def plan(crates, paths, lines):
     """What changed files need. `lines` are the crates whose lines in crates.txt changed."""
     inside = [(name, path) for name, path in map(crate_of, paths) if name in crates]
-    touched = {name for name, _ in inside} | lines
-    names = affected(crates, lines | {name for name, path in inside if not path.startswith(EDITS)})
-    checked = [name for name in crates if name in names or name in touched]
+    code = lines | {name for name, path in inside if not path.startswith((WRONG, MUST_FAIL))}
+    names = affected(crates, code)
+    with_wrong = in_order(crates, {*names, *(name for name, path in inside if path.startswith(WRONG))})
+    with_must_fail = in_order(crates, code | {name for name, path in inside if path.startswith(MUST_FAIL)})
 
     def needed(some_parts):
         return [narrowed(it, names) for it in some_parts if it.crate in names or parts.is_reader(it, paths)]
 
     return Plan(
-        list(proofs(names, checked)),
+        list(proofs(names, in_order(crates, {*with_wrong, *with_must_fail}))),
         [parts.BUILD] if parts.PROGRAM in names else [],
-        list(edits(checked, [name for name in crates if name in touched])),
+        list(edits(with_must_fail, with_wrong)),
         needed(parts.WITHOUT_PROGRAM),
         [lane for lane in map(needed, parts.LANES) if lane],
         [path for path in paths if is_unread(crates, path)],

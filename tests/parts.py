@@ -66,7 +66,7 @@ LANES = (
                      "tests/udp-sessions"),
         over_program("tests/library", "library/*", "install.sh", "tests/udp-sessions", crate=LIBRARY,
                      needs_compiler=True),
-        over_program("tests/documents " + " ".join(DOCUMENTS), *DOCUMENTS, "examples/*", "install.sh"),
+        over_program("tests/documents " + " ".join(DOCUMENTS), *DOCUMENTS, "examples/*", "library/*", "install.sh"),
     ),
     (
         over_program("tests/out-of-memory", "examples/*", "tests/inject_faults.c"),
