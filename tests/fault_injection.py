@@ -178,44 +178,59 @@ def all_calls():
     ]
 
 
-def run(mold, call, room, environment, own):
-    """The outcome of a call, with the files that it made and the datagrams that it sent."""
-    shutil.rmtree(room.folder, ignore_errors=True)
-    os.mkdir(room.folder)
-    for name, content in call.files.items():
-        processes.put(os.path.join(room.folder, name), content)
-    room.clear()
-    arguments = [os.path.join(room.folder, it[1:]) if it.startswith("@") else it for it in call.arguments]
-    for socket in own:
-        udp_peers.arrived(socket)
-    with processes.running([mold, *arguments], call.given, environment) as process:
-        received = call.beside(process, own) if call.beside else []
-        outcome = processes.finish(process)
-    names = (*call.files, *call.made)
-    outcome.made = {name: processes.content_of(os.path.join(room.folder, name)) for name in names}
-    outcome.made |= {f"port {index}": datagrams for index, datagrams in enumerate(received)}
-    return outcome
+@dataclass
+class Trial:
+    """A call of the program that is run with faults, over sockets of its own, and its outcome if nothing fails."""
 
+    mold: str
+    call: Call
+    room: Room
+    own: list
+    full: processes.Outcome = None
 
-def is_prefix(call, name, got, full):
-    """Whether a file or a port's datagrams are as before the call, or a prefix of what it makes if nothing fails."""
-    if got == call.files.get(name):
-        return True
-    if name in call.files and name not in call.made or full is None:
-        return False
-    return full[: len(got)] == got
+    def run(self, environment):
+        """The outcome of the call, with the files that it made and the datagrams that it sent."""
+        call, folder = self.call, self.room.folder
+        shutil.rmtree(folder, ignore_errors=True)
+        os.mkdir(folder)
+        for name, content in call.files.items():
+            processes.put(os.path.join(folder, name), content)
+        self.room.clear()
+        arguments = [os.path.join(folder, it[1:]) if it.startswith("@") else it for it in call.arguments]
+        for socket in self.own:
+            udp_peers.arrived(socket)
+        with processes.running([self.mold, *arguments], call.given, environment) as process:
+            received = call.beside(process, self.own) if call.beside else []
+            outcome = processes.finish(process)
+        outcome.made = {name: processes.content_of(os.path.join(folder, name)) for name in (*call.files, *call.made)}
+        outcome.made |= {f"port {index}": datagrams for index, datagrams in enumerate(received)}
+        return outcome
+
+    def runs(self, environment):
+        """The outcomes of repeated runs, each with the number of runs that are left."""
+        for left in reversed(range(TRIES if self.call.beside else 1)):
+            yield left, self.run(environment)
+
+    def is_prefix(self, name, got):
+        """Whether a file or a port's datagrams are as before the call, or a prefix of those with no fault."""
+        if got == self.call.files.get(name):
+            return True
+        if name in self.call.files and name not in self.call.made or self.full.made[name] is None:
+            return False
+        return self.full.made[name][: len(got)] == got
 
 
 def in_turn(mold, call, room, try_all):
-    """What `try_all` reports of a call, once no other call has its ports. It gets the outcome with no fault."""
+    """What `try_all` reports of a call, once no other call has its ports."""
     key = call.ports or call.name
     with TURNS.setdefault(key, threading.Lock()):
         if key not in BOUND:
             BOUND[key] = [udp_peers.bound(it) for it in call.ports]
-        full = run(mold, call, room, room.environment(0), BOUND[key])
-        if full.status != call.status:
-            return f"it ends with status {full.status} and {full.errors[:200]!r} if nothing fails", ""
-        return try_all(full, BOUND[key])
+        trial = Trial(mold, call, room, BOUND[key])
+        trial.full = trial.run(room.environment(0))
+        if trial.full.status != call.status:
+            return f"it ends with status {trial.full.status} and {trial.full.errors[:200]!r} if nothing fails", ""
+        return try_all(trial)
 
 
 def built_library(folder):

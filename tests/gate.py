@@ -107,8 +107,8 @@ class Gate:
         return any(os.stat(it).st_mtime_ns > self.began for it in files)
 
     def keep_program(self):
-        """Makes the program that `rt` has built the launcher's, unless a source was edited meanwhile. So nothing is proved
-        twice. The copy gets the time at which this run began."""
+        """Makes the program that `rt` has built the launcher's, unless a source was edited meanwhile. So nothing is
+        proved twice. The copy gets the time at which this run began."""
         if not self.is_edited():
             os.makedirs(os.path.dirname(PROGRAM), exist_ok=True)
             shutil.copy(BUILT, f"{PROGRAM}.new")
