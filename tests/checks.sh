@@ -19,8 +19,8 @@ check() {
 }
 
 # Runs the checks of a script, in their order: its functions whose names begin with `test_`. The title of a check is the
-# rest of the name, in words, after a prefix that all of them have. With names, only the checks with one of them in their
-# own names run.
+# rest of the name, in words, after a prefix that all of them have. With names, only the checks with one of them in
+# their own names run.
 check_each() {
     script=$1 prefix=$2
     shift 2
