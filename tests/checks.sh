@@ -22,12 +22,12 @@ check() {
 # rest of the name, in words, after a prefix that all of them have. With names, only the checks with one of them in
 # their own names run.
 check_each() {
-    script=$1 prefix=$2
+    check_script=$1 check_prefix=$2
     shift 2
-    sed -n 's/^test_\([a-z0-9_]*\)() {$/\1/p' "$script" >"$scratch/checks"
-    while IFS= read -r title; do
-        if [ $# -eq 0 ] || printf '%s\n' "$title" | grep -q "$(printf '%s\n' "$@")"; then
-            check "$prefix: $(printf '%s' "$title" | tr _ ' ')" "test_$title"
+    sed -n 's/^test_\([a-z0-9_]*\)() {$/\1/p' "$check_script" >"$scratch/checks"
+    while IFS= read -r check_name; do
+        if [ $# -eq 0 ] || printf '%s\n' "$check_name" | grep -q "$(printf '%s\n' "$@")"; then
+            check "$check_prefix: $(printf '%s' "$check_name" | tr _ ' ')" "test_$check_name"
         fi
     done <"$scratch/checks"
 }
