@@ -13,7 +13,7 @@ use Rattle.mold_wire.specs.Truth.{published_at}
 use Rattle.mold_wire.specs.declared.session.Session.{Session}
 use Rattle.mold_wire.proofs.TruthLemmas.{message_at-from}
 use Rattle.mold_feed.specs.Heard.{Saying, Handed, Refuses, RefusesStrange, handed_of, saying_line, sayings_text}
-use Rattle.mold_feed.specs.Text.{handed_line, handed_text}
+use Rattle.mold_listen.specs.Text.{handed_line, handed_text}
 
 -- ---- between two numbers
 

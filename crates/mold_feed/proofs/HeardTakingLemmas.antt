@@ -30,8 +30,8 @@ use Rattle.mold_wire.specs.declared.error.DecodeError.{DecodeError}
 use Rattle.mold_wire.specs.declared.packet.Packet.{Packet}
 use Rattle.mold_wire.specs.declared.session.Session.{Session}
 use Rattle.mold_feed.specs.Heard.{IsHarmless, IsReason, IsStrange, RefusesStrange, Saying, Refuses, handed_of, sayings_text}
-use Rattle.mold_feed.specs.Listening.{Hearing, taken}
-use Rattle.mold_feed.specs.Text.{handed_text, taking_text}
+use Rattle.mold_listen.specs.Listening.{Hearing, taken}
+use Rattle.mold_listen.specs.Text.{handed_text, taking_text}
 use Rattle.mold_feed.proofs.HeardSayingLemmas.{between_none, counted_joined, handed_between, handed_of-append}
 use Rattle.mold_feed.proofs.HeardSayingLemmas.{handed_of-handing, handing, handing-append, numbered-append}
 use Rattle.mold_feed.proofs.HeardSayingLemmas.{refused-append, refused-handing, text-append, text-handing}

@@ -17,14 +17,15 @@ use Rattle.mold_wire.specs.Request.{request_spelling}
 use Rattle.mold_wire.specs.declared.request.Request.{Request}
 use Rattle.mold_feed.specs.Heard.{GivesOnly, Gives, HasFinished, HasListened, Hears, HearsOnly, IsGiven, IsHarmless}
 use Rattle.mold_feed.specs.Heard.{Saying, sayings_text}
-use Rattle.mold_feed.specs.Listening.{Asking, Hearing, ListenerState, asked, ends_at, hear, hear_answers, heard, is_finished}
-use Rattle.mold_feed.specs.Listening.{lines_heard, listening, longest, missed, receives, turn, turn_asked}
-use Rattle.mold_feed.specs.Runs.{run}
-use Rattle.mold_feed.specs.Text.{handed_text}
+use Rattle.mold_listen.specs.Listening.{Asking, Hearing, ListenerState, asked, ends_at, hear, hear_answers, heard, is_finished}
+use Rattle.mold_listen.specs.Listening.{lines_heard, listening, missed, receives, turn, turn_asked}
+use Rattle.mold_turns.specs.Runs.{run}
+use Rattle.mold_listen.specs.Text.{handed_text}
 use Rattle.mold_feed.proofs.HeardSayingLemmas.{refused-weaker, text-handing}
 use Rattle.mold_feed.proofs.HeardTakingLemmas.{HasHeard, HearingLaws, IsSound, MayCome, last_number, nothing_heard}
 use Rattle.mold_feed.proofs.HeardTakingLemmas.{taken_heard, then_heard}
-use Rattle.mold_feed.proofs.ListenLemmas.{stepped}
+use Rattle.mold_listen.proofs.ListenLemmas.{stepped}
+use Rattle.mold_wire.specs.declared.limits.TheConstants.{MAX_LIMIT}
 
 -- ---- what ports give
 
@@ -62,9 +63,9 @@ module _ (journal : JournalState) (Plain : Type 0) (Good : List ℕ → Type 0) 
   -- ---- one receive
 
   receipt_heard : {P : Type 0} (line : Option Line) (receipt : Receipt P) (e : Hearing) → IsSound journal e →
-      Gives Good receipt → HasHeard journal Plain Good e (heard line (cut longest receipt) e)
+      Gives Good receipt → HasHeard journal Plain Good e (heard line (cut MAX_LIMIT receipt) e)
   receipt_heard line (Datagram from bytes) e sound gives =
-      taken_heard journal Plain Good laws may line (take longest bytes) e sound gives
+      taken_heard journal Plain Good laws may line (take MAX_LIMIT bytes) e sound gives
   receipt_heard line Quiet e sound gives = nothing_heard journal Plain Good e e sound refl refl
   receipt_heard line Failure e sound gives = nothing_heard journal Plain Good e (missed e) sound refl refl
 
@@ -155,14 +156,14 @@ abbrev Both : (List ℕ → Type 0) → (List ℕ → Type 0) → List ℕ → T
 Both Good Came bytes = Good bytes × Came bytes
 
 given_first : {P : Type 0} (Good Came : List ℕ → Type 0) (receipt : Receipt P) (comes : List (Receipt P)) →
-    ((from : P) (whole : List ℕ) → Contains (receipt ∷ comes) (Datagram from whole) → Came (take longest whole)) →
+    ((from : P) (whole : List ℕ) → Contains (receipt ∷ comes) (Datagram from whole) → Came (take MAX_LIMIT whole)) →
     Gives Good receipt → Gives (Both Good Came) receipt
 given_first Good Came (Datagram from bytes) comes came gives = (gives, came from bytes (0, omega arith, refl))
 given_first Good Came Quiet comes came gives = tt
 given_first Good Came Failure comes came gives = tt
 
 given_all : {P : Type 0} (Good Came : List ℕ → Type 0) (comes : List (Receipt P)) →
-    ((from : P) (whole : List ℕ) → Contains comes (Datagram from whole) → Came (take longest whole)) →
+    ((from : P) (whole : List ℕ) → Contains comes (Datagram from whole) → Came (take MAX_LIMIT whole)) →
     AllByRecursion (Gives Good) comes → AllByRecursion (Gives (Both Good Came)) comes
 given_all Good Came [] came gives = tt
 given_all Good Came (receipt ∷ comes) came gives = (
@@ -176,7 +177,7 @@ port_gives : {P : Type 0} (Good Came : List ℕ → Type 0) (port : Port P) →
     ((bytes : List ℕ) → IsGiven port bytes → Came bytes) → GivesOnly Good port → GivesOnly (Both Good Came) port
 port_gives Good Came port came gives =
     given_all Good Came port.comes (λ from whole is.
-    came (take longest whole) (record { from = from; whole = whole; comes = is; seen = refl })) gives
+    came (take MAX_LIMIT whole) (record { from = from; whole = whole; comes = is; seen = refl })) gives
 
 ports_give : {P : Type 0} (Good : List ℕ → Type 0) (s : ListenerState P) → HearsOnly Good s →
     HearsOnly (Both Good (Hears s)) s

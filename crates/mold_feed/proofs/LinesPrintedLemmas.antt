@@ -8,7 +8,7 @@ use Rattle.std.proofs.lemmas.Result.{IfOk-weaker}
 use Rattle.mold_devices.specs.Devices.{AppendsFront}
 use Rattle.mold_feed.specs.Heard.{HasFinished, HasListened, PrintsAmong, PrintsLines, RefusesStrange, Saying, lines_text}
 use Rattle.mold_feed.specs.Heard.{closing_lines, closing_status, messages_text, sayings_text}
-use Rattle.mold_feed.specs.Listening.{Hearing, ListenerState, is_finished, listened_lines, status}
+use Rattle.mold_listen.specs.Listening.{Hearing, ListenerState, is_finished, listened_lines, status}
 use Rattle.mold_feed.proofs.LinesTextLemmas.{AreSpelled, lines_said, spelled_length}
 use Rattle.mold_session.specs.Answer.{between}
 use Rattle.mold_session.specs.Journal.{JournalState}

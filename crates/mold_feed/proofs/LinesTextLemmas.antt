@@ -11,7 +11,7 @@ use Rattle.hex.specs.Hex.{decode_of, decode_pairs, digit_or_error, encode_lower,
 use Rattle.hex.specs.Hex.{pair_value, value_at, ◌>>=◌}
 use Rattle.hex.specs.declared.error.FromHexError.{FromHexError}
 use Rattle.mold_feed.specs.Heard.{Saying, Handed, Refuses, handed_of, lines_text, lower_digit, messages_text, sayings_text, shown}
-use Rattle.mold_feed.specs.Text.{handed_line, handed_text}
+use Rattle.mold_listen.specs.Text.{handed_line, handed_text}
 use Rattle.mold_receiver.specs.Store.{Message, numbered}
 use Rattle.mold_rule.specs.declared.refusal.Refusal.{Refusal as Refused}
 use Rattle.mold_session.specs.Answer.{between}

@@ -1,7 +1,7 @@
 -- A session that begins, whose messages are lines, and a listener that begins in it.
 use Rattle.std.proofs.Common.{◌≡◌, ℕ, ◌+◌, ◌<◌, ◌≤◌, Bool, List, length, Option, None, Some}
 use Rattle.std.proofs.Common.{refl, sym, ap, subst, ◌∙◌, arith}
-use Rattle.mold_feed.specs.PublishLoop.{closed_unless, left_journal}
+use Rattle.mold_send.specs.PublishLoop.{closed_unless, left_journal}
 use Rattle.mold_feed.specs.Sent.{HasLines, IsOpening}
 use Rattle.mold_feed.proofs.LinesTextLemmas.{spelled_length}
 use Rattle.mold_publish.proofs.DatagramLemmas.{grown}

@@ -25,9 +25,9 @@ use Rattle.mold_publish.specs.Sending.{all_but_last, end_packet, packets_behind}
 use Rattle.mold_publish.specs.declared.line_refusal.LineRefusal.{LineRefusal}
 use Rattle.mold_publish.specs.declared.line_refusal.LineRefusal.TheVariants.{NotHex, NotTaken}
 use Rattle.mold_publish.proofs.DatagramLemmas.{grown}
-use Rattle.mold_feed.specs.Outgoing.{nothing_out}
-use Rattle.mold_feed.specs.PublishLoop.{PublicationState, PublishRun, Sends, all_datagrams, beat_packet, both}
-use Rattle.mold_feed.specs.PublishLoop.{close_datagrams, closed_unless, left_journal, offer, publication_of}
+use Rattle.mold_turns.specs.Outgoing.{nothing_out}
+use Rattle.mold_send.specs.PublishLoop.{PublicationState, PublishRun, Sends, all_datagrams, beat_packet, both}
+use Rattle.mold_send.specs.PublishLoop.{close_datagrams, closed_unless, left_journal, offer, publication_of}
 use Rattle.mold_feed.specs.Sent.{AllSent, HasLines, HasLinesBefore, IsOpening}
 use Rattle.mold_feed.proofs.LinesTextLemmas.{spelled_length}
 use Rattle.mold_feed.proofs.SentLemmas.{each_append, sent_front, sent_offered}

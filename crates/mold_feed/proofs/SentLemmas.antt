@@ -3,7 +3,7 @@ use Rattle.std.proofs.Common.{ℕ, Bool, true, false, List, [], ◌∷◌, ◌++
 use Rattle.std.specs.List.{AllByRecursion, Contains}
 use Rattle.std.proofs.lemmas.List.Elements.{All-contains, All-from_recursion}
 use Rattle.mold_ports.specs.Ports.{Port, offered}
-use Rattle.mold_feed.specs.Runs.{Begins}
+use Rattle.mold_turns.specs.Runs.{Begins}
 use Rattle.mold_feed.specs.Sent.{AllSent}
 
 -- one list behind another

@@ -3,10 +3,10 @@ use Rattle.std.proofs.Common.{◌≡◌, ℕ, ◌+◌, ◌≤◌, suc, Bool, tru
 use Rattle.std.proofs.Common.{Result, Ok, Err, refl, subst}
 use Rattle.std.specs.Prelude.{slice_get}
 use Rattle.std.specs.List.{AllByRecursion}
-use Rattle.mold_feed.specs.Runs.{run}
+use Rattle.mold_turns.specs.Runs.{run}
 use Rattle.mold_feed.specs.Sent.{AllSent}
-use Rattle.mold_feed.specs.Serving.{ResponderState, Service, fails_first, met, offer, offer_all, replied, reply, reply_to}
-use Rattle.mold_feed.specs.Serving.{serve_turn, serving}
+use Rattle.mold_serve.specs.Serving.{ResponderState, Service, fails_first, met, offer, offer_all, replied, reply, reply_to}
+use Rattle.mold_serve.specs.Serving.{serve_turn, serving}
 use Rattle.mold_ports.specs.Ports.{Receipt, Datagram, Quiet, Failure, cut, next_of, received}
 use Rattle.mold_session.specs.Answer.{IsPlan, PlanState, answer, plan_for, planned}
 use Rattle.mold_session.specs.Journal.{JournalState}
@@ -16,6 +16,7 @@ use Rattle.mold_session.specs.declared.error.AnswerError.{AnswerError}
 use Rattle.mold_wire.specs.Packet.{spelling_of}
 use Rattle.mold_wire.specs.declared.packet.Packet.{Packet}
 use Rattle.mold_wire.specs.declared.request.Request.{Request}
+use Rattle.mold_wire.specs.declared.limits.TheConstants.{MAX_LIMIT}
 
 -- what the laws of the session say of answers
 pub record ServingLaws : Type 0 where
@@ -114,7 +115,7 @@ module _ (laws : ServingLaws) (service : Service) (may : MayAnswer service.journ
       AllSent (TellsTruth service.journal) (serve_turn service fails responder).port.sent
   unfolding serve_turn
   turn_tells fails responder so =
-      met_tells fails (cut 65507 (next_of responder.port))
+      met_tells fails (cut MAX_LIMIT (next_of responder.port))
       (record { port = received responder.port; tally = responder.tally; requests = responder.requests }) so
 
   pub run_tells : {P : Type 0} (choices : List (List Bool)) (start : ResponderState P) →

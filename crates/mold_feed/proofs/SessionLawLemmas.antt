@@ -10,12 +10,12 @@ use Rattle.mold_devices.specs.Devices.{AppendsFront}
 use Rattle.mold_devices.specs.declared.fault.CommandFault.{CommandFault}
 use Rattle.mold_feed.specs.Heard.{Gives, GivesOnly, HasFinished, HasListened, Hears, HearsOnly, IsFed, IsHarmless, IsStrange, PrintsAmong}
 use Rattle.mold_feed.specs.Heard.{PrintsLines, PrintsOpen, lines_text, closing_lines, closing_status}
-use Rattle.mold_feed.specs.Listening.{ListenerState, beginning, is_finished, listened_lines, listening, status}
-use Rattle.mold_feed.specs.PublishLoop.{PublishRun, closed_unless}
-use Rattle.mold_feed.specs.Runs.{Ran, run}
+use Rattle.mold_listen.specs.Listening.{ListenerState, beginning, is_finished, listened_lines, listening, status}
+use Rattle.mold_send.specs.PublishLoop.{PublishRun, closed_unless}
+use Rattle.mold_turns.specs.Runs.{Ran, run}
 use Rattle.mold_feed.specs.Sent.{AllSent, HasLines, HasLinesBefore, IsCopy, IsOpening, IsPublished, IsSent, IsServed}
-use Rattle.mold_feed.specs.Serving.{ResponderState, Service, serving}
-use Rattle.mold_feed.specs.Text.{handed_text}
+use Rattle.mold_serve.specs.Serving.{ResponderState, Service, serving}
+use Rattle.mold_listen.specs.Text.{handed_text}
 use Rattle.mold_feed.proofs.HeardSayingLemmas.{between_front}
 use Rattle.mold_feed.proofs.LinesPrintedLemmas.{HasCome, has_come, listened_among, prints_lines}
 use Rattle.mold_feed.proofs.LinesTextLemmas.{text_between}

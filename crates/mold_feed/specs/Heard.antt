@@ -24,9 +24,10 @@ use Rattle.mold_wire.specs.Truth.{AreStrange}
 use Rattle.mold_wire.specs.declared.error.DecodeError.{DecodeError}
 use Rattle.mold_wire.specs.declared.packet.Packet.{Packet}
 use Rattle.mold_wire.specs.declared.session.Session.{Session}
-use Rattle.mold_feed.specs.Listening.{Hearing, ListenerState, longest}
+use Rattle.mold_listen.specs.Listening.{Hearing, ListenerState}
 use Rattle.mold_feed.specs.Sent.{IsSent}
-use Rattle.mold_feed.specs.Text.{finished_line, handed_line, open_line, reports_text}
+use Rattle.mold_listen.specs.Text.{finished_line, handed_line, open_line, reports_text}
+use Rattle.mold_wire.specs.declared.limits.TheConstants.{MAX_LIMIT}
 
 -- bytes that spell no packet of the session
 abbrev pub IsStrange : Session → List ℕ → Type 0
@@ -43,7 +44,7 @@ IsFed P journal limit lines bytes = IsSent P journal limit lines bytes ⊎ IsStr
 
 -- what a receive gives is such, as far as it is looked at
 abbrev pub Gives : {P : Type 0} → (List ℕ → Type 0) → Receipt P → Type 0
-Gives Good (Datagram from bytes) = Good (take longest bytes)
+Gives Good (Datagram from bytes) = Good (take MAX_LIMIT bytes)
 Gives Good Quiet = ⊤
 Gives Good Failure = ⊤
 
@@ -62,7 +63,7 @@ pub record IsGiven {P : Type 0} (port : Port P) (bytes : List ℕ) : Type 0 wher
   pub from : P
   pub whole : List ℕ
   pub comes : Contains port.comes (Datagram from whole)
-  pub seen : bytes ≡ take longest whole
+  pub seen : bytes ≡ take MAX_LIMIT whole
 
 -- one of a listener's three ports gives them
 abbrev pub Hears : {P : Type 0} → ListenerState P → List ℕ → Type 0

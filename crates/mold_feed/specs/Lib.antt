@@ -1,15 +1,2 @@
-pub mod Answering
 pub mod Heard
-pub mod Listening
-pub mod LocalFeed
-pub mod Looping
-pub mod Outgoing
-pub mod Own
-pub mod Passing
-pub mod PublishLoop
-pub mod Repairing
-pub mod Runs
 pub mod Sent
-pub mod Serving
-pub mod Tally
-pub mod Text

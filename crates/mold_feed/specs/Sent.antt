@@ -10,9 +10,9 @@ use Rattle.mold_publish.specs.declared.line_refusal.LineRefusal.{LineRefusal}
 use Rattle.mold_session.specs.Journal.{JournalState}
 use Rattle.mold_session.specs.Truthful.{MayAnswer}
 use Rattle.mold_wire.specs.Packer.{IsLimit}
-use Rattle.mold_feed.specs.PublishLoop.{PublishRun, left_journal}
-use Rattle.mold_feed.specs.Runs.{run}
-use Rattle.mold_feed.specs.Serving.{ResponderState, Service, serving}
+use Rattle.mold_send.specs.PublishLoop.{PublishRun, left_journal}
+use Rattle.mold_turns.specs.Runs.{run}
+use Rattle.mold_serve.specs.Serving.{ResponderState, Service, serving}
 
 -- a session that begins: its name has ten bytes, a datagram has room for the longest message, nothing is published yet,
 -- and it is open

@@ -3,11 +3,11 @@
 ghost use Rattle.std.specs.Prelude.{◌≡◌, ◌-◌};
 
 use mold_devices::{CommandFault, FromRead, IntoWrite, NewFile};
-use mold_feed::{LoopPeers, LoopPorts};
+use mold_loop::{LoopPeers, LoopPorts, loop_over};
 use mold_ports::UdpPort;
 use mold_session::{FileError, Journal};
 use mold_wiring::{
-    ProgramFault, flushed, listen_over, load_journal, loop_over, make_arbiter, make_publisher,
+    ProgramFault, flushed, listen_over, load_journal, make_arbiter, make_publisher,
     make_server, publish_over, serve_over, socket_address, tell_file_refused,
 };
 use mold_words::{Address, ListenOrder, LoopOrder, PublishOrder, ServeOrder};

@@ -1,4 +1,3 @@
 pub mod Ending
 pub mod File
-pub mod LoopOver
 pub mod Wiring

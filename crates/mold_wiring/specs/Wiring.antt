@@ -1,12 +1,10 @@
 -- What the commands over ports are made of, as their orders say.
 use Rattle.std.specs.Prelude.{ℕ, ◌-◌, List, [], false}
-use Rattle.mold_feed.specs.declared.loop_parts.Drops.{Drops}
 use Rattle.mold_receiver.specs.Arbiter.{Arbitration}
 use Rattle.mold_receiver.specs.View.{fresh}
 use Rattle.mold_session.specs.Publisher.{PublisherState}
 use Rattle.mold_session.specs.Server.{ServerState}
 use Rattle.mold_words.specs.declared.listen_order.ListenOrder.{ListenOrder}
-use Rattle.mold_words.specs.declared.loop_order.LoopOrder.{LoopOrder}
 use Rattle.mold_words.specs.declared.publish_order.PublishOrder.{PublishOrder}
 use Rattle.mold_words.specs.declared.serve_order.ServeOrder.{ServeOrder}
 
@@ -54,17 +52,3 @@ server_of order = new_server order.limit order.limit order.burst
 -- what listens to an order's lines
 abbrev pub arbiter_of : ListenOrder → Arbitration
 arbiter_of order = new_arbiter order.session order.next order.window
-
--- what publishes, answers and listens in a loop, which begins with the first message
-abbrev pub loop_publisher_of : LoopOrder → PublisherState
-loop_publisher_of order = new_publisher order.session order.limits.limit
-
-abbrev pub loop_server_of : LoopOrder → ServerState
-loop_server_of order = new_server order.limits.server_limit order.limits.limit order.burst
-
-abbrev pub loop_arbiter_of : LoopOrder → Arbitration
-loop_arbiter_of order = new_arbiter order.session 1 order.window
-
--- which data packets it leaves out of each line
-abbrev pub drops_of : LoopOrder → Drops
-drops_of order = record { a = order.drop_a; b = order.drop_b }

@@ -5,15 +5,14 @@ mod addresses;
 mod ending;
 mod limits;
 mod listening;
-mod looping;
 mod program_fault;
 mod publishing;
 mod serving;
 
 pub use addresses::socket_address;
 pub use ending::{exit_code, flushed, tell_fault};
+pub use limits::longest_message;
 pub use listening::{listen_over, make_arbiter};
-pub use looping::loop_over;
 pub use program_fault::ProgramFault;
 pub use publishing::{make_publisher, publish_over};
 pub use serving::{load_journal, make_server, serve_over, tell_file_refused};

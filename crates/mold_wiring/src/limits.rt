@@ -4,8 +4,8 @@ ghost use Rattle.std.specs.Prelude.{◌≡◌, ◌-◌, ◌≤◌};
 
 use mold_wire::MESSAGE_OVERHEAD;
 
-// The most bytes of a message that fits alone into a packet of this limit.
-pub(crate) fn longest_message(limit: usize) -> u16
+/// The most bytes of a message that fits alone into a packet of this limit.
+pub fn longest_message(limit: usize) -> u16
     requires least { 64 ≤ limit }
     requires most { limit ≤ 65507 }
     ensures { result ≡ limit - 22 }

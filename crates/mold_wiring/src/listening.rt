@@ -1,13 +1,13 @@
 //! What `listen` is made of.
 
 ghost use Rattle.std.specs.Prelude.{◌≡◌, true, IfOk};
-ghost use Rattle.mold_feed.specs.Listening.{Agrees, beginning, listened_lines, listening, status};
+ghost use Rattle.mold_listen.specs.Listening.{Agrees, beginning, listened_lines, listening, status};
 ghost use Rattle.mold_devices.specs.Faults.{CountsSink};
-ghost use Rattle.mold_feed.specs.Runs.{Ran};
+ghost use Rattle.mold_turns.specs.Runs.{Ran};
 ghost use Rattle.mold_wiring.specs.Wiring.{arbiter_of};
 
 use mold_devices::{CommandFault, Sink};
-use mold_feed::listen_loop;
+use mold_listen::listen_loop;
 use mold_ports::Datagrams;
 use mold_receiver::{Arbiter, Receiver};
 use mold_wire::Session;

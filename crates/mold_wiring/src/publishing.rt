@@ -2,13 +2,13 @@
 
 ghost use Rattle.std.specs.Prelude.{◌≡◌, true, IfOk, IfSome};
 ghost use Rattle.mold_devices.specs.Lines.{lines_of};
-ghost use Rattle.mold_feed.specs.PublishLoop.{CountsPublish, PublishRun};
+ghost use Rattle.mold_send.specs.PublishLoop.{CountsPublish, PublishRun};
 ghost use Rattle.mold_publish.specs.Publishing.{lines_published};
 ghost use Rattle.mold_wiring.specs.Wiring.{publisher_of};
 
 use mold_devices::{CommandFault, Sink, Source};
-use mold_feed::publish_loop;
 use mold_ports::Datagrams;
+use mold_send::publish_loop;
 use mold_session::Publisher;
 use mold_wire::Session;
 use mold_words::PublishOrder;

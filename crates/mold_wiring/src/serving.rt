@@ -4,19 +4,19 @@ ghost use Rattle.std.specs.Prelude.{◌≡◌, ◌-◌, true, IfErr, IfOk, IfSom
 ghost use Rattle.std.specs.Io.KnownBytes.{Appends};
 ghost use Rattle.mold_devices.specs.Devices.{AppendsFront};
 ghost use Rattle.mold_refusals.specs.Words.{file_fault_words};
-ghost use Rattle.mold_feed.specs.Serving.{served_by, service_of, serving, responder_of};
-ghost use Rattle.mold_feed.specs.Tally.{served_line, no_tally};
+ghost use Rattle.mold_serve.specs.Serving.{served_by, service_of, serving, responder_of};
+ghost use Rattle.mold_serve.specs.Tally.{served_line, no_tally};
 ghost use Rattle.mold_text.specs.Text.{refused_line};
 ghost use Rattle.mold_devices.specs.Faults.{CountsSink};
-ghost use Rattle.mold_feed.specs.Runs.{Ran};
+ghost use Rattle.mold_turns.specs.Runs.{Ran};
 ghost use Rattle.mold_wiring.specs.File.{CountsSource, IsAtFault, SpellsFile};
 ghost use Rattle.mold_wiring.specs.Wiring.{server_of};
 
 use crate::limits::longest_message;
 use mold_devices::{CommandFault, Sink, Source, send};
-use mold_feed::serve_loop;
 use mold_ports::Datagrams;
 use mold_refusals::push_file_refusal;
+use mold_serve::serve_loop;
 use mold_session::{FileError, Journal, Server};
 use mold_words::ServeOrder;
 use std::alloc::{AllocError, Global};

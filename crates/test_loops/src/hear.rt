@@ -1,11 +1,12 @@
 //! Single receives on ports in memory: what is taken as a line's datagram, and what as an answer.
 
 ghost use Rattle.std.specs.Prelude.{◌≡◌, length};
+ghost use Rattle.mold_wire.specs.declared.limits.TheConstants.{MAX_LIMIT};
 
 use crate::comparisons::same_bytes;
 use crate::listen::{DATA_1, DATA_2, QUIET, SESSION, port};
 use mold_devices::MemorySink;
-use mold_feed::{LONGEST, Report, hear_port, push_last};
+use mold_listen::{Report, hear_port, push_last};
 use mold_ports::MemoryPort;
 use mold_receiver::{Arbiter, Line, Receiver};
 use std::alloc::Global;
@@ -37,7 +38,7 @@ impl Hearing {
 
     /// Hears line B, or the answers where there is no line: whether a datagram came.
     fn expect_heard(&mut self, rt: &impl Abort, line: Option<Line>, place: &mut [u8], came: bool)
-        requires { length place.old ≡ 65507 }
+        requires { length place.old ≡ MAX_LIMIT }
     {
         let (arbiter, report) = (&mut self.arbiter, &mut self.report);
         let heard = match line {
@@ -58,7 +59,7 @@ impl Hearing {
 
 #[test]
 fn ports_are_heard_one_by_one(rt: HostRuntime) -> Result<(), Fail> {
-    let mut place = vec![in rt.alloc(); 0; LONGEST]?;
+    let mut place = vec![in rt.alloc(); 0; MAX_LIMIT]?;
     let mut hearing = Hearing::new(rt.alloc())?;
     let place = place.as_mut_slice();
     hearing.expect_heard(&rt, Some(Line::B), place, true);

@@ -2,7 +2,7 @@
 
 use crate::comparisons::same_size;
 use mold_devices::{IntoWrite, MemorySink, Sink};
-use mold_feed::Outgoing;
+use mold_turns::Outgoing;
 use mold_text::Word;
 use std::test::Fail;
 

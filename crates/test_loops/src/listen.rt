@@ -3,7 +3,7 @@
 
 use crate::comparisons::{same_bytes, same_outcome, same_size};
 use mold_devices::{CommandFault, MemorySink, Sink};
-use mold_feed::listen_loop;
+use mold_listen::listen_loop;
 use mold_ports::{Datagrams, MemoryPort, Step};
 use mold_receiver::{Arbiter, Receiver};
 use mold_wire::Session;

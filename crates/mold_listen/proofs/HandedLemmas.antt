@@ -1,0 +1,74 @@
+-- The lines of a batch's messages, one more at a time.
+use Rattle.std.proofs.Common.{arith, ◌≡◌, ℕ, ◌+◌, ◌-◌, ◌<◌, ◌≤◌, List, [], ◌∷◌, ◌++◌, length, drop, None, Some}
+use Rattle.std.proofs.Common.{ap, sym, take, ◌∙◌, append_assoc, append-nil, drop_of_length-le, length-append}
+use Rattle.std.proofs.lemmas.List.{drop_more, length-take, length-take-le}
+use Rattle.std.proofs.lemmas.Option.{slice_get_within, get_or_from_slice_get, slice_get-get_or}
+use Rattle.std.specs.Prelude.{slice_get}
+use Rattle.mold_receiver.specs.Batch.{first_in, after_in}
+use Rattle.mold_receiver.specs.Store.{Message}
+use Rattle.mold_digits.specs.Writing.{IsWritten}
+use Rattle.mold_listen.specs.Text.{handed_line, handed_text}
+
+-- a batch that has a first number has that one
+pub first_is : (number first : ℕ) (ms : List Message) → Some first ≡ first_in number ms → first ≡ number
+first_is number first [] is = let no : ⊥ = cc in absurd no
+first_is number first (message ∷ ms) is = cc
+
+pub after_is : (number after : ℕ) (ms : List Message) → Some after ≡ after_in number ms → after ≡ number + length ms
+after_is number after [] is = let no : ⊥ = cc in absurd no
+after_is number after (message ∷ ms) is = cc
+
+-- a message of the list is there
+pub none_within : (ms : List Message) (k : ℕ) → None ≡ slice_get ms k → k < length ms → ⊥
+none_within ms k none within = let some = slice_get-get_or ms k [] within in cc
+
+-- the line of the message at a number comes first of the rest
+handed_step : (number first : ℕ) (ms : List Message) (message : Message) → first ≤ number →
+    Some message ≡ slice_get ms (number - first) →
+    handed_text number (drop (number - first) ms)
+    ≡ handed_line number message ++ handed_text (number + 1) (drop (number + 1 - first) ms)
+unfolding handed_text
+handed_step number first ms message low is =
+    let place : ℕ = number - first in
+    let here = get_or_from_slice_get ms place message [] (sym is) in
+    ap (handed_text number)
+    (drop_more ms place [] (slice_get_within ms place message (sym is))
+    ∙ ap (λ (m : Message). m ∷ drop (place + 1) ms) here)
+    ∙ ap (λ (k : ℕ). handed_line number message ++ handed_text (number + 1) (drop k ms))
+    (let e : place + 1 ≡ number + 1 - first = omega arith in e)
+
+-- with its line written, the lines left are one fewer
+pub handed_more : (number first : ℕ) (ms : List Message) (message : Message) (old new whole : List ℕ) →
+    first ≤ number → Some message ≡ slice_get ms (number - first) →
+    old ++ handed_text number (drop (number - first) ms) ≡ whole → new ≡ old ++ handed_line number message →
+    new ++ handed_text (number + 1) (drop (number + 1 - first) ms) ≡ whole
+handed_more number first ms message old new whole low is printed written =
+    let rest : List ℕ = handed_text (number + 1) (drop (number + 1 - first) ms) in
+    ap (λ (t : List ℕ). t ++ rest) written ∙ append_assoc old (handed_line number message) rest
+    ∙ ap (λ (t : List ℕ). old ++ t) (sym (handed_step number first ms message low is)) ∙ printed
+
+pub handed_all : (number first : ℕ) (ms : List Message) (old whole : List ℕ) → first + length ms ≤ number →
+    old ++ handed_text number (drop (number - first) ms) ≡ whole → old ≡ whole
+unfolding handed_text
+handed_all number first ms old whole high printed =
+    sym (append-nil old)
+    ∙ ap (λ (l : List Message). old ++ handed_text number l) (sym (drop_of_length-le ms (omega arith)))
+    ∙ printed
+
+pub handed_init : (first : ℕ) (ms : List Message) (old : List ℕ) →
+    old ++ handed_text first (drop (first - first) ms) ≡ old ++ handed_text first ms
+handed_init first ms old =
+    ap (λ (k : ℕ). old ++ handed_text first (drop k ms)) (let e : first - first ≡ 0 = omega arith in e)
+
+-- text that was written ends within its bytes
+pub written_within : (old new : List ℕ) (at end : ℕ) (text : List ℕ) → at ≤ length old →
+    IsWritten old new at end text → end ≤ length new
+written_within old new at end text within written =
+    omega (
+      arith,
+      written.stops,
+      ap (λ (t : List ℕ). length t) written.front,
+      length-append (take at old) text,
+      length-take-le at old within,
+      length-take end new,
+    )

@@ -1,0 +1,3 @@
+pub mod HandedLemmas
+pub mod ListenLemmas
+pub mod TurnLemmas

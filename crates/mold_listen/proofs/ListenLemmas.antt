@@ -1,0 +1,146 @@
+-- What each step of listening does to what was heard.
+use Rattle.std.proofs.Common.{◌≡◌, ℕ, suc, Bool, true, false, List, [], ◌∷◌, Option, None, Some, Result, zero, ap, refl, sym, ◌∙◌}
+use Rattle.std.proofs.lemmas.Result.{on_ok_weaker}
+use Rattle.std.specs.Prelude.{OnOk}
+use Rattle.mold_wire.specs.Request.{request_spelling}
+use Rattle.mold_wire.specs.declared.request.Request.{Request}
+use Rattle.mold_receiver.specs.Arbiter.{Arbitration, HasArbitrated, arbitrates}
+use Rattle.mold_receiver.specs.Batch.{Handed, followed_by}
+use Rattle.mold_receiver.specs.Receive.{receive}
+use Rattle.mold_receiver.specs.Store.{Message}
+use Rattle.mold_receiver.specs.declared.line.Line.{Line}
+use Rattle.mold_receiver.specs.declared.taken.Taken.{Taken}
+use Rattle.mold_listen.specs.Text.{handed_text, taking_text}
+use Rattle.mold_ports.specs.Ports.{Port, Receipt, Datagram, Quiet, Failure, cut, next_of, offered, received}
+use Rattle.mold_listen.specs.Listening.{Asking, Hearing, HasAsked, asked, asking, hearing, hear, hear_answers, heard, is_datagram}
+use Rattle.mold_listen.specs.Listening.{receives, taken}
+use Rattle.mold_turns.specs.Outgoing.{OutgoingState, with_more}
+use Rattle.mold_wire.specs.declared.limits.TheConstants.{MAX_LIMIT}
+
+-- an empty batch that took messages has these, numbered from the same number on
+batch_text : (next : ℕ) (messages : List Message) →
+    handed_text (followed_by (record { first = 0; messages = [] }) next messages).first
+    (followed_by (record { first = 0; messages = [] }) next messages).messages
+    ≡ handed_text next messages
+unfolding handed_text
+batch_text next [] = refl
+batch_text next (message ∷ messages) = refl
+
+-- a datagram was taken, and what is handed on was written
+pub taken_ok : (line : Option Line) (bytes : List ℕ) (old new : Arbitration) (before after : Handed) (t : Taken)
+    (outgoing out : OutgoingState) → before ≡ record { first = 0; messages = [] } →
+    HasArbitrated line old bytes before new after t →
+    out ≡ with_more (handed_text after.first after.messages) outgoing →
+    hearing new out ≡ taken line bytes (hearing old outgoing)
+taken_ok line bytes old new before after t outgoing out empty has written =
+    let batch : after ≡ followed_by (record { first = 0; messages = [] }) old.view.next has.reception.handed =
+    has.batch ∙ ap (λ (b : Handed). followed_by b old.view.next has.reception.handed) empty in
+    let lines : handed_text after.first after.messages ≡ taking_text old.view.next (receive old.view bytes) =
+    ap (λ (b : Handed). handed_text b.first b.messages) batch
+    ∙ batch_text old.view.next has.reception.handed
+    ∙ ap (taking_text old.view.next) (sym has.received) in
+    ap (λ (a : Arbitration). hearing a out) has.arbitration
+    ∙ ap (hearing (arbitrates line bytes old)) (written ∙ ap (λ (l : List ℕ). with_more l outgoing) lines)
+
+-- ---- one receive
+
+-- what a receive gave is what the port gives next, cut
+pub heard_next : {P : Type 0} (line : Option Line) (port : Port P) (e : Hearing) (n : ℕ) (receipt : Receipt P) →
+    n ≡ MAX_LIMIT → receipt ≡ cut n (next_of port) → heard line receipt e ≡ hear line port e
+unfolding hear
+heard_next {P} line port e n receipt long is =
+    ap (λ (r : Receipt P). heard line r e) (is ∙ ap (λ (k : ℕ). cut k (next_of port)) long)
+
+cut_is : {P : Type 0} (n : ℕ) (receipt : Receipt P) → is_datagram (cut n receipt) ≡ is_datagram receipt
+cut_is n (Datagram from bytes) = refl
+cut_is n Quiet = refl
+cut_is n Failure = refl
+
+pub datagram_next : {P : Type 0} (n : ℕ) (port : Port P) (receipt : Receipt P) → receipt ≡ cut n (next_of port) →
+    is_datagram receipt ≡ is_datagram (next_of port)
+datagram_next n port receipt is = ap is_datagram is ∙ cut_is n (next_of port)
+
+-- ---- the answers to a request
+
+-- one receive more, for an answer
+abbrev pub stepped : {P : Type 0} → Asking P → Asking P
+stepped s = record { port = received s.port; hearing = hear None s.port s.hearing }
+
+more_heard : {P : Type 0} (n : ℕ) (comes : List (Receipt P)) (sent : List (P × List ℕ)) (failures : ℕ) (e : Hearing) →
+    let s : Asking P = record { port = record { comes = comes; sent = sent; failures = failures }; hearing = e } in
+    is_datagram (next_of s.port) ≡ true →
+    hear_answers (receives n (stepped s).port.comes) (stepped s) ≡ hear_answers (receives (suc n) comes) s
+unfolding receives hear_answers
+more_heard n [] sent failures e came = let no : ⊥ = cc in absurd no
+more_heard n (Datagram from bytes ∷ comes) sent failures e came = refl
+more_heard n (Quiet ∷ comes) sent failures e came = let no : ⊥ = cc in absurd no
+more_heard n (Failure ∷ comes) sent failures e came = let no : ⊥ = cc in absurd no
+
+last_heard : {P : Type 0} (n : ℕ) (comes : List (Receipt P)) (sent : List (P × List ℕ)) (failures : ℕ) (e : Hearing) →
+    let s : Asking P = record { port = record { comes = comes; sent = sent; failures = failures }; hearing = e } in
+    is_datagram (next_of s.port) ≡ false → stepped s ≡ hear_answers (receives (suc n) comes) s
+unfolding receives hear_answers
+last_heard n [] sent failures e came = refl
+last_heard n (Datagram from bytes ∷ comes) sent failures e came = let no : ⊥ = cc in absurd no
+last_heard n (Quiet ∷ comes) sent failures e came = refl
+last_heard n (Failure ∷ comes) sent failures e came = refl
+
+pub none_heard : {P : Type 0} (left : ℕ) (s : Asking P) → left ≡ 0 → s ≡ hear_answers (receives left s.port.comes) s
+unfolding receives hear_answers
+none_heard left s none = ap (λ (n : ℕ). hear_answers (receives n s.port.comes) s) (sym none)
+
+-- an answer came: what is heard of those left is what is heard of all
+pub answer_heard : {P : Type 0} (left n : ℕ) (s after whole : Asking P) → left ≡ suc n →
+    is_datagram (next_of s.port) ≡ true → after ≡ stepped s →
+    hear_answers (receives left s.port.comes) s ≡ whole → hear_answers (receives n after.port.comes) after ≡ whole
+answer_heard {P} left n s after whole more came is printed =
+    ap (λ (a : Asking P). hear_answers (receives n a.port.comes) a) is
+    ∙ more_heard n s.port.comes s.port.sent s.port.failures s.hearing came
+    ∙ ap (λ (k : ℕ). hear_answers (receives k s.port.comes) s) (sym more)
+    ∙ printed
+
+-- none came: that is all
+pub answers_heard : {P : Type 0} (left n : ℕ) (s after whole : Asking P) → left ≡ suc n →
+    is_datagram (next_of s.port) ≡ false → after ≡ stepped s →
+    hear_answers (receives left s.port.comes) s ≡ whole → after ≡ whole
+answers_heard {P} left n s after whole more came is printed =
+    is
+    ∙ last_heard n s.port.comes s.port.sent s.port.failures s.hearing came
+    ∙ ap (λ (k : ℕ). hear_answers (receives k s.port.comes) s) (sym more)
+    ∙ printed
+
+pub asking_is : {P : Type 0} (port : Port P) (arbitration : Arbitration) (outgoing : OutgoingState) (s : Asking P) →
+    port ≡ s.port → hearing arbitration outgoing ≡ s.hearing → asking port arbitration outgoing ≡ s
+asking_is {P} port arbitration outgoing s is_port is_hearing =
+    ap (λ (p : Port P). asking p arbitration outgoing) is_port
+    ∙ ap {B = Asking P} (λ (e : Hearing). record { port = s.port; hearing = e }) is_hearing
+
+-- hearing sends nothing
+pub hearing_sends : {P : Type 0} (count : ℕ) (s : Asking P) → (hear_answers count s).port.sent ≡ s.port.sent
+unfolding hear_answers
+hearing_sends zero s = refl
+hearing_sends (suc count) s = hearing_sends count (stepped s)
+
+-- a request was sent, and answers were heard
+pub has_asked : {P T E : Type 0} (request : Request) (wish : Option Request) (server : P) (burst : ℕ)
+    (result : Result T E) (before after : Asking P) (mid : Port P) (failed : Bool) (bytes : List ℕ) →
+    wish ≡ Some request → mid ≡ offered failed server bytes before.port → failed ≡ false →
+    bytes ≡ request_spelling request → after.port.sent ≡ mid.sent →
+    OnOk result (after ≡ hear_answers (receives burst mid.comes) (record { port = mid; hearing = before.hearing })) →
+    HasAsked wish server burst result before after
+has_asked {P} request wish server burst result before after mid failed bytes is_wish offers succeeds spelled sent heard =
+    let to : Port P → Asking P = λ p. hear_answers (receives burst p.comes) (record { port = p; hearing = before.hearing }) in
+    let port : Port P = offered false server (request_spelling request) before.port in
+    let is_mid : mid ≡ port =
+    offers ∙ ap (λ (b : Bool). offered b server bytes before.port) succeeds
+    ∙ ap (λ (l : List ℕ). offered false server l before.port) spelled in
+    let done : to port ≡ asked wish server burst false before =
+    ap (λ (w : Option Request). asked w server burst false before) (sym is_wish) in
+    record {
+      fails = false;
+      whole = on_ok_weaker result (λ is. is ∙ ap to is_mid ∙ done) heard;
+      sent =
+          sent ∙ ap (λ (p : Port P). p.sent) is_mid
+          ∙ sym (hearing_sends (receives burst port.comes) (record { port = port; hearing = before.hearing }))
+          ∙ ap (λ (s : Asking P). s.port.sent) done;
+    }

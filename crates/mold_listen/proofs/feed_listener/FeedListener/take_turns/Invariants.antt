@@ -1,0 +1,15 @@
+use Rattle.std.proofs.Common.{◌≡◌, true}
+use Rattle.mold_turns.proofs.RunLemmas.{Going}
+use Rattle.mold_listen.specs.Listening.{IsSame, listening, put_before, state}
+use Rattle.mold_listen.proofs.feed_listener.FeedListener.take_turns.Given as goal
+
+-- so many turns were made, and the run goes on from here; the sink didn't fail
+abbrev pub invariant-loop-turn : goal.invariant-loop-turn
+invariant-loop-turn g l = record {
+  going : g.D.Datagrams.tells ≡ true → Going (listening l.server l.burst) put_before
+      (state g.D.Datagrams.port l.fn.self)
+      (g.K.Sink.held l.fn.sink) (g.K.Sink.held l.sink) l._turn
+      (state g.D.Datagrams.port l.self);
+  same : IsSame l.fn.self l.self;
+  sink : g.K.Sink.failed l.sink ≡ g.K.Sink.failed l.fn.sink;
+}

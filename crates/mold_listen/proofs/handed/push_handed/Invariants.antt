@@ -1,0 +1,12 @@
+use Rattle.std.proofs.Common.{◌≡◌, ◌++◌, ◌-◌, ◌≤◌, drop, length, take}
+use Rattle.mold_listen.specs.Text.{handed_text}
+use Rattle.mold_listen.proofs.handed.push_handed.Given as goal
+
+-- what was written and the lines of the messages left are all lines
+abbrev pub invariant-loop-number : goal.invariant-loop-number
+invariant-loop-number l = record {
+  within : l.at ≤ length l.out.items;
+  printed :
+      take l.at l.out.items ++ handed_text l.number (drop (l.number - l.first) l.batch.messages)
+      ≡ l.fn.out.items ++ handed_text l.first l.batch.messages;
+}

@@ -1,0 +1,38 @@
+use Rattle.std.proofs.Common.{arith, ◌≡◌, ◌∙◌, length}
+use Rattle.std.proofs.lemmas.Grind.{common_steps}
+use Rattle.mold_ports.specs.Ports.{Quiet, Failure}
+use Rattle.mold_listen.specs.Listening.{hearing}
+use Rattle.mold_listen.proofs.ListenLemmas.{datagram_next, heard_next}
+use Rattle.mold_listen.proofs.hearing.hear_port.Goals as goal
+use Rattle.mold_wire.specs.declared.limits.TheConstants.{MAX_LIMIT}
+
+pub returns-in_ok-take-in-Ok-Some-clause-heard : goal.returns-in_ok-take-in-Ok-Some-clause-heard
+returns-in_ok-take-in-Ok-Some-clause-heard g c = λ t.
+    let long : length c.receive.new.place ≡ MAX_LIMIT = grind (arith, common_steps) in
+    let before = hearing c.args.arbiter.now c.args.report.now.outgoing in
+    let next =
+    heard_next c.args.line (g.D.Datagrams.port c.args.port.now) before (length c.receive.new.place) _ long
+    (rw c.in-Ok-Some.field-0-is at c.in-Ok-Some.ensures.came t) in
+    c.in_ok-take-in-Ok-Some.ensures ∙ next
+
+pub returns-in-Ok-None-clause-came : goal.returns-in-Ok-None-clause-came
+returns-in-Ok-None-clause-came g c = λ t.
+    datagram_next (length c.receive.new.place) (g.D.Datagrams.port c.args.port.now) Quiet
+    (rw c.in-Ok-None.field-0-is at c.in-Ok-None.ensures.came t)
+
+pub returns-in-Ok-None-clause-heard : goal.returns-in-Ok-None-clause-heard
+returns-in-Ok-None-clause-heard g c = λ t.
+    let long : length c.receive.new.place ≡ MAX_LIMIT = grind (arith, common_steps) in
+    heard_next c.args.line (g.D.Datagrams.port c.args.port.now) (hearing c.args.arbiter.now c.args.report.now.outgoing)
+    (length c.receive.new.place) Quiet long (rw c.in-Ok-None.field-0-is at c.in-Ok-None.ensures.came t)
+
+pub returns-in-Err-clause-came : goal.returns-in-Err-clause-came
+returns-in-Err-clause-came g c = λ t.
+    datagram_next (length c.receive.new.place) (g.D.Datagrams.port c.args.port.now) Failure (c.in-Err.ensures.came t)
+
+pub returns-in-Err-clause-heard : goal.returns-in-Err-clause-heard
+returns-in-Err-clause-heard g c = λ t.
+    let long : length c.receive.new.place ≡ MAX_LIMIT = grind (arith, common_steps) in
+    rw c.count_failure.ensures
+    (heard_next c.args.line (g.D.Datagrams.port c.args.port.now) (hearing c.args.arbiter.now c.args.report.now.outgoing)
+    (length c.receive.new.place) Failure long (c.in-Err.ensures.came t))

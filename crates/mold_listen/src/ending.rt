@@ -1,0 +1,75 @@
+//! What a listener prints at its end.
+
+ghost use Rattle.std.specs.Prelude.{◌≡◌, IfOk, OnOk};
+ghost use Rattle.mold_listen.specs.Listening.{hearing, hearing_lines, hearing_status};
+ghost use Rattle.mold_turns.specs.Outgoing.{with_more};
+ghost use Rattle.mold_listen.specs.Text.{line_name, report_line, reports_text};
+ghost use Rattle.mold_receiver.specs.Arbiter.{report_on};
+
+use crate::listening::push_last;
+use mold_receiver::{Arbiter, Line};
+use mold_text::Word;
+use mold_turns::Outgoing;
+use std::alloc::AllocError;
+
+// The name of a line.
+fn name(line: Line) -> &'static [u8]
+    ensures { result.now ≡ line_name line }
+{
+    match line {
+        Line::A => b"a",
+        Line::B => b"b",
+    }
+}
+
+// Adds the report of a line: what came on it, and how far it is behind what is known.
+fn push_report(arbiter: &Arbiter, line: Line, outgoing: &mut Outgoing) -> Result<(), AllocError>
+    ensures { OnOk result (outgoing.new ≡ with_more
+        (report_line line (report_on line arbiter.now.reports) arbiter.now.view.known) outgoing.old) }
+{
+    let report = arbiter.report(line);
+    let words = [
+        Word::Text(b"line"),
+        Word::Text(name(line)),
+        Word::Text(b"datagrams"),
+        Word::Number(report.datagrams),
+        Word::Text(b"refused"),
+        Word::Number(report.refused),
+        Word::Text(b"front"),
+        Word::Number(report.front),
+        Word::Text(b"lag"),
+        Word::Number(arbiter.lag(line)),
+    ];
+    outgoing.push_line(&words)
+}
+
+// Adds the reports of both lines, where they are asked for.
+fn push_reports(
+    arbiter: &Arbiter,
+    reporting: bool,
+    outgoing: &mut Outgoing,
+) -> Result<(), AllocError>
+    ensures { OnOk result (outgoing.new ≡ with_more
+        (reports_text reporting arbiter.now.reports arbiter.now.view.known) outgoing.old) }
+{
+    if !reporting {
+        return Ok(());
+    }
+    push_report(arbiter, Line::A, outgoing)?;
+    push_report(arbiter, Line::B, outgoing)
+}
+
+/// Adds the last lines to the text: the reports of both lines, where they are asked for, and then what
+/// `push_last` adds. Answers the status: 0 finished, 1 open.
+pub fn push_end(
+    arbiter: &Arbiter,
+    reporting: bool,
+    outgoing: &mut Outgoing,
+) -> Result<u8, AllocError>
+    ensures status { IfOk result (λ status. status ≡ hearing_status (hearing arbiter.now outgoing.old)) }
+    ensures lines { OnOk result (outgoing.new ≡ with_more
+        (hearing_lines reporting (hearing arbiter.now outgoing.old)) outgoing.old) }
+{
+    push_reports(arbiter, reporting, outgoing)?;
+    push_last(arbiter, outgoing)
+}

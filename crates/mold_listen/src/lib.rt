@@ -1,0 +1,14 @@
+//! Listening over ports: two lines of a session, and requests for what is missing.
+#![tactic(auto)]
+
+mod ending;
+mod feed_listener;
+mod handed;
+mod hearing;
+mod listening;
+mod report;
+
+pub use ending::push_end;
+pub use hearing::hear_port;
+pub use listening::{listen_loop, push_last};
+pub use report::Report;

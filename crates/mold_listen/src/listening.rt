@@ -1,0 +1,104 @@
+//! The loop that listens.
+
+ghost use Rattle.std.specs.Prelude.{◌≡◌, true, IfOk, OnOk};
+ghost use Rattle.mold_devices.specs.Faults.{CountsSink};
+ghost use Rattle.mold_listen.specs.Listening.{Agrees, beginning, hearing, hearing_line, hearing_status};
+ghost use Rattle.mold_listen.specs.Listening.{listened_lines, listening, status};
+ghost use Rattle.mold_turns.specs.Outgoing.{with_more};
+ghost use Rattle.mold_turns.specs.Runs.{Ran};
+ghost use Rattle.mold_listen.specs.Text.{finished_line, open_line};
+
+use crate::feed_listener::FeedListener;
+use crate::report::Report;
+use mold_devices::{CommandFault, Sink};
+use mold_ports::Datagrams;
+use mold_receiver::Arbiter;
+use mold_text::Word;
+use mold_turns::Outgoing;
+use mold_wire::MAX_LIMIT;
+use std::alloc::{AllocError, Global};
+
+// The last line where the session was handed on to its end.
+fn push_finished(outgoing: &mut Outgoing, next: u64) -> Result<(), AllocError>
+    ensures { OnOk result (outgoing.new ≡ with_more (finished_line next outgoing.old.failures) outgoing.old) }
+{
+    let words = [
+        Word::Text(b"finished"),
+        Word::Text(b"next"),
+        Word::Number(next),
+        Word::Text(b"failed"),
+        Word::Number(outgoing.failures()),
+    ];
+    outgoing.push_line(&words)
+}
+
+// The last line where it was not.
+fn push_open(outgoing: &mut Outgoing, next: u64, known: u64) -> Result<(), AllocError>
+    ensures { OnOk result (outgoing.new ≡ with_more (open_line next known outgoing.old.failures) outgoing.old) }
+{
+    let words = [
+        Word::Text(b"open"),
+        Word::Text(b"next"),
+        Word::Number(next),
+        Word::Text(b"known"),
+        Word::Number(known),
+        Word::Text(b"failed"),
+        Word::Number(outgoing.failures()),
+    ];
+    outgoing.push_line(&words)
+}
+
+/// Adds the last line to the text: whether all of the session was handed on, the number of the next
+/// message, what is known beside it where the session is open, and how often a port failed. Answers the
+/// status: 0 finished, 1 open.
+pub fn push_last(arbiter: &Arbiter, outgoing: &mut Outgoing) -> Result<u8, AllocError>
+    ensures status { IfOk result (λ status. status ≡ hearing_status (hearing arbiter.now outgoing.old)) }
+    ensures line { OnOk result
+        (outgoing.new ≡ with_more (hearing_line (hearing arbiter.now outgoing.old)) outgoing.old) }
+{
+    let receiver = arbiter.receiver();
+    if receiver.finished() {
+        push_finished(outgoing, receiver.next())?;
+        return Ok(0);
+    }
+    push_open(outgoing, receiver.next(), receiver.known())?;
+    Ok(1)
+}
+
+/// Listens on lines `a` and `b` and prints each message that the arbiter hands on, in order, as its number
+/// and its bytes, and each refusal. In each turn it receives once on each line and, where something is
+/// wanted, sends the request from `requests` to the server and receives at most `burst` answers. It ends
+/// after the first turn at whose end the receiver is finished, or after `turns` turns, with a last line and
+/// the status: 0 finished, 1 open. Where `reporting`, a line for each of `a` and `b` stands before the last one:
+/// what came on it, and how far it is behind what is known. A failed send or receive is counted and the loop
+/// goes on. After a fault a beginning of the text is written; `Write` comes only where the sink failed.
+pub fn listen_loop<D: Datagrams, K: Sink>(
+    alloc: Global,
+    a: &mut D,
+    b: &mut D,
+    requests: &mut D,
+    server: D::Peer,
+    arbiter: &mut Arbiter,
+    burst: u16,
+    turns: u64,
+    reporting: bool,
+    sink: &mut K,
+) -> Result<u8, CommandFault>
+    ensures run { D.tells ≡ true → Ran (listening server burst) turns
+        (beginning (D.port a.old) (D.port b.old) (D.port requests.old) arbiter.old)
+        (listened_lines reporting) status (Agrees (D.port a.new) (D.port b.new) (D.port requests.new) arbiter.new)
+        result (K.held sink.old) (K.held sink.new) (D.port requests.new).sent }
+    ensures sink { CountsSink (K.failed sink.old) (K.failed sink.new) result }
+{
+    let mut place = vec![in alloc; 0; MAX_LIMIT]?;
+    let mut report = Report::new(alloc);
+    let mut listener = FeedListener {
+        a,
+        b,
+        requests,
+        arbiter,
+        report: &mut report,
+    };
+    let place = place.as_mut_slice();
+    listener.listen(server, burst, turns, reporting, place, sink)
+}

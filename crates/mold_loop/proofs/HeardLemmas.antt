@@ -1,0 +1,326 @@
+-- What a loop's publisher passes on its lines, and what is heard there.
+use Rattle.std.proofs.Common.{arith, ◌≡◌, ◌∙◌, ℕ, ◌+◌, Bool, true, false, List, [], ◌∷◌, ◌++◌, length, map}
+use Rattle.std.proofs.Common.{Option, None, Some, Result, Ok, ap, refl, sym, subst, append_assoc}
+use Rattle.std.proofs.lemmas.List.{map-append}
+use Rattle.std.proofs.lemmas.Result.{on_ok_weaker}
+use Rattle.std.proofs.KnownBytes.{Appends-nil, Appends-trans}
+use Rattle.std.specs.Prelude.{OnOk, if◌then◌else◌}
+use Rattle.std.specs.Io.KnownBytes.{Appends}
+use Rattle.mold_devices.specs.Devices.{AppendsFront}
+use Rattle.mold_ports.specs.Ports.{Port}
+use Rattle.mold_receiver.specs.Arbiter.{Arbitration}
+use Rattle.mold_receiver.specs.declared.line.Line.{Line}
+use Rattle.mold_receiver.specs.declared.line.Line.TheVariants.{A, B}
+use Rattle.mold_session.specs.Publisher.{Lends}
+use Rattle.mold_wire.specs.declared.packet.Packet.{Packet}
+use Rattle.mold_turns.proofs.RunLemmas.{on_ok}
+use Rattle.mold_send.proofs.SendingLemmas.{lent_none}
+use Rattle.mold_turns.proofs.RunLemmas.{IsLoop, begins_behind, begins_more, begins_trans, begins_whole, grows_in}
+use Rattle.mold_listen.proofs.TurnLemmas.{hear_before, hear_prints, hearing_before}
+use Rattle.mold_turns.specs.Outgoing.{OutgoingState}
+use Rattle.mold_listen.specs.Listening.{Hearing}
+use Rattle.mold_loop.specs.Looping.{ComesOfBoth, HasPassed, LineState, Outcome, LeftOut, Failed, Sent}
+use Rattle.mold_loop.specs.Looping.{Pass, goes_out, heard_if, heard_on, is_sent, line_state, offered_by, passed, passing, port_after}
+use Rattle.mold_loop.specs.Looping.{received_if, outgoing_after, routed_by, sent_by, text_front}
+use Rattle.mold_loop.specs.Passing.{routed, routes_of}
+use Rattle.mold_send.specs.PublishLoop.{spelled_some}
+use Rattle.mold_turns.specs.Runs.{Begins, Loop, Moves, run}
+use Rattle.mold_loop.specs.declared.loop_parts.Drops.{Drops}
+use Rattle.mold_loop.specs.declared.loop_parts.Routes.{Routes}
+
+-- ---- one datagram was passed
+
+routes_are : (one other : Routes) → one.a ≡ other.a → one.b ≡ other.b → one ≡ other
+routes_are one other same_a same_b =
+    ap {B = Routes} (λ (x : Bool). record { a = x; b = one.b }) same_a
+    ∙ ap {B = Routes} (λ (x : Bool). record { a = other.a; b = x }) same_b
+
+-- it was offered on its lines, and heard where it was sent
+pub has_passed : {P T E : Type 0} (a b : P) (routes sent : Routes) (datagram : List ℕ) (result : Result T E)
+    (before after : LineState P) (port : Port P) (report : OutgoingState) →
+    ComesOfBoth routes sent a b datagram before.publisher port before.hearing.outgoing report →
+    after.publisher ≡ port →
+    OnOk result (after ≡ heard_on sent (line_state port before.a before.b before.hearing.arbitration report)) →
+    HasPassed a b ((routes, datagram) ∷ []) result before after
+unfolding run passed
+has_passed {P} a b routes sent datagram result before after port report comes same heard =
+    let one : Pass = record { datagram = datagram; a = comes.on_a.outcome; b = comes.on_b.outcome } in
+    let mid : LineState P = line_state port before.a before.b before.hearing.arbitration report in
+    let is_port : port ≡ (offered_by a b one before).publisher =
+    comes.on_b.port ∙ ap (λ (p : Port P). port_after comes.on_b.outcome b datagram p) comes.on_a.port in
+    let is_report : report ≡ outgoing_after comes.on_b.outcome (outgoing_after comes.on_a.outcome before.hearing.outgoing) =
+    comes.on_b.outgoing ∙ ap (λ (r : OutgoingState). outgoing_after comes.on_b.outcome r) comes.on_a.outgoing in
+    let is_mid : mid ≡ offered_by a b one before =
+    ap (λ (p : Port P). line_state p before.a before.b before.hearing.arbitration report) is_port
+    ∙ ap (λ (r : OutgoingState). line_state (offered_by a b one before).publisher before.a before.b
+    before.hearing.arbitration r) is_report in
+    record {
+      passes = one ∷ [];
+      are =
+          ap {B = List (Routes × List ℕ)} (λ (r : Routes). (r, datagram) ∷ [])
+          (routes_are (record { a = goes_out one.a; b = goes_out one.b }) routes (sym comes.on_a.goes_as)
+          (sym comes.on_b.goes_as));
+      whole =
+          on_ok_weaker result
+          (λ is. is
+          ∙ ap (λ (r : Routes). heard_on r mid) (routes_are sent (sent_by one) comes.on_a.sent_as comes.on_b.sent_as)
+          ∙ ap (heard_on (sent_by one)) is_mid)
+          heard;
+      offered = same ∙ is_port;
+    }
+
+pub passed_none : {P T E : Type 0} (a b : P) (result : Result T E) (s : LineState P) → HasPassed a b [] result s s
+unfolding run
+passed_none a b result s = record { passes = []; are = refl; whole = on_ok result refl; offered = refl }
+
+-- the publisher has no next one
+pub passed_not : {P T E : Type 0} (drops : Drops) (number : ℕ) (a b : P) (packet : Option Packet)
+    (result : Result T E) (s : LineState P) → Lends packet None →
+    HasPassed a b (routed drops number (spelled_some packet)) result s s
+passed_not drops number a b packet result s lends =
+    subst (λ (l : List (Routes × List ℕ)). HasPassed a b l result s s)
+    (ap (routed drops number) (sym (lent_none packet lends)))
+    (passed_none a b result s)
+
+-- ---- passing is a loop that goes by turns
+
+outgoing_before : (front : List ℕ) (o : Outcome) (r : OutgoingState) →
+    outgoing_after o (record { text = front ++ r.text; failures = r.failures })
+    ≡ record { text = front ++ (outgoing_after o r).text; failures = (outgoing_after o r).failures }
+outgoing_before front LeftOut r = refl
+outgoing_before front Failed r = refl
+outgoing_before front Sent r = refl
+
+offered_before : {P : Type 0} (front : List ℕ) (a b : P) (pass : Pass) (s : LineState P) →
+    offered_by a b pass (text_front front s) ≡ text_front front (offered_by a b pass s)
+offered_before {P} front a b pass s =
+    let of : OutgoingState → LineState P =
+    λ r. line_state (offered_by a b pass s).publisher s.a s.b s.hearing.arbitration r in
+    ap (λ (r : OutgoingState). of (outgoing_after pass.b r)) (outgoing_before front pass.a s.hearing.outgoing)
+    ∙ ap of (outgoing_before front pass.b (outgoing_after pass.a s.hearing.outgoing))
+
+heard_if_before : {P : Type 0} (front : List ℕ) (on : Bool) (line : Line) (port : Port P) (e : Hearing) →
+    heard_if on line port (hearing_before front e) ≡ hearing_before front (heard_if on line port e)
+heard_if_before front false line port e = refl
+heard_if_before front true line port e = hear_before front (Some line) port e
+
+heard_on_before : {P : Type 0} (front : List ℕ) (lines : Routes) (s : LineState P) →
+    heard_on lines (text_front front s) ≡ text_front front (heard_on lines s)
+heard_on_before {P} front lines s =
+    let of : Hearing → LineState P =
+    λ e. record { publisher = s.publisher; a = received_if lines.a s.a; b = received_if lines.b s.b; hearing = e } in
+    ap (λ (e : Hearing). of (heard_if lines.b B s.b e)) (heard_if_before front lines.a A s.a s.hearing)
+    ∙ ap of (heard_if_before front lines.b B s.b (heard_if lines.a A s.a s.hearing))
+
+passed_before : {P : Type 0} (a b : P) (front : List ℕ) (pass : Pass) (s : LineState P) →
+    passed a b pass (text_front front s) ≡ text_front front (passed a b pass s)
+unfolding passed
+passed_before a b front pass s =
+    ap (heard_on (sent_by pass)) (offered_before front a b pass s)
+    ∙ heard_on_before front (sent_by pass) (offered_by a b pass s)
+
+outgoing_prints : (o : Outcome) (r : OutgoingState) → (outgoing_after o r).text ≡ r.text
+outgoing_prints LeftOut r = refl
+outgoing_prints Failed r = refl
+outgoing_prints Sent r = refl
+
+heard_if_prints : {P : Type 0} (on : Bool) (line : Line) (port : Port P) (e : Hearing) →
+    Begins e.outgoing.text (heard_if on line port e).outgoing.text
+heard_if_prints false line port e = begins_whole e.outgoing.text
+heard_if_prints true line port e = hear_prints (Some line) port e
+
+passed_prints : {P : Type 0} (a b : P) (pass : Pass) (s : LineState P) →
+    Begins s.hearing.outgoing.text (passed a b pass s).hearing.outgoing.text
+unfolding passed
+passed_prints {P} a b pass s =
+    let mid : LineState P = offered_by a b pass s in
+    let heard : Hearing = heard_if (is_sent pass.a) A mid.a mid.hearing in
+    subst (λ (t : List ℕ). Begins t (heard_on (sent_by pass) mid).hearing.outgoing.text)
+    (outgoing_prints pass.b (outgoing_after pass.a s.hearing.outgoing) ∙ outgoing_prints pass.a s.hearing.outgoing)
+    (begins_trans (heard_if_prints (is_sent pass.a) A mid.a mid.hearing)
+    (heard_if_prints (is_sent pass.b) B mid.b heard))
+
+port_sends : {P : Type 0} (o : Outcome) (to : P) (datagram : List ℕ) (port : Port P) →
+    Begins port.sent (port_after o to datagram port).sent
+port_sends LeftOut to datagram port = begins_whole port.sent
+port_sends Failed to datagram port = begins_whole port.sent
+port_sends Sent to datagram port = begins_more port.sent ((to, datagram) ∷ [])
+
+passed_sends : {P : Type 0} (a b : P) (pass : Pass) (s : LineState P) →
+    Begins s.publisher.sent (passed a b pass s).publisher.sent
+unfolding passed
+passed_sends a b pass s =
+    begins_trans (port_sends pass.a a pass.datagram s.publisher)
+    (port_sends pass.b b pass.datagram (port_after pass.a a pass.datagram s.publisher))
+
+pub passes_are : {P : Type 0} (a b : P) → IsLoop (passing a b) text_front
+passes_are {P} a b = record {
+  none = λ s. refl;
+  twice = λ front back s.
+      ap {B = LineState P} (λ (t : List ℕ). line_state s.publisher s.a s.b s.hearing.arbitration
+      (record { text = t; failures = s.hearing.outgoing.failures })) (sym (append_assoc front back s.hearing.outgoing.text));
+  turn = passed_before a b;
+  over = λ front s. refl;
+  text = λ front s. refl;
+  sent = λ front s. refl;
+  prints = passed_prints a b;
+  sends = passed_sends a b;
+}
+
+-- ---- runs
+
+if_behind : {S : Type 0} (f : S → S) (c : Bool) (x y : S) → (if c then f x else f y) ≡ f (if c then x else y)
+if_behind f true x y = refl
+if_behind f false x y = refl
+
+-- a text in front of a run's stays there
+pub run_behind : {C S M : Type 0} (loop : Loop C S M) (behind : List ℕ → S → S) → IsLoop loop behind →
+    (choices : List C) (front : List ℕ) (s : S) → run loop choices (behind front s) ≡ behind front (run loop choices s)
+unfolding run
+run_behind loop behind is [] front s = refl
+run_behind {C} {S} {M} loop behind is (choice ∷ more) front s =
+    let after : S = loop.turn choice s in
+    ap (λ (t : S). if loop.over t then t else run loop more t) (is.turn front choice s)
+    ∙ ap (λ (b : Bool). if b then behind front after else run loop more (behind front after)) (is.over front after)
+    ∙ ap (λ (t : S). if loop.over after then behind front after else t) (run_behind loop behind is more front after)
+    ∙ if_behind (behind front) (loop.over after) after (run loop more after)
+
+-- one datagram after the other
+pub passes_more : {P : Type 0} (a b : P) (xs ys : List Pass) (s : LineState P) →
+    run (passing a b) (xs ++ ys) s ≡ run (passing a b) ys (run (passing a b) xs s)
+unfolding run
+passes_more a b [] ys s = refl
+passes_more a b (x ∷ xs) ys s = passes_more a b xs ys (passed a b x s)
+
+pub lines_grow : {P A : Type 0} (a b : P) (part : LineState P → List A) →
+    ((pass : Pass) (s : LineState P) → Begins (part s) (part (passed a b pass s))) → (xs ys : List Pass)
+    (s : LineState P) → Begins (part (run (passing a b) xs s)) (part (run (passing a b) (xs ++ ys) s))
+lines_grow {P} {A} a b part grows xs ys s =
+    subst (λ (t : LineState P). Begins (part (run (passing a b) xs s)) (part t)) (sym (passes_more a b xs ys s))
+    (grows_in (passing a b) part grows ys (run (passing a b) xs s))
+
+-- ---- the datagrams so far
+
+pub routed_more : (drops : Drops) (number : ℕ) (xs ys : List (List ℕ)) →
+    routed drops number (xs ++ ys) ≡ routed drops number xs ++ routed drops (number + length xs) ys
+routed_more drops number [] ys = ap (λ (n : ℕ). routed drops n ys) (omega arith)
+routed_more drops number (x ∷ xs) ys =
+    ap (λ (l : List (Routes × List ℕ)). (routes_of drops number, x) ∷ l)
+    (routed_more drops (number + 1) xs ys
+    ∙ ap (λ (n : ℕ). routed drops (number + 1) xs ++ routed drops n ys) (omega arith))
+
+-- these were passed: some text was written, and the rest is left
+pub record Heard {P : Type 0} (a b : P) (datagrams : List (Routes × List ℕ)) (before after : LineState P)
+    (old new : Option (List ℕ)) : Type 0 where
+  pub passes : List Pass
+  pub are : map routed_by passes ≡ datagrams
+  pub written : List ℕ
+  pub appended : Appends old new written
+  pub whole : run (passing a b) passes before ≡ text_front written after
+
+-- these were passed, and then came a fault
+pub record HeardFront {P : Type 0} (a b : P) (datagrams : List (Routes × List ℕ)) (before after : LineState P)
+    (old new : Option (List ℕ)) : Type 0 where
+  pub passes : List Pass
+  pub are : map routed_by passes ≡ datagrams
+  pub written : List ℕ
+  pub appended : Appends old new written
+  pub text : Begins written (run (passing a b) passes before).hearing.outgoing.text
+  pub offered : after.publisher ≡ (run (passing a b) passes before).publisher
+
+pub heard_none : {P : Type 0} (a b : P) (s : LineState P) (held : Option (List ℕ)) → Heard a b [] s s held held
+unfolding run
+heard_none a b s held =
+    record { passes = []; are = refl; written = []; appended = Appends-nil held; whole = refl }
+
+both_are : (xs ys : List Pass) (ds es : List (Routes × List ℕ)) → map routed_by xs ≡ ds → map routed_by ys ≡ es →
+    map routed_by (xs ++ ys) ≡ ds ++ es
+both_are xs ys ds es first second =
+    map-append routed_by xs ys
+    ∙ ap (λ (l : List (Routes × List ℕ)). l ++ map routed_by ys) first
+    ∙ ap (λ (l : List (Routes × List ℕ)). ds ++ l) second
+
+more_run : {P : Type 0} (a b : P) (xs ys : List Pass) (written : List ℕ) (before now : LineState P) →
+    run (passing a b) xs before ≡ text_front written now →
+    run (passing a b) (xs ++ ys) before ≡ text_front written (run (passing a b) ys now)
+more_run a b xs ys written before now whole =
+    passes_more a b xs ys before ∙ ap (run (passing a b) ys) whole
+    ∙ run_behind (passing a b) text_front (passes_are a b) ys written now
+
+-- more were passed
+pub heard_more : {P T E : Type 0} (a b : P) {xs ys : List (Routes × List ℕ)} {before now after : LineState P}
+    {old new : Option (List ℕ)} (value : T) → Heard a b xs before now old new →
+    HasPassed {T = T} {E = E} a b ys (Ok value) now after → Heard a b (xs ++ ys) before after old new
+heard_more {P} a b {xs} {ys} {before} {now} value heard has = record {
+  passes = heard.passes ++ has.passes;
+  are = both_are heard.passes has.passes xs ys heard.are has.are;
+  written = heard.written;
+  appended = heard.appended;
+  whole =
+      more_run a b heard.passes has.passes heard.written before now heard.whole
+      ∙ ap (text_front heard.written) (sym has.whole);
+}
+
+-- some text was written
+pub heard_moved : {P : Type 0} (a b : P) {xs : List (Routes × List ℕ)} {before now : LineState P}
+    {old mid new : Option (List ℕ)} {left : List ℕ} (after : LineState P) → Heard a b xs before now old mid →
+    (moves : Moves mid new now.hearing.outgoing.text left) → now ≡ text_front moves.front after →
+    Heard a b xs before after old new
+heard_moved {P} a b {xs} {before} {now} {old} {mid} {new} after heard moves same = record {
+  passes = heard.passes;
+  are = heard.are;
+  written = heard.written ++ moves.front;
+  appended = Appends-trans old mid new heard.written moves.front heard.appended moves.appended;
+  whole =
+      heard.whole ∙ ap (text_front heard.written) same
+      ∙ (passes_are a b).twice heard.written moves.front after;
+}
+
+-- a fault came while these were passed
+pub heard_failed : {P T E : Type 0} (a b : P) {xs ys : List (Routes × List ℕ)} {before now after : LineState P}
+    {old new : Option (List ℕ)} (result : Result T E) → Heard a b xs before now old new →
+    HasPassed a b ys result now after → HeardFront a b (xs ++ ys) before after old new
+heard_failed {P} a b {xs} {ys} {before} {now} {after} result heard has =
+    let end : run (passing a b) (heard.passes ++ has.passes) before
+    ≡ text_front heard.written (run (passing a b) has.passes now) =
+    more_run a b heard.passes has.passes heard.written before now heard.whole in
+    record {
+      passes = heard.passes ++ has.passes;
+      are = both_are heard.passes has.passes xs ys heard.are has.are;
+      written = heard.written;
+      appended = heard.appended;
+      text =
+          subst (λ (s : LineState P). Begins heard.written s.hearing.outgoing.text) (sym end)
+          (begins_more heard.written (run (passing a b) has.passes now).hearing.outgoing.text);
+      offered = has.offered ∙ ap (λ (s : LineState P). s.publisher) (sym end);
+    }
+
+-- a write failed behind them
+pub heard_cut : {P : Type 0} (a b : P) {xs : List (Routes × List ℕ)} {before now : LineState P}
+    {old mid new : Option (List ℕ)} (after : LineState P) → after.publisher ≡ now.publisher →
+    Heard a b xs before now old mid → AppendsFront mid new now.hearing.outgoing.text →
+    HeardFront a b xs before after old new
+heard_cut {P} a b {xs} {before} {now} {old} {mid} {new} after same heard cut = record {
+  passes = heard.passes;
+  are = heard.are;
+  written = heard.written ++ cut.front;
+  appended = Appends-trans old mid new heard.written cut.front heard.appended cut.appended;
+  text =
+      subst (λ (s : LineState P). Begins (heard.written ++ cut.front) s.hearing.outgoing.text) (sym heard.whole)
+      (begins_behind heard.written (record { rest = cut.rest; parts = cut.parts }));
+  offered = same ∙ ap (λ (s : LineState P). s.publisher) (sym heard.whole);
+}
+
+pub heard_still : {P : Type 0} (a b : P) {xs : List (Routes × List ℕ)} {before now : LineState P}
+    {old new : Option (List ℕ)} → Heard a b xs before now old new → HeardFront a b xs before now old new
+heard_still a b {xs} {before} {now} {old} {new} heard =
+    heard_cut a b now refl heard (record { front = []; rest = _; parts = refl; appended = Appends-nil new })
+
+-- text was written that stood in front
+pub lines_moved : {P : Type 0} (publisher a b : Port P) (arbitration : Arbitration) (old new : OutgoingState) (front : List ℕ) →
+    old.text ≡ front ++ new.text → new.failures ≡ old.failures →
+    line_state publisher a b arbitration old ≡ text_front front (line_state publisher a b arbitration new)
+lines_moved publisher a b arbitration old new front parts failures =
+    ap (λ (t : List ℕ). line_state publisher a b arbitration (record { text = t; failures = old.failures })) parts
+    ∙ ap (λ (n : ℕ). line_state publisher a b arbitration (record { text = front ++ new.text; failures = n }))
+    (sym failures)

@@ -1,0 +1,218 @@
+-- What a loop's publisher passes of the lines of a source.
+use Rattle.std.proofs.Common.{arith, ◌≡◌, ◌∙◌, ℕ, ◌+◌, List, [], ◌++◌, length}
+use Rattle.std.proofs.Common.{Option, None, Some, Result, Ok, ap, refl, sym, subst, length-append}
+use Rattle.std.specs.Prelude.{IfSome, IsErr}
+use Rattle.std.specs.Io.KnownBytes.{prepend_known}
+use Rattle.std.proofs.KnownBytes.{prepend_known-nil}
+use Rattle.mold_devices.specs.Devices.{AppendsFront}
+use Rattle.mold_publish.proofs.DatagramLemmas.{PackingLaws}
+use Rattle.mold_publish.specs.Publishing.{Fills}
+use Rattle.mold_publish.specs.declared.filling.Filled.TheVariants.{Full, End, Refused}
+use Rattle.mold_publish.specs.declared.line_refusal.LineRefusal.{LineRefusal}
+use Rattle.mold_session.specs.Publisher.{PublisherState, after_datagram, next_datagram}
+use Rattle.mold_loop.proofs.HeardLemmas.{Heard, HeardFront, heard_cut, heard_failed, heard_more, heard_moved, heard_none, heard_still}
+use Rattle.mold_loop.proofs.HeardLemmas.{routed_more}
+use Rattle.mold_send.proofs.SendingLemmas.{LeftToSend, any_known, begun, begun_all, left_end, left_full, left_refused, left_same}
+use Rattle.mold_turns.proofs.RunLemmas.{begins_more, none_answered, none_ok}
+use Rattle.mold_loop.specs.Looping.{BeginsData, HasPassed, HearsLines, IsData, LineState, text_front}
+use Rattle.mold_loop.specs.Passing.{routed}
+use Rattle.mold_send.specs.PublishLoop.{spelled_some}
+use Rattle.mold_turns.specs.Runs.{Begins, Moves}
+use Rattle.mold_loop.specs.declared.loop_parts.Drops.{Drops}
+use Rattle.mold_loop.specs.declared.loop_parts.Routes.{Routes}
+
+-- of what is known of the lines, what was passed and what is left to pass are the data of all
+pub record HeardSoFar {P : Type 0} (drops : Drops) (a b : P) (start now : PublisherState)
+    (known left : Option (List ℕ)) (before after : LineState P) (old new : Option (List ℕ)) (count : ℕ) : Type 0 where
+  pub front : List (List ℕ)
+  pub counted : count ≡ length front
+  pub behind : LeftToSend start now known left front
+  pub heard : Heard a b (routed drops 1 front) before after old new
+
+-- before the first line
+pub so_far_begun : {P : Type 0} (drops : Drops) (a b : P) (start : PublisherState) (known : Option (List ℕ))
+    (rest : List ℕ) (s : LineState P) (held : Option (List ℕ)) → rest ≡ [] →
+    HeardSoFar drops a b start start known (prepend_known rest known) s s held held 0
+so_far_begun drops a b start known rest s held empty =
+    subst (λ (l : Option (List ℕ)). HeardSoFar drops a b start start known l s s held held 0)
+    (sym (ap (λ (xs : List ℕ). prepend_known xs known) empty ∙ prepend_known-nil known))
+    (record { front = []; counted = refl; behind = left_same start known; heard = heard_none a b s held })
+
+routed_next : (drops : Drops) (front ys : List (List ℕ)) (count : ℕ) → count ≡ length front →
+    routed drops 1 front ++ routed drops (count + 1) ys ≡ routed drops 1 (front ++ ys)
+routed_next drops front ys count counted =
+    ap (λ (n : ℕ). routed drops 1 front ++ routed drops n ys)
+    (let e : count + 1 ≡ 1 + length front = omega (arith, counted) in e)
+    ∙ sym (routed_more drops 1 front ys)
+
+-- a datagram more was passed
+pub so_far_full : {P T E : Type 0} → PackingLaws → (drops : Drops) (a b : P) (start before now after : PublisherState)
+    (known left behind : Option (List ℕ)) (first here there : LineState P) (old new : Option (List ℕ))
+    (count counted : ℕ) (value : T) → HeardSoFar drops a b start before known left first here old new count →
+    Fills before now left behind Full → after ≡ after_datagram now →
+    HasPassed {T = T} {E = E} a b (routed drops (count + 1) (spelled_some (next_datagram now))) (Ok value) here there →
+    counted ≡ count + length (spelled_some (next_datagram now)) →
+    HeardSoFar drops a b start after known behind first there old new counted
+so_far_full {P} laws drops a b start before now after known left behind first here there old new count counted value so_far filled sent has more =
+    subst (λ (p : PublisherState). HeardSoFar drops a b start p known behind first there old new counted) (sym sent)
+    (record {
+      front = so_far.front ++ spelled_some (next_datagram now);
+      counted =
+          omega (arith, more, so_far.counted, length-append so_far.front (spelled_some (next_datagram now)));
+      behind = left_full laws start before now known left behind so_far.front so_far.behind filled;
+      heard =
+          subst (λ (l : List (Routes × List ℕ)). Heard a b l first there old new)
+          (routed_next drops so_far.front (spelled_some (next_datagram now)) count so_far.counted)
+          (heard_more a b value so_far.heard has);
+    })
+
+-- some text was written
+pub so_far_moved : {P : Type 0} (drops : Drops) (a b : P) (start now : PublisherState) (known left : Option (List ℕ))
+    (first here : LineState P) (old mid new : Option (List ℕ)) (count : ℕ) (rest : List ℕ) (there : LineState P) →
+    HeardSoFar drops a b start now known left first here old mid count →
+    (moves : Moves mid new here.hearing.outgoing.text rest) → here ≡ text_front moves.front there →
+    HeardSoFar drops a b start now known left first there old new count
+so_far_moved drops a b start now known left first here old mid new count rest there so_far moves same = record {
+  front = so_far.front;
+  counted = so_far.counted;
+  behind = so_far.behind;
+  heard = heard_moved a b there so_far.heard moves same;
+}
+
+-- a fault: what was passed is a beginning
+hears_cut : {P E : Type 0} (drops : Drops) (a b : P) (start last : PublisherState) (known : Option (List ℕ))
+    (front : List (List ℕ)) (result : Result (Option LineRefusal) E) (first here : LineState P)
+    (old new : Option (List ℕ)) → HeardFront a b (routed drops 1 front) first here old new →
+    IfSome known (BeginsData start front) → IsErr result →
+    HearsLines drops a b start last known result first here old new
+hears_cut drops a b start last known front result first here old new heard begins failed = record {
+  front = front;
+  passes = heard.passes;
+  are = heard.are;
+  written = heard.written;
+  appended = heard.appended;
+  whole = none_ok result _ failed;
+  text = heard.text;
+  offered = heard.offered;
+  begins = begins;
+  all = none_answered result _ failed;
+}
+
+-- before anything was passed
+pub hears_none : {P E : Type 0} (drops : Drops) (a b : P) (start last : PublisherState) (known : Option (List ℕ))
+    (result : Result (Option LineRefusal) E) (s : LineState P) (held : Option (List ℕ)) → IsErr result →
+    HearsLines drops a b start last known result s s held held
+hears_none drops a b start last known result s held failed =
+    hears_cut drops a b start last known [] result s s held held (heard_still a b (heard_none a b s held))
+    (any_known known _ (λ input. record { rest = _; parts = refl })) failed
+
+-- between two of them
+pub hears_still : {P E : Type 0} (drops : Drops) (a b : P) (start now last : PublisherState)
+    (known left : Option (List ℕ)) (result : Result (Option LineRefusal) E) (first here : LineState P)
+    (old new : Option (List ℕ)) (count : ℕ) → HeardSoFar drops a b start now known left first here old new count →
+    IsErr result → HearsLines drops a b start last known result first here old new
+hears_still drops a b start now last known left result first here old new count so_far failed =
+    hears_cut drops a b start last known so_far.front result first here old new (heard_still a b so_far.heard)
+    (begun start now known left so_far.front so_far.behind) failed
+
+-- while one was passed
+hears_more : {P T E F : Type 0} (drops : Drops) (a b : P) (start now last : PublisherState)
+    (known left : Option (List ℕ)) (first here there : LineState P) (old new : Option (List ℕ)) (count : ℕ)
+    (ys : List (List ℕ)) (passing_result : Result T F) (result : Result (Option LineRefusal) E) →
+    (so_far : HeardSoFar drops a b start now known left first here old new count) →
+    HasPassed a b (routed drops (count + 1) ys) passing_result here there →
+    IfSome known (BeginsData start (so_far.front ++ ys)) → IsErr result →
+    HearsLines drops a b start last known result first there old new
+hears_more drops a b start now last known left first here there old new count ys passing_result result so_far has begins failed =
+    hears_cut drops a b start last known (so_far.front ++ ys) result first there old new
+    (subst (λ (l : List (Routes × List ℕ)). HeardFront a b l first there old new)
+    (routed_next drops so_far.front ys count so_far.counted)
+    (heard_failed a b passing_result so_far.heard has))
+    begins failed
+
+pub hears_full : {P T E F : Type 0} → PackingLaws → (drops : Drops) (a b : P) (start before now last : PublisherState)
+    (known left behind : Option (List ℕ)) (first here there : LineState P) (old new : Option (List ℕ)) (count : ℕ)
+    (passing_result : Result T F) (result : Result (Option LineRefusal) E) →
+    HeardSoFar drops a b start before known left first here old new count → Fills before now left behind Full →
+    HasPassed a b (routed drops (count + 1) (spelled_some (next_datagram now))) passing_result here there →
+    IsErr result → HearsLines drops a b start last known result first there old new
+hears_full laws drops a b start before now last known left behind first here there old new count passing_result result so_far filled has failed =
+    let front = so_far.front ++ spelled_some (next_datagram now) in
+    hears_more drops a b start before last known left first here there old new count (spelled_some (next_datagram now))
+    passing_result result so_far has
+    (begun start (after_datagram now) known behind front
+    (left_full laws start before now known left behind so_far.front so_far.behind filled))
+    failed
+
+-- while text was written behind one
+pub hears_unwritten : {P E : Type 0} (drops : Drops) (a b : P) (start now last : PublisherState)
+    (known left : Option (List ℕ)) (result : Result (Option LineRefusal) E) (first here there : LineState P)
+    (old mid new : Option (List ℕ)) (count : ℕ) → HeardSoFar drops a b start now known left first here old mid count →
+    there.publisher ≡ here.publisher → AppendsFront mid new here.hearing.outgoing.text → IsErr result →
+    HearsLines drops a b start last known result first there old new
+hears_unwritten drops a b start now last known left result first here there old mid new count so_far same cut failed =
+    hears_cut drops a b start last known so_far.front result first there old new
+    (heard_cut a b there same so_far.heard cut)
+    (begun start now known left so_far.front so_far.behind) failed
+
+-- while the last one was passed
+pub hears_last : {P T E F : Type 0} → PackingLaws → (drops : Drops) (a b : P) (start before now last : PublisherState)
+    (known left behind : Option (List ℕ)) (first here there : LineState P) (old new : Option (List ℕ)) (count : ℕ)
+    (passing_result : Result T F) (result : Result (Option LineRefusal) E) →
+    HeardSoFar drops a b start before known left first here old new count → Fills before now left behind End →
+    HasPassed a b (routed drops (count + 1) (spelled_some (next_datagram now))) passing_result here there →
+    IsErr result → HearsLines drops a b start last known result first there old new
+hears_last laws drops a b start before now last known left behind first here there old new count passing_result result so_far filled has failed =
+    let front = so_far.front ++ spelled_some (next_datagram now) in
+    hears_more drops a b start before last known left first here there old new count (spelled_some (next_datagram now))
+    passing_result result so_far has
+    (begun_all start now.journal None known front
+    (left_end laws start before now known left behind so_far.front so_far.behind filled))
+    failed
+
+-- all data were passed
+hears_all : {P E : Type 0} (drops : Drops) (a b : P) (start now : PublisherState) (known : Option (List ℕ))
+    (front : List (List ℕ)) (refused : Option LineRefusal) (first here : LineState P) (old new : Option (List ℕ)) →
+    Heard a b (routed drops 1 front) first here old new →
+    IfSome known (IsData start front now.journal refused) →
+    HearsLines {E = E} drops a b start now known (Ok refused) first here old new
+hears_all {P} drops a b start now known front refused first here old new heard all = record {
+  front = front;
+  passes = heard.passes;
+  are = heard.are;
+  written = heard.written;
+  appended = heard.appended;
+  whole = heard.whole;
+  text =
+      subst (λ (s : LineState P). Begins heard.written s.hearing.outgoing.text) (sym heard.whole)
+      (begins_more heard.written here.hearing.outgoing.text);
+  offered = ap (λ (s : LineState P). s.publisher) (sym heard.whole);
+  begins = begun_all start now.journal refused known front all;
+  all = all;
+}
+
+pub hears_end : {P T E F : Type 0} → PackingLaws → (drops : Drops) (a b : P) (start before now after : PublisherState)
+    (known left behind : Option (List ℕ)) (first here there : LineState P) (old new : Option (List ℕ)) (count : ℕ)
+    (value : T) → HeardSoFar drops a b start before known left first here old new count →
+    Fills before now left behind End →
+    HasPassed {T = T} {E = F} a b (routed drops (count + 1) (spelled_some (next_datagram now))) (Ok value) here there →
+    after ≡ after_datagram now →
+    HearsLines {E = E} drops a b start after known (Ok None) first there old new
+hears_end {P} {T} {E} laws drops a b start before now after known left behind first here there old new count value so_far filled has sent =
+    let front = so_far.front ++ spelled_some (next_datagram now) in
+    subst (λ (p : PublisherState). HearsLines {E = E} drops a b start p known (Ok None) first there old new) (sym sent)
+    (hears_all drops a b start (after_datagram now) known front None first there old new
+    (subst (λ (l : List (Routes × List ℕ)). Heard a b l first there old new)
+    (routed_next drops so_far.front (spelled_some (next_datagram now)) count so_far.counted)
+    (heard_more a b value so_far.heard has))
+    (left_end laws start before now known left behind so_far.front so_far.behind filled))
+
+-- a line is refused
+pub hears_refused : {P E : Type 0} → PackingLaws → (drops : Drops) (a b : P) (start before now : PublisherState)
+    (known left behind : Option (List ℕ)) (why : LineRefusal) (first here : LineState P) (old new : Option (List ℕ))
+    (count : ℕ) → HeardSoFar drops a b start before known left first here old new count →
+    Fills before now left behind (Refused why) →
+    HearsLines {E = E} drops a b start now known (Ok (Some why)) first here old new
+hears_refused laws drops a b start before now known left behind why first here old new count so_far filled =
+    hears_all drops a b start now known so_far.front (Some why) first here old new so_far.heard
+    (left_refused laws start before now known left behind why so_far.front so_far.behind filled)

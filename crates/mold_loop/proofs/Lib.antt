@@ -1,0 +1,8 @@
+pub mod HeardLemmas
+pub mod HearsLemmas
+pub mod LocalFeedLemmas
+pub mod LoopEndLemmas
+pub mod LoopLemmas
+pub mod LoopOverLemmas
+pub mod PassingLemmas
+pub mod RepairLemmas

@@ -1,0 +1,270 @@
+-- The loop in one process of the lines that its publisher publishes.
+use Rattle.std.proofs.Common.{◌≡◌, ◌∙◌, ℕ, ◌+◌, Bool, true, false, List, [], ◌++◌, length, replicate}
+use Rattle.std.proofs.Common.{Option, None, Some, Result, Ok, ap, refl, sym, subst, append-nil}
+use Rattle.std.proofs.Math.ListN.{length-replicate}
+use Rattle.std.proofs.KnownBytes.{Appends-nil}
+use Rattle.std.specs.Prelude.{IfSome, IfOk, IsErr, OnOk}
+use Rattle.std.specs.Io.KnownBytes.{Appends}
+use Rattle.mold_devices.specs.Devices.{AppendsFront}
+use Rattle.mold_devices.specs.Lines.{lines_of}
+use Rattle.mold_ports.specs.Ports.{Port}
+use Rattle.mold_publish.specs.Publishing.{PublishedLines, lines_published, refused_text}
+use Rattle.mold_publish.specs.declared.line_refusal.LineRefusal.{LineRefusal}
+use Rattle.mold_receiver.specs.Arbiter.{Arbitration}
+use Rattle.mold_session.specs.Journal.{JournalState}
+use Rattle.mold_session.specs.Publisher.{PublisherState}
+use Rattle.mold_session.specs.Server.{ServerState}
+use Rattle.mold_loop.proofs.HeardLemmas.{Heard, heard_more, heard_failed, routed_more}
+use Rattle.mold_send.proofs.SendingLemmas.{any_known}
+use Rattle.mold_turns.proofs.RunLemmas.{begins_more, begins_none, begins_trans, begins_whole}
+use Rattle.mold_turns.specs.Outgoing.{OutgoingState, written_out}
+use Rattle.mold_listen.specs.Listening.{hearing, hearing_lines, hearing_status}
+use Rattle.mold_loop.specs.Looping.{HasPassed, HearsLines, IsData, LineState, LoopRun}
+use Rattle.mold_loop.specs.Looping.{with_heard}
+use Rattle.mold_loop.specs.Passing.{all_routed, routed, routed_end}
+use Rattle.mold_send.specs.PublishLoop.{closed_unless, data_behind, left_journal}
+use Rattle.mold_loop.specs.Repairing.{RepairState, answers_sent, repairing, text_before}
+use Rattle.mold_turns.specs.Runs.{Begins, RestsOfTwo, run}
+use Rattle.mold_serve.specs.Serving.{service_of}
+use Rattle.mold_loop.specs.declared.loop_parts.Drops.{Drops}
+use Rattle.mold_loop.specs.declared.loop_parts.Routes.{Routes}
+use Rattle.mold_loop.proofs.LoopLemmas.{LoopStands, run_cut, run_end, run_unrepaired}
+
+-- the run of what was published is what is to be shown
+run_from : {P E : Type 0} {reporting : Bool} (drops : Drops) (a b to : P) (turns : ℕ) (start : PublisherState) (server : ServerState)
+    (lines : LineState P) (rounds : RepairState P) (known : Option (List ℕ)) (journal : JournalState)
+    (refused : Option LineRefusal) (front : List (List ℕ)) (result : Result ℕ E) (old new : Option (List ℕ))
+    (lines_left : LineState P) (rounds_left : RepairState P) → IfSome known (IsData start front journal refused) →
+    (data_behind start.limit start.sent (record { journal = journal; refused = refused }) ≡ front →
+    LoopRun reporting drops a b to turns start.limit start.sent (record { journal = journal; refused = refused }) server lines
+    rounds result old new lines_left rounds_left) →
+    IfSome known (λ input. LoopRun reporting drops a b to turns start.limit start.sent
+    (lines_published start.journal (lines_of input)) server lines rounds result old new lines_left rounds_left)
+run_from {P} {E} {reporting} drops a b to turns start server lines rounds None journal refused front result old new lines_left rounds_left all ran = tt
+run_from {P} {E} {reporting} drops a b to turns start server lines rounds (Some input) journal refused front result old new lines_left rounds_left all ran =
+    subst
+    (λ (p : PublishedLines). LoopRun reporting drops a b to turns start.limit start.sent p server lines rounds result old new
+    lines_left rounds_left)
+    (sym all.1)
+    (ran (ap (λ (p : PublishedLines). data_behind start.limit start.sent p) (sym all.1) ∙ all.0))
+
+begins_routed : (drops : Drops) (limit sent : ℕ) (published : PublishedLines) (front : List (List ℕ)) →
+    Begins front (data_behind limit sent published) →
+    Begins (routed drops 1 front) (all_routed drops limit sent published)
+begins_routed drops limit sent published front begins =
+    let rest : List (Routes × List ℕ) = routed drops (1 + length front) begins.rest in
+    begins_trans
+    (record {
+      rest = rest;
+      parts =
+          ap (λ (ds : List (List ℕ)). routed drops 1 ds) begins.parts ∙ routed_more drops 1 front begins.rest;
+    })
+    (begins_more (routed drops 1 (data_behind limit sent published)) (routed_end published.journal published.refused))
+
+-- before anything was passed
+pub loop_unbegun : {P E : Type 0} (reporting : Bool) (drops : Drops) (a b to : P) (turns : ℕ) (start : PublisherState) (server : ServerState)
+    (lines : LineState P) (rounds : RepairState P) (known : Option (List ℕ)) (result : Result ℕ E)
+    (held : Option (List ℕ)) → IsErr result →
+    IfSome known (λ input. LoopRun reporting drops a b to turns start.limit start.sent
+    (lines_published start.journal (lines_of input)) server lines rounds result held held lines rounds)
+unfolding run
+loop_unbegun reporting drops a b to turns start server lines rounds known result held failed =
+    any_known known _
+    (λ input.
+    run_cut drops a b to turns start.limit start.sent (lines_published start.journal (lines_of input)) server lines
+    rounds result {xs = []} lines rounds held held
+    (record {
+      passes = [];
+      are = refl;
+      written = [];
+      appended = Appends-nil held;
+      text = begins_none lines.hearing.outgoing.text;
+      offered = refl;
+    })
+    (record { rest = _; parts = refl }) failed refl refl)
+
+-- a fault while lines were read
+pub loop_unheard : {P E F : Type 0} (reporting : Bool) (drops : Drops) (a b to : P) (turns : ℕ) (start last : PublisherState)
+    (server : ServerState) (lines : LineState P) (rounds : RepairState P) (known : Option (List ℕ))
+    (found : Result (Option LineRefusal) F) (result : Result ℕ E) (old new : Option (List ℕ)) (lines_left : LineState P)
+    (rounds_left : RepairState P) → IsErr result → rounds_left.server ≡ rounds.server →
+    rounds_left.requests ≡ rounds.requests → HearsLines drops a b start last known found lines lines_left old new →
+    IfSome known (λ input. LoopRun reporting drops a b to turns start.limit start.sent
+    (lines_published start.journal (lines_of input)) server lines rounds result old new lines_left rounds_left)
+loop_unheard reporting drops a b to turns start last server lines rounds None found result old new lines_left rounds_left failed kept same hears = tt
+loop_unheard reporting drops a b to turns start last server lines rounds (Some input) found result old new lines_left rounds_left failed kept same hears =
+    let published : PublishedLines = lines_published start.journal (lines_of input) in
+    run_cut drops a b to turns start.limit start.sent published server lines rounds result lines_left rounds_left old new
+    (record {
+      passes = hears.passes;
+      are = hears.are;
+      written = hears.written;
+      appended = hears.appended;
+      text = hears.text;
+      offered = hears.offered;
+    })
+    (begins_routed drops start.limit start.sent published hears.front hears.begins) failed kept same
+
+heard_of : {P E : Type 0} (drops : Drops) (a b : P) (start now : PublisherState) (known : Option (List ℕ))
+    (refused : Option LineRefusal) (first here : LineState P) (old new : Option (List ℕ)) →
+    (hears : HearsLines {E = E} drops a b start now known (Ok refused) first here old new) →
+    Heard a b (routed drops 1 hears.front) first here old new
+heard_of drops a b start now known refused first here old new hears = record {
+  passes = hears.passes;
+  are = hears.are;
+  written = hears.written;
+  appended = hears.appended;
+  whole = hears.whole;
+}
+
+-- a line is refused
+pub loop_stopped : {P E F : Type 0} (reporting : Bool) (drops : Drops) (a b to : P) (turns : ℕ) (start now : PublisherState)
+    (server : ServerState) (lines : LineState P) (rounds : RepairState P) (known : Option (List ℕ))
+    (why : LineRefusal) (number : ℕ) (result : Result ℕ E) (old mid new : Option (List ℕ)) (here lines_left : LineState P)
+    (rounds_left : RepairState P) →
+    HearsLines {E = F} drops a b start now known (Ok (Some why)) lines here old mid →
+    number ≡ length now.journal.messages + 1 →
+    AppendsFront mid new (here.hearing.outgoing.text ++ refused_text number why) →
+    IfOk result (λ status. Appends mid new (here.hearing.outgoing.text ++ refused_text number why) × (status ≡ 2)) →
+    LoopStands lines_left here rounds_left (with_heard here.hearing rounds) →
+    OnOk result (rounds_left.hearing.outgoing ≡ written_out here.hearing.outgoing) →
+    IfSome known (λ input. LoopRun reporting drops a b to turns start.limit start.sent
+    (lines_published start.journal (lines_of input)) server lines rounds result old new lines_left rounds_left)
+loop_stopped {P} reporting drops a b to turns start now server lines rounds known why number result old mid new here left asked
+    hears numbered cut done agrees out =
+    let published : PublishedLines = record { journal = now.journal; refused = Some why } in
+    let text : List ℕ = here.hearing.outgoing.text in
+    let choice : Bool × List Bool = (false, []) in
+    run_from drops a b to turns start server lines rounds known now.journal (Some why) hears.front result old new
+    left asked hears.all
+    (λ whole.
+    run_end drops a b to turns start.limit start.sent published server lines rounds result here left
+    (with_heard here.hearing rounds) asked old mid mid new (replicate turns choice) []
+    (subst (λ (l : List (Routes × List ℕ)). Heard a b l lines here old mid)
+    (ap (λ (ds : List (List ℕ)). routed drops 1 ds) (sym whole) ∙ sym (append-nil _))
+    (heard_of drops a b start now known (Some why) lines here old mid hears))
+    (length-replicate turns choice) (Appends-nil mid) refl
+    (subst (λ (n : ℕ). AppendsFront mid new (text ++ refused_text n why)) numbered cut)
+    (subst (λ (n : ℕ). IfOk result (λ status. Appends mid new (text ++ refused_text n why) × (status ≡ 2))) numbered done)
+    agrees out)
+
+-- the data were passed, and then the end
+all_are : (drops : Drops) (start : PublisherState) (journal : JournalState) (front : List (List ℕ)) →
+    data_behind start.limit start.sent (record { journal = journal; refused = None }) ≡ front →
+    all_routed drops start.limit start.sent (record { journal = journal; refused = None })
+    ≡ routed drops 1 front ++ routed_end journal None
+all_are drops start journal front whole =
+    ap (λ (ds : List (List ℕ)). routed drops 1 ds ++ routed_end journal None) whole
+
+-- a fault while the end was passed
+pub loop_unended : {P T E F G : Type 0} (reporting : Bool) (drops : Drops) (a b to : P) (turns : ℕ) (start now : PublisherState)
+    (server : ServerState) (lines : LineState P) (rounds : RepairState P) (known : Option (List ℕ))
+    (ended : Result T G) (result : Result ℕ E) (old new : Option (List ℕ)) (here lines_left : LineState P)
+    (rounds_left : RepairState P) →
+    HearsLines {E = F} drops a b start now known (Ok None) lines here old new →
+    HasPassed a b (routed_end now.journal None) ended here lines_left → IsErr result →
+    rounds_left.server ≡ rounds.server → rounds_left.requests ≡ rounds.requests →
+    IfSome known (λ input. LoopRun reporting drops a b to turns start.limit start.sent
+    (lines_published start.journal (lines_of input)) server lines rounds result old new lines_left rounds_left)
+loop_unended {P} reporting drops a b to turns start now server lines rounds known ended result old new here left asked hears has failed kept same =
+    let published : PublishedLines = record { journal = now.journal; refused = None } in
+    run_from drops a b to turns start server lines rounds known now.journal None hears.front result old new
+    left asked hears.all
+    (λ whole.
+    run_cut drops a b to turns start.limit start.sent published server lines rounds result left asked old new
+    (heard_failed a b ended (heard_of drops a b start now known None lines here old new hears) has)
+    (subst (λ (l : List (Routes × List ℕ)). Begins l (all_routed drops start.limit start.sent published))
+    (all_are drops start now.journal hears.front whole)
+    (begins_whole (all_routed drops start.limit start.sent published)))
+    failed kept same)
+
+-- the rounds of requests begin with what was heard of the end
+pub rests_from : {P T E : Type 0} (to : P) (server : ServerState) (turns : ℕ) (journal other : JournalState)
+    (port requests : Port P) (arbitration : Arbitration) (report : OutgoingState)
+    (rounds : RepairState P) (result : Result T E) (old new : Option (List ℕ)) (now : RepairState P) →
+    journal ≡ other → port ≡ rounds.server → requests ≡ rounds.requests → server.answered ≡ rounds.answered →
+    RestsOfTwo (repairing to (service_of journal server)) answers_sent text_before turns
+    (record { server = port; requests = requests; answered = server.answered; hearing = hearing arbitration report })
+    result old new now →
+    RestsOfTwo (repairing to (service_of other server)) answers_sent text_before turns
+    (with_heard (hearing arbitration report) rounds) result old new now
+rests_from {P} to server turns journal other port requests arbitration report rounds result old new now same ports asked answered rests =
+    let of : Port P → Port P → ℕ → RepairState P =
+    λ p q n. record { server = p; requests = q; answered = n; hearing = hearing arbitration report } in
+    subst (λ (j : JournalState). RestsOfTwo (repairing to (service_of j server)) answers_sent text_before turns
+    (with_heard (hearing arbitration report) rounds) result old new now) same
+    (subst (λ (s : RepairState P). RestsOfTwo (repairing to (service_of journal server)) answers_sent text_before turns s
+    result old new now)
+    (ap (λ (p : Port P). of p requests server.answered) ports
+    ∙ ap (λ (q : Port P). of rounds.server q server.answered) asked
+    ∙ ap (λ (n : ℕ). of rounds.server rounds.requests n) answered)
+    rests)
+
+heard_all : {P T F G : Type 0} (drops : Drops) (a b : P) (start now : PublisherState) (known : Option (List ℕ))
+    (lines here there : LineState P) (old new : Option (List ℕ)) (value : T) →
+    (hears : HearsLines {E = F} drops a b start now known (Ok None) lines here old new) →
+    HasPassed {T = T} {E = G} a b (routed_end now.journal None) (Ok value) here there →
+    data_behind start.limit start.sent (record { journal = now.journal; refused = None }) ≡ hears.front →
+    Heard a b (all_routed drops start.limit start.sent (record { journal = now.journal; refused = None })) lines there old
+    new
+heard_all {P} drops a b start now known lines here there old new value hears has whole =
+    subst (λ (l : List (Routes × List ℕ)). Heard a b l lines there old new)
+    (sym (all_are drops start now.journal hears.front whole))
+    (heard_more a b value (heard_of drops a b start now known None lines here old new hears) has)
+
+-- a fault in a round
+pub loop_unrepaired : {P T U E F G H : Type 0} (reporting : Bool) (drops : Drops) (a b to : P) (turns : ℕ) (start now : PublisherState)
+    (server : ServerState) (lines : LineState P) (rounds : RepairState P) (known : Option (List ℕ)) (value : T)
+    (asked : Result U H) (result : Result ℕ E) (old mid new : Option (List ℕ)) (here there lines_left : LineState P)
+    (rounds_left : RepairState P) →
+    HearsLines {E = F} drops a b start now known (Ok None) lines here old mid →
+    HasPassed {T = T} {E = G} a b (routed_end now.journal None) (Ok value) here there →
+    RestsOfTwo (repairing to (service_of (record now.journal { closed = true }) server)) answers_sent text_before turns
+    (with_heard there.hearing rounds) asked mid new rounds_left →
+    IsErr result → lines_left.publisher ≡ there.publisher →
+    IfSome known (λ input. LoopRun reporting drops a b to turns start.limit start.sent
+    (lines_published start.journal (lines_of input)) server lines rounds result old new lines_left rounds_left)
+loop_unrepaired reporting drops a b to turns start now server lines rounds known value asked result old mid new here there left
+    made hears has rests failed same =
+    run_from drops a b to turns start server lines rounds known now.journal None hears.front result old new
+    left made hears.all
+    (λ whole.
+    run_unrepaired drops a b to turns start.limit start.sent now.journal server lines rounds asked result there left
+    made old mid new
+    (heard_all drops a b start now known lines here there old mid value hears has whole) rests failed same)
+
+-- the last line was printed, or a beginning of what was left to print
+pub loop_done : {P T U E F G H : Type 0} (reporting : Bool) (drops : Drops) (a b to : P) (turns : ℕ) (start now : PublisherState)
+    (server : ServerState) (lines : LineState P) (rounds : RepairState P) (known : Option (List ℕ)) (value : T)
+    (done : U) (result : Result ℕ E) (old mid second new : Option (List ℕ)) (here there lines_left : LineState P)
+    (behind rounds_left : RepairState P) →
+    HearsLines {E = F} drops a b start now known (Ok None) lines here old mid →
+    HasPassed {T = T} {E = G} a b (routed_end now.journal None) (Ok value) here there →
+    RestsOfTwo {E = H} (repairing to (service_of (record now.journal { closed = true }) server)) answers_sent text_before
+    turns (with_heard there.hearing rounds) (Ok done) mid second behind →
+    AppendsFront second new (behind.hearing.outgoing.text ++ hearing_lines reporting behind.hearing) →
+    IfOk result (λ status. Appends second new (behind.hearing.outgoing.text ++ hearing_lines reporting behind.hearing)
+    × (status ≡ hearing_status behind.hearing)) →
+    LoopStands lines_left there rounds_left behind →
+    OnOk result (rounds_left.hearing.outgoing ≡ written_out behind.hearing.outgoing) →
+    IfSome known (λ input. LoopRun reporting drops a b to turns start.limit start.sent
+    (lines_published start.journal (lines_of input)) server lines rounds result old new lines_left rounds_left)
+loop_done reporting drops a b to turns start now server lines rounds known v done result old mid next new here there left made
+    rest hears has rests cut printed is out =
+    run_from drops a b to turns start server lines rounds known now.journal None hears.front result old new
+    left rest hears.all
+    (λ whole.
+    run_end drops a b to turns start.limit start.sent (record { journal = now.journal; refused = None }) server lines
+    rounds result there left made rest old mid next new rests.rests.choices rests.rests.written
+    (heard_all drops a b start now known lines here there old mid v hears has whole) rests.rests.counted
+    rests.rests.appended rests.rests.whole cut printed is out)
+
+-- the journal that is left
+pub journal_left : {P E : Type 0} (drops : Drops) (a b : P) (start now : PublisherState) (known : Option (List ℕ))
+    (refused : Option LineRefusal) (lines here : LineState P) (old new : Option (List ℕ)) (journal : JournalState) →
+    HearsLines {E = E} drops a b start now known (Ok refused) lines here old new →
+    journal ≡ closed_unless refused now.journal →
+    IfSome known (λ input. journal ≡ left_journal (lines_published start.journal (lines_of input)))
+journal_left drops a b start now None refused lines here old new journal hears is = tt
+journal_left drops a b start now (Some input) refused lines here old new journal hears is =
+    is ∙ sym (ap (λ (p : PublishedLines). left_journal p) hears.all.1)

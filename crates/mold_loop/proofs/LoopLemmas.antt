@@ -1,0 +1,301 @@
+-- The whole of a loop in one process: its datagrams, its rounds of requests, and what it prints.
+use Rattle.std.proofs.Common.{◌≡◌, ◌∙◌, ℕ, Bool, true, false, List, [], ◌∷◌, ◌++◌, length, map, replicate}
+use Rattle.std.proofs.Common.{Option, None, Some, Result, Ok, Err, ap, refl, sym, subst, append_assoc}
+use Rattle.std.proofs.Math.ListN.{length-replicate}
+use Rattle.std.proofs.lemmas.List.{map-append}
+use Rattle.std.proofs.lemmas.Result.{on_ok_weaker}
+use Rattle.std.proofs.KnownBytes.{Appends-trans}
+use Rattle.std.specs.Prelude.{IfOk, IsErr, OnOk}
+use Rattle.std.specs.Io.KnownBytes.{Appends}
+use Rattle.mold_devices.specs.Devices.{AppendsFront}
+use Rattle.mold_ports.specs.Ports.{Port}
+use Rattle.mold_publish.specs.Publishing.{PublishedLines}
+use Rattle.mold_publish.specs.declared.line_refusal.LineRefusal.{LineRefusal}
+use Rattle.mold_session.specs.Journal.{JournalState}
+use Rattle.mold_session.specs.Server.{ServerState}
+use Rattle.mold_loop.proofs.HeardLemmas.{Heard, HeardFront, lines_grow, passes_are, run_behind}
+use Rattle.mold_loop.proofs.RepairLemmas.{round_answers, rounds_are}
+use Rattle.mold_turns.proofs.RunLemmas.{begins_behind, begins_more, begins_trans, begins_whole, grows_in, none_answered, none_ok}
+use Rattle.mold_listen.proofs.TurnLemmas.{hearing_before}
+use Rattle.mold_listen.specs.Listening.{Hearing}
+use Rattle.mold_loop.specs.Looping.{LineState, LoopRun, Outcome, LeftOut, Sent, Pass}
+use Rattle.mold_loop.specs.Looping.{goes_out, lines_behind, loop_lines, loop_status, loop_text, passing}
+use Rattle.mold_loop.specs.Looping.{rounds_behind, rounds_made, routed_by, text_front, with_heard}
+use Rattle.mold_turns.specs.Outgoing.{written_out}
+use Rattle.mold_loop.specs.Passing.{all_routed}
+use Rattle.mold_send.specs.PublishLoop.{left_journal}
+use Rattle.mold_loop.specs.Repairing.{RepairState, answers_sent, repairing, text_before}
+use Rattle.mold_turns.specs.Runs.{Begins, RestsOfTwo, run}
+use Rattle.mold_serve.specs.Serving.{Service, service_of}
+use Rattle.mold_loop.specs.declared.loop_parts.Drops.{Drops}
+use Rattle.mold_loop.specs.declared.loop_parts.Routes.{Routes}
+
+-- ---- datagrams that are left: each is sent
+
+outcome_of : Bool → Outcome
+outcome_of false = LeftOut
+outcome_of true = Sent
+
+goes_is : (on : Bool) → goes_out (outcome_of on) ≡ on
+unfolding outcome_of
+goes_is false = refl
+goes_is true = refl
+
+all_sent : List (Routes × List ℕ) → List Pass
+all_sent [] = []
+all_sent (x ∷ xs) = record { datagram = x.1; a = outcome_of x.0.a; b = outcome_of x.0.b } ∷ all_sent xs
+
+all_sent_are : (xs : List (Routes × List ℕ)) → map routed_by (all_sent xs) ≡ xs
+unfolding all_sent
+all_sent_are [] = refl
+all_sent_are (x ∷ xs) =
+    ap {B = List (Routes × List ℕ)}
+    (λ (on : Bool). (record { a = on; b = goes_out (outcome_of x.0.b) }, x.1) ∷ map routed_by (all_sent xs))
+    (goes_is x.0.a)
+    ∙ ap {B = List (Routes × List ℕ)} (λ (on : Bool). (record { a = x.0.a; b = on }, x.1) ∷ map routed_by (all_sent xs))
+    (goes_is x.0.b)
+    ∙ ap (λ (l : List (Routes × List ℕ)). x ∷ l) (all_sent_are xs)
+
+-- ---- text in front
+
+rounds_front : {P : Type 0} (refused : Option LineRefusal) (to : P) (service : Service)
+    (choices : List (Bool × List Bool)) (front : List ℕ) (s : RepairState P) →
+    rounds_made refused to service choices (text_before front s)
+    ≡ text_before front (rounds_made refused to service choices s)
+rounds_front None to service choices front s =
+    run_behind (repairing to service) text_before (rounds_are to service) choices front s
+rounds_front (Some why) to service choices front s = refl
+
+rounds_print : {P : Type 0} (refused : Option LineRefusal) (to : P) (service : Service)
+    (choices : List (Bool × List Bool)) (s : RepairState P) →
+    Begins s.hearing.outgoing.text (rounds_made refused to service choices s).hearing.outgoing.text
+rounds_print None to service choices s =
+    grows_in (repairing to service) (repairing to service).text (rounds_are to service).prints choices s
+rounds_print (Some why) to service choices s = begins_whole s.hearing.outgoing.text
+
+rounds_send : {P : Type 0} (refused : Option LineRefusal) (to : P) (service : Service)
+    (choices : List (Bool × List Bool)) (s : RepairState P) →
+    Begins s.requests.sent (rounds_made refused to service choices s).requests.sent
+rounds_send None to service choices s =
+    grows_in (repairing to service) (repairing to service).sent (rounds_are to service).sends choices s
+rounds_send (Some why) to service choices s = begins_whole s.requests.sent
+
+rounds_answer : {P : Type 0} (refused : Option LineRefusal) (to : P) (service : Service)
+    (choices : List (Bool × List Bool)) (s : RepairState P) →
+    Begins s.server.sent (rounds_made refused to service choices s).server.sent
+rounds_answer None to service choices s =
+    grows_in (repairing to service) answers_sent (round_answers to service) choices s
+rounds_answer (Some why) to service choices s = begins_whole s.server.sent
+
+line_front : (reporting : Bool) (journal : JournalState) (refused : Option LineRefusal) (front : List ℕ) (e : Hearing) →
+    loop_lines reporting journal refused (hearing_before front e) ≡ loop_lines reporting journal refused e
+line_front reporting journal None front e = refl
+line_front reporting journal (Some why) front e = refl
+
+status_front : (refused : Option LineRefusal) (front : List ℕ) (e : Hearing) →
+    loop_status refused (hearing_before front e) ≡ loop_status refused e
+status_front None front e = refl
+status_front (Some why) front e = refl
+
+-- ---- the end
+
+-- what the run ends with stands behind all that was written
+end_is : {P : Type 0} (a b to : P) (published : PublishedLines) (server : ServerState) (passes : List Pass)
+    (choices : List (Bool × List Bool)) (lines mid : LineState P) (rounds now : RepairState P) (front back : List ℕ) →
+    lines_behind a b passes lines ≡ text_front front mid →
+    rounds_behind to published server choices mid.hearing rounds ≡ text_before back now →
+    rounds_behind to published server choices (lines_behind a b passes lines).hearing rounds
+    ≡ text_before (front ++ back) now
+end_is {P} a b to published server passes choices lines mid rounds now front back is made =
+    let service : Service = service_of (left_journal published) server in
+    ap (λ (s : LineState P). rounds_behind to published server choices s.hearing rounds) is
+    ∙ rounds_front published.refused to service choices front (with_heard mid.hearing rounds)
+    ∙ ap (text_before front) made
+    ∙ (rounds_are to service).twice front back now
+
+text_is : (reporting : Bool) (published : PublishedLines) (front : List ℕ) (e : Hearing) →
+    loop_text reporting published (hearing_before front e) ≡ front ++ loop_text reporting published e
+text_is reporting published front e =
+    ap (λ (l : List ℕ). (front ++ e.outgoing.text) ++ l) (line_front reporting published.journal published.refused front e)
+    ∙ append_assoc front e.outgoing.text (loop_lines reporting published.journal published.refused e)
+
+behind_ok : {E : Type 0} (result : Result ℕ E) (old mid new : Option (List ℕ)) (front text whole : List ℕ)
+    (status other : ℕ) → Appends old mid front → whole ≡ front ++ text → other ≡ status →
+    IfOk result (λ answer. Appends mid new text × (answer ≡ status)) →
+    IfOk result (λ answer. Appends old new whole × (answer ≡ other))
+behind_ok (Ok answer) old mid new front text whole status other first same is done = (
+  subst (λ (t : List ℕ). Appends old new t) (sym same) (Appends-trans old mid new front text first done.0),
+  done.1 ∙ sym is,
+)
+behind_ok (Err _) old mid new front text whole status other first same is done = tt
+
+-- the ports and the arbiter stand so
+pub record LoopStands {P : Type 0} (lines line_end : LineState P) (rounds round_end : RepairState P) : Type 0 where
+  pub publisher_left : lines.publisher ≡ line_end.publisher
+  pub a_left : lines.a ≡ line_end.a
+  pub b_left : lines.b ≡ line_end.b
+  pub server_left : rounds.server ≡ round_end.server
+  pub requests_left : rounds.requests ≡ round_end.requests
+  pub answered_left : rounds.answered ≡ round_end.answered
+  pub arbiter_left : rounds.hearing.arbitration ≡ round_end.hearing.arbitration
+
+module _ {P : Type 0} {reporting : Bool} (drops : Drops) (a b to : P) (turns limit sent : ℕ)
+    (published : PublishedLines) (server : ServerState) (lines : LineState P) (rounds : RepairState P) where
+  -- a fault while the data or the end were passed
+  pub run_cut : {E : Type 0} (result : Result ℕ E) {xs : List (Routes × List ℕ)} (lines_left : LineState P)
+      (rounds_left : RepairState P) (old new : Option (List ℕ)) → HeardFront a b xs lines lines_left old new →
+      Begins xs (all_routed drops limit sent published) → IsErr result →
+      rounds_left.server ≡ rounds.server → rounds_left.requests ≡ rounds.requests →
+      LoopRun reporting drops a b to turns limit sent published server lines rounds result old new lines_left rounds_left
+  run_cut result {xs} lines_left rounds_left old new heard begins failed kept same =
+      let rest : List Pass = all_sent begins.rest in
+      let passes : List Pass = heard.passes ++ rest in
+      let choice : Bool × List Bool = (false, []) in
+      let choices : List (Bool × List Bool) = replicate turns choice in
+      let service : Service = service_of (left_journal published) server in
+      let heard_there : Hearing = (lines_behind a b passes lines).hearing in
+      let end : RepairState P = rounds_behind to published server choices heard_there rounds in
+      let text : Begins heard.written (loop_text reporting published end.hearing) =
+      begins_trans heard.text
+      (begins_trans
+      (lines_grow a b (passing a b).text (passes_are a b).prints heard.passes rest lines)
+      (begins_trans (rounds_print published.refused to service choices (with_heard heard_there rounds))
+      (begins_more end.hearing.outgoing.text (loop_lines reporting published.journal published.refused end.hearing)))) in
+      record {
+        passes = passes;
+        are =
+            map-append routed_by heard.passes rest
+            ∙ ap (λ (l : List (Routes × List ℕ)). l ++ map routed_by rest) heard.are
+            ∙ ap (λ (l : List (Routes × List ℕ)). xs ++ l) (all_sent_are begins.rest)
+            ∙ sym begins.parts;
+        choices = choices;
+        counted = length-replicate turns choice;
+        whole = none_answered result _ failed;
+        left = none_ok result _ failed;
+        front = record { front = heard.written; rest = text.rest; parts = text.parts; appended = heard.appended };
+        offers = record { front = heard.passes; begins = begins_more heard.passes rest; port = heard.offered };
+        requests =
+            subst (λ (p : Port P). Begins p.sent end.requests.sent) (sym same)
+            (rounds_send published.refused to service choices (with_heard heard_there rounds));
+        answers =
+            subst (λ (p : Port P). Begins p.sent end.server.sent) (sym kept)
+            (rounds_answer published.refused to service choices (with_heard heard_there rounds));
+      }
+
+  -- all was passed and requested: what is left to write was written, or a beginning of it
+  pub run_end : {E : Type 0} (result : Result ℕ E) (mid lines_left : LineState P) (now rounds_left : RepairState P)
+      (old first second new : Option (List ℕ)) (choices : List (Bool × List Bool)) (written : List ℕ) →
+      Heard a b (all_routed drops limit sent published) lines mid old first → length choices ≡ turns →
+      Appends first second written → rounds_behind to published server choices mid.hearing rounds ≡ text_before written now →
+      AppendsFront second new (loop_text reporting published now.hearing) →
+      IfOk result (λ status. Appends second new (loop_text reporting published now.hearing)
+      × (status ≡ loop_status published.refused now.hearing)) →
+      LoopStands lines_left mid rounds_left now →
+      OnOk result (rounds_left.hearing.outgoing ≡ written_out now.hearing.outgoing) →
+      LoopRun reporting drops a b to turns limit sent published server lines rounds result old new lines_left rounds_left
+  run_end result mid lines_left now rounds_left old first second new choices written heard counted appended made cut done agrees out =
+      let before : List ℕ = heard.written ++ written in
+      let end : RepairState P =
+      rounds_behind to published server choices (lines_behind a b heard.passes lines).hearing rounds in
+      let is : end ≡ text_before before now =
+      end_is a b to published server heard.passes choices lines mid rounds now heard.written written heard.whole made in
+      let start : Appends old second before =
+      Appends-trans old first second heard.written written heard.appended appended in
+      let text : loop_text reporting published end.hearing ≡ before ++ loop_text reporting published now.hearing =
+      ap (λ (s : RepairState P). loop_text reporting published s.hearing) is ∙ text_is reporting published before now.hearing in
+      let status : loop_status published.refused end.hearing ≡ loop_status published.refused now.hearing =
+      ap (λ (s : RepairState P). loop_status published.refused s.hearing) is
+      ∙ status_front published.refused before now.hearing in
+      record {
+        passes = heard.passes;
+        are = heard.are;
+        choices = choices;
+        counted = counted;
+        whole =
+            behind_ok result old second new before (loop_text reporting published now.hearing) (loop_text reporting published end.hearing)
+            (loop_status published.refused now.hearing) (loop_status published.refused end.hearing) start text status
+            done;
+        left =
+            on_ok_weaker result
+            (λ nothing. record {
+              publisher_left = agrees.publisher_left ∙ ap (λ (s : LineState P). s.publisher) (sym heard.whole);
+              a_left = agrees.a_left ∙ ap (λ (s : LineState P). s.a) (sym heard.whole);
+              b_left = agrees.b_left ∙ ap (λ (s : LineState P). s.b) (sym heard.whole);
+              server_left = agrees.server_left ∙ ap (λ (s : RepairState P). s.server) (sym is);
+              requests_left = agrees.requests_left ∙ ap (λ (s : RepairState P). s.requests) (sym is);
+              answered_left = agrees.answered_left ∙ ap (λ (s : RepairState P). s.answered) (sym is);
+              arbiter_left = agrees.arbiter_left ∙ ap (λ (s : RepairState P). s.hearing.arbitration) (sym is);
+              outgoing_left = nothing ∙ ap (λ (s : RepairState P). written_out s.hearing.outgoing) (sym is);
+            })
+            out;
+        front = record {
+          front = before ++ cut.front;
+          rest = cut.rest;
+          parts =
+              text ∙ ap (λ (t : List ℕ). before ++ t) cut.parts ∙ sym (append_assoc before cut.front cut.rest);
+          appended = Appends-trans old second new before cut.front start cut.appended;
+        };
+        offers = record {
+          front = heard.passes;
+          begins = begins_whole heard.passes;
+          port = agrees.publisher_left ∙ ap (λ (s : LineState P). s.publisher) (sym heard.whole);
+        };
+        requests =
+            subst (λ (p : Port P). Begins rounds_left.requests.sent p.sent)
+            (agrees.requests_left ∙ ap (λ (s : RepairState P). s.requests) (sym is))
+            (begins_whole rounds_left.requests.sent);
+        answers =
+            subst (λ (p : Port P). Begins rounds_left.server.sent p.sent)
+            (agrees.server_left ∙ ap (λ (s : RepairState P). s.server) (sym is))
+            (begins_whole rounds_left.server.sent);
+      }
+
+-- a fault in a round
+pub run_unrepaired : {P T E F : Type 0} {reporting : Bool} (drops : Drops) (a b to : P) (turns limit sent : ℕ) (journal : JournalState)
+    (server : ServerState) (lines : LineState P) (rounds : RepairState P) (asked : Result T F) (result : Result ℕ E)
+    (mid lines_left : LineState P) (now : RepairState P) (old first new : Option (List ℕ)) →
+    Heard a b (all_routed drops limit sent (record { journal = journal; refused = None })) lines mid old first →
+    RestsOfTwo (repairing to (service_of (left_journal (record { journal = journal; refused = None })) server)) answers_sent
+    text_before turns (with_heard mid.hearing rounds) asked first new now →
+    IsErr result → lines_left.publisher ≡ mid.publisher →
+    LoopRun reporting drops a b to turns limit sent (record { journal = journal; refused = None }) server lines rounds result old
+    new lines_left now
+run_unrepaired {P} {T} {E} {F} {reporting} drops a b to turns limit sent journal server lines rounds asked result mid lines_left now
+    old first new heard two failed same =
+    let published : PublishedLines = record { journal = journal; refused = None } in
+    let service : Service = service_of (left_journal published) server in
+    let rests = two.rests in
+    let end : RepairState P =
+    rounds_behind to published server rests.choices (lines_behind a b heard.passes lines).hearing rounds in
+    let made : RepairState P = run (repairing to service) rests.choices (with_heard mid.hearing rounds) in
+    let is : end ≡ text_before heard.written made =
+    ap (λ (s : LineState P). rounds_behind to published server rests.choices s.hearing rounds) heard.whole
+    ∙ rounds_front None to service rests.choices heard.written (with_heard mid.hearing rounds) in
+    let text : Begins (heard.written ++ rests.written) (loop_text reporting published end.hearing) =
+    begins_trans
+    (subst (λ (s : RepairState P). Begins (heard.written ++ rests.written) s.hearing.outgoing.text) (sym is)
+    (begins_behind heard.written rests.front))
+    (begins_more end.hearing.outgoing.text (loop_lines reporting journal None end.hearing)) in
+    record {
+      passes = heard.passes;
+      are = heard.are;
+      choices = rests.choices;
+      counted = rests.counted;
+      whole = none_answered result _ failed;
+      left = none_ok result _ failed;
+      front = record {
+        front = heard.written ++ rests.written;
+        rest = text.rest;
+        parts = text.parts;
+        appended = Appends-trans old first new heard.written rests.written heard.appended rests.appended;
+      };
+      offers = record {
+        front = heard.passes;
+        begins = begins_whole heard.passes;
+        port = same ∙ ap (λ (s : LineState P). s.publisher) (sym heard.whole);
+      };
+      requests =
+          subst (λ (s : RepairState P). Begins now.requests.sent s.requests.sent) (sym is) rests.sent;
+      answers =
+          subst (λ (s : RepairState P). Begins now.server.sent s.server.sent) (sym is) two.others;
+    }

@@ -1,0 +1,28 @@
+use Rattle.std.proofs.Common.{◌≡◌, ◌≤◌, true}
+use Rattle.std.specs.Io.KnownBytes.{prepend_known}
+use Rattle.mold_devices.specs.Lines.{work_left}
+use Rattle.mold_publish.specs.Publishing.{HasRoom}
+use Rattle.mold_loop.specs.LocalFeed.{OnlyPasses, lines}
+use Rattle.mold_loop.proofs.HearsLemmas.{HeardSoFar}
+use Rattle.mold_loop.proofs.local_feed.LocalFeed.pass_lines.Given as goal
+
+-- what was published and not sent fits a datagram, the data so far were passed and nothing else was done, the limit is
+-- the same, and no device failed
+abbrev pub invariant-lines : goal.invariant-lines
+invariant-lines g l = record {
+  room : HasRoom l.publisher;
+  few : l.number ≤ l.publisher.sent;
+  heard :
+      g.D.Datagrams.tells ≡ true →
+      HeardSoFar l.fn.self.drops l.fn.self.peers.now.a l.fn.self.peers.now.b l.fn.publisher l.publisher
+      (g.S.Source.left l.fn.source) (prepend_known l.lines.rest (g.S.Source.left l.source))
+      (lines g.D.Datagrams.port l.fn.self) (lines g.D.Datagrams.port l.self)
+      (g.K.Sink.held l.fn.sink) (g.K.Sink.held l.sink) l.number;
+  only : OnlyPasses g.D.Datagrams.tells g.D.Datagrams.port l.fn.self l.self;
+  limit : l.publisher.limit ≡ l.fn.publisher.limit;
+  source : g.S.Source.failed l.source ≡ g.S.Source.failed l.fn.source;
+  sink : g.K.Sink.failed l.sink ≡ g.K.Sink.failed l.fn.sink;
+}
+
+abbrev pub decreases-lines : goal.decreases-lines
+decreases-lines g l = work_left (g.S.Source.bound l.source) l.lines.rest

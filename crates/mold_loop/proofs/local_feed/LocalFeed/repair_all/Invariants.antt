@@ -1,0 +1,21 @@
+use Rattle.std.proofs.Common.{◌≡◌, true}
+use Rattle.mold_loop.specs.LocalFeed.{OnlyRepairs, rounds}
+use Rattle.mold_loop.specs.Repairing.{repairing, text_before}
+use Rattle.mold_serve.specs.Serving.{service_of}
+use Rattle.mold_turns.proofs.RunLemmas.{Going}
+use Rattle.mold_loop.proofs.local_feed.LocalFeed.repair_all.Given as goal
+
+-- so many rounds were made and nothing else was done, the run goes on from here, and the sink didn't fail
+abbrev pub invariant-loop-turn : goal.invariant-loop-turn
+invariant-loop-turn g l =
+    let known = g.D.Datagrams.port in
+    record {
+      going :
+          g.D.Datagrams.tells ≡ true →
+          Going (repairing l.fn.self.peers.now.server (service_of l.journal l.fn.server)) text_before
+          (rounds known l.fn.server l.fn.self) (g.K.Sink.held l.fn.sink) (g.K.Sink.held l.sink) l._turn
+          (rounds known l.server l.self);
+      server : l.server ≡ record l.fn.server { answered = l.server.answered };
+      only : OnlyRepairs l.fn.self l.self;
+      sink : g.K.Sink.failed l.sink ≡ g.K.Sink.failed l.fn.sink;
+    }

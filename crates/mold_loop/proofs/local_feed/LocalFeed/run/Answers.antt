@@ -1,0 +1,226 @@
+use Rattle.std.proofs.Common.{◌∙◌, None, Some, ap, refl}
+use Rattle.mold_loop.specs.LocalFeed.{lines, rounds}
+use Rattle.mold_loop.specs.Looping.{line_state}
+use Rattle.mold_loop.specs.Passing.{routed_end}
+use Rattle.mold_loop.specs.Repairing.{repair_state}
+use Rattle.mold_serve.specs.Serving.{service_of}
+use Rattle.mold_ports.specs.Ports.{Port}
+use Rattle.mold_session.specs.Publisher.{PublisherState}
+use Rattle.mold_turns.proofs.FaultLemmas.{counts_behind}
+use Rattle.mold_loop.proofs.LocalFeedLemmas.{passed_from, rounds_from, same_twice}
+use Rattle.mold_loop.proofs.LoopEndLemmas.{journal_left, loop_done, loop_stopped, loop_unended, loop_unheard, loop_unrepaired}
+use Rattle.mold_loop.proofs.LoopEndLemmas.{rests_from}
+use Rattle.mold_turns.proofs.RunLemmas.{on_ok}
+use Rattle.mold_loop.proofs.local_feed.LocalFeed.run.Goals as goal
+
+pub returns-in-Some-clause-failures : goal.returns-in-Some-clause-failures
+returns-in-Some-clause-failures g c =
+    counts_behind c.print_refused.result _ _ _ _ _ c.in_ok-refused.ensures.failures.0
+    c.in_ok-refused.ensures.failures.1 c.print_refused.ensures.sink
+
+pub returns-in_err-refused-clause-run : goal.returns-in_err-refused-clause-run
+returns-in_err-refused-clause-run g c tells =
+    let port = g.D.Datagrams.port in
+    let feed = c.args.self.now in
+    let peers = feed.peers.now in
+    loop_unheard c.args.reporting feed.drops peers.a peers.b peers.server c.args.turns c.args.publisher.now
+    c.pass_lines.new.publisher c.args.server.now (lines port feed) (rounds port c.args.server.now feed) _
+    c.pass_lines.result c.from_residual.result _ _ (lines port c.pass_lines.new.self)
+    (rounds port c.args.server.now c.pass_lines.new.self) c.from_residual.ensures.0
+    (ap port c.pass_lines.ensures.only.server) (ap port c.pass_lines.ensures.only.requests)
+    (c.pass_lines.ensures.heard tells)
+
+pub returns-in-Some-clause-run : goal.returns-in-Some-clause-run
+returns-in-Some-clause-run g c tells =
+    let port = g.D.Datagrams.port in
+    let feed = c.args.self.now in
+    let peers = feed.peers.now in
+    let here = lines port c.pass_lines.new.self in
+    let here_left = line_state here.publisher here.a here.b here.hearing.arbitration c.print_refused.new.outgoing in
+    let behind = rounds port c.args.server.now c.pass_lines.new.self in
+    let left = repair_state behind.server behind.requests c.args.server.now here.hearing.arbitration
+    c.print_refused.new.outgoing in
+    loop_stopped c.args.reporting feed.drops peers.a peers.b peers.server c.args.turns c.args.publisher.now
+    c.pass_lines.new.publisher c.args.server.now (lines port feed) (rounds port c.args.server.now feed) _
+    c.in-Some.why c.next-number.result c.print_refused.result
+    _ _ _ here here_left left
+    (rw c.in-Some.is at (c.in_ok-refused.ensures.heard tells))
+    (rw c.journal.ensures at c.next-number.ensures.value)
+    c.print_refused.ensures.front c.print_refused.ensures.whole
+    (record {
+      publisher_left = refl;
+      a_left = refl;
+      b_left = refl;
+      server_left = ap port c.pass_lines.ensures.only.server;
+      requests_left = ap port c.pass_lines.ensures.only.requests;
+      answered_left = refl;
+      arbiter_left = refl;
+    })
+    c.print_refused.ensures.left
+
+pub returns-in_err-pass_end-clause-run : goal.returns-in_err-pass_end-clause-run
+returns-in_err-pass_end-clause-run g c tells =
+    let port = g.D.Datagrams.port in
+    let feed = c.args.self.now in
+    let peers = feed.peers.now in
+    loop_unended c.args.reporting feed.drops peers.a peers.b peers.server c.args.turns c.args.publisher.now
+    c.pass_lines.new.publisher c.args.server.now (lines port feed) (rounds port c.args.server.now feed) _
+    c.pass_end.result c.from_residual-in_err-pass_end.result _ _ (lines port c.pass_lines.new.self)
+    (lines port c.pass_end.new.self) (rounds port c.args.server.now c.pass_end.new.self)
+    (rw c.in_default.is at (c.in_ok-refused.ensures.heard tells))
+    (passed_from port (routed_end c.pass_lines.new.publisher.journal None) c.pass_end.result c.pass_end.new.self
+    c.pass_lines.ensures.only.same (c.pass_end.ensures.passed tells))
+    c.from_residual-in_err-pass_end.ensures.0
+    (ap port (c.pass_end.ensures.only.server ∙ c.pass_lines.ensures.only.server))
+    (ap port (c.pass_end.ensures.only.requests ∙ c.pass_lines.ensures.only.requests))
+
+pub returns-in_err-repair_all-clause-run : goal.returns-in_err-repair_all-clause-run
+returns-in_err-repair_all-clause-run g c tells =
+    let port = g.D.Datagrams.port in
+    let feed = c.args.self.now in
+    let peers = feed.peers.now in
+    let there = lines port c.pass_end.new.self in
+    let left = rounds port c.repair_all.new.server c.repair_all.new.self in
+    loop_unrepaired c.args.reporting feed.drops peers.a peers.b peers.server c.args.turns c.args.publisher.now
+    c.pass_lines.new.publisher c.args.server.now (lines port feed) (rounds port c.args.server.now feed) _
+    c.in_ok-pass_end.field-0 c.repair_all.result c.from_residual-in_err-repair_all.result _ _ _
+    (lines port c.pass_lines.new.self) there (lines port c.repair_all.new.self) left
+    (rw c.in_default.is at (c.in_ok-refused.ensures.heard tells))
+    (passed_from port (routed_end c.pass_lines.new.publisher.journal None) _ c.pass_end.new.self
+    c.pass_lines.ensures.only.same (c.in_ok-pass_end.ensures.passed tells))
+    (rests_from peers.server c.args.server.now c.args.turns _ _ _ _ there.hearing.arbitration there.hearing.outgoing
+    (rounds port c.args.server.now feed) c.repair_all.result _ _ left
+    (c.journal-journal.ensures ∙ ap (λ (p : PublisherState). p.journal) c.pass_end.ensures.closed)
+    (ap port (c.pass_end.ensures.only.server ∙ c.pass_lines.ensures.only.server))
+    (ap port (c.pass_end.ensures.only.requests ∙ c.pass_lines.ensures.only.requests))
+    refl
+    (rounds_from (service_of c.journal-journal.result.now c.args.server.now)
+    (same_twice c.pass_lines.ensures.only.same c.pass_end.ensures.only.same)
+    (c.repair_all.ensures.rests tells)))
+    c.from_residual-in_err-repair_all.ensures.0 (ap port c.repair_all.ensures.only.publisher)
+
+pub returns-clause-run : goal.returns-clause-run
+returns-clause-run g c tells =
+    let port = g.D.Datagrams.port in
+    let feed = c.args.self.now in
+    let peers = feed.peers.now in
+    let there = lines port c.pass_end.new.self in
+    let behind = rounds port c.repair_all.new.server c.repair_all.new.self in
+    let after = lines port c.repair_all.new.self in
+    let there_left = line_state after.publisher after.a after.b c.print_last.new.listener.arbiter
+    c.print_last.new.listener.report.outgoing in
+    let left = repair_state behind.server behind.requests c.repair_all.new.server c.print_last.new.listener.arbiter
+    c.print_last.new.listener.report.outgoing in
+    loop_done c.args.reporting feed.drops peers.a peers.b peers.server c.args.turns c.args.publisher.now
+    c.pass_lines.new.publisher c.args.server.now (lines port feed) (rounds port c.args.server.now feed) _
+    c.in_ok-pass_end.field-0 c.in_ok-repair_all.field-0 c.print_last.result _ _ _ _
+    (lines port c.pass_lines.new.self) there there_left behind left
+    (rw c.in_default.is at (c.in_ok-refused.ensures.heard tells))
+    (passed_from port (routed_end c.pass_lines.new.publisher.journal None) _ c.pass_end.new.self
+    c.pass_lines.ensures.only.same (c.in_ok-pass_end.ensures.passed tells))
+    (rests_from peers.server c.args.server.now c.args.turns _ _ _ _ there.hearing.arbitration there.hearing.outgoing
+    (rounds port c.args.server.now feed) _ _ _ behind
+    (c.journal-journal.ensures ∙ ap (λ (p : PublisherState). p.journal) c.pass_end.ensures.closed)
+    (ap port (c.pass_end.ensures.only.server ∙ c.pass_lines.ensures.only.server))
+    (ap port (c.pass_end.ensures.only.requests ∙ c.pass_lines.ensures.only.requests))
+    refl
+    (rounds_from (service_of c.journal-journal.result.now c.args.server.now)
+    (same_twice c.pass_lines.ensures.only.same c.pass_end.ensures.only.same)
+    (c.in_ok-repair_all.ensures.rests tells)))
+    c.print_last.ensures.front c.print_last.ensures.whole
+    (record {
+      publisher_left = ap port c.repair_all.ensures.only.publisher;
+      a_left = ap port c.repair_all.ensures.only.a;
+      b_left = ap port c.repair_all.ensures.only.b;
+      server_left = refl;
+      requests_left = refl;
+      answered_left = refl;
+      arbiter_left = c.print_last.ensures.arbiter;
+    })
+    c.print_last.ensures.left
+
+pub returns-in-Some-clause-journal : goal.returns-in-Some-clause-journal
+returns-in-Some-clause-journal g c tells =
+    let feed = c.args.self.now in
+    on_ok c.print_refused.result
+    (journal_left feed.drops feed.peers.now.a feed.peers.now.b c.args.publisher.now c.pass_lines.new.publisher _
+    (Some c.in-Some.why) _ _ _ _ _ (rw c.in-Some.is at (c.in_ok-refused.ensures.heard tells)) refl)
+
+pub returns-clause-journal : goal.returns-clause-journal
+returns-clause-journal g c tells =
+    let feed = c.args.self.now in
+    on_ok c.print_last.result
+    (journal_left feed.drops feed.peers.now.a feed.peers.now.b c.args.publisher.now c.pass_lines.new.publisher _
+    None _ _ _ _ _ (rw c.in_default.is at (c.in_ok-refused.ensures.heard tells))
+    (ap (λ (p : PublisherState). p.journal) c.pass_end.ensures.closed))
+
+pub returns-in-Some-clause-limit : goal.returns-in-Some-clause-limit
+returns-in-Some-clause-limit g c = on_ok c.print_refused.result c.in_ok-refused.ensures.limit
+
+pub returns-clause-limit : goal.returns-clause-limit
+returns-clause-limit g c =
+    on_ok c.print_last.result
+    (ap (λ (p : PublisherState). p.limit) c.pass_end.ensures.closed ∙ c.in_ok-refused.ensures.limit)
+
+pub returns-in_err-pass_end-clause-a : goal.returns-in_err-pass_end-clause-a
+returns-in_err-pass_end-clause-a g c tells = c.pass_end.ensures.only.a tells ∙ c.pass_lines.ensures.only.a tells
+
+pub returns-in_err-repair_all-clause-a : goal.returns-in_err-repair_all-clause-a
+returns-in_err-repair_all-clause-a g c tells =
+    ap (λ (p : Port _). p.sent) (ap g.D.Datagrams.port c.repair_all.ensures.only.a)
+    ∙ c.pass_end.ensures.only.a tells
+    ∙ c.pass_lines.ensures.only.a tells
+
+pub returns-clause-a : goal.returns-clause-a
+returns-clause-a g c tells =
+    ap (λ (p : Port _). p.sent) (ap g.D.Datagrams.port c.repair_all.ensures.only.a)
+    ∙ c.pass_end.ensures.only.a tells
+    ∙ c.pass_lines.ensures.only.a tells
+
+pub returns-in_err-pass_end-clause-b : goal.returns-in_err-pass_end-clause-b
+returns-in_err-pass_end-clause-b g c tells = c.pass_end.ensures.only.b tells ∙ c.pass_lines.ensures.only.b tells
+
+pub returns-in_err-repair_all-clause-b : goal.returns-in_err-repair_all-clause-b
+returns-in_err-repair_all-clause-b g c tells =
+    ap (λ (p : Port _). p.sent) (ap g.D.Datagrams.port c.repair_all.ensures.only.b)
+    ∙ c.pass_end.ensures.only.b tells
+    ∙ c.pass_lines.ensures.only.b tells
+
+pub returns-clause-b : goal.returns-clause-b
+returns-clause-b g c tells =
+    ap (λ (p : Port _). p.sent) (ap g.D.Datagrams.port c.repair_all.ensures.only.b)
+    ∙ c.pass_end.ensures.only.b tells
+    ∙ c.pass_lines.ensures.only.b tells
+
+pub returns-in_err-refused-clause-same : goal.returns-in_err-refused-clause-same
+returns-in_err-refused-clause-same g c = c.pass_lines.ensures.only.same
+
+pub returns-in-Some-clause-same : goal.returns-in-Some-clause-same
+returns-in-Some-clause-same g c =
+    let same = c.pass_lines.ensures.only.same in
+    record {
+      ports = same.ports;
+      peers = same.peers;
+      drops = same.drops;
+      place = same.place;
+      listener = same.listener;
+    }
+
+pub returns-in_err-pass_end-clause-same : goal.returns-in_err-pass_end-clause-same
+returns-in_err-pass_end-clause-same g c = same_twice c.pass_lines.ensures.only.same c.pass_end.ensures.only.same
+
+pub returns-in_err-repair_all-clause-same : goal.returns-in_err-repair_all-clause-same
+returns-in_err-repair_all-clause-same g c =
+    same_twice (same_twice c.pass_lines.ensures.only.same c.pass_end.ensures.only.same) c.repair_all.ensures.only.same
+
+pub returns-clause-same : goal.returns-clause-same
+returns-clause-same g c =
+    let same = same_twice (same_twice c.pass_lines.ensures.only.same c.pass_end.ensures.only.same)
+    c.repair_all.ensures.only.same in
+    record {
+      ports = same.ports;
+      peers = same.peers;
+      drops = same.drops;
+      place = same.place;
+      listener = same.listener;
+    }

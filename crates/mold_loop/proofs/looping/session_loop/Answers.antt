@@ -1,0 +1,55 @@
+use Rattle.std.proofs.Common.{rules, sym}
+use Rattle.mold_loop.specs.Looping.{lines_at}
+use Rattle.mold_loop.specs.Repairing.{rounds_at}
+use Rattle.mold_loop.proofs.LocalFeedLemmas.{ends_a, ends_arbiter, ends_b, ends_outgoing, ends_publisher, ends_requests, ends_server, lines_so}
+use Rattle.mold_loop.proofs.LocalFeedLemmas.{loop_so, rounds_so, sent_so}
+use Rattle.mold_loop.proofs.LoopEndLemmas.{loop_unbegun}
+use Rattle.mold_loop.proofs.PassingLemmas.{loop_sends}
+use Rattle.mold_loop.proofs.looping.session_loop.Goals as goal
+
+pub returns-in_err-place-clause-run : goal.returns-in_err-place-clause-run
+returns-in_err-place-clause-run g c tells =
+    let port = g.D.Datagrams.port in
+    loop_unbegun c.args.reporting c.args.drops c.args.peers.now.a c.args.peers.now.b c.args.peers.now.server c.args.turns c.args.publisher.now
+    c.args.server.now (lines_at port c.args.ports.now c.args.listener.now)
+    (rounds_at port c.args.ports.now c.args.server.now c.args.listener.now) _ c.from_residual.result _
+    c.from_residual.ensures.0
+
+pub returns-clause-run : goal.returns-clause-run
+returns-clause-run g c tells =
+    let port = g.D.Datagrams.port in
+    let feed = c.run.new.self in
+    let ports = sym c.run.ensures.same.ports in
+    let listener = sym c.run.ensures.same.listener in
+    loop_so c.args.reporting c.args.drops c.args.peers.now.a c.args.peers.now.b c.args.peers.now.server c.args.turns
+    c.args.publisher.now c.args.server.now (lines_at port c.args.ports.now c.args.listener.now)
+    (rounds_at port c.args.ports.now c.args.server.now c.args.listener.now) _ c.run.result _ _
+    (lines_at port feed.ports.now feed.listener.now) _
+    (rounds_at port feed.ports.now c.run.new.server feed.listener.now) _
+    (lines_so port feed.ports.now feed.listener.now _ _ _ _ _ (search (rules, ends_publisher)) (search (rules, ends_a))
+    (search (rules, ends_b)) (search (rules, ends_arbiter)) (search (rules, ends_outgoing)))
+    (rounds_so port feed.ports.now c.run.new.server feed.listener.now _ _ _ _ (search (rules, ends_server))
+    (search (rules, ends_requests)) (search (rules, ends_arbiter)) (search (rules, ends_outgoing)))
+    (c.run.ensures.run tells)
+
+pub returns-clause-a : goal.returns-clause-a
+returns-clause-a g c tells =
+    sent_so g.D.Datagrams.port c.args.ports.now.a c.run.new.self.ports.now.a _
+    (let same = sym c.run.ensures.same.ports in search (rules, ends_a)) (c.run.ensures.a tells)
+
+pub returns-clause-b : goal.returns-clause-b
+returns-clause-b g c tells =
+    sent_so g.D.Datagrams.port c.args.ports.now.b c.run.new.self.ports.now.b _
+    (let same = sym c.run.ensures.same.ports in search (rules, ends_b)) (c.run.ensures.b tells)
+
+pub returns-in_err-place-clause-sends : goal.returns-in_err-place-clause-sends
+returns-in_err-place-clause-sends g c tells =
+    loop_sends c.args.reporting c.args.drops c.args.peers.now.a c.args.peers.now.b c.args.peers.now.server c.args.turns
+    c.args.publisher.now c.args.server.now _ _ _ c.from_residual.result _ _ _ _
+    (returns-in_err-place-clause-run g c tells)
+
+pub returns-clause-sends : goal.returns-clause-sends
+returns-clause-sends g c tells =
+    loop_sends c.args.reporting c.args.drops c.args.peers.now.a c.args.peers.now.b c.args.peers.now.server c.args.turns
+    c.args.publisher.now c.args.server.now _ _ _ c.run.result _ _ _ _
+    (returns-clause-run g c tells)

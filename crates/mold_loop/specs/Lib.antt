@@ -1,0 +1,5 @@
+pub mod LocalFeed
+pub mod LoopOver
+pub mod Looping
+pub mod Passing
+pub mod Repairing

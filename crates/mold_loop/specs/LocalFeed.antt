@@ -1,0 +1,59 @@
+-- What a loop in one process works on: how far its lines and its rounds are, and what passing and repairing leave
+-- alone.
+use Rattle.std.specs.Prelude.{◌≡◌, ℕ, Bool, true, List, Result, length}
+use Rattle.mold_ports.specs.Ports.{Port}
+use Rattle.mold_session.specs.Server.{ServerState}
+use Rattle.mold_listen.specs.Listening.{Asking, asking}
+use Rattle.mold_loop.specs.Looping.{HasPassed, LineState, lines_at}
+use Rattle.mold_loop.specs.Repairing.{RepairState, rounds_at}
+use Rattle.mold_loop.specs.declared.local_feed.LocalFeed.{LocalFeed}
+use Rattle.mold_loop.specs.declared.loop_parts.Routes.{Routes}
+use Rattle.mold_wire.specs.declared.limits.TheConstants.{MAX_LIMIT}
+
+-- how far its lines are; `port` says how a port stands
+abbrev pub lines : {D A P : Type 0} → (D → Port P) → LocalFeed D A → LineState P
+lines port feed = lines_at port feed.ports.now feed.listener.now
+
+-- how far its rounds with a server are
+abbrev pub rounds : {D A P : Type 0} → (D → Port P) → ServerState → LocalFeed D A → RepairState P
+rounds port server feed = rounds_at port feed.ports.now server feed.listener.now
+
+-- the part of it that takes answers
+abbrev pub asking_state : {D A P : Type 0} → (D → Port P) → LocalFeed D A → Asking P
+asking_state port feed =
+    asking (port feed.ports.now.requests) feed.listener.now.arbiter feed.listener.now.report.outgoing
+
+-- its place is as long as the longest datagram
+abbrev pub HasPlace : {D A : Type 0} → LocalFeed D A → Type 0
+HasPlace feed = length feed.place.now ≡ MAX_LIMIT
+
+-- it still works on the same ports and listener, for the same peers, leaves the same packets out, and its place is as
+-- long
+pub record IsSame {D A : Type 0} (old new : LocalFeed D A) : Type 0 where
+  pub ports : new.ports.ghost_name ≡ old.ports.ghost_name
+  pub peers : new.peers ≡ old.peers
+  pub drops : new.drops ≡ old.drops
+  pub place : length new.place.now ≡ length old.place.now
+  pub listener : new.listener.ghost_name ≡ old.listener.ghost_name
+
+-- What passing leaves alone: what it works on, and the ports of server and requests. Where ports tell what they sent,
+-- those of the lines sent nothing.
+pub record OnlyPasses {D A P : Type 0} (tells : Bool) (port : D → Port P) (old new : LocalFeed D A) : Type 0 where
+  pub same : IsSame old new
+  pub server : new.ports.now.server ≡ old.ports.now.server
+  pub requests : new.ports.now.requests ≡ old.ports.now.requests
+  pub a : tells ≡ true → (port new.ports.now.a).sent ≡ (port old.ports.now.a).sent
+  pub b : tells ≡ true → (port new.ports.now.b).sent ≡ (port old.ports.now.b).sent
+
+-- what repairing leaves alone: what it works on, and the ports of the publisher and the lines
+pub record OnlyRepairs {D A : Type 0} (old new : LocalFeed D A) : Type 0 where
+  pub same : IsSame old new
+  pub publisher : new.ports.now.publisher ≡ old.ports.now.publisher
+  pub a : new.ports.now.a ≡ old.ports.now.a
+  pub b : new.ports.now.b ≡ old.ports.now.b
+
+-- these datagrams were passed
+abbrev pub Passes : {D P T E : Type 0} → (D → Port P) → List (Routes × List ℕ) → Result T E → LocalFeed D P →
+    LocalFeed D P → Type 0
+Passes port datagrams result old new =
+    HasPassed old.peers.now.a old.peers.now.b datagrams result (lines port old) (lines port new)

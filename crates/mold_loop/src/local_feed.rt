@@ -1,0 +1,299 @@
+//! What a loop in one process works on.
+
+ghost use Rattle.std.specs.Prelude.{◌≡◌, ◌+◌, ◌≤◌, [], ◌∷◌, true, None, Some, Bool, List, length, IfOk, IfSome, OnOk};
+ghost use Rattle.mold_devices.specs.Faults.{CountsCommand, CountsSink};
+ghost use Rattle.mold_devices.specs.Lines.{lines_of};
+ghost use Rattle.mold_listen.specs.Listening.{hear_answers};
+ghost use Rattle.mold_loop.specs.LocalFeed.{HasPlace, IsSame, OnlyPasses, OnlyRepairs, Passes, asking_state, lines};
+ghost use Rattle.mold_loop.specs.LocalFeed.{rounds};
+ghost use Rattle.mold_loop.specs.Looping.{HearsLines, LoopRun, heard_on};
+ghost use Rattle.mold_loop.specs.Passing.{routed, routed_end};
+ghost use Rattle.mold_send.specs.PublishLoop.{left_journal, spelled_some};
+ghost use Rattle.mold_loop.specs.Repairing.{HasRepaired, answers_sent, repaired, repairing, requested, text_before};
+ghost use Rattle.mold_turns.specs.Runs.{RestsOfTwo};
+ghost use Rattle.mold_serve.specs.Serving.{service_of};
+ghost use Rattle.mold_publish.specs.Publishing.{HasRoom, lines_published};
+ghost use Rattle.mold_session.specs.Publisher.{after_datagram, closed, next_datagram};
+
+use crate::hearing::hear_once;
+use crate::loop_parts::{Drops, Listener, LoopPeers, LoopPorts, Routes};
+use crate::looping::{print_last, print_refused};
+use crate::passing::{routes_of, send_on};
+use mold_devices::{CommandFault, Lines, Sink, Source};
+use mold_ports::Datagrams;
+use mold_publish::{Filled, LineRefusal, fill};
+use mold_receiver::Line;
+use mold_session::laws::packing_law;
+use mold_send::publisher_holds;
+use mold_serve::{Responder, Tally};
+use mold_session::{Journal, Publisher, Server};
+use mold_wire::Request;
+use mold_wire::laws::front_law;
+use std::alloc::{AllocError, Global};
+
+/// What a loop in one process works on: its ports, where three of them receive, which data packets are left out, a
+/// place for a datagram, and what it listens with.
+// The peers are lent, as those of `TwoLines` are.
+#[derive(Drop)]
+pub(crate) struct LocalFeed<'a, 'p, D: Datagrams + Drop> {
+    pub(crate) ports: &'a mut LoopPorts<D>,
+    pub(crate) peers: &'p LoopPeers<D::Peer>,
+    pub(crate) drops: Drops,
+    pub(crate) place: &'a mut [u8],
+    pub(crate) listener: &'a mut Listener,
+}
+
+impl<'a, 'p, D: Datagrams + Drop> LocalFeed<'a, 'p, D> {
+    // Takes what comes on the lines that a datagram was sent on.
+    fn hear_on(&mut self, routes: Routes) -> Result<(), AllocError>
+        requires { HasPlace self.old }
+        ensures heard { D.tells ≡ true →
+            OnOk result (lines D.port self.new ≡ heard_on routes (lines D.port self.old)) }
+        ensures publisher { self.new.ports.now.publisher ≡ self.old.ports.now.publisher }
+        ensures only { OnlyPasses D.tells D.port self.old self.new }
+    {
+        if routes.a {
+            let a = &mut self.ports.a;
+            hear_once(a, Some(Line::A), self.place, self.listener)?;
+        }
+        if routes.b {
+            let b = &mut self.ports.b;
+            hear_once(b, Some(Line::B), self.place, self.listener)?;
+        }
+        Ok(())
+    }
+
+    // Sends a datagram on the lines that it goes on, and takes what comes there.
+    fn pass(&mut self, routes: Routes, datagram: &[u8]) -> Result<(), AllocError>
+        requires { HasPlace self.old }
+        ensures passed { D.tells ≡ true → Passes D.port ((routes, datagram.now) ∷ []) result self.old self.new }
+        ensures only { OnlyPasses D.tells D.port self.old self.new }
+    {
+        let port = &mut self.ports.publisher;
+        let sent = send_on(port, self.peers, routes, datagram, self.listener);
+        self.hear_on(sent)
+    }
+
+    // Sends the publisher's next datagram on the lines that it goes on, and takes what comes there. `number` counts
+    // the datagrams.
+    fn pass_next(&mut self, publisher: &mut Publisher, number: &mut u64) -> Result<(), AllocError>
+        requires place { HasPlace self.old }
+        requires few { number.old ≤ publisher.old.sent }
+        ensures counted { number.new ≡ number.old + length (spelled_some (next_datagram publisher.old)) }
+        ensures sent { publisher.new ≡ after_datagram publisher.old }
+        ensures passed { D.tells ≡ true → Passes D.port
+            (routed self.old.drops (number.old + 1) (spelled_some (next_datagram publisher.old)))
+            result self.old self.new }
+        ensures only { OnlyPasses D.tells D.port self.old self.new }
+    {
+        publisher_holds(publisher);
+        let Some(datagram) = publisher.datagram() else {
+            return Ok(());
+        };
+        *number += 1;
+        let routes = routes_of(self.drops, *number);
+        self.pass(routes, datagram)
+    }
+
+    // Publishes the lines of the source, and sends each datagram as soon as the publisher is full, and the rest
+    // after the last line. Answers why a line is refused, where one is.
+    fn pass_lines<S: Source, K: Sink>(
+        &mut self,
+        alloc: Global,
+        publisher: &mut Publisher,
+        source: &mut S,
+        sink: &mut K,
+    ) -> Result<Option<LineRefusal>, CommandFault>
+        requires room { HasRoom publisher.old }
+        requires place { HasPlace self.old }
+        ensures heard { D.tells ≡ true → HearsLines self.old.drops self.old.peers.now.a self.old.peers.now.b
+            publisher.old publisher.new (S.left source.old) result (lines D.port self.old) (lines D.port self.new)
+            (K.held sink.old) (K.held sink.new) }
+        ensures only { OnlyPasses D.tells D.port self.old self.new }
+        ensures all { IfOk result (λ refused. refused ≡ None →
+            publisher.new.sent ≡ length publisher.new.journal.messages) }
+        ensures limit { OnOk result (publisher.new.limit ≡ publisher.old.limit) }
+        ensures failures { CountsCommand (S.failed source.old) (S.failed source.new)
+            (K.failed sink.old) (K.failed sink.new) result }
+    {
+        front_law();
+        packing_law();
+        let mut lines = Lines::new(alloc)?;
+        let mut message = Vec::new(alloc);
+        let mut number = 0;
+        'lines: loop {
+            match fill(publisher, &mut lines, source, &mut message)? {
+                Filled::Full => self.pass_next(publisher, &mut number)?,
+                Filled::End => {
+                    self.pass_next(publisher, &mut number)?;
+                    return Ok(None);
+                }
+                Filled::Refused { why } => return Ok(Some(why)),
+            }
+            self.listener.report.outgoing.send_large(sink)?;
+        }
+    }
+
+    // Closes the session, of which every message was sent, and sends its end packet on both lines.
+    fn pass_end(&mut self, publisher: &mut Publisher) -> Result<(), AllocError>
+        requires place { HasPlace self.old }
+        requires sent { publisher.old.sent ≡ length publisher.old.journal.messages }
+        ensures limit { publisher.new.limit ≡ publisher.old.limit }
+        ensures closed { publisher.new ≡ closed publisher.old }
+        ensures passed { D.tells ≡ true →
+            Passes D.port (routed_end publisher.old.journal None) result self.old self.new }
+        ensures only { OnlyPasses D.tells D.port self.old self.new }
+    {
+        let _ = publisher.close();
+        match publisher.end() {
+            Some(end) => {
+                let routes = Routes { a: true, b: true };
+                self.pass(routes, end)
+            }
+            None => Ok(()),
+        }
+    }
+
+    // Makes so many receives for answers to a request.
+    fn take_answers(&mut self, count: u64) -> Result<(), AllocError>
+        requires { HasPlace self.old }
+        ensures sent { D.tells ≡ true →
+            (D.port self.new.ports.now.requests).sent ≡ (D.port self.old.ports.now.requests).sent }
+        ensures heard { D.tells ≡ true → OnOk result
+            (asking_state D.port self.new ≡ hear_answers count (asking_state D.port self.old)) }
+        ensures server { self.new.ports.now.server ≡ self.old.ports.now.server }
+        ensures only { OnlyRepairs self.old self.new }
+    {
+        for _answer in 0..count {
+            let requests = &mut self.ports.requests;
+            hear_once(requests, None, self.place, self.listener)?;
+        }
+        Ok(())
+    }
+
+    // Lets the server take a turn, in which it answers a request that came to it, and takes the answers.
+    fn repair(
+        &mut self,
+        alloc: Global,
+        server: &mut Server,
+        journal: &Journal,
+    ) -> Result<(), AllocError>
+        requires place { HasPlace self.old }
+        requires longest { journal.now.max_message ≤ server.old.max_message }
+        ensures repaired { D.tells ≡ true → (fails : List Bool) × HasRepaired result (rounds D.port server.new self.new)
+            (repaired (service_of journal.now server.old) fails (rounds D.port server.old self.old)) }
+        ensures server { server.new ≡ record server.old { answered = server.new.answered } }
+        ensures only { OnlyRepairs self.old self.new }
+    {
+        let mut tally = Tally::new(alloc);
+        let mut responder = Responder {
+            port: &mut self.ports.server,
+            server,
+            journal,
+            tally: &mut tally,
+        };
+        responder.take_turn(self.place)?;
+        let answered = responder.tally.answered;
+        let failures = responder.tally.outgoing.failures();
+        self.listener.report.outgoing.count_failures(failures);
+        self.take_answers(answered)
+    }
+
+    // One round: a request goes to the server, and its answers are taken. A request that can't be sent is counted.
+    fn round(
+        &mut self,
+        alloc: Global,
+        server: &mut Server,
+        journal: &Journal,
+        request: &Request,
+    ) -> Result<(), AllocError>
+        requires place { HasPlace self.old }
+        requires longest { journal.now.max_message ≤ server.old.max_message }
+        ensures requested { D.tells ≡ true → (choice : Bool × List Bool) × HasRepaired result
+            (rounds D.port server.new self.new)
+            (requested (Some request.now) self.old.peers.now.server (service_of journal.now server.old) choice
+            (rounds D.port server.old self.old)) }
+        ensures server { server.new ≡ record server.old { answered = server.new.answered } }
+        ensures only { OnlyRepairs self.old self.new }
+    {
+        let to = self.peers.server;
+        if self.ports.requests.send(to, &request.encode()).is_err() {
+            self.listener.report.outgoing.count_failure();
+            return Ok(());
+        }
+        self.repair(alloc, server, journal)
+    }
+
+    // At most so many rounds while something is wanted: a request, and its answers. What is less than a large write
+    // is left to print.
+    fn repair_all<K: Sink>(
+        &mut self,
+        alloc: Global,
+        server: &mut Server,
+        journal: &Journal,
+        turns: u32,
+        sink: &mut K,
+    ) -> Result<(), CommandFault>
+        requires place { HasPlace self.old }
+        requires longest { journal.now.max_message ≤ server.old.max_message }
+        ensures rests { D.tells ≡ true → RestsOfTwo
+            (repairing self.old.peers.now.server (service_of journal.now server.old)) answers_sent text_before turns
+            (rounds D.port server.old self.old) result (K.held sink.old) (K.held sink.new)
+            (rounds D.port server.new self.new) }
+        ensures server { server.new ≡ record server.old { answered = server.new.answered } }
+        ensures only { OnlyRepairs self.old self.new }
+        ensures sink { CountsSink (K.failed sink.old) (K.failed sink.new) result }
+    {
+        for _turn in 0..turns {
+            let Some(request) = self.listener.arbiter.receiver().wanted() else {
+                return Ok(());
+            };
+            self.round(alloc, server, journal, &request)?;
+            self.listener.report.outgoing.send_large(sink)?;
+        }
+        Ok(())
+    }
+
+    /// Passes what is published, repairs what is missing then, prints the last line, behind the reports of the lines
+    /// where they are asked for, and answers the status.
+    pub(crate) fn run<S: Source, K: Sink>(
+        &mut self,
+        alloc: Global,
+        publisher: &mut Publisher,
+        server: &mut Server,
+        turns: u32,
+        reporting: bool,
+        source: &mut S,
+        sink: &mut K,
+    ) -> Result<u8, CommandFault>
+        requires place { HasPlace self.old }
+        requires room { HasRoom publisher.old }
+        requires longest { publisher.old.journal.max_message ≤ server.old.max_message }
+        ensures run { D.tells ≡ true → IfSome (S.left source.old) (λ input.
+            LoopRun reporting self.old.drops self.old.peers.now.a self.old.peers.now.b self.old.peers.now.server
+            turns publisher.old.limit publisher.old.sent (lines_published publisher.old.journal (lines_of input))
+            server.old (lines D.port self.old) (rounds D.port server.old self.old) result
+            (K.held sink.old) (K.held sink.new) (lines D.port self.new) (rounds D.port server.new self.new)) }
+        ensures a { D.tells ≡ true → (D.port self.new.ports.now.a).sent ≡ (D.port self.old.ports.now.a).sent }
+        ensures b { D.tells ≡ true → (D.port self.new.ports.now.b).sent ≡ (D.port self.old.ports.now.b).sent }
+        ensures journal { D.tells ≡ true → OnOk result (IfSome (S.left source.old) (λ input.
+            publisher.new.journal ≡ left_journal (lines_published publisher.old.journal (lines_of input)))) }
+        ensures limit { OnOk result (publisher.new.limit ≡ publisher.old.limit) }
+        ensures server { server.new ≡ record server.old { answered = server.new.answered } }
+        ensures same { IsSame self.old self.new }
+        ensures failures { CountsCommand (S.failed source.old) (S.failed source.new)
+            (K.failed sink.old) (K.failed sink.new) result }
+    {
+        publisher_holds(publisher);
+        let refused = self.pass_lines(alloc, publisher, source, sink)?;
+        if let Some(why) = refused {
+            let number = publisher.journal().next();
+            return print_refused(&mut self.listener.report.outgoing, number, why, sink);
+        }
+        self.pass_end(publisher)?;
+        publisher_holds(publisher);
+        let journal = publisher.journal();
+        self.repair_all(alloc, server, journal, turns, sink)?;
+        print_last(self.listener, reporting, sink)
+    }
+}

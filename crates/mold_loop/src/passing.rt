@@ -1,0 +1,66 @@
+//! What a loop's publisher sends on the lines.
+
+ghost use Rattle.std.specs.Prelude.{◌≡◌, true};
+ghost use Rattle.mold_loop.specs.Looping.{ComesOf, ComesOfBoth};
+ghost use Rattle.mold_loop.specs.Passing.{goes, routes_of};
+
+use crate::loop_parts::{Drops, Listener, LoopPeers, Routes};
+use mold_ports::Datagrams;
+use mold_turns::Outgoing;
+
+// Whether the data packet of this number, the first one's being 1, goes on a line.
+fn goes(left_out: u32, number: u64) -> bool
+    ensures { result ≡ goes left_out number }
+{
+    left_out == 0 || number % u64::from(left_out) != 0
+}
+
+// On which lines the data packet of this number goes.
+pub(crate) fn routes_of(drops: Drops, number: u64) -> Routes
+    ensures { result ≡ routes_of drops number }
+{
+    Routes {
+        a: goes(drops.a, number),
+        b: goes(drops.b, number),
+    }
+}
+
+// Sends a datagram, if it goes there, and counts a failure. Answers whether it was sent.
+fn is_sent<D: Datagrams>(
+    port: &mut D,
+    on: bool,
+    to: D::Peer,
+    datagram: &[u8],
+    outgoing: &mut Outgoing,
+) -> bool
+    ensures comes { D.tells ≡ true →
+        ComesOf on result to datagram.now (D.port port.old) (D.port port.new) outgoing.old outgoing.new }
+{
+    if !on {
+        return false;
+    }
+    if port.send(to, datagram).is_err() {
+        outgoing.count_failure();
+        return false;
+    }
+    true
+}
+
+// Sends a datagram on the lines that it goes on. Answers on which it was sent.
+pub(crate) fn send_on<D: Datagrams>(
+    port: &mut D,
+    peers: &LoopPeers<D::Peer>,
+    routes: Routes,
+    datagram: &[u8],
+    listener: &mut Listener,
+) -> Routes
+    ensures comes { D.tells ≡ true → ComesOfBoth routes result peers.now.a peers.now.b datagram.now
+        (D.port port.old) (D.port port.new) listener.old.report.outgoing listener.new.report.outgoing }
+    ensures arbiter { listener.new.arbiter ≡ listener.old.arbiter }
+{
+    let outgoing = &mut listener.report.outgoing;
+    Routes {
+        a: is_sent(port, routes.a, peers.a, datagram, outgoing),
+        b: is_sent(port, routes.b, peers.b, datagram, outgoing),
+    }
+}

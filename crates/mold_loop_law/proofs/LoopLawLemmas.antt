@@ -1,0 +1,473 @@
+-- From the lines that a loop in one process publishes to the lines that it prints, where its ports give only what was
+-- sent in it.
+use Rattle.std.proofs.Common.{◌≡◌, ℕ, ◌+◌, ◌≤◌, Bool, true, false, List, [], ◌∷◌, ◌++◌, length, map, take, Option, None, Some}
+use Rattle.std.proofs.Common.{Result, inl, refl, sym, ap, subst, ◌∙◌, arith}
+use Rattle.std.specs.Io.KnownBytes.{Appends}
+use Rattle.std.specs.List.{AllByRecursion}
+use Rattle.std.proofs.lemmas.Result.{IfOk-weaker}
+use Rattle.mold_devices.specs.Devices.{AppendsFront}
+use Rattle.mold_feed.specs.Heard.{GivesOnly, PrintsLines, PrintsRefused, Saying, lines_text, sayings_text}
+use Rattle.mold_listen.specs.Listening.{Asking, Hearing, ListenerState, hearing_lines, hearing_status, missed}
+use Rattle.mold_loop.specs.Looping.{Failed, LeftOut, LineState, LoopRun, Outcome, Pass, Sent, StandsBehind}
+use Rattle.mold_loop.specs.Looping.{heard_if, heard_on, lines_behind, loop_end, loop_lines, loop_status, loop_text, offered_by}
+use Rattle.mold_loop.specs.Looping.{outgoing_after, passed, port_after, received_if, rounds_made}
+use Rattle.mold_loop.specs.Looping.{routed_by, sent_by, with_heard}
+use Rattle.mold_turns.specs.Outgoing.{OutgoingState}
+use Rattle.mold_loop_law.specs.Own.{GivesSent, OwnPorts, WasSent}
+use Rattle.mold_loop.specs.Passing.{all_routed, routed, routed_end}
+use Rattle.mold_send.specs.PublishLoop.{after_data, all_datagrams, data_behind}
+use Rattle.mold_loop.specs.Repairing.{RepairState, missed_more, repaired, repairing, requested, round, served}
+use Rattle.mold_turns.specs.Runs.{run}
+use Rattle.mold_feed.specs.Sent.{AllSent, HasLines, HasLinesBefore, IsOpening}
+use Rattle.mold_serve.specs.Serving.{ResponderState, Service, serve_turn, service_of, serving}
+use Rattle.mold_listen.specs.Text.{handed_text}
+use Rattle.mold_loop.specs.declared.loop_parts.Drops.{Drops}
+use Rattle.mold_loop.specs.declared.loop_parts.Routes.{Routes}
+use Rattle.mold_feed.proofs.HeardSayingLemmas.{between_front, text-handing}
+use Rattle.mold_feed.proofs.HeardTakingLemmas.{HasHeard, HearingLaws, IsSound, MayCome, last_number, nothing_heard}
+use Rattle.mold_feed.proofs.HeardTakingLemmas.{then_heard}
+use Rattle.mold_feed.proofs.HeardTurnLemmas.{answers_heard, ends_so, port_heard, rest_gives}
+use Rattle.mold_feed.proofs.LinesPrintedLemmas.{HasCome, prints_lines}
+use Rattle.mold_feed.proofs.LinesTextLemmas.{spelled_length, text_between}
+use Rattle.mold_feed.proofs.SentLemmas.{each_append, each_begun, each_front, each_rest, sent_front, sent_offered, sent_one}
+use Rattle.mold_feed.proofs.OpeningLemmas.{OpeningLaws, begins_at, begins_honest, begins_in, left_by, left_messages}
+use Rattle.mold_feed.proofs.SessionLawLemmas.{none_sent, port_weaker}
+use Rattle.mold_ports.specs.Ports.{Port, offered}
+use Rattle.mold_publish.specs.Publishing.{PublishedLines, lines_published, refused_text}
+use Rattle.mold_publish.specs.declared.line_refusal.LineRefusal.{LineRefusal}
+use Rattle.mold_receiver.specs.Store.{Message}
+use Rattle.mold_receiver.specs.View.{fresh}
+use Rattle.mold_receiver.specs.Wanted.{wanted}
+use Rattle.mold_receiver.specs.declared.line.Line.{Line}
+use Rattle.mold_receiver.specs.declared.line.Line.TheVariants.{A, B}
+use Rattle.mold_session.specs.Answer.{between}
+use Rattle.mold_session.specs.Journal.{JournalState}
+use Rattle.mold_session.specs.Server.{IsServer, ServerState}
+use Rattle.mold_session.specs.Truthful.{MayAnswer, TellsTruth}
+use Rattle.mold_wire.specs.Request.{request_spelling}
+use Rattle.mold_wire.specs.declared.request.Request.{Request}
+
+-- what the laws say that the loop's law stands on
+pub record LoopLaws (P : Type 0) : Type 0 where
+  pub opening : OpeningLaws
+  pub served : (service : Service) (choices : List (List Bool)) (start : ResponderState P) →
+      MayAnswer service.journal service.limit → AllSent (TellsTruth service.journal) start.port.sent →
+      AllSent (TellsTruth service.journal) (run (serving service) choices start).port.sent
+  pub offered : (beats ends limit : ℕ) (journal : JournalState) (lines : List (List ℕ)) → IsOpening journal limit →
+      AllByRecursion (TellsTruth (left_by journal lines))
+      (all_datagrams limit beats ends (lines_published journal lines))
+  pub before : (limit : ℕ) (journal : JournalState) (lines : List (List ℕ)) (why : LineRefusal) →
+      IsOpening journal limit → (lines_published journal lines).refused ≡ Some why →
+      HasLinesBefore lines why (lines_published journal lines).journal
+  pub hearing : HearingLaws
+
+-- ---- what the publisher's port sends
+
+-- all datagrams of some are such
+abbrev AllRouted : (List ℕ → Type 0) → List (Routes × List ℕ) → Type 0
+AllRouted Good datagrams = AllByRecursion (λ datagram. Good datagram.1) datagrams
+
+abbrev AllPassed : (List ℕ → Type 0) → List Pass → Type 0
+AllPassed Good passes = AllByRecursion (λ pass. Good pass.datagram) passes
+
+data_routed : (Good : List ℕ → Type 0) (drops : Drops) (number : ℕ) (datagrams : List (List ℕ)) →
+    AllByRecursion Good datagrams → AllRouted Good (routed drops number datagrams)
+data_routed Good drops number [] each = tt
+data_routed Good drops number (datagram ∷ datagrams) each =
+    (each.0, data_routed Good drops (number + 1) datagrams each.1)
+
+-- a loop sends no heartbeat, and its end once
+end_routed : (Good : List ℕ → Type 0) (refused : Option LineRefusal) (journal : JournalState) →
+    AllByRecursion Good (after_data 0 1 journal refused) → AllRouted Good (routed_end journal refused)
+end_routed Good None journal each = (each.0, tt)
+end_routed Good (Some why) journal each = tt
+
+published_routed : (Good : List ℕ → Type 0) (drops : Drops) (limit : ℕ) (published : PublishedLines) →
+    AllByRecursion Good (all_datagrams limit 0 1 published) → AllRouted Good (all_routed drops limit 0 published)
+published_routed Good drops limit published each =
+    let front : List (List ℕ) = data_behind limit 0 published in
+    let ends : List (List ℕ) = after_data 0 1 published.journal published.refused in
+    each_append (λ (datagram : Routes × List ℕ). Good datagram.1) (routed drops 1 front)
+    (routed_end published.journal published.refused)
+    (data_routed Good drops 1 front (each_front Good front ends each))
+    (end_routed Good published.refused published.journal (each_rest Good front ends each))
+
+-- so are those of the passes
+routed_passed : (Good : List ℕ → Type 0) (passes : List Pass) → AllRouted Good (map routed_by passes) →
+    AllPassed Good passes
+routed_passed Good [] each = tt
+routed_passed Good (pass ∷ passes) each = (each.0, routed_passed Good passes each.1)
+
+outcome_sends : {P : Type 0} (Good : List ℕ → Type 0) (outcome : Outcome) (to : P) (bytes : List ℕ) (port : Port P) →
+    AllSent Good port.sent → Good bytes → AllSent Good (port_after outcome to bytes port).sent
+outcome_sends Good LeftOut to bytes port all one = all
+outcome_sends Good Failed to bytes port all one = all
+outcome_sends Good Sent to bytes port all one = sent_offered Good false to bytes port all one
+
+passes_send : {P : Type 0} (Good : List ℕ → Type 0) (a b : P) (passes : List Pass) (s : LineState P) →
+    AllPassed Good passes → AllSent Good s.publisher.sent → AllSent Good (lines_behind a b passes s).publisher.sent
+unfolding run passed
+passes_send Good a b [] s each all = all
+passes_send Good a b (pass ∷ passes) s each all =
+    passes_send Good a b passes (passed a b pass s) each.1
+    (outcome_sends Good pass.b b pass.datagram (port_after pass.a a pass.datagram s.publisher)
+    (outcome_sends Good pass.a a pass.datagram s.publisher all each.0) each.0)
+
+-- behind the first of the passes
+behind_sends : {P : Type 0} (Good : List ℕ → Type 0) (a b : P) (passes : List Pass) (s : LineState P) (left : Port P) →
+    StandsBehind a b passes s left → AllPassed Good passes → AllSent Good s.publisher.sent → AllSent Good left.sent
+behind_sends {P} Good a b passes s left stands each all =
+    subst (λ (port : Port P). AllSent Good port.sent) (sym stands.port)
+    (passes_send Good a b stands.front s
+    (each_begun (λ (pass : Pass). Good pass.datagram) stands.front passes stands.begins each) all)
+
+-- ---- what the server's port sends
+
+module _ {P : Type 0} (Good : List ℕ → Type 0) (to : P) (service : Service)
+    (serves : (fails : List Bool) (responder : ResponderState P) → AllSent Good responder.port.sent →
+    AllSent Good (serve_turn service fails responder).port.sent) where
+  requested_sends : (wish : Option Request) (choice : Bool × List Bool) (s : RepairState P) →
+      AllSent Good s.server.sent → AllSent Good (requested wish to service choice s).server.sent
+  requested_sends None choice s all = all
+  requested_sends (Some request) (true, fails) s all = all
+  requested_sends (Some request) (false, fails) s all = serves fails _ all
+
+  rounds_send : (choices : List (Bool × List Bool)) (s : RepairState P) → AllSent Good s.server.sent →
+      AllSent Good (run (repairing to service) choices s).server.sent
+  unfolding run round
+  rounds_send [] s all = all
+  rounds_send (choice ∷ choices) s all =
+      rounds_send choices (round to service choice s)
+      (requested_sends (wanted s.hearing.arbitration.view) choice s all)
+
+-- no round is made where a line is refused
+made_sends : {P : Type 0} (Good : List ℕ → Type 0) (to : P) (service : Service) (refused : Option LineRefusal)
+    (choices : List (Bool × List Bool)) (s : RepairState P) →
+    (refused ≡ None → (fails : List Bool) (responder : ResponderState P) → AllSent Good responder.port.sent →
+    AllSent Good (serve_turn service fails responder).port.sent) → AllSent Good s.server.sent →
+    AllSent Good (rounds_made refused to service choices s).server.sent
+made_sends Good to service None choices s serves all = rounds_send Good to service (serves refl) choices s all
+made_sends Good to service (Some why) choices s serves all = all
+
+-- ---- what is heard
+
+-- what was heard, and what the ports of the lines still give
+record HeardLines {P : Type 0} (journal : JournalState) (Plain : Type 0) (Good : List ℕ → Type 0) (old : Hearing)
+    (new : LineState P) : Type 0 where
+  heard : HasHeard journal Plain Good old new.hearing
+  a : GivesOnly Good new.a
+  b : GivesOnly Good new.b
+
+-- what was heard, and what the port of requests still gives
+record HeardRounds {P : Type 0} (journal : JournalState) (Plain : Type 0) (Good : List ℕ → Type 0) (old : Hearing)
+    (new : RepairState P) : Type 0 where
+  heard : HasHeard journal Plain Good old new.hearing
+  gives : GivesOnly Good new.requests
+
+gives_if : {P : Type 0} (Good : List ℕ → Type 0) (receives : Bool) (port : Port P) → GivesOnly Good port →
+    GivesOnly Good (received_if receives port)
+gives_if Good true port gives = rest_gives Good port.comes gives
+gives_if Good false port gives = gives
+
+-- a send prints nothing
+outcome_text : (outcome : Outcome) (outgoing : OutgoingState) → (outgoing_after outcome outgoing).text ≡ outgoing.text
+outcome_text LeftOut outgoing = refl
+outcome_text Failed outgoing = refl
+outcome_text Sent outgoing = refl
+
+module _ (journal : JournalState) (Plain : Type 0) (Good : List ℕ → Type 0) (laws : HearingLaws)
+    (may : MayCome journal Plain Good) where
+  -- ---- a pass
+
+  line_heard : {P : Type 0} (receives : Bool) (line : Line) (port : Port P) (e : Hearing) → IsSound journal e →
+      GivesOnly Good port → HasHeard journal Plain Good e (heard_if receives line port e)
+  line_heard true line port e sound gives = port_heard journal Plain Good laws may (Some line) port e sound gives
+  line_heard false line port e sound gives = nothing_heard journal Plain Good e e sound refl refl
+
+  lines_heard : {P : Type 0} (lines : Routes) (s : LineState P) → IsSound journal s.hearing → GivesOnly Good s.a →
+      GivesOnly Good s.b → HeardLines journal Plain Good s.hearing (heard_on lines s)
+  lines_heard lines s sound a b =
+      let mid : Hearing = heard_if lines.a A s.a s.hearing in
+      let on_a = line_heard lines.a A s.a s.hearing sound a in
+      let on_b = line_heard lines.b B s.b mid on_a.sound b in
+      record {
+        heard = then_heard journal Plain Good s.hearing mid (heard_on lines s).hearing sound on_a on_b;
+        a = gives_if Good lines.a s.a a;
+        b = gives_if Good lines.b s.b b;
+      }
+
+  pass_heard : {P : Type 0} (a b : P) (pass : Pass) (s : LineState P) → IsSound journal s.hearing →
+      GivesOnly Good s.a → GivesOnly Good s.b → HeardLines journal Plain Good s.hearing (passed a b pass s)
+  unfolding passed
+  pass_heard {P} a b pass s sound on_a on_b =
+      let mid : LineState P = offered_by a b pass s in
+      let same : mid.hearing.outgoing.text ≡ s.hearing.outgoing.text =
+      outcome_text pass.b (outgoing_after pass.a s.hearing.outgoing) ∙ outcome_text pass.a s.hearing.outgoing in
+      let offers = nothing_heard journal Plain Good s.hearing mid.hearing sound refl same in
+      let hears = lines_heard (sent_by pass) mid offers.sound on_a on_b in
+      record {
+        heard =
+            then_heard journal Plain Good s.hearing mid.hearing (heard_on (sent_by pass) mid).hearing sound offers
+            hears.heard;
+        a = hears.a;
+        b = hears.b;
+      }
+
+  passes_heard : {P : Type 0} (a b : P) (passes : List Pass) (s : LineState P) → IsSound journal s.hearing →
+      GivesOnly Good s.a → GivesOnly Good s.b → HasHeard journal Plain Good s.hearing (lines_behind a b passes s).hearing
+  unfolding run
+  passes_heard a b [] s sound on_a on_b = nothing_heard journal Plain Good s.hearing s.hearing sound refl refl
+  passes_heard {P} a b (pass ∷ passes) s sound on_a on_b =
+      let after : LineState P = passed a b pass s in
+      let one = pass_heard a b pass s sound on_a on_b in
+      then_heard journal Plain Good s.hearing after.hearing (lines_behind a b passes after).hearing sound one.heard
+      (passes_heard a b passes after one.heard.sound one.a one.b)
+
+  -- ---- a round
+
+  repaired_heard : {P : Type 0} (service : Service) (fails : List Bool) (s : RepairState P) → IsSound journal s.hearing →
+      GivesOnly Good s.requests → HeardRounds journal Plain Good s.hearing (repaired service fails s)
+  repaired_heard {P} service fails s sound gives =
+      let tally = (served service fails s).tally in
+      let mid : Hearing = missed_more tally.outgoing.failures s.hearing in
+      let before : Asking P = record { port = s.requests; hearing = mid } in
+      let same = nothing_heard journal Plain Good s.hearing mid sound refl refl in
+      let answers = answers_heard journal Plain Good laws may tally.answered before same.sound gives in
+      record {
+        heard =
+            then_heard journal Plain Good s.hearing mid (repaired service fails s).hearing sound same answers.heard;
+        gives = answers.gives;
+      }
+
+  requested_heard : {P : Type 0} (wish : Option Request) (to : P) (service : Service) (choice : Bool × List Bool)
+      (s : RepairState P) → IsSound journal s.hearing → GivesOnly Good s.requests →
+      HeardRounds journal Plain Good s.hearing (requested wish to service choice s)
+  requested_heard None to service choice s sound gives = record {
+    heard = nothing_heard journal Plain Good s.hearing s.hearing sound refl refl;
+    gives = gives;
+  }
+  requested_heard (Some request) to service (true, fails) s sound gives = record {
+    heard = nothing_heard journal Plain Good s.hearing (missed s.hearing) sound refl refl;
+    gives = gives;
+  }
+  requested_heard (Some request) to service (false, fails) s sound gives =
+      repaired_heard service fails
+      (record {
+        server = s.server;
+        requests = offered false to (request_spelling request) s.requests;
+        answered = s.answered;
+        hearing = s.hearing;
+      })
+      sound gives
+
+  rounds_heard : {P : Type 0} (to : P) (service : Service) (choices : List (Bool × List Bool)) (s : RepairState P) →
+      IsSound journal s.hearing → GivesOnly Good s.requests →
+      HasHeard journal Plain Good s.hearing (run (repairing to service) choices s).hearing
+  unfolding run round
+  rounds_heard to service [] s sound gives = nothing_heard journal Plain Good s.hearing s.hearing sound refl refl
+  rounds_heard {P} to service (choice ∷ choices) s sound gives =
+      let after : RepairState P = round to service choice s in
+      let one = requested_heard (wanted s.hearing.arbitration.view) to service choice s sound gives in
+      then_heard journal Plain Good s.hearing after.hearing (run (repairing to service) choices after).hearing sound
+      one.heard
+      (rounds_heard to service choices after one.heard.sound one.gives)
+
+  made_heard : {P : Type 0} (refused : Option LineRefusal) (to : P) (service : Service)
+      (choices : List (Bool × List Bool)) (s : RepairState P) → IsSound journal s.hearing → GivesOnly Good s.requests →
+      HasHeard journal Plain Good s.hearing (rounds_made refused to service choices s).hearing
+  made_heard None to service choices s sound gives = rounds_heard to service choices s sound gives
+  made_heard (Some why) to service choices s sound gives =
+      nothing_heard journal Plain Good s.hearing s.hearing sound refl refl
+
+-- ---- a loop
+
+-- a server that may have messages as long as the journal's answers from it
+pub server_may : (laws : OpeningLaws) (limit : ℕ) (journal : JournalState) (lines : List (List ℕ)) (server : ServerState) →
+    IsOpening journal limit → IsServer server → journal.max_message ≤ server.max_message →
+    MayAnswer (left_by journal lines) server.limit
+server_may laws limit journal lines server opening serves longest =
+    laws.answers limit server.limit journal lines opening serves.limited (omega (arith, longest, serves.longest))
+
+-- what was sent is true, so is what a port gives of it
+gives_true : {P : Type 0} (Good : List ℕ → Type 0) (sent : List (P × List ℕ)) (port : Port P) → AllSent Good sent →
+    GivesSent sent port → GivesOnly Good port
+gives_true Good sent port all gives =
+    port_weaker (WasSent sent) Good (λ bytes was. sent_one Good sent was.to bytes all was.among) port gives
+
+module _ {P : Type 0} (laws : LoopLaws P) (reporting : Bool) (drops : Drops) (a b to : P) (turns limit : ℕ)
+    (journal : JournalState) (lines : List (List ℕ)) (server : ServerState) (start start_left : LineState P) (rounds rounds_left : RepairState P)
+    {E : Type 0} (result : Result ℕ E) (old new : Option (List ℕ)) (opening : IsOpening journal limit)
+    (may : (lines_published journal lines).refused ≡ None → MayAnswer (left_by journal lines) server.limit)
+    (own : OwnPorts start start_left rounds rounds_left)
+    (ran : LoopRun reporting drops a b to turns limit 0 (lines_published journal lines) server start rounds result old new
+    start_left rounds_left) where
+  abbrev published : PublishedLines
+  published = lines_published journal lines
+
+  abbrev left : JournalState
+  left = left_by journal lines
+
+  abbrev Good : List ℕ → Type 0
+  Good = TellsTruth left
+
+  -- all that was heard at the end
+  abbrev end : Hearing
+  end = (loop_end a b to published server ran.passes ran.choices start rounds).hearing
+
+  publisher_true : AllSent Good start_left.publisher.sent
+  publisher_true =
+      behind_sends Good a b ran.passes start start_left.publisher ran.offers
+      (routed_passed Good ran.passes
+      (subst (λ (datagrams : List (Routes × List ℕ)). AllRouted Good datagrams) (sym ran.are)
+      (published_routed Good drops limit published (laws.offered 0 1 limit journal lines opening))))
+      (none_sent Good start.publisher.sent own.publisher)
+
+  turn_true : published.refused ≡ None → (fails : List Bool) (responder : ResponderState P) →
+      AllSent Good responder.port.sent → AllSent Good (serve_turn (service_of left server) fails responder).port.sent
+  unfolding run
+  turn_true unrefused fails responder all =
+      laws.served (service_of left server) (fails ∷ []) responder (may unrefused) all
+
+  server_true : AllSent Good rounds_left.server.sent
+  server_true =
+      let whole = loop_end a b to published server ran.passes ran.choices start rounds in
+      sent_front Good rounds_left.server.sent whole.server.sent ran.answers
+      (made_sends Good to (service_of left server) published.refused ran.choices
+      (with_heard (lines_behind a b ran.passes start).hearing rounds) turn_true
+      (none_sent Good rounds.server.sent own.server))
+
+  -- an honest listener has heard only the truth
+  hears_true : IsSound left start.hearing → HasHeard left (Unit {0}) Good start.hearing end
+  hears_true sound =
+      let comes : MayCome left (Unit {0}) Good =
+      record { harmless = λ bytes told. inl told; told = λ is_plain bytes told. told } in
+      let mid : Hearing = (lines_behind a b ran.passes start).hearing in
+      let on_lines = passes_heard left (Unit {0}) Good laws.hearing comes a b ran.passes start sound
+      (gives_true Good start_left.publisher.sent start.a publisher_true own.a)
+      (gives_true Good start_left.publisher.sent start.b publisher_true own.b) in
+      then_heard left (Unit {0}) Good start.hearing mid end sound on_lines
+      (made_heard left (Unit {0}) Good laws.hearing comes published.refused to (service_of left server) ran.choices
+      (with_heard mid rounds) on_lines.sound
+      (gives_true Good rounds_left.server.sent rounds.requests server_true own.requests))
+
+  -- ---- a new listener
+
+  module _ (first window : ℕ) (least : 1 ≤ first) (most : first ≤ length left.messages + 1)
+      (anew : start.hearing.arbitration.view ≡ fresh journal.session first window)
+      (blank : start.hearing.outgoing.text ≡ []) where
+    begins : start.hearing.arbitration.view.next ≡ first
+    begins = begins_at laws.opening limit journal lines opening first window least most start.hearing.arbitration anew
+
+    sound : IsSound left start.hearing
+    sound = record {
+      honest =
+          begins_honest laws.opening limit journal lines opening first window least most start.hearing.arbitration anew;
+      session = begins_in laws.opening limit journal lines opening first window least most start.hearing.arbitration anew;
+    }
+
+    done : HasHeard left (Unit {0}) Good start.hearing end
+    done = hears_true sound
+
+    from : first ≤ end.arbitration.view.next
+    from = omega (arith, begins, done.from)
+
+    within : end.arbitration.view.next ≤ length left.messages + 1
+    within = last_number left end done.sound
+
+    text_is : end.outgoing.text ≡ handed_text first (between left.messages first end.arbitration.view.next)
+    text_is =
+        let next : ℕ = end.arbitration.view.next in
+        done.text
+        ∙ ap (λ (text : List ℕ). text ++ sayings_text done.sayings) blank
+        ∙ ap (λ (sayings : List Saying). sayings_text sayings) (done.plain tt)
+        ∙ text-handing start.hearing.arbitration.view.next
+        (between left.messages start.hearing.arbitration.view.next next)
+        ∙ ap (λ (n : ℕ). handed_text n (between left.messages n next)) begins
+
+    -- where a line is refused
+
+    module _ (why : LineRefusal) (refused : published.refused ≡ Some why) where
+      abbrev count : ℕ
+      count = length published.journal.messages
+
+      same : left.messages ≡ published.journal.messages
+      same = left_messages journal lines
+
+      before : HasLinesBefore lines why published.journal
+      before = laws.before limit journal lines why opening refused
+
+      refused_is : end.outgoing.text ≡ lines_text first (between lines first end.arbitration.view.next)
+      refused_is =
+          let next : ℕ = end.arbitration.view.next in
+          text_is
+          ∙ ap (λ (messages : List Message). handed_text first (between messages first next)) same
+          ∙ text_between (take count lines) published.journal.messages first next before.spelled
+          ∙ ap (lines_text first) (between_front lines count first next least from
+          (let most_of = ap (λ (messages : List Message). length messages) same in omega (arith, most_of, within)))
+
+      -- the last lines and the status are those of the refusal
+      all_is : loop_text reporting published end
+          ≡ lines_text first (between lines first end.arbitration.view.next) ++ refused_text (count + 1) why
+      all_is =
+          ap (λ (text : List ℕ). text ++ loop_lines reporting published.journal published.refused end) refused_is
+          ∙ ap (λ (r : Option LineRefusal).
+          lines_text first (between lines first end.arbitration.view.next) ++ loop_lines reporting published.journal r end) refused
+
+      two_is : loop_status published.refused end ≡ 2
+      two_is = ap (λ (r : Option LineRefusal). loop_status r end) refused
+
+      pub loop_prints_refused : PrintsRefused lines (count + 1) why first result old new
+      loop_prints_refused = record {
+        next = end.arbitration.view.next;
+        from = from;
+        to = let most_of = ap (λ (messages : List Message). length messages) same in omega (arith, most_of, within);
+        text =
+            IfOk-weaker result _ _
+            (λ answer written.
+            (written.1 ∙ two_is, subst (λ (text : List ℕ). Appends old new text) all_is written.0))
+            ran.whole;
+        front = subst (λ (text : List ℕ). AppendsFront old new text) all_is ran.front;
+      }
+
+    -- where none is
+
+    module _ (unrefused : published.refused ≡ None) where
+      spelled : HasLines lines left
+      spelled = laws.opening.lines limit journal lines opening unrefused
+
+      -- the last lines and the status are a listener's
+      line_is : loop_lines reporting published.journal published.refused end ≡ hearing_lines reporting end
+      line_is = ap (λ (refused : Option LineRefusal). loop_lines reporting published.journal refused end) unrefused
+
+      status_is : loop_status published.refused end ≡ hearing_status end
+      status_is = ap (λ (refused : Option LineRefusal). loop_status refused end) unrefused
+
+      abbrev ending : ListenerState P
+      ending = record { a = start.a; b = start.b; requests = rounds.requests; hearing = end }
+
+      comes : HasCome reporting lines first ending result old new
+      comes =
+          let many : length lines ≡ length left.messages = spelled_length lines left.messages spelled.spelled in
+          record {
+            whole =
+                IfOk-weaker result _ _
+                (λ answer written. (
+                  subst (λ (line : List ℕ). Appends old new (end.outgoing.text ++ line)) line_is written.0,
+                  written.1 ∙ status_is,
+                ))
+                ran.whole;
+            front = subst (λ (line : List ℕ). AppendsFront old new (end.outgoing.text ++ line)) line_is ran.front;
+            from = from;
+            to = omega (arith, many, within);
+            ahead = done.sound.honest.well_formed.ahead;
+            heard = omega (arith, many, done.sound.honest.known);
+            all = λ over.
+                let is = (done.sound.honest.ends end.arbitration.view.next
+                (ends_so end.arbitration.view.ended end.arbitration.view.next over)).1 in
+                omega (arith, many, is);
+          }
+
+      pub loop_prints_lines : PrintsLines reporting lines first result old new
+      loop_prints_lines =
+          prints_lines comes
+          (text_is ∙ text_between lines left.messages first end.arbitration.view.next spelled.spelled)

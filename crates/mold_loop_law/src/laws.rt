@@ -1,0 +1,58 @@
+//! From the lines that are published to the lines that are printed, by a loop in one process: what holds of the
+//! definitions that its contract names. The law is a function that does nothing: its contract is the law.
+
+ghost use Rattle.std.specs.Prelude.{◌≡◌, ◌+◌, ◌≤◌, Bool, List, [], None, Option, Result, Some, length, ℕ};
+ghost use Rattle.mold_devices.specs.declared.fault.CommandFault.{CommandFault};
+ghost use Rattle.mold_feed.specs.Heard.{PrintsLines, PrintsRefused};
+ghost use Rattle.mold_feed.specs.Sent.{IsOpening};
+ghost use Rattle.mold_loop.specs.Looping.{LineState, LoopRun};
+ghost use Rattle.mold_loop.specs.Repairing.{RepairState};
+ghost use Rattle.mold_loop.specs.declared.loop_parts.Drops.{Drops};
+ghost use Rattle.mold_loop_law.specs.Own.{OwnPorts};
+ghost use Rattle.mold_publish.specs.Publishing.{lines_published};
+ghost use Rattle.mold_publish.specs.declared.line_refusal.LineRefusal.{LineRefusal};
+ghost use Rattle.mold_receiver.specs.View.{fresh};
+ghost use Rattle.mold_session.specs.Journal.{JournalState};
+ghost use Rattle.mold_session.specs.Server.{IsServer, ServerState};
+
+use mold_feed::laws::{published_law, served_law};
+use mold_ports::Datagrams;
+use mold_receiver::laws::{honest_stays_law, honest_take_law, taken_law};
+use mold_wire::laws::reading_law;
+
+/// From the lines that are published to the lines that are printed, by a loop in one process. Lines are published
+/// into a session that begins; the listener is a new one that begins at a message that will be published or is next.
+/// Nothing is supposed of the ports but that they give what was sent in the loop (`OwnPorts`). Where no line is
+/// refused, and the server may have messages as long as the journal's, the loop prints the published lines behind
+/// their numbers, from that one on, and with status 0 they are all of them. Where a line is refused, no server is
+/// asked: it prints lines before that one, and then the refusal. After a fault it printed a beginning of such a text.
+/// Reports of the two lines stand only where they are asked for, and only before the last line.
+pub fn loop_law<D: Datagrams>()
+    ensures printed { (reporting : Bool) (drops : Drops) (a b to : D.Peer) (turns limit first window : ℕ)
+        (journal : JournalState) (lines : List (List ℕ)) (server : ServerState) (start start_left : LineState D.Peer)
+        (rounds rounds_left : RepairState D.Peer) (result : Result ℕ CommandFault) (old new : Option (List ℕ)) →
+        IsOpening journal limit → (lines_published journal lines).refused ≡ None →
+        IsServer server → journal.max_message ≤ server.max_message →
+        1 ≤ first → first ≤ length lines + 1 → start.hearing.arbitration.view ≡ fresh journal.session first window →
+        start.hearing.outgoing.text ≡ [] → OwnPorts start start_left rounds rounds_left →
+        LoopRun reporting drops a b to turns limit 0 (lines_published journal lines) server start rounds result old new
+        start_left rounds_left → PrintsLines reporting lines first result old new }
+    ensures refused { (reporting : Bool) (drops : Drops) (a b to : D.Peer) (turns limit first window : ℕ)
+        (journal : JournalState) (lines : List (List ℕ)) (why : LineRefusal) (server : ServerState)
+        (start start_left : LineState D.Peer) (rounds rounds_left : RepairState D.Peer)
+        (result : Result ℕ CommandFault) (old new : Option (List ℕ)) →
+        IsOpening journal limit → (lines_published journal lines).refused ≡ Some why →
+        1 ≤ first → first ≤ length (lines_published journal lines).journal.messages + 1 →
+        start.hearing.arbitration.view ≡ fresh journal.session first window →
+        start.hearing.outgoing.text ≡ [] → OwnPorts start start_left rounds rounds_left →
+        LoopRun reporting drops a b to turns limit 0 (lines_published journal lines) server start rounds result old new
+        start_left rounds_left →
+        PrintsRefused lines (length (lines_published journal lines).journal.messages + 1) why first result old new }
+{
+    published_law::<D>();
+    served_law::<D>();
+    honest_stays_law();
+    honest_take_law();
+    taken_law();
+    reading_law();
+}

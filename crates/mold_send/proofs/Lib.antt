@@ -1,0 +1,2 @@
+pub mod PublishLoopLemmas
+pub mod SendingLemmas

@@ -1,0 +1,202 @@
+-- What a publisher whose messages are the lines of a source sends on two lines, prints and saves.
+use Rattle.std.specs.Prelude.{◌≡◌, ◌⊎◌, ℕ, ◌+◌, Bool, true, false, List, []}
+use Rattle.std.specs.Prelude.{◌∷◌, ◌++◌, codes, decimal, length, map, replicate}
+use Rattle.std.specs.Prelude.{Option, None, Some, Result, Ok, Err, IfOk, OnOk, IfSome}
+use Rattle.std.specs.Io.KnownBytes.{Appends}
+use Rattle.mold_wire.specs.Block.{blocks}
+use Rattle.mold_wire.specs.Packet.{spelling_of}
+use Rattle.mold_wire.specs.declared.packet.Packet.{Packet}
+use Rattle.mold_wire.specs.declared.packet.Body.TheVariants.{Heartbeat}
+use Rattle.mold_devices.specs.Devices.{AppendsFront, one_more}
+use Rattle.mold_devices.specs.Lines.{lines_of}
+use Rattle.mold_devices.specs.declared.fault.CommandFault.{CommandFault}
+use Rattle.mold_devices.specs.declared.fault.CommandFault.TheVariants.{Read, Write, Memory}
+use Rattle.mold_ports.specs.Ports.{Port, offered}
+use Rattle.mold_session.specs.File.{AppendsFile, head_2}
+use Rattle.mold_session.specs.Journal.{JournalState}
+use Rattle.mold_session.specs.Publisher.{PublisherState}
+use Rattle.mold_text.specs.Line.{line_of}
+use Rattle.mold_turns.specs.Outgoing.{OutgoingState, failed_once, nothing_out}
+use Rattle.mold_turns.specs.Runs.{Begins}
+use Rattle.mold_send.specs.declared.publication.Publication.{Publication}
+use Rattle.mold_send.specs.declared.sending.TwoLines.{TwoLines}
+use Rattle.mold_publish.specs.Sending.{all_but_last, end_packet, packets_behind}
+use Rattle.mold_publish.specs.Publishing.{packed_status, PublishedLines, lines_published, refused_text}
+use Rattle.mold_publish.specs.declared.line_refusal.LineRefusal.{LineRefusal}
+
+-- a port, and what goes out beside its datagrams
+pub record PublicationState (P : Type 0) : Type 0 where
+  pub port : Port P
+  pub outgoing : OutgoingState
+
+abbrev pub publication_of : {P : Type 0} → Port P → OutgoingState → PublicationState P
+publication_of port outgoing = record { port = port; outgoing = outgoing }
+
+-- one failure more where a send fails
+abbrev pub failed_after : Bool → OutgoingState → OutgoingState
+failed_after true outgoing = failed_once outgoing
+failed_after false outgoing = outgoing
+
+-- the publication after a send
+abbrev pub offer : {P : Type 0} → Bool → P → List ℕ → PublicationState P → PublicationState P
+offer fails to bytes publication = record {
+  port = offered fails to bytes publication.port;
+  outgoing = failed_after fails publication.outgoing;
+}
+
+-- the datagrams are offered, each to whom it is for, one after the other; which sends fail is free
+abbrev pub Sends : {P : Type 0} → List (P × List ℕ) → PublicationState P → PublicationState P → Type 0
+Sends [] old new = new ≡ old
+Sends (letter ∷ letters) old new = (fails : Bool) × Sends letters (offer fails letter.0 letter.1 old) new
+
+-- each datagram to a and then to b
+abbrev pub both : {P : Type 0} → P → P → List (List ℕ) → List (P × List ℕ)
+both a b [] = []
+both a b (datagram ∷ datagrams) = (a, datagram) ∷ (b, datagram) ∷ both a b datagrams
+
+-- how far what sends on two lines is; `port` says how a port stands
+abbrev pub lines_state : {D A P : Type 0} → (D → Port P) → TwoLines D A → PublicationState P
+lines_state port lines = publication_of (port lines.port.now) lines.outgoing.now
+
+-- it sends datagrams on both, one after the other
+abbrev pub SendsBoth : {D P : Type 0} → (D → Port P) → List (List ℕ) → TwoLines D P → TwoLines D P → Type 0
+SendsBoth port datagrams old new =
+    Sends (both old.a.now old.b.now datagrams) (lines_state port old) (lines_state port new)
+
+-- it still sends from the same port to the same two
+pub record IsSameLines {D A : Type 0} (old new : TwoLines D A) : Type 0 where
+  pub port : new.port.ghost_name ≡ old.port.ghost_name
+  pub a : new.a ≡ old.a
+  pub b : new.b ≡ old.b
+  pub outgoing : new.outgoing.ghost_name ≡ old.outgoing.ghost_name
+
+-- so does a publication, with the same publisher
+pub record IsSame {D A : Type 0} (old new : Publication D A) : Type 0 where
+  pub publisher : new.publisher.ghost_name ≡ old.publisher.ghost_name
+  pub lines : IsSameLines old.lines new.lines
+
+-- the datagram of a packet, where there is one
+abbrev pub spelled_some : Option Packet → List (List ℕ)
+spelled_some None = []
+spelled_some (Some packet) = spelling_of packet ∷ []
+
+-- the data packets of the messages behind the first ones; all but the last where the line after the
+-- messages is refused
+abbrev pub packets_to_send : ℕ → ℕ → JournalState → Option LineRefusal → List Packet
+packets_to_send limit sent journal None = packets_behind limit sent journal
+packets_to_send limit sent journal (Some why) = all_but_last (packets_behind limit sent journal)
+
+-- their datagrams
+abbrev pub data_behind : ℕ → ℕ → PublishedLines → List (List ℕ)
+data_behind limit sent published =
+    map spelling_of (packets_to_send limit sent published.journal published.refused)
+
+-- the heartbeat of a session whose messages are all sent
+abbrev pub beat_packet : JournalState → Packet
+beat_packet journal = record { session = journal.session; sequence = length journal.messages + 1; body = Heartbeat }
+
+-- so many heartbeats, and then so many end packets
+abbrev pub close_datagrams : ℕ → ℕ → JournalState → List (List ℕ)
+close_datagrams beats ends journal =
+    replicate beats (spelling_of (beat_packet journal)) ++ replicate ends (spelling_of (end_packet journal))
+
+-- what is offered after the data: nothing where a line is refused
+abbrev pub after_data : ℕ → ℕ → JournalState → Option LineRefusal → List (List ℕ)
+after_data beats ends journal None = close_datagrams beats ends journal
+after_data beats ends journal (Some why) = []
+
+-- all datagrams that are offered
+abbrev pub all_datagrams : ℕ → ℕ → ℕ → PublishedLines → List (List ℕ)
+all_datagrams limit beats ends published =
+    data_behind limit 0 published ++ after_data beats ends published.journal published.refused
+
+-- the last line: how many messages, data datagrams and failed sends there were
+abbrev pub published_line : ℕ → ℕ → ℕ → List ℕ
+published_line messages datagrams failed = line_of
+    (codes "published" ∷ decimal messages ∷ codes "datagrams" ∷ decimal datagrams
+    ∷ codes "failed" ∷ decimal failed ∷ [])
+
+-- the text: the last line, or the line of the refusal
+abbrev pub report_text : JournalState → Option LineRefusal → ℕ → ℕ → List ℕ
+report_text journal None datagrams failed = published_line (length journal.messages) datagrams failed
+report_text journal (Some why) datagrams failed = refused_text (length journal.messages + 1) why
+
+abbrev pub published_text : ℕ → PublishedLines → ℕ → List ℕ
+published_text limit published failed =
+    report_text published.journal published.refused (length (data_behind limit 0 published)) failed
+
+-- the file of the closed journal; nothing where a line is refused
+abbrev pub saved_bytes : JournalState → Option LineRefusal → List ℕ
+saved_bytes journal None = head_2 journal.session.0 true (length journal.messages) ++ blocks journal.messages
+saved_bytes journal (Some why) = []
+
+-- the journal that is left: closed, unless a line is refused
+abbrev pub closed_unless : Option LineRefusal → JournalState → JournalState
+closed_unless None journal = record journal { closed = true }
+closed_unless (Some why) journal = journal
+
+abbrev pub left_journal : PublishedLines → JournalState
+left_journal published = closed_unless published.refused published.journal
+
+-- known bytes grew by that file, and stay where a line is refused
+abbrev pub Saves : JournalState → Option LineRefusal → Option (List ℕ) → Option (List ℕ) → Type 0
+Saves journal None old new = AppendsFile old new journal.session journal.messages true
+Saves journal (Some why) old new = new ≡ old
+
+-- The lines of the input were published, and their data offered: of what is known of the input, `front` is
+-- what was offered. At an answer that is all the data, and the answer is why the line after the messages is
+-- refused; after a fault it is a beginning.
+pub record SendsLines {P E : Type 0} (a b : P) (start now : PublisherState) (known : Option (List ℕ))
+    (result : Result (Option LineRefusal) E) (old new : PublicationState P) (count : ℕ) : Type 0 where
+  pub front : List (List ℕ)
+  pub sends : Sends (both a b front) old new
+  pub counted : OnOk result (count ≡ length front)
+  pub begins : IfSome known (λ input.
+      Begins front (data_behind start.limit start.sent (lines_published start.journal (lines_of input))))
+  pub whole : IfOk result (λ refused. IfSome known (λ input.
+      (data_behind start.limit start.sent (lines_published start.journal (lines_of input)) ≡ front)
+      × (lines_published start.journal (lines_of input) ≡ record { journal = now.journal; refused = refused })))
+
+-- a publication does so, and counts the datagrams
+abbrev pub SendsInput : {D P E : Type 0} → (D → Port P) → Option (List ℕ) → Result (Option LineRefusal) E →
+    Publication D P → Publication D P → Type 0
+SendsInput port known result old new =
+    SendsLines old.lines.a.now old.lines.b.now old.publisher.now new.publisher.now known result
+    (lines_state port old.lines) (lines_state port new.lines) new.datagrams
+
+-- What publishing the lines of an input leaves. All its datagrams are offered to a and then to b, from the port
+-- as it was, with some choice of which sends fail, and `end` is the publication after them. At an answer the port
+-- stands so, the text and the journal's file are written, and the answer is the status; after a fault what was
+-- sent, written and saved are beginnings of these.
+pub record PublishRun {P : Type 0} (a b : P) (beats ends limit : ℕ) (published : PublishedLines)
+    (result : Result ℕ CommandFault) (before after : Port P) (text_old text_new file_old file_new : Option (List ℕ)) :
+    Type 0 where
+  pub end : PublicationState P
+  pub sends : Sends (both a b (all_datagrams limit beats ends published)) (publication_of before nothing_out) end
+  pub port : OnOk result (after ≡ end.port)
+  pub text : IfOk result (λ status.
+      Appends text_old text_new (published_text limit published end.outgoing.failures)
+      × (status ≡ packed_status published.refused))
+  pub file : OnOk result (Saves published.journal published.refused file_old file_new)
+  pub sent_front : Begins after.sent end.port.sent
+  pub text_front : AppendsFront text_old text_new (published_text limit published end.outgoing.failures)
+  pub file_front : AppendsFront file_old file_new (saved_bytes published.journal published.refused)
+
+-- which counts rise with which fault: the source's with `Read`, that of one of the two sinks with `Write`, none
+-- with `Memory`
+abbrev pub CountsPublishFault : ℕ → ℕ → ℕ → ℕ → ℕ → ℕ → CommandFault → Type 0
+CountsPublishFault source_old source_new sink_old sink_new file_old file_new Read =
+    (source_new ≡ one_more source_old) × (sink_new ≡ sink_old) × (file_new ≡ file_old)
+CountsPublishFault source_old source_new sink_old sink_new file_old file_new Write =
+    (source_new ≡ source_old)
+    × (((sink_new ≡ one_more sink_old) × (file_new ≡ file_old))
+    ⊎ ((sink_new ≡ sink_old) × (file_new ≡ one_more file_old)))
+CountsPublishFault source_old source_new sink_old sink_new file_old file_new Memory =
+    (source_new ≡ source_old) × (sink_new ≡ sink_old) × (file_new ≡ file_old)
+
+-- none rises with an answer
+abbrev pub CountsPublish : {T : Type 0} → ℕ → ℕ → ℕ → ℕ → ℕ → ℕ → Result T CommandFault → Type 0
+CountsPublish source_old source_new sink_old sink_new file_old file_new (Ok _) =
+    (source_new ≡ source_old) × (sink_new ≡ sink_old) × (file_new ≡ file_old)
+CountsPublish source_old source_new sink_old sink_new file_old file_new (Err fault) =
+    CountsPublishFault source_old source_new sink_old sink_new file_old file_new fault

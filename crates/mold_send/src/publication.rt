@@ -1,0 +1,214 @@
+//! What publishes a session on two lines.
+
+ghost use Rattle.std.specs.Prelude.{◌≡◌, ◌+◌, ◌≤◌, [], true, false, None, length, replicate, IfErr, IfOk, IfSome, OnOk};
+ghost use Rattle.mold_devices.specs.Devices.{AppendsFront, Counts};
+ghost use Rattle.mold_devices.specs.Faults.{CountsRead};
+ghost use Rattle.mold_devices.specs.Lines.{lines_of};
+ghost use Rattle.mold_turns.specs.Outgoing.{nothing_out, with_more};
+ghost use Rattle.mold_send.specs.PublishLoop.{CountsPublish, IsSame, PublishRun, SendsBoth, SendsInput, beat_packet};
+ghost use Rattle.mold_send.specs.PublishLoop.{close_datagrams, published_line, left_journal, saved_bytes, spelled_some};
+ghost use Rattle.mold_publish.specs.Publishing.{HasRoom, lines_published, refused_text};
+ghost use Rattle.mold_publish.specs.Sending.{end_packet};
+ghost use Rattle.mold_session.specs.File.{AppendsFile};
+ghost use Rattle.mold_session.specs.Publisher.{after_datagram, closed, next_datagram};
+ghost use Rattle.mold_wire.specs.Packet.{spelling_of};
+
+use crate::sending::{TwoLines, publisher_holds};
+use mold_devices::{CommandFault, Lines, ReadFault, Sink, Source};
+use mold_ports::Datagrams;
+use mold_publish::{Filled, LineRefusal, fill, push_line_refused};
+use mold_session::laws::packing_law;
+use mold_session::{Journal, Publisher};
+use mold_text::Word;
+use mold_turns::Outgoing;
+use mold_wire::laws::{front_law, packet_length_law};
+use std::alloc::{AllocError, Global};
+
+// Saves the journal.
+fn save_journal<K: Sink>(journal: &Journal, sink: &mut K) -> Result<(), CommandFault>
+    ensures whole { OnOk result (AppendsFile (K.held sink.old) (K.held sink.new)
+        journal.now.session journal.now.messages journal.now.closed) }
+    ensures front { journal.now.closed ≡ true →
+        AppendsFront (K.held sink.old) (K.held sink.new) (saved_bytes journal.now None) }
+    ensures fault { IfErr result (λ fault. fault ≡ CommandFault.Write) }
+    ensures failures { Counts (K.failed sink.old) (K.failed sink.new) result }
+{
+    match journal.save(sink) {
+        Ok(()) => Ok(()),
+        Err(_) => Err(CommandFault::Write),
+    }
+}
+
+/// Adds why the line of this number is refused, the first line's being 1.
+pub fn print_line_refused(
+    outgoing: &mut Outgoing,
+    number: u64,
+    why: LineRefusal,
+) -> Result<(), AllocError>
+    ensures { OnOk result (outgoing.new ≡ with_more (refused_text number why) outgoing.old) }
+{
+    push_line_refused(&mut outgoing.text, number, why)
+}
+
+// Adds the last line.
+fn push_published(outgoing: &mut Outgoing, messages: u64, datagrams: u64) -> Result<(), AllocError>
+    ensures { OnOk result
+        (outgoing.new ≡ with_more (published_line messages datagrams outgoing.old.failures) outgoing.old) }
+{
+    let words = [
+        Word::Text(b"published"),
+        Word::Number(messages),
+        Word::Text(b"datagrams"),
+        Word::Number(datagrams),
+        Word::Text(b"failed"),
+        Word::Number(outgoing.failures()),
+    ];
+    outgoing.push_line(&words)
+}
+
+/// What publishes: a publisher, the lines that its datagrams are sent on, and how many of data were sent, each counted
+/// once.
+#[derive(Drop)]
+pub(crate) struct Publication<'a, 'p, D: Datagrams> {
+    pub(crate) publisher: &'a mut Publisher,
+    pub(crate) lines: TwoLines<'a, 'p, D>,
+    pub(crate) datagrams: u64,
+}
+
+impl<'a, 'p, D: Datagrams> Publication<'a, 'p, D> {
+    // Sends the publisher's next datagram on both lines, and counts it once; nothing where every message was put in
+    // one.
+    fn send_next(&mut self)
+        requires { self.old.datagrams ≤ self.old.publisher.now.sent }
+        ensures sends { D.tells ≡ true →
+            SendsBoth D.port (spelled_some (next_datagram self.old.publisher.now)) self.old.lines self.new.lines }
+        ensures counted { self.new.datagrams
+            ≡ self.old.datagrams + length (spelled_some (next_datagram self.old.publisher.now)) }
+        ensures sent { self.new.publisher.now ≡ after_datagram self.old.publisher.now }
+        ensures same { IsSame self.old self.new }
+    {
+        publisher_holds(self.publisher);
+        if let Some(datagram) = self.publisher.datagram() {
+            self.lines.send_both(datagram);
+            self.datagrams += 1;
+        }
+    }
+
+    // Publishes line after line of the source, and sends each datagram as soon as the publisher is full, and the
+    // rest after the last line. Answers why a line is refused, where one is.
+    fn send_lines<S: Source>(
+        &mut self,
+        alloc: Global,
+        source: &mut S,
+    ) -> Result<Option<LineRefusal>, ReadFault>
+        requires room { HasRoom self.old.publisher.now }
+        requires none { self.old.datagrams ≡ 0 }
+        ensures sends { D.tells ≡ true → SendsInput D.port (S.left source.old) result self.old self.new }
+        ensures all { IfOk result (λ refused. refused ≡ None →
+            self.new.publisher.now.sent ≡ length self.new.publisher.now.journal.messages) }
+        ensures same { IsSame self.old self.new }
+        ensures failures { CountsRead (S.failed source.old) (S.failed source.new) result }
+    {
+        front_law();
+        packing_law();
+        let mut lines = Lines::new(alloc)?;
+        let mut message = Vec::new(alloc);
+        'lines: loop {
+            match fill(self.publisher, &mut lines, source, &mut message)? {
+                Filled::Full => self.send_next(),
+                Filled::End => {
+                    self.send_next();
+                    return Ok(None);
+                }
+                Filled::Refused { why } => return Ok(Some(why)),
+            }
+        }
+    }
+
+    // Sends the publisher's heartbeat so often.
+    fn send_beats(&mut self, beats: u32)
+        requires sent { self.old.publisher.now.sent ≡ length self.old.publisher.now.journal.messages }
+        ensures sends { D.tells ≡ true → self.old.publisher.now.journal.closed ≡ false → SendsBoth D.port
+            (replicate beats (spelling_of (beat_packet self.old.publisher.now.journal))) self.old.lines self.new.lines }
+        ensures publisher { self.new.publisher ≡ self.old.publisher }
+        ensures datagrams { self.new.datagrams ≡ self.old.datagrams }
+        ensures same { IsSame self.old self.new }
+    {
+        if let Some(beat) = self.publisher.heartbeat() {
+            self.lines.send_often(beat, beats);
+        }
+    }
+
+    // Sends the end packet of a closed publisher so often.
+    fn send_ends(&mut self, ends: u32)
+        requires closed { self.old.publisher.now.journal.closed ≡ true }
+        ensures sends { D.tells ≡ true → SendsBoth D.port
+            (replicate ends (spelling_of (end_packet self.old.publisher.now.journal))) self.old.lines self.new.lines }
+        ensures publisher { self.new.publisher ≡ self.old.publisher }
+        ensures datagrams { self.new.datagrams ≡ self.old.datagrams }
+        ensures same { IsSame self.old self.new }
+    {
+        if let Some(end) = self.publisher.end() {
+            self.lines.send_often(end, ends);
+        }
+    }
+
+    // Sends so many heartbeats of a publisher whose messages are all sent, closes the session, and sends so
+    // many end packets, each to `a` and then to `b`.
+    fn send_close(&mut self, beats: u32, ends: u32)
+        requires { self.old.publisher.now.sent ≡ length self.old.publisher.now.journal.messages }
+        ensures sends { D.tells ≡ true → self.old.publisher.now.journal.closed ≡ false → SendsBoth D.port
+            (close_datagrams beats ends self.old.publisher.now.journal) self.old.lines self.new.lines }
+        ensures closed { self.new.publisher.now ≡ closed self.old.publisher.now }
+        ensures datagrams { self.new.datagrams ≡ self.old.datagrams }
+        ensures same { IsSame self.old self.new }
+    {
+        self.send_beats(beats);
+        let _ = self.publisher.close();
+        self.send_ends(ends);
+    }
+
+    /// Publishes the lines of the source as messages of an open publisher that has none, and sends them. Then it sends
+    /// so many heartbeats and end packets, saves the journal in `journal_sink`, prints the last line, and answers the
+    /// status: 0, or 2 where a line is refused, which is printed in place of all that is behind it.
+    pub(crate) fn publish<S: Source, K: Sink, J: Sink>(
+        &mut self,
+        alloc: Global,
+        beats: u32,
+        ends: u32,
+        source: &mut S,
+        sink: &mut K,
+        journal_sink: &mut J,
+    ) -> Result<u8, CommandFault>
+        requires unclosed { self.old.publisher.now.journal.closed ≡ false }
+        requires empty { self.old.publisher.now.journal.messages ≡ [] }
+        requires unsent { self.old.datagrams ≡ 0 }
+        requires quiet { self.old.lines.outgoing.now ≡ nothing_out }
+        ensures run { D.tells ≡ true → IfSome (S.left source.old) (λ input. PublishRun
+            self.old.lines.a.now self.old.lines.b.now
+            beats ends self.old.publisher.now.limit (lines_published self.old.publisher.now.journal (lines_of input))
+            result (D.port self.old.lines.port.now) (D.port self.new.lines.port.now)
+            (K.held sink.old) (K.held sink.new) (J.held journal_sink.old) (J.held journal_sink.new)) }
+        ensures journal { IfOk result (λ _. D.tells ≡ true → IfSome (S.left source.old) (λ input.
+            self.new.publisher.now.journal
+            ≡ left_journal (lines_published self.old.publisher.now.journal (lines_of input)))) }
+        ensures same { IsSame self.old self.new }
+        ensures failures { CountsPublish (S.failed source.old) (S.failed source.new) (K.failed sink.old)
+            (K.failed sink.new) (J.failed journal_sink.old) (J.failed journal_sink.new) result }
+    {
+        publisher_holds(self.publisher);
+        packet_length_law();
+        if let Some(why) = self.send_lines(alloc, source)? {
+            let number = self.publisher.journal().next();
+            print_line_refused(self.lines.outgoing, number, why)?;
+            self.lines.outgoing.send(sink)?;
+            return Ok(2);
+        }
+        self.send_close(beats, ends);
+        save_journal(self.publisher.journal(), journal_sink)?;
+        let messages = self.publisher.journal().next() - 1;
+        push_published(self.lines.outgoing, messages, self.datagrams)?;
+        self.lines.outgoing.send(sink)?;
+        Ok(0)
+    }
+}

@@ -1,0 +1,58 @@
+//! A publisher whose messages are the lines of a source, on two lines.
+
+ghost use Rattle.std.specs.Prelude.{◌≡◌, [], true, false, IfOk, IfSome};
+ghost use Rattle.mold_devices.specs.Lines.{lines_of};
+ghost use Rattle.mold_send.specs.PublishLoop.{CountsPublish, PublishRun, left_journal};
+ghost use Rattle.mold_publish.specs.Publishing.{lines_published};
+
+use crate::publication::Publication;
+use crate::sending::TwoLines;
+use mold_devices::{CommandFault, Sink, Source};
+use mold_ports::Datagrams;
+use mold_session::Publisher;
+use mold_turns::Outgoing;
+use std::alloc::Global;
+
+/// Publishes the lines of the source as messages of an open publisher that has none. Each datagram is sent to
+/// `a` and then to `b`, as soon as the publisher is full and after the last line; then so many heartbeats,
+/// and once the session is closed so many end packets. The journal is saved in `journal_sink`, and a last
+/// line tells how many messages, data datagrams (each counted once) and failed sends there were, up to
+/// `u64::MAX` of the latter. The status is 0. A failed send is counted and the loop goes on. Where a line is
+/// refused, nothing that is not yet sent is sent, nothing is saved, the line of the refusal is the text,
+/// and the status is 2. `Read` and `Write` come only where the source or a sink failed.
+pub fn publish_loop<D: Datagrams, S: Source, K: Sink, J: Sink>(
+    alloc: Global,
+    port: &mut D,
+    a: D::Peer,
+    b: D::Peer,
+    publisher: &mut Publisher,
+    beats: u32,
+    ends: u32,
+    source: &mut S,
+    sink: &mut K,
+    journal_sink: &mut J,
+) -> Result<u8, CommandFault>
+    requires unclosed { publisher.old.journal.closed ≡ false }
+    requires empty { publisher.old.journal.messages ≡ [] }
+    ensures run { D.tells ≡ true → IfSome (S.left source.old) (λ input. PublishRun a b beats ends publisher.old.limit
+        (lines_published publisher.old.journal (lines_of input)) result (D.port port.old) (D.port port.new)
+        (K.held sink.old) (K.held sink.new) (J.held journal_sink.old) (J.held journal_sink.new)) }
+    ensures journal { IfOk result (λ _. D.tells ≡ true → IfSome (S.left source.old) (λ input.
+        publisher.new.journal ≡ left_journal (lines_published publisher.old.journal (lines_of input)))) }
+    ensures failures { CountsPublish (S.failed source.old) (S.failed source.new) (K.failed sink.old)
+        (K.failed sink.new) (J.failed journal_sink.old) (J.failed journal_sink.new) result }
+{
+    let mut outgoing = Outgoing::new(alloc);
+    let lines = TwoLines {
+        port,
+        a: &a,
+        b: &b,
+        outgoing: &mut outgoing,
+    };
+    let mut publication = Publication {
+        publisher,
+        lines,
+        datagrams: 0,
+    };
+    publication.publish(alloc, beats, ends, source, sink, journal_sink)
+}

@@ -1,0 +1,23 @@
+use Rattle.std.proofs.Common.{◌≡◌, true}
+use Rattle.mold_serve.specs.Answering.{left_of}
+use Rattle.mold_serve.specs.Serving.{IsSame, service, state}
+use Rattle.mold_serve.proofs.AnsweringLemmas.{Offering}
+use Rattle.mold_serve.proofs.responder.Responder.offer_all.Given as goal
+
+-- some packets were offered, and those that the plan still sends are left
+abbrev pub invariant-packets : goal.invariant-packets
+invariant-packets g l = record {
+  offered :
+      g.D.Datagrams.tells ≡ true →
+      Offering l.fn.to
+      (left_of (service l.fn.self) l.fn.plan)
+      (left_of (service l.fn.self) l.plan)
+      (state g.D.Datagrams.port l.fn.self)
+      (state g.D.Datagrams.port l.self);
+  session : l.plan.session ≡ l.fn.plan.session;
+  to : l.plan.to ≡ l.fn.plan.to;
+  same : IsSame l.fn.self l.self;
+}
+
+abbrev pub decreases-packets : goal.decreases-packets
+decreases-packets g l = l.plan.left

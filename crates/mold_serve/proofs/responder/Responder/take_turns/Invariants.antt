@@ -1,0 +1,21 @@
+use Rattle.std.proofs.Common.{◌≡◌, true, length}
+use Rattle.mold_serve.specs.Serving.{IsSame, behind, service, serving, state}
+use Rattle.mold_turns.proofs.RunLemmas.{Going}
+use Rattle.mold_serve.proofs.responder.Responder.take_turns.Given as goal
+use Rattle.mold_wire.specs.declared.limits.TheConstants.{MAX_LIMIT}
+
+-- so many turns were made, and the run goes on from here
+abbrev pub invariant-loop-turn : goal.invariant-loop-turn
+invariant-loop-turn g l = record {
+  going :
+      g.D.Datagrams.tells ≡ true →
+      Going (serving (service l.fn.self)) behind
+      (state g.D.Datagrams.port l.fn.self)
+      (g.K.Sink.held l.fn.sink)
+      (g.K.Sink.held l.sink)
+      l._turn
+      (state g.D.Datagrams.port l.self);
+  same : IsSame l.fn.self l.self;
+  place : length l.place ≡ MAX_LIMIT;
+  sink : g.K.Sink.failed l.sink ≡ g.K.Sink.failed l.fn.sink;
+}

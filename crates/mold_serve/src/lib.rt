@@ -1,0 +1,10 @@
+//! Serving over a port: requests for the messages of a journal, answered or refused.
+#![tactic(auto)]
+
+mod responder;
+mod serving;
+mod tally;
+
+pub use responder::Responder;
+pub use serving::{answer_request, serve_loop};
+pub use tally::Tally;

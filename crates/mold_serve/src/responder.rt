@@ -1,0 +1,152 @@
+//! What answers requests that come by a port.
+
+ghost use Rattle.std.specs.Prelude.{◌≡◌, ◌+◌, ◌≤◌, ◌<◌, true, List, Bool, length, IfOk, MatchResult};
+ghost use Rattle.mold_devices.specs.Faults.{CountsSink};
+ghost use Rattle.mold_serve.specs.Answering.{OffersNext, OffersOne, Reaches, left_of};
+ghost use Rattle.mold_turns.specs.Runs.{Ran, Rests};
+ghost use Rattle.mold_serve.specs.Serving.{IsSame, MayAnswer, behind, offer_all, replied, reply, serve_turn, service};
+ghost use Rattle.mold_serve.specs.Serving.{served_by, serving, state};
+ghost use Rattle.mold_serve.specs.Tally.{served_line};
+ghost use Rattle.mold_wire.specs.declared.limits.TheConstants.{MAX_LIMIT};
+
+use crate::tally::Tally;
+use mold_devices::{CommandFault, Sink};
+use mold_ports::Datagrams;
+use mold_session::laws::{answer_not_empty_law, answered_law, planned_law};
+use mold_session::{Journal, Plan, Server};
+use std::alloc::AllocError;
+
+/// What answers requests: the port that they come by, the server and its journal, and what was printed and counted.
+#[derive(Drop)]
+pub struct Responder<'a, D> {
+    pub port: &'a mut D,
+    pub server: &'a mut Server,
+    pub journal: &'a Journal,
+    pub tally: &'a mut Tally,
+}
+
+impl<'a, D: Datagrams> Responder<'a, D> {
+    // Offers the next datagram of a plan to who asked, and answers whether there was one.
+    fn offer_next(&mut self, plan: &mut Plan, to: D::Peer) -> Result<bool, AllocError>
+        requires longest { MayAnswer self.old }
+        requires session { plan.old.session ≡ self.old.journal.now.session }
+        requires to { plan.old.to ≤ length self.old.journal.now.messages + 1 }
+        ensures offered { D.tells ≡ true → MatchResult result
+            (λ more. OffersNext to result more
+            (left_of (service self.old) plan.old) (left_of (service self.old) plan.new)
+            (state D.port self.old) (state D.port self.new))
+            (λ _. OffersOne to result
+            (left_of (service self.old) plan.old) (left_of (service self.old) plan.new)
+            (state D.port self.old) (state D.port self.new)) }
+        ensures less { IfOk result (λ more. more ≡ true → plan.new.left < plan.old.left) }
+        ensures session { plan.new.session ≡ plan.old.session }
+        ensures to { plan.new.to ≡ plan.old.to }
+        ensures same { IsSame self.old self.new }
+    {
+        planned_law();
+        answer_not_empty_law();
+        let sequence = plan.from();
+        let Some(datagram) = self.server.datagram(self.journal, plan) else {
+            return Ok(false);
+        };
+        match self.port.send(to, datagram) {
+            Ok(()) => self.tally.add_answered(sequence, plan.from() - sequence)?,
+            Err(_) => self.tally.add_failed(),
+        }
+        Ok(true)
+    }
+
+    // Offers all datagrams of a plan to who asked, one after the other.
+    fn offer_all(&mut self, plan: &mut Plan, to: D::Peer) -> Result<(), AllocError>
+        requires longest { MayAnswer self.old }
+        requires session { plan.old.session ≡ self.old.journal.now.session }
+        requires to { plan.old.to ≤ length self.old.journal.now.messages + 1 }
+        ensures offered { D.tells ≡ true → (fails : List Bool) × Reaches result (state D.port self.new)
+            (offer_all to (left_of (service self.old) plan.old) fails (state D.port self.old)) }
+        ensures same { IsSame self.old self.new }
+    {
+        'packets: while self.offer_next(plan, to)? {}
+        Ok(())
+    }
+
+    /// Answers a request by datagrams to who asked, or refuses it, and prints and counts what became of it. Each
+    /// datagram is offered once; a send that fails is counted. After an error, which is want of memory, a part of it
+    /// was done.
+    pub(crate) fn answer(&mut self, from: D::Peer, request: &[u8]) -> Result<(), AllocError>
+        requires { MayAnswer self.old }
+        ensures replied { D.tells ≡ true → (fails : List Bool) × Reaches result (state D.port self.new)
+            (replied from fails (reply (service self.old) request.now) (state D.port self.old)) }
+        ensures same { IsSame self.old self.new }
+    {
+        answered_law();
+        match self.server.plan(self.journal, request) {
+            Ok(mut plan) => self.offer_all(&mut plan, from),
+            Err(why) => self.tally.add_refused(why),
+        }
+    }
+
+    /// Makes a turn: one receive, and what it gave is met. `place` has `MAX_LIMIT` bytes.
+    pub fn take_turn(&mut self, place: &mut [u8]) -> Result<(), AllocError>
+        requires longest { MayAnswer self.old }
+        requires place { length place.old ≡ MAX_LIMIT }
+        ensures turn { D.tells ≡ true → (fails : List Bool) × Reaches result (state D.port self.new)
+            (serve_turn (service self.old) fails (state D.port self.old)) }
+        ensures same { IsSame self.old self.new }
+    {
+        match self.port.receive(place) {
+            Ok(Some((len, from))) => self.answer(from, &place[..len]),
+            Ok(None) => {
+                self.tally.add_quiet();
+                Ok(())
+            }
+            Err(_) => {
+                self.tally.add_failed();
+                Ok(())
+            }
+        }
+    }
+
+    // Makes the turns, and writes the text where much of it came together.
+    fn take_turns<K: Sink>(
+        &mut self,
+        turns: u64,
+        place: &mut [u8],
+        sink: &mut K,
+    ) -> Result<(), CommandFault>
+        requires longest { MayAnswer self.old }
+        requires place { length place.old ≡ MAX_LIMIT }
+        ensures rests { D.tells ≡ true → Rests (serving (service self.old)) behind turns (state D.port self.old)
+            result (K.held sink.old) (K.held sink.new) (state D.port self.new) }
+        ensures same { IsSame self.old self.new }
+        ensures sink { CountsSink (K.failed sink.old) (K.failed sink.new) result }
+    {
+        for _turn in 0..turns {
+            self.take_turn(place)?;
+            self.tally.outgoing.send_large(sink)?;
+        }
+        Ok(())
+    }
+
+    /// Makes the turns, prints the last line, and answers the status, which is 0. `place` has `MAX_LIMIT` bytes.
+    pub(crate) fn serve<K: Sink>(
+        &mut self,
+        turns: u64,
+        place: &mut [u8],
+        sink: &mut K,
+    ) -> Result<u8, CommandFault>
+        requires longest { MayAnswer self.old }
+        requires place { length place.old ≡ MAX_LIMIT }
+        ensures run { D.tells ≡ true → Ran (serving (service self.old)) turns
+            (state D.port self.old) (λ responder. served_line responder.tally) (λ responder. 0)
+            (λ responder. (D.port self.new.port.now ≡ responder.port)
+            × (self.new.server.now ≡ served_by self.old.server.now responder))
+            result (K.held sink.old) (K.held sink.new) (D.port self.new.port.now).sent }
+        ensures same { IsSame self.old self.new }
+        ensures sink { CountsSink (K.failed sink.old) (K.failed sink.new) result }
+    {
+        self.take_turns(turns, place, sink)?;
+        self.tally.push_last()?;
+        self.tally.outgoing.send(sink)?;
+        Ok(0)
+    }
+}

@@ -1,0 +1,108 @@
+//! What a serving has printed and counted.
+
+ghost use Rattle.std.specs.Prelude.{◌≡◌, OnOk};
+ghost use Rattle.mold_devices.specs.Devices.{one_more};
+ghost use Rattle.mold_turns.specs.Outgoing.{with_more};
+ghost use Rattle.mold_serve.specs.Tally.{served_line, no_tally, with_answered, with_failed, with_outgoing};
+ghost use Rattle.mold_serve.specs.Tally.{request_refused_text, with_quiet, with_refused};
+
+use mold_refusals::push_answer_refusal;
+use mold_session::AnswerError;
+use mold_text::Word;
+use mold_turns::Outgoing;
+use std::alloc::{AllocError, Global};
+
+/// What a serving has printed and counted. The counts stay at 18446744073709551615.
+#[derive(Drop)]
+pub struct Tally {
+    /// The text, and how many sends and receives failed.
+    pub outgoing: Outgoing,
+    /// How many datagrams were sent as answers.
+    pub answered: u64,
+    /// How many requests were refused.
+    pub refused: u64,
+    /// How many receives gave nothing.
+    pub quiet: u64,
+}
+
+impl Tally {
+    /// Nothing is printed or counted. It takes no memory yet.
+    pub fn new(alloc: Global) -> Tally
+        ensures { result ≡ no_tally }
+    {
+        Tally {
+            outgoing: Outgoing::new(alloc),
+            answered: 0,
+            refused: 0,
+            quiet: 0,
+        }
+    }
+
+    // Prints and counts a datagram that was sent as an answer, by its header's numbers.
+    pub(crate) fn add_answered(&mut self, sequence: u64, count: u64) -> Result<(), AllocError>
+        ensures { OnOk result (self.new ≡ with_answered sequence count self.old) }
+    {
+        let words = [
+            Word::Text(b"answered"),
+            Word::Number(sequence),
+            Word::Number(count),
+        ];
+        self.outgoing.push_line(&words)?;
+        add_one(&mut self.answered);
+        Ok(())
+    }
+
+    // Prints and counts a refused request.
+    pub(crate) fn add_refused(&mut self, why: AnswerError) -> Result<(), AllocError>
+        ensures { OnOk result (self.new ≡ with_refused why self.old) }
+    {
+        push_request_refused(&mut self.outgoing, why)?;
+        add_one(&mut self.refused);
+        Ok(())
+    }
+
+    // Counts a receive that gave nothing.
+    pub(crate) fn add_quiet(&mut self)
+        ensures { self.new ≡ with_quiet self.old }
+    {
+        add_one(&mut self.quiet);
+    }
+
+    // Counts a send or a receive that failed.
+    pub(crate) fn add_failed(&mut self)
+        ensures { self.new ≡ with_failed self.old }
+    {
+        self.outgoing.count_failure();
+    }
+
+    // Prints the last line.
+    pub(crate) fn push_last(&mut self) -> Result<(), AllocError>
+        ensures { OnOk result (self.new ≡ with_outgoing (with_more (served_line self.old) self.old.outgoing) self.old) }
+    {
+        let words = [
+            Word::Text(b"answered"),
+            Word::Number(self.answered),
+            Word::Text(b"refused"),
+            Word::Number(self.refused),
+            Word::Text(b"quiet"),
+            Word::Number(self.quiet),
+            Word::Text(b"failed"),
+            Word::Number(self.outgoing.failures()),
+        ];
+        self.outgoing.push_line(&words)
+    }
+}
+
+// Adds why a request is refused.
+fn push_request_refused(outgoing: &mut Outgoing, why: AnswerError) -> Result<(), AllocError>
+    ensures { OnOk result (outgoing.new ≡ with_more (request_refused_text why) outgoing.old) }
+{
+    push_answer_refusal(&mut outgoing.text, &[Word::Text(b"refused")], why)
+}
+
+// Adds one to a count, up to 18446744073709551615.
+fn add_one(number: &mut u64)
+    ensures { number.new ≡ one_more number.old }
+{
+    *number = number.saturating_add(1);
+}

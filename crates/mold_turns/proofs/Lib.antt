@@ -1,0 +1,4 @@
+pub mod FaultLemmas
+pub mod OutgoingLemmas
+pub mod PrintingLemmas
+pub mod RunLemmas

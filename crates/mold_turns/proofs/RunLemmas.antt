@@ -1,0 +1,468 @@
+-- What is shown once for every loop that goes by turns. A loop keeps `Going`; each of its ends has a lemma.
+use Rattle.std.proofs.Common.{◌≡◌, ℕ, ◌+◌, ◌-◌, ◌<◌, Bool, true, false, List, [], ◌∷◌, ◌++◌, length, replicate}
+use Rattle.std.proofs.Common.{Option, Result, Ok, Err, refl, sym, ap, subst, ◌∙◌, arith, append_assoc, append-nil}
+use Rattle.std.proofs.Common.{length-append}
+use Rattle.std.proofs.Math.ListN.{length-replicate}
+use Rattle.std.specs.Prelude.{IsErr, IfOk, OnOk, if◌then◌else◌}
+use Rattle.std.specs.Io.KnownBytes.{Appends}
+use Rattle.std.proofs.KnownBytes.{Appends-nil, Appends-trans}
+use Rattle.mold_devices.specs.Devices.{AppendsFront}
+use Rattle.mold_turns.specs.Runs.{Loop, run, Begins, Moves, Rests, RestsOfTwo, Ran}
+
+-- ---- beginnings
+
+pub begins_whole : {A : Type 0} (xs : List A) → Begins xs xs
+begins_whole xs = record { rest = []; parts = sym (append-nil xs) }
+
+pub begins_more : {A : Type 0} (xs ys : List A) → Begins xs (xs ++ ys)
+begins_more xs ys = record { rest = ys; parts = refl }
+
+pub begins_none : {A : Type 0} (xs : List A) → Begins [] xs
+begins_none xs = record { rest = xs; parts = refl }
+
+pub begins_trans : {A : Type 0} {xs ys zs : List A} → Begins xs ys → Begins ys zs → Begins xs zs
+begins_trans {A} {xs} {ys} {zs} p q = record {
+  rest = p.rest ++ q.rest;
+  parts = q.parts ∙ ap (λ (l : List A). l ++ q.rest) p.parts ∙ append_assoc xs p.rest q.rest;
+}
+
+-- a front of a list, with more in front of both
+pub begins_behind : {A : Type 0} (ws : List A) {xs ys : List A} → Begins xs ys → Begins (ws ++ xs) (ws ++ ys)
+begins_behind {A} ws {xs} {ys} p = record {
+  rest = p.rest;
+  parts = ap (λ (l : List A). ws ++ l) p.parts ∙ sym (append_assoc ws xs p.rest);
+}
+
+-- ---- answers and faults
+
+pub on_ok : {T E : Type 0} (result : Result T E) {P : Type 0} → P → OnOk result P
+on_ok (Ok _) p = p
+on_ok (Err _) p = tt
+
+pub none_ok : {T E : Type 0} (result : Result T E) (P : Type 0) → IsErr result → OnOk result P
+none_ok (Ok _) P failed = let no : ⊥ = cc in absurd no
+none_ok (Err _) P failed = tt
+
+pub none_answered : {T E : Type 0} (result : Result T E) (P : T → Type 0) → IsErr result → IfOk result P
+none_answered (Ok _) P failed = let no : ⊥ = cc in absurd no
+none_answered (Err _) P failed = tt
+
+-- ---- what a loop has to meet
+
+-- a text in front of a state's changes nothing but its text, and a turn only prints and sends more
+pub record IsLoop {C S M : Type 0} (loop : Loop C S M) (behind : List ℕ → S → S) : Type 0 where
+  pub none : (s : S) → behind [] s ≡ s
+  pub twice : (front back : List ℕ) (s : S) → behind front (behind back s) ≡ behind (front ++ back) s
+  pub turn : (front : List ℕ) (choice : C) (s : S) → loop.turn choice (behind front s) ≡ behind front (loop.turn choice s)
+  pub over : (front : List ℕ) (s : S) → loop.over (behind front s) ≡ loop.over s
+  pub text : (front : List ℕ) (s : S) → loop.text (behind front s) ≡ front ++ loop.text s
+  pub sent : (front : List ℕ) (s : S) → loop.sent (behind front s) ≡ loop.sent s
+  pub prints : (choice : C) (s : S) → Begins (loop.text s) (loop.text (loop.turn choice s))
+  pub sends : (choice : C) (s : S) → Begins (loop.sent s) (loop.sent (loop.turn choice s))
+
+-- ---- runs
+
+run_over : {C S M : Type 0} (loop : Loop C S M) (choice : C) (more : List C) (s : S) →
+    loop.over (loop.turn choice s) ≡ true → run loop (choice ∷ more) s ≡ loop.turn choice s
+unfolding run
+run_over {C} {S} {M} loop choice more s over =
+    let after = loop.turn choice s in
+    ap (λ (b : Bool). if b then after else run loop more after) over
+
+run_on : {C S M : Type 0} (loop : Loop C S M) (choice : C) (more : List C) (s : S) →
+    loop.over (loop.turn choice s) ≡ false → run loop (choice ∷ more) s ≡ run loop more (loop.turn choice s)
+unfolding run
+run_on {C} {S} {M} loop choice more s over =
+    let after = loop.turn choice s in
+    ap (λ (b : Bool). if b then after else run loop more after) over
+
+run_none : {C S M : Type 0} (loop : Loop C S M) (s : S) → run loop [] s ≡ s
+unfolding run
+run_none loop s = refl
+
+-- the run after one turn more
+behind_if : {C S M A : Type 0} (loop : Loop C S M) (part : S → List A) (over : Bool) (after rest : S) →
+    Begins (part after) (part rest) → Begins (part after) (part (if over then after else rest))
+behind_if loop part true after rest grows = begins_whole (part after)
+behind_if loop part false after rest grows = grows
+
+-- what only grows in a turn only grows in a run
+pub grows_in : {C S M A : Type 0} (loop : Loop C S M) (part : S → List A) →
+    ((choice : C) (s : S) → Begins (part s) (part (loop.turn choice s))) →
+    (choices : List C) (s : S) → Begins (part s) (part (run loop choices s))
+unfolding run
+grows_in loop part grows [] s = begins_whole (part s)
+grows_in loop part grows (choice ∷ more) s =
+    let after = loop.turn choice s in
+    begins_trans (grows choice s)
+    (behind_if loop part (loop.over after) after (run loop more after) (grows_in loop part grows more after))
+
+-- and from the end of the first turn on
+grows_from : {C S M A : Type 0} (loop : Loop C S M) (part : S → List A) →
+    ((choice : C) (s : S) → Begins (part s) (part (loop.turn choice s))) →
+    (choice : C) (more : List C) (s : S) → Begins (part (loop.turn choice s)) (part (run loop (choice ∷ more) s))
+unfolding run
+grows_from loop part grows choice more s =
+    let after = loop.turn choice s in
+    behind_if loop part (loop.over after) after (run loop more after) (grows_in loop part grows more after)
+
+-- ---- while the turns go on
+
+-- So many turns were made since `start`. What was written since then is known, and whatever comes, the run goes on
+-- from here: from `now`, behind what was written.
+pub record Going {C S M : Type 0} (loop : Loop C S M) (behind : List ℕ → S → S) (start : S)
+    (old new : Option (List ℕ)) (count : ℕ) (now : S) : Type 0 where
+  pub choices : List C
+  pub counted : length choices ≡ count
+  pub written : List ℕ
+  pub appended : Appends old new written
+  pub goes_on : (more : List C) → run loop (choices ++ more) start ≡ run loop more (behind written now)
+
+-- the choices of the turns so far, of one turn, and of as many as are left behind it
+filled : {C : Type 0} → List C → C → ℕ → ℕ → List C
+filled choices choice count turns = choices ++ choice ∷ replicate (turns - (count + 1)) choice
+
+filled_length : {C : Type 0} (choices : List C) (choice : C) (count turns : ℕ) → length choices ≡ count →
+    count < turns → length (filled choices choice count turns) ≡ turns
+unfolding filled
+filled_length choices choice count turns counted few =
+    let fill = length-replicate (turns - (count + 1)) choice in
+    omega (arith, length-append choices (choice ∷ replicate (turns - (count + 1)) choice), fill, counted, few)
+
+module _ {C S M : Type 0} {loop : Loop C S M} {behind : List ℕ → S → S} (is : IsLoop loop behind) where
+  -- before the first turn
+  pub going_init : (start : S) (held : Option (List ℕ)) → Going loop behind start held held 0 start
+  going_init start held = record {
+    choices = [];
+    counted = refl;
+    written = [];
+    appended = Appends-nil held;
+    goes_on = λ more. ap (run loop more) (sym (is.none start));
+  }
+
+  -- a turn was made
+  pub going_on : {start now : S} {old new : Option (List ℕ)} {count : ℕ} (choice : C) (after : S) →
+      Going loop behind start old new count now → after ≡ loop.turn choice now → loop.over after ≡ false →
+      Going loop behind start old new (count + 1) after
+  going_on {start} {now} {old} {new} {count} choice after going made on = record {
+    choices = going.choices ++ choice ∷ [];
+    counted = omega (arith, length-append going.choices (choice ∷ []), going.counted);
+    written = going.written;
+    appended = going.appended;
+    goes_on = λ more.
+        ap (λ (l : List C). run loop l start) (append_assoc going.choices (choice ∷ []) more)
+        ∙ going.goes_on (choice ∷ more)
+        ∙ run_on loop choice more (behind going.written now)
+        (ap loop.over (is.turn going.written choice now) ∙ is.over going.written (loop.turn choice now)
+        ∙ ap loop.over (sym made) ∙ on)
+        ∙ ap (run loop more) (is.turn going.written choice now ∙ ap (behind going.written) (sym made));
+  }
+
+  -- some of the text was written
+  pub going_sent : {start now : S} {old mid new : Option (List ℕ)} {count : ℕ} {left : List ℕ} (after : S) →
+      Going loop behind start old mid count now → (moves : Moves mid new (loop.text now) left) →
+      now ≡ behind moves.front after → Going loop behind start old new count after
+  going_sent {start} {now} {old} {mid} {new} {count} after going moves same = record {
+    choices = going.choices;
+    counted = going.counted;
+    written = going.written ++ moves.front;
+    appended = Appends-trans old mid new going.written moves.front going.appended moves.appended;
+    goes_on = λ more.
+        going.goes_on more
+        ∙ ap (λ (s : S). run loop more (behind going.written s)) same
+        ∙ ap (run loop more) (is.twice going.written moves.front after);
+  }
+
+  -- all turns were made
+  pub rests_end : {T E : Type 0} (result : Result T E) {start now : S} {old new : Option (List ℕ)} {turns : ℕ} →
+      Going loop behind start old new turns now → Rests loop behind turns start result old new now
+  rests_end result {start} {now} going =
+      let end : run loop going.choices start ≡ behind going.written now =
+      ap (λ (l : List C). run loop l start) (sym (append-nil going.choices)) ∙ going.goes_on []
+      ∙ run_none loop (behind going.written now) in
+      record {
+        choices = going.choices;
+        counted = going.counted;
+        written = going.written;
+        appended = going.appended;
+        whole = on_ok result end;
+        front =
+            subst (λ (t : List ℕ). Begins going.written t)
+            (sym (ap loop.text end ∙ is.text going.written now)) (begins_more going.written (loop.text now));
+        sent =
+            subst (λ (t : List M). Begins (loop.sent now) t)
+            (sym (ap loop.sent end ∙ is.sent going.written now)) (begins_whole (loop.sent now));
+      }
+
+  pub rests_all : {T E : Type 0} (result : Result T E) {start now : S} {old new : Option (List ℕ)} {count : ℕ}
+      (turns : ℕ) → count ≡ turns → Going loop behind start old new count now →
+      Rests loop behind turns start result old new now
+  rests_all result {start} {now} {old} {new} {count} turns made going =
+      rests_end result (subst (λ (n : ℕ). Going loop behind start old new n now) made going)
+
+  -- the loop is over with a turn
+  pub rests_over : {T E : Type 0} (result : Result T E) {start now : S} {old new : Option (List ℕ)} {count : ℕ}
+      (turns : ℕ) (choice : C) (after : S) → Going loop behind start old new count now → count < turns →
+      after ≡ loop.turn choice now → loop.over after ≡ true → Rests loop behind turns start result old new after
+  unfolding filled
+  rests_over result {start} {now} {old} {new} {count} turns choice after going few made over =
+      let fill : List C = replicate (turns - (count + 1)) choice in
+      let made_behind : loop.turn choice (behind going.written now) ≡ behind going.written after =
+      is.turn going.written choice now ∙ ap (behind going.written) (sym made) in
+      let end : run loop (filled going.choices choice count turns) start ≡ behind going.written after =
+      going.goes_on (choice ∷ fill)
+      ∙ run_over loop choice fill (behind going.written now)
+      (ap loop.over made_behind ∙ is.over going.written after ∙ over)
+      ∙ made_behind in
+      record {
+        choices = filled going.choices choice count turns;
+        counted = filled_length going.choices choice count turns going.counted few;
+        written = going.written;
+        appended = going.appended;
+        whole = on_ok result end;
+        front =
+            subst (λ (t : List ℕ). Begins going.written t)
+            (sym (ap loop.text end ∙ is.text going.written after)) (begins_more going.written (loop.text after));
+        sent =
+            subst (λ (t : List M). Begins (loop.sent after) t)
+            (sym (ap loop.sent end ∙ is.sent going.written after)) (begins_whole (loop.sent after));
+      }
+
+  -- a turn ended in a fault: it sent a beginning of what it was to send
+  pub rests_failed : {T E : Type 0} (result : Result T E) {start now : S} {old new : Option (List ℕ)} {count : ℕ}
+      (turns : ℕ) (choice : C) (after : S) → Going loop behind start old new count now → count < turns →
+      Begins (loop.sent after) (loop.sent (loop.turn choice now)) → IsErr result →
+      Rests loop behind turns start result old new after
+  unfolding filled
+  rests_failed result {start} {now} {old} {new} {count} turns choice after going few sent failed =
+      let fill : List C = replicate (turns - (count + 1)) choice in
+      let here : S = behind going.written now in
+      let end : run loop (filled going.choices choice count turns) start ≡ run loop (choice ∷ fill) here =
+      going.goes_on (choice ∷ fill) in
+      record {
+        choices = filled going.choices choice count turns;
+        counted = filled_length going.choices choice count turns going.counted few;
+        written = going.written;
+        appended = going.appended;
+        whole = none_ok result _ failed;
+        front =
+            subst (λ (s : S). Begins going.written (loop.text s)) (sym end)
+            (begins_trans
+            (subst (λ (t : List ℕ). Begins going.written t) (sym (is.text going.written now))
+            (begins_more going.written (loop.text now)))
+            (grows_in loop loop.text is.prints (choice ∷ fill) here));
+        sent =
+            subst (λ (s : S). Begins (loop.sent after) (loop.sent s)) (sym end)
+            (begins_trans
+            (subst (λ (l : List M). Begins (loop.sent after) l)
+            (sym (ap loop.sent (is.turn going.written choice now) ∙ is.sent going.written (loop.turn choice now)))
+            sent)
+            (grows_from loop loop.sent is.sends choice fill here));
+      }
+
+  -- a turn was made, and then a write failed
+  pub rests_cut : {T E : Type 0} (result : Result T E) {start now : S} {old mid new : Option (List ℕ)} {count : ℕ}
+      (turns : ℕ) (choice : C) (after : S) → Going loop behind start old mid count now → count < turns →
+      after ≡ loop.turn choice now → AppendsFront mid new (loop.text after) → IsErr result →
+      Rests loop behind turns start result old new after
+  unfolding filled
+  rests_cut result {start} {now} {old} {mid} {new} {count} turns choice after going few made cut failed =
+      let fill : List C = replicate (turns - (count + 1)) choice in
+      let here : S = behind going.written now in
+      let made_behind : loop.turn choice here ≡ behind going.written after =
+      is.turn going.written choice now ∙ ap (behind going.written) (sym made) in
+      let end : run loop (filled going.choices choice count turns) start ≡ run loop (choice ∷ fill) here =
+      going.goes_on (choice ∷ fill) in
+      record {
+        choices = filled going.choices choice count turns;
+        counted = filled_length going.choices choice count turns going.counted few;
+        written = going.written ++ cut.front;
+        appended = Appends-trans old mid new going.written cut.front going.appended cut.appended;
+        whole = none_ok result _ failed;
+        front =
+            subst (λ (s : S). Begins (going.written ++ cut.front) (loop.text s)) (sym end)
+            (begins_trans
+            (subst (λ (t : List ℕ). Begins (going.written ++ cut.front) t)
+            (sym (ap loop.text made_behind ∙ is.text going.written after))
+            (begins_behind going.written (record { rest = cut.rest; parts = cut.parts })))
+            (grows_from loop loop.text is.prints choice fill here));
+        sent =
+            subst (λ (s : S). Begins (loop.sent after) (loop.sent s)) (sym end)
+            (begins_trans
+            (subst (λ (l : List M). Begins (loop.sent after) l)
+            (sym (ap loop.sent made_behind ∙ is.sent going.written after)) (begins_whole (loop.sent after)))
+            (grows_from loop loop.sent is.sends choice fill here));
+      }
+
+  -- after a fault it only counts what was sent
+  pub rests_left : {T E : Type 0} (result : Result T E) {start now : S} {old new : Option (List ℕ)} {turns : ℕ} (left : S) →
+      Rests loop behind turns start result old new now → loop.sent left ≡ loop.sent now → IsErr result →
+      Rests loop behind turns start result old new left
+  rests_left result {start} {now} {old} {new} {turns} left rests same failed = record {
+    choices = rests.choices;
+    counted = rests.counted;
+    written = rests.written;
+    appended = rests.appended;
+    whole = none_ok result _ failed;
+    front = rests.front;
+    sent = subst (λ (l : List M). Begins l (loop.sent (run loop rests.choices start))) (sym same) rests.sent;
+  }
+
+  -- ---- of a loop that sends from two ports
+
+  module _ (other : S → List M) (keeps : (front : List ℕ) (s : S) → other (behind front s) ≡ other s)
+      (more_sent : (choice : C) (s : S) → Begins (other s) (other (loop.turn choice s))) where
+    two_end : {T E : Type 0} (result : Result T E) {start now : S} {old new : Option (List ℕ)} {turns : ℕ} →
+        Going loop behind start old new turns now → RestsOfTwo loop other behind turns start result old new now
+    unfolding rests_end
+    two_end result {start} {now} going =
+        let end : run loop going.choices start ≡ behind going.written now =
+        ap (λ (l : List C). run loop l start) (sym (append-nil going.choices)) ∙ going.goes_on []
+        ∙ run_none loop (behind going.written now) in
+        record {
+          rests = rests_end result going;
+          others =
+              subst (λ (l : List M). Begins (other now) l) (sym (ap other end ∙ keeps going.written now))
+              (begins_whole (other now));
+        }
+
+    pub two_all : {T E : Type 0} (result : Result T E) {start now : S} {old new : Option (List ℕ)} {count : ℕ}
+        (turns : ℕ) → count ≡ turns → Going loop behind start old new count now →
+        RestsOfTwo loop other behind turns start result old new now
+    two_all result {start} {now} {old} {new} {count} turns made going =
+        two_end result (subst (λ (n : ℕ). Going loop behind start old new n now) made going)
+
+    pub two_failed : {T E : Type 0} (result : Result T E) {start now : S} {old new : Option (List ℕ)} {count : ℕ}
+        (turns : ℕ) (choice : C) (after : S) → Going loop behind start old new count now → count < turns →
+        Begins (loop.sent after) (loop.sent (loop.turn choice now)) →
+        Begins (other after) (other (loop.turn choice now)) → IsErr result →
+        RestsOfTwo loop other behind turns start result old new after
+    unfolding rests_failed filled
+    two_failed result {start} {now} {old} {new} {count} turns choice after going few sent sent_too failed =
+        let fill : List C = replicate (turns - (count + 1)) choice in
+        let here : S = behind going.written now in
+        record {
+          rests = rests_failed result turns choice after going few sent failed;
+          others =
+              subst (λ (s : S). Begins (other after) (other s)) (sym (going.goes_on (choice ∷ fill)))
+              (begins_trans
+              (subst (λ (l : List M). Begins (other after) l)
+              (sym (ap other (is.turn going.written choice now) ∙ keeps going.written (loop.turn choice now)))
+              sent_too)
+              (grows_from loop other more_sent choice fill here));
+        }
+
+    -- a turn was made, and then a write failed, behind which the state is `left`
+    pub two_cut : {T E : Type 0} (result : Result T E) {start now : S} {old mid new : Option (List ℕ)} {count : ℕ}
+        (turns : ℕ) (choice : C) (after left : S) → Going loop behind start old mid count now → count < turns →
+        after ≡ loop.turn choice now → AppendsFront mid new (loop.text after) → loop.sent left ≡ loop.sent after →
+        other left ≡ other after → IsErr result → RestsOfTwo loop other behind turns start result old new left
+    unfolding rests_left rests_cut filled
+    two_cut result {start} {now} {old} {mid} {new} {count} turns choice after left going few made cut same same_too failed =
+        let fill : List C = replicate (turns - (count + 1)) choice in
+        let here : S = behind going.written now in
+        let made_behind : other (loop.turn choice here) ≡ other left =
+        ap other (is.turn going.written choice now ∙ ap (behind going.written) (sym made))
+        ∙ keeps going.written after ∙ sym same_too in
+        record {
+          rests = rests_left result left (rests_cut result turns choice after going few made cut failed) same failed;
+          others =
+              subst (λ (s : S). Begins (other left) (other s)) (sym (going.goes_on (choice ∷ fill)))
+              (subst (λ (l : List M). Begins l (other (run loop (choice ∷ fill) here))) made_behind
+              (grows_from loop other more_sent choice fill here));
+        }
+
+  -- ---- behind the turns
+
+  module _ (turns : ℕ) (start : S) (last : S → List ℕ) (status : S → ℕ) (agrees : S → Type 0) where
+    -- a fault before the first turn
+    pub ran_none : {E : Type 0} (result : Result ℕ E) (choice : C) (held : Option (List ℕ)) → IsErr result →
+        Ran loop turns start last status agrees result held held (loop.sent start)
+    ran_none result choice held failed = record {
+      choices = replicate turns choice;
+      counted = length-replicate turns choice;
+      whole = none_answered result _ failed;
+      left = none_ok result _ failed;
+      front = record { front = []; rest = _; parts = refl; appended = Appends-nil held };
+      sent = grows_in loop loop.sent is.sends (replicate turns choice) start;
+    }
+
+    -- a fault in a turn, or behind the turns before the rest of the text was written
+    pub ran_cut : {T E F : Type 0} (before : Result T F) (result : Result ℕ E) {old new : Option (List ℕ)} {now : S} →
+        Rests loop behind turns start before old new now → IsErr result →
+        Ran loop turns start last status agrees result old new (loop.sent now)
+    ran_cut before result {old} {new} {now} rests failed =
+        let end : S = run loop rests.choices start in
+        record {
+          choices = rests.choices;
+          counted = rests.counted;
+          whole = none_answered result _ failed;
+          left = none_ok result _ failed;
+          front = record {
+            front = rests.written;
+            rest = rests.front.rest ++ last end;
+            parts =
+                ap (λ (t : List ℕ). t ++ last end) rests.front.parts
+                ∙ append_assoc rests.written rests.front.rest (last end);
+            appended = rests.appended;
+          };
+          sent = rests.sent;
+        }
+
+    module _ (last_behind : (front : List ℕ) (s : S) → last (behind front s) ≡ last s)
+        {T F : Type 0} (value : T) {old mid : Option (List ℕ)} (now : S)
+        (rests : Rests {T = T} {E = F} loop behind turns start (Ok value) old mid now) where
+      -- the run's text and last line are what was written, and what is to be written
+      whole_text : loop.text (run loop rests.choices start) ++ last (run loop rests.choices start)
+          ≡ rests.written ++ (loop.text now ++ last now)
+      whole_text =
+          ap (λ (s : S). loop.text s ++ last s) rests.whole
+          ∙ ap (λ (t : List ℕ). t ++ last (behind rests.written now)) (is.text rests.written now)
+          ∙ ap (λ (t : List ℕ). (rests.written ++ loop.text now) ++ t) (last_behind rests.written now)
+          ∙ append_assoc rests.written (loop.text now) (last now)
+
+      -- the last write failed
+      pub ran_front : {E : Type 0} (result : Result ℕ E) {new : Option (List ℕ)} (text : List ℕ) →
+          text ≡ loop.text now ++ last now → AppendsFront mid new text → IsErr result →
+          Ran loop turns start last status agrees result old new (loop.sent now)
+      ran_front result {new} text is_text cut failed = record {
+        choices = rests.choices;
+        counted = rests.counted;
+        whole = none_answered result _ failed;
+        left = none_ok result _ failed;
+        front = record {
+          front = rests.written ++ cut.front;
+          rest = cut.rest;
+          parts =
+              whole_text ∙ ap (λ (t : List ℕ). rests.written ++ t) (sym is_text ∙ cut.parts)
+              ∙ sym (append_assoc rests.written cut.front cut.rest);
+          appended = Appends-trans old mid new rests.written cut.front rests.appended cut.appended;
+        };
+        sent = rests.sent;
+      }
+
+      -- all was written
+      pub ran_whole : {E : Type 0} (answer : ℕ) {new : Option (List ℕ)} (text : List ℕ) →
+          text ≡ loop.text now ++ last now → Appends mid new text →
+          answer ≡ status (behind rests.written now) → agrees (behind rests.written now) →
+          Ran {E = E} loop turns start last status agrees (Ok answer) old new (loop.sent now)
+      ran_whole answer {new} text is_text appended is_status agree =
+          let whole = Appends-trans old mid new rests.written text rests.appended appended in
+          let all : loop.text (run loop rests.choices start) ++ last (run loop rests.choices start)
+          ≡ rests.written ++ text = whole_text ∙ ap (λ (t : List ℕ). rests.written ++ t) (sym is_text) in
+          record {
+            choices = rests.choices;
+            counted = rests.counted;
+            whole = (
+              subst (λ (t : List ℕ). Appends old new t) (sym all) whole,
+              is_status ∙ ap status (sym rests.whole),
+            );
+            left = subst agrees (sym rests.whole) agree;
+            front = record {
+              front = loop.text (run loop rests.choices start) ++ last (run loop rests.choices start);
+              rest = [];
+              parts = sym (append-nil (loop.text (run loop rests.choices start) ++ last (run loop rests.choices start)));
+              appended = subst (λ (t : List ℕ). Appends old new t) (sym all) whole;
+            };
+            sent = rests.sent;
+          }

@@ -1,0 +1,105 @@
+//! Text that goes out, and the failures that are counted beside it.
+
+ghost use Rattle.std.specs.Prelude.{◌≡◌, ◌<◌, ◌≤◌, [], false, true, length, map, take, IfErr, IsOk, OnErr};
+ghost use Rattle.std.specs.Prelude.{OnOk};
+ghost use Rattle.std.specs.Io.KnownBytes.{Appends};
+ghost use Rattle.mold_devices.specs.Devices.{AppendsFront, Counts};
+ghost use Rattle.mold_turns.specs.Outgoing.{failed_often, failed_once, nothing_out, with_more};
+ghost use Rattle.mold_turns.specs.Runs.{Moves};
+ghost use Rattle.mold_text.specs.Line.{line_of, word_text};
+
+use mold_devices::{CommandFault, LARGE, Sink, send};
+use mold_text::{Word, push_line};
+use std::alloc::{AllocError, Global};
+use std::marker::Model;
+
+/// The text that is still to be written, and how many sends and receives failed. The memory of a text that was
+/// written is kept for the next one.
+#[derive(Drop)]
+pub struct Outgoing {
+    /// The text. Lines are added at its end.
+    pub text: Vec<u8>,
+    failures: u64,
+}
+
+impl Model for Outgoing {
+    ghost use Rattle.mold_turns.specs.Outgoing.{OutgoingState};
+
+    ghost Value = { OutgoingState };
+
+    ghost view = { λ d. record { text = d.text.items; failures = d.failures } };
+}
+
+impl Outgoing {
+    /// Nothing to write and no failure. It takes no memory yet.
+    pub fn new(alloc: Global) -> Outgoing
+        ensures { result ≡ nothing_out }
+    {
+        Outgoing {
+            text: Vec::new(alloc),
+            failures: 0,
+        }
+    }
+
+    /// How many sends and receives failed.
+    pub fn failures(&self) -> u64
+        ensures { result ≡ self.now.failures }
+    {
+        self.failures
+    }
+
+    /// Counts a failed send or receive. The count stays at 18446744073709551615.
+    pub fn count_failure(&mut self)
+        ensures { self.new ≡ failed_once self.old }
+    {
+        self.failures = self.failures.saturating_add(1);
+    }
+
+    /// Counts so many of them.
+    pub fn count_failures(&mut self, count: u64)
+        ensures { self.new ≡ failed_often count self.old }
+    {
+        self.failures = self.failures.saturating_add(count);
+    }
+
+    /// Adds the words as a line. After an error, which is want of memory, a part of the line stands after the text.
+    pub fn push_line(&mut self, words: &[Word<'_>]) -> Result<(), AllocError>
+        ensures line { OnOk result (self.new ≡ with_more (line_of (map word_text words.now)) self.old) }
+        ensures kept { OnErr result (take (length self.old.text) self.new.text ≡ self.old.text) }
+        ensures failures { self.new.failures ≡ self.old.failures }
+    {
+        push_line(&mut self.text, words)
+    }
+
+    /// Writes the text where it has come to 65,536 bytes or the sink is live, and leaves it else. After a fault a front
+    /// of it is written, and it stands as it was.
+    pub fn send_large<K: Sink>(&mut self, sink: &mut K) -> Result<(), CommandFault>
+        ensures moved { OnOk result (Moves (K.held sink.old) (K.held sink.new) self.old.text self.new.text) }
+        ensures large { OnOk result (65536 ≤ length self.old.text → self.new.text ≡ []) }
+        ensures small { K.live sink.old ≡ false → length self.old.text < 65536 → IsOk result × (self.new ≡ self.old) }
+        ensures live { K.live sink.old ≡ true → OnOk result (self.new.text ≡ []) }
+        ensures same { OnErr result (self.new ≡ self.old) }
+        ensures failures { self.new.failures ≡ self.old.failures }
+        ensures front { AppendsFront (K.held sink.old) (K.held sink.new) self.old.text }
+        ensures fault { IfErr result (λ fault. fault ≡ CommandFault.Write) }
+        ensures sink { Counts (K.failed sink.old) (K.failed sink.new) result }
+    {
+        if self.text.len() < LARGE && !sink.is_live() {
+            return Ok(());
+        }
+        self.send(sink)
+    }
+
+    /// Writes the text. After a fault a front of it is written, and it stands as it was.
+    pub fn send<K: Sink>(&mut self, sink: &mut K) -> Result<(), CommandFault>
+        ensures whole { OnOk result (Appends (K.held sink.old) (K.held sink.new) self.old.text) }
+        ensures empty { OnOk result (self.new.text ≡ []) }
+        ensures same { OnErr result (self.new ≡ self.old) }
+        ensures failures { self.new.failures ≡ self.old.failures }
+        ensures front { AppendsFront (K.held sink.old) (K.held sink.new) self.old.text }
+        ensures fault { IfErr result (λ fault. fault ≡ CommandFault.Write) }
+        ensures sink { Counts (K.failed sink.old) (K.failed sink.new) result }
+    {
+        send(sink, &mut self.text)
+    }
+}
