@@ -13,7 +13,7 @@ use crate::hearing::hear_port;
 use crate::report::Report;
 use mold_devices::{CommandFault, Sink};
 use mold_ports::Datagrams;
-use mold_receiver::{Arbiter, Line};
+use mold_receiver::{Arbiter, Line, Origin};
 use std::alloc::AllocError;
 
 /// What listens to a feed: the ports of its two lines, the port that requests are sent from, the arbiter, and what is
@@ -39,7 +39,7 @@ impl<'a, D: Datagrams> FeedListener<'a, D> {
         ensures same { IsSame self.old self.new }
     {
         for _ in 0..most {
-            if !hear_port(self.requests, None, place, self.arbiter, self.report)? {
+            if !hear_port(self.requests, Origin::Response, place, self.arbiter, self.report)? {
                 break;
             }
         }
@@ -73,8 +73,8 @@ impl<'a, D: Datagrams> FeedListener<'a, D> {
             HasTurned server burst result (state D.port self.old) (state D.port self.new) }
         ensures same { IsSame self.old self.new }
     {
-        hear_port(self.a, Some(Line::A), place, self.arbiter, self.report)?;
-        hear_port(self.b, Some(Line::B), place, self.arbiter, self.report)?;
+        hear_port(self.a, Origin::Line(Line::A), place, self.arbiter, self.report)?;
+        hear_port(self.b, Origin::Line(Line::B), place, self.arbiter, self.report)?;
         self.ask(server, burst, place)
     }
 

@@ -1,39 +1,17 @@
 //! What a listener is still to print.
 
-ghost use Rattle.std.specs.Prelude.{◌≡◌, ◌⊎◌, Err, IfOk, IfErr, OnOk};
+ghost use Rattle.std.specs.Prelude.{◌≡◌, OnOk};
 ghost use Rattle.mold_listen.specs.Listening.{hearing, taken};
 ghost use Rattle.mold_listen.specs.Text.{handed_text};
 ghost use Rattle.mold_turns.specs.Outgoing.{nothing_out, with_more};
-ghost use Rattle.mold_receiver.specs.Arbiter.{HasArbitrated, arbitrates};
-ghost use Rattle.mold_receiver.specs.Batch.{Follows};
-ghost use Rattle.mold_receiver.specs.Receive.{receive};
+ghost use Rattle.mold_receiver.specs.Origin.{line_of};
 ghost use Rattle.mold_text.specs.Text.{refusal_words, refused_line};
-ghost use Rattle.mold_rule.specs.declared.refusal.Refusal.TheVariants.{Memory as OutOfMemory};
 
 use crate::handed::push_handed;
-use mold_receiver::{Arbiter, Batch, Line, Refused, Taken};
+use mold_receiver::{Arbiter, Batch, Origin, Refused};
 use mold_text::{Word, push_refusal};
 use mold_turns::Outgoing;
 use std::alloc::{AllocError, Global};
-
-// Lets the arbiter take a datagram that came on a line, or as an answer where there is none.
-fn take(
-    arbiter: &mut Arbiter,
-    line: Option<Line>,
-    bytes: &[u8],
-    batch: &mut Batch,
-) -> Result<Taken, Refused>
-    requires { Follows batch.old arbiter.old.view.next }
-    ensures taken { IfOk result
-        (λ taken. HasArbitrated line arbiter.old bytes.now batch.old arbiter.new batch.new taken) }
-    ensures refused { IfErr result (λ refused. (refused ≡ OutOfMemory) ⊎
-        ((receive arbiter.old.view bytes.now ≡ Err refused) × (arbiter.new ≡ arbitrates line bytes.now arbiter.old))) }
-{
-    match line {
-        Some(line) => arbiter.take(line, bytes, batch),
-        None => arbiter.take_answer(bytes, batch),
-    }
-}
 
 // Adds a line for each message of the batch.
 fn print_handed(outgoing: &mut Outgoing, batch: &Batch) -> Result<(), AllocError>
@@ -70,20 +48,19 @@ impl Report {
         }
     }
 
-    /// Lets the arbiter take a datagram that came on a line, or as an answer where there is none, and prints
-    /// what it hands on or why it is refused. After an error, which is want of memory, what stands after the
-    /// text is of no use.
+    /// Lets the arbiter take a datagram, and prints the messages that it delivers, or why it is refused. After an
+    /// error, which means out of memory, the bytes after the former text are of no use.
     pub(crate) fn take(
         &mut self,
         arbiter: &mut Arbiter,
-        line: Option<Line>,
+        origin: Origin,
         bytes: &[u8],
     ) -> Result<(), AllocError>
-        ensures { OnOk result
-            (hearing arbiter.new self.new.outgoing ≡ taken line bytes.now (hearing arbiter.old self.old.outgoing)) }
+        ensures { OnOk result (hearing arbiter.new self.new.outgoing
+            ≡ taken (line_of origin) bytes.now (hearing arbiter.old self.old.outgoing)) }
     {
         self.batch.clear();
-        match take(arbiter, line, bytes, &mut self.batch) {
+        match arbiter.take_from(origin, bytes, &mut self.batch) {
             Ok(_) => print_handed(&mut self.outgoing, &self.batch),
             Err(Refused::Memory) => Err(AllocError),
             Err(refused) => print_refused(&mut self.outgoing, refused),

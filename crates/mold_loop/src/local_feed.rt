@@ -22,7 +22,7 @@ use crate::passing::{routes_of, send_on};
 use mold_devices::{CommandFault, Lines, Sink, Source};
 use mold_ports::Datagrams;
 use mold_publish::{Filled, LineRefusal, fill};
-use mold_receiver::Line;
+use mold_receiver::{Line, Origin};
 use mold_session::laws::packing_law;
 use mold_send::publisher_holds;
 use mold_serve::{Responder, Tally};
@@ -54,11 +54,11 @@ impl<'a, 'p, D: Datagrams + Drop> LocalFeed<'a, 'p, D> {
     {
         if routes.a {
             let a = &mut self.ports.a;
-            hear_once(a, Some(Line::A), self.place, self.listener)?;
+            hear_once(a, Origin::Line(Line::A), self.place, self.listener)?;
         }
         if routes.b {
             let b = &mut self.ports.b;
-            hear_once(b, Some(Line::B), self.place, self.listener)?;
+            hear_once(b, Origin::Line(Line::B), self.place, self.listener)?;
         }
         Ok(())
     }
@@ -166,7 +166,7 @@ impl<'a, 'p, D: Datagrams + Drop> LocalFeed<'a, 'p, D> {
     {
         for _answer in 0..count {
             let requests = &mut self.ports.requests;
-            hear_once(requests, None, self.place, self.listener)?;
+            hear_once(requests, Origin::Response, self.place, self.listener)?;
         }
         Ok(())
     }

@@ -8,7 +8,8 @@ use crate::listen::{DATA_1, DATA_2, QUIET, SESSION, port};
 use mold_devices::MemorySink;
 use mold_listen::{Report, hear_port, push_last};
 use mold_ports::MemoryPort;
-use mold_receiver::{Arbiter, Line, Receiver};
+use mold_receiver::{Arbiter, Line, Origin, Receiver};
+use mold_wire::MAX_LIMIT;
 use std::alloc::Global;
 use std::process::Abort;
 use std::test::Fail;
@@ -36,14 +37,14 @@ impl Hearing {
         })
     }
 
-    /// Hears line B, or the answers where there is no line: whether a datagram came.
-    fn expect_heard(&mut self, rt: &impl Abort, line: Option<Line>, place: &mut [u8], came: bool)
+    /// Receives once on the port of this origin: whether a datagram came.
+    fn expect_heard(&mut self, rt: &impl Abort, origin: Origin, place: &mut [u8], came: bool)
         requires { length place.old ≡ MAX_LIMIT }
     {
         let (arbiter, report) = (&mut self.arbiter, &mut self.report);
-        let heard = match line {
-            Some(_) => hear_port(&mut self.line, line, place, arbiter, report),
-            None => hear_port(&mut self.answers, line, place, arbiter, report),
+        let heard = match origin {
+            Origin::Line(_) => hear_port(&mut self.line, origin, place, arbiter, report),
+            Origin::Response => hear_port(&mut self.answers, origin, place, arbiter, report),
         };
         assert_eq!(rt; heard, Ok(came));
     }
@@ -62,9 +63,9 @@ fn ports_are_heard_one_by_one(rt: HostRuntime) -> Result<(), Fail> {
     let mut place = vec![in rt.alloc(); 0; MAX_LIMIT]?;
     let mut hearing = Hearing::new(rt.alloc())?;
     let place = place.as_mut_slice();
-    hearing.expect_heard(&rt, Some(Line::B), place, true);
-    hearing.expect_heard(&rt, Some(Line::B), place, false);
-    hearing.expect_heard(&rt, None, place, true);
+    hearing.expect_heard(&rt, Origin::Line(Line::B), place, true);
+    hearing.expect_heard(&rt, Origin::Line(Line::B), place, false);
+    hearing.expect_heard(&rt, Origin::Response, place, true);
     assert_eq!(rt; hearing.arbiter.report(Line::B).datagrams, 1);
     hearing.report.outgoing.count_failure();
     hearing.expect_printed(&rt, b"1 41\n2 42\nopen next 3 known 3 failed 2\n");

@@ -1,6 +1,7 @@
 use Rattle.std.proofs.Common.{arith, ◌≡◌, ◌∙◌, length}
 use Rattle.std.proofs.lemmas.Grind.{common_steps}
 use Rattle.mold_ports.specs.Ports.{Quiet, Failure}
+use Rattle.mold_receiver.specs.Origin.{line_of}
 use Rattle.mold_listen.specs.Listening.{hearing}
 use Rattle.mold_listen.proofs.ListenLemmas.{datagram_next, heard_next}
 use Rattle.mold_listen.proofs.hearing.hear_port.Goals as goal
@@ -11,7 +12,7 @@ returns-in_ok-take-in-Ok-Some-clause-heard g c = λ t.
     let long : length c.receive.new.place ≡ MAX_LIMIT = grind (arith, common_steps) in
     let before = hearing c.args.arbiter.now c.args.report.now.outgoing in
     let next =
-    heard_next c.args.line (g.D.Datagrams.port c.args.port.now) before (length c.receive.new.place) _ long
+    heard_next (line_of c.args.origin) (g.D.Datagrams.port c.args.port.now) before (length c.receive.new.place) _ long
     (rw c.in-Ok-Some.field-0-is at c.in-Ok-Some.ensures.came t) in
     c.in_ok-take-in-Ok-Some.ensures ∙ next
 
@@ -23,7 +24,7 @@ returns-in-Ok-None-clause-came g c = λ t.
 pub returns-in-Ok-None-clause-heard : goal.returns-in-Ok-None-clause-heard
 returns-in-Ok-None-clause-heard g c = λ t.
     let long : length c.receive.new.place ≡ MAX_LIMIT = grind (arith, common_steps) in
-    heard_next c.args.line (g.D.Datagrams.port c.args.port.now) (hearing c.args.arbiter.now c.args.report.now.outgoing)
+    heard_next (line_of c.args.origin) (g.D.Datagrams.port c.args.port.now) (hearing c.args.arbiter.now c.args.report.now.outgoing)
     (length c.receive.new.place) Quiet long (rw c.in-Ok-None.field-0-is at c.in-Ok-None.ensures.came t)
 
 pub returns-in-Err-clause-came : goal.returns-in-Err-clause-came
@@ -34,5 +35,5 @@ pub returns-in-Err-clause-heard : goal.returns-in-Err-clause-heard
 returns-in-Err-clause-heard g c = λ t.
     let long : length c.receive.new.place ≡ MAX_LIMIT = grind (arith, common_steps) in
     rw c.count_failure.ensures
-    (heard_next c.args.line (g.D.Datagrams.port c.args.port.now) (hearing c.args.arbiter.now c.args.report.now.outgoing)
+    (heard_next (line_of c.args.origin) (g.D.Datagrams.port c.args.port.now) (hearing c.args.arbiter.now c.args.report.now.outgoing)
     (length c.receive.new.place) Failure long (c.in-Err.ensures.came t))
