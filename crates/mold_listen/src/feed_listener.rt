@@ -10,6 +10,7 @@ ghost use Rattle.mold_wire.specs.declared.limits.TheConstants.{MAX_LIMIT};
 
 use crate::ending::push_end;
 use crate::hearing::hear_port;
+use crate::listen_options::ListenOptions;
 use crate::report::Report;
 use mold_devices::{CommandFault, Sink};
 use mold_ports::Datagrams;
@@ -39,7 +40,13 @@ impl<'a, D: Datagrams> FeedListener<'a, D> {
         ensures same { IsSame self.old self.new }
     {
         for _ in 0..most {
-            if !hear_port(self.requests, Origin::Response, place, self.arbiter, self.report)? {
+            if !hear_port(
+                self.requests,
+                Origin::Response,
+                place,
+                self.arbiter,
+                self.report,
+            )? {
                 break;
             }
         }
@@ -73,8 +80,20 @@ impl<'a, D: Datagrams> FeedListener<'a, D> {
             HasTurned server burst result (state D.port self.old) (state D.port self.new) }
         ensures same { IsSame self.old self.new }
     {
-        hear_port(self.a, Origin::Line(Line::A), place, self.arbiter, self.report)?;
-        hear_port(self.b, Origin::Line(Line::B), place, self.arbiter, self.report)?;
+        hear_port(
+            self.a,
+            Origin::Line(Line::A),
+            place,
+            self.arbiter,
+            self.report,
+        )?;
+        hear_port(
+            self.b,
+            Origin::Line(Line::B),
+            place,
+            self.arbiter,
+            self.report,
+        )?;
         self.ask(server, burst, place)
     }
 
@@ -82,20 +101,19 @@ impl<'a, D: Datagrams> FeedListener<'a, D> {
     // write is left to print.
     fn take_turns<K: Sink>(
         &mut self,
-        server: D::Peer,
-        burst: u16,
-        turns: u64,
+        options: ListenOptions<D::Peer>,
         place: &mut [u8],
         sink: &mut K,
     ) -> Result<(), CommandFault>
         requires { length place.old ≡ MAX_LIMIT }
-        ensures run { D.tells ≡ true → Rests (listening server burst) put_before turns (state D.port self.old)
+        ensures run { D.tells ≡ true →
+            Rests (listening options.server options.burst) put_before options.turns (state D.port self.old)
             result (K.held sink.old) (K.held sink.new) (state D.port self.new) }
         ensures same { IsSame self.old self.new }
         ensures sink { CountsSink (K.failed sink.old) (K.failed sink.new) result }
     {
-        for _turn in 0..turns {
-            self.take_turn(server, burst, place)?;
+        for _turn in 0..options.turns {
+            self.take_turn(options.server, options.burst, place)?;
             if self.arbiter.receiver().finished() {
                 return Ok(());
             }
@@ -108,23 +126,21 @@ impl<'a, D: Datagrams> FeedListener<'a, D> {
     /// the status: 0 finished, 1 open. `place` has `MAX_LIMIT` bytes.
     pub(crate) fn listen<K: Sink>(
         &mut self,
-        server: D::Peer,
-        burst: u16,
-        turns: u64,
-        reporting: bool,
+        options: ListenOptions<D::Peer>,
         place: &mut [u8],
         sink: &mut K,
     ) -> Result<u8, CommandFault>
         requires { length place.old ≡ MAX_LIMIT }
-        ensures run { D.tells ≡ true → Ran (listening server burst) turns (state D.port self.old)
-            (listened_lines reporting) status
+        ensures run { D.tells ≡ true →
+            Ran (listening options.server options.burst) options.turns (state D.port self.old)
+            (listened_lines options.reporting) status
             (Agrees (D.port self.new.a.now) (D.port self.new.b.now) (D.port self.new.requests.now) self.new.arbiter.now)
             result (K.held sink.old) (K.held sink.new) (D.port self.new.requests.now).sent }
         ensures same { IsSame self.old self.new }
         ensures sink { CountsSink (K.failed sink.old) (K.failed sink.new) result }
     {
-        self.take_turns(server, burst, turns, place, sink)?;
-        let status = push_end(self.arbiter, reporting, &mut self.report.outgoing)?;
+        self.take_turns(options, place, sink)?;
+        let status = push_end(self.arbiter, options.reporting, &mut self.report.outgoing)?;
         self.report.outgoing.send(sink)?;
         Ok(status)
     }

@@ -5,10 +5,14 @@ mod ending;
 mod feed_listener;
 mod handed;
 mod hearing;
+mod listen_options;
+mod listen_ports;
 mod listening;
 mod report;
 
 pub use ending::push_end;
 pub use hearing::hear_port;
-pub use listening::{listen_loop, push_last};
+pub use listen_options::ListenOptions;
+pub use listen_ports::ListenPorts;
+pub use listening::{listen, listen_loop, push_last};
 pub use report::Report;

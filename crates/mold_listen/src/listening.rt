@@ -9,6 +9,8 @@ ghost use Rattle.mold_turns.specs.Runs.{Ran};
 ghost use Rattle.mold_listen.specs.Text.{finished_line, open_line};
 
 use crate::feed_listener::FeedListener;
+use crate::listen_options::ListenOptions;
+use crate::listen_ports::ListenPorts;
 use crate::report::Report;
 use mold_devices::{CommandFault, Sink};
 use mold_ports::Datagrams;
@@ -99,6 +101,38 @@ pub fn listen_loop<D: Datagrams, K: Sink>(
         arbiter,
         report: &mut report,
     };
-    let place = place.as_mut_slice();
-    listener.listen(server, burst, turns, reporting, place, sink)
+    let options = ListenOptions {
+        server,
+        burst,
+        turns,
+        reporting,
+    };
+    listener.listen(options, place.as_mut_slice(), sink)
+}
+
+/// Listens as `listen_loop` does, on these ports and with these options.
+pub fn listen<D: Datagrams + Drop, K: Sink>(
+    alloc: Global,
+    ports: &mut ListenPorts<D>,
+    options: ListenOptions<D::Peer>,
+    arbiter: &mut Arbiter,
+    sink: &mut K,
+) -> Result<u8, CommandFault>
+    ensures run { D.tells ≡ true → Ran (listening options.server options.burst) options.turns
+        (beginning (D.port ports.old.a) (D.port ports.old.b) (D.port ports.old.requests) arbiter.old)
+        (listened_lines options.reporting) status
+        (Agrees (D.port ports.new.a) (D.port ports.new.b) (D.port ports.new.requests) arbiter.new)
+        result (K.held sink.old) (K.held sink.new) (D.port ports.new.requests).sent }
+    ensures sink { CountsSink (K.failed sink.old) (K.failed sink.new) result }
+{
+    let ListenPorts { a, b, requests } = ports;
+    let ListenOptions {
+        server,
+        burst,
+        turns,
+        reporting,
+    } = options;
+    listen_loop(
+        alloc, a, b, requests, server, arbiter, burst, turns, reporting, sink,
+    )
 }

@@ -3,6 +3,5 @@ pub mod HearsLemmas
 pub mod LocalFeedLemmas
 pub mod LoopEndLemmas
 pub mod LoopLemmas
-pub mod LoopOverLemmas
 pub mod PassingLemmas
 pub mod RepairLemmas

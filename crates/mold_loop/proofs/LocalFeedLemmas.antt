@@ -20,20 +20,19 @@ use Rattle.mold_serve.specs.Serving.{Service}
 use Rattle.mold_loop.specs.declared.local_feed.LocalFeed.{LocalFeed}
 use Rattle.mold_loop.specs.declared.loop_parts.Drops.{Drops}
 use Rattle.mold_loop.specs.declared.loop_parts.Listener.{Listener}
-use Rattle.mold_loop.specs.declared.loop_parts.LoopPeers.{LoopPeers}
+use Rattle.mold_loop.specs.declared.loop_parts.LoopOptions.{LoopOptions}
 use Rattle.mold_loop.specs.declared.loop_parts.LoopPorts.{LoopPorts}
 use Rattle.mold_loop.specs.declared.loop_parts.Routes.{Routes}
 
 -- ---- what is left alone
 
 pub same_at_first : {D A : Type 0} (feed : LocalFeed D A) → IsSame feed feed
-same_at_first feed = record { ports = refl; peers = refl; drops = refl; place = refl; listener = refl }
+same_at_first feed = record { ports = refl; options = refl; place = refl; listener = refl }
 
 pub same_twice : {D A : Type 0} {one two three : LocalFeed D A} → IsSame one two → IsSame two three → IsSame one three
 same_twice first second = record {
   ports = second.ports ∙ first.ports;
-  peers = second.peers ∙ first.peers;
-  drops = second.drops ∙ first.drops;
+  options = second.options ∙ first.options;
   place = second.place ∙ first.place;
   listener = second.listener ∙ first.listener;
 }
@@ -65,42 +64,46 @@ repairs_twice first second = record {
   b = second.b ∙ first.b;
 }
 
--- ---- what was passed, with the peers and drops from before
+-- ---- what was passed, with the options from before
 
 pub passed_from : {D P T E : Type 0} (port : D → Port P) (datagrams : List (Routes × List ℕ)) (result : Result T E)
     {first old : LocalFeed D P} (new : LocalFeed D P) → IsSame first old → Passes port datagrams result old new →
-    HasPassed first.peers.now.a first.peers.now.b datagrams result (lines port old) (lines port new)
+    HasPassed first.options.now.peers.a first.options.now.peers.b datagrams result (lines port old) (lines port new)
 passed_from {D} {P} port datagrams result {first} {old} new same passes =
-    subst (λ (p : Bor (LoopPeers P)). HasPassed p.now.a p.now.b datagrams result (lines port old) (lines port new))
-    same.peers passes
+    subst (λ (o : Bor (LoopOptions P)). HasPassed o.now.peers.a o.now.peers.b datagrams result (lines port old) (lines port new))
+    same.options passes
 
 pub next_passed : {D P T E : Type 0} (port : D → Port P) (number : ℕ) (datagrams : List (List ℕ)) (result : Result T E)
-    {first old : LocalFeed D P} (new : LocalFeed D P) → IsSame first old → Passes port (routed old.drops number datagrams) result old new →
-    HasPassed first.peers.now.a first.peers.now.b (routed first.drops number datagrams) result (lines port old)
+    {first old : LocalFeed D P} (new : LocalFeed D P) → IsSame first old → Passes port (routed old.options.now.drops number datagrams) result old new →
+    HasPassed first.options.now.peers.a first.options.now.peers.b (routed first.options.now.drops number datagrams) result (lines port old)
     (lines port new)
 next_passed {D} {P} port number datagrams result {first} {old} new same passes =
-    passed_from port (routed first.drops number datagrams) result new same
-    (subst (λ (d : Drops). Passes port (routed d number datagrams) result old new) same.drops passes)
+    subst
+    (λ (o : Bor (LoopOptions P)). HasPassed o.now.peers.a o.now.peers.b (routed o.now.drops number datagrams) result
+    (lines port old) (lines port new))
+    same.options passes
 
 -- what was requested, of the server's peer from before
 pub request_from : {D P T E : Type 0} (result : Result T E) (request : Option Request) (service : Service)
     (choice : Bool × List Bool) (before after : RepairState P) {first old : LocalFeed D P} → IsSame first old →
-    HasRepaired result after (requested request old.peers.now.server service choice before) →
-    HasRepaired result after (requested request first.peers.now.server service choice before)
+    HasRepaired result after (requested request old.options.now.peers.server service choice before) →
+    HasRepaired result after (requested request first.options.now.peers.server service choice before)
 request_from {D} {P} result request service choice before after {first} {old} same has =
-    subst (λ (p : Bor (LoopPeers P)). HasRepaired result after (requested request p.now.server service choice before))
-    same.peers has
+    subst (λ (o : Bor (LoopOptions P)). HasRepaired result after (requested request o.now.peers.server service choice before))
+    same.options has
 
 -- the rounds of requests, of the server's peer from before
-pub rounds_from : {D P T E : Type 0} (service : Service) {turns : ℕ} {before : RepairState P} {result : Result T E}
+pub rounds_from : {D P T E : Type 0} (service : Service) {before : RepairState P} {result : Result T E}
     {held now : Option (List ℕ)} {after : RepairState P} {first old : LocalFeed D P} → IsSame first old →
-    RestsOfTwo (repairing old.peers.now.server service) answers_sent text_before turns before result held now after →
-    RestsOfTwo (repairing first.peers.now.server service) answers_sent text_before turns before result held now after
-rounds_from {D} {P} {T} {E} service {turns} {before} {result} {held} {now} {after} {first} {old} same rests =
+    RestsOfTwo (repairing old.options.now.peers.server service) answers_sent text_before old.options.now.turns before
+    result held now after →
+    RestsOfTwo (repairing first.options.now.peers.server service) answers_sent text_before first.options.now.turns before
+    result held now after
+rounds_from {D} {P} {T} {E} service {before} {result} {held} {now} {after} {first} {old} same rests =
     subst
-    (λ (p : Bor (LoopPeers P)). RestsOfTwo (repairing p.now.server service) answers_sent text_before turns before result
-    held now after)
-    same.peers rests
+    (λ (o : Bor (LoopOptions P)). RestsOfTwo (repairing o.now.peers.server service) answers_sent text_before o.now.turns
+    before result held now after)
+    same.options rests
 
 -- ---- what the loop's caller finds, where what it lent ends as the loop left it
 

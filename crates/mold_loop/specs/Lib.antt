@@ -1,5 +1,5 @@
 pub mod LocalFeed
-pub mod LoopOver
 pub mod Looping
+pub mod Ordered
 pub mod Passing
 pub mod Repairing

@@ -27,12 +27,10 @@ asking_state port feed =
 abbrev pub HasPlace : {D A : Type 0} → LocalFeed D A → Type 0
 HasPlace feed = length feed.place.now ≡ MAX_LIMIT
 
--- it still works on the same ports and listener, for the same peers, leaves the same packets out, and its place is as
--- long
+-- it still works on the same ports and listener, with the same options, and its place is as long
 pub record IsSame {D A : Type 0} (old new : LocalFeed D A) : Type 0 where
   pub ports : new.ports.ghost_name ≡ old.ports.ghost_name
-  pub peers : new.peers ≡ old.peers
-  pub drops : new.drops ≡ old.drops
+  pub options : new.options ≡ old.options
   pub place : length new.place.now ≡ length old.place.now
   pub listener : new.listener.ghost_name ≡ old.listener.ghost_name
 
@@ -56,4 +54,4 @@ pub record OnlyRepairs {D A : Type 0} (old new : LocalFeed D A) : Type 0 where
 abbrev pub Passes : {D P T E : Type 0} → (D → Port P) → List (Routes × List ℕ) → Result T E → LocalFeed D P →
     LocalFeed D P → Type 0
 Passes port datagrams result old new =
-    HasPassed old.peers.now.a old.peers.now.b datagrams result (lines port old) (lines port new)
+    HasPassed old.options.now.peers.a old.options.now.peers.b datagrams result (lines port old) (lines port new)

@@ -3,11 +3,11 @@
 
 mod hearing;
 mod local_feed;
-mod loop_over;
 mod loop_parts;
 mod looping;
+mod ordered;
 mod passing;
 
-pub use loop_over::loop_over;
-pub use loop_parts::{Drops, Listener, LoopPeers, LoopPorts};
+pub use loop_parts::{Drops, Listener, LoopOptions, LoopParts, LoopPeers, LoopPorts};
 pub use looping::session_loop;
+pub use ordered::{loop_options, make_parts};

@@ -16,31 +16,31 @@ ghost use Rattle.mold_publish.specs.Publishing.{HasRoom, lines_published};
 ghost use Rattle.mold_session.specs.Publisher.{after_datagram, closed, next_datagram};
 
 use crate::hearing::hear_once;
-use crate::loop_parts::{Drops, Listener, LoopPeers, LoopPorts, Routes};
+use crate::loop_parts::{Listener, LoopOptions, LoopPorts, Routes};
 use crate::looping::{print_last, print_refused};
 use crate::passing::{routes_of, send_on};
 use mold_devices::{CommandFault, Lines, Sink, Source};
 use mold_ports::Datagrams;
 use mold_publish::{Filled, LineRefusal, fill};
 use mold_receiver::{Line, Origin};
-use mold_session::laws::packing_law;
 use mold_send::publisher_holds;
 use mold_serve::{Responder, Tally};
+use mold_session::laws::packing_law;
 use mold_session::{Journal, Publisher, Server};
 use mold_wire::Request;
 use mold_wire::laws::front_law;
 use std::alloc::{AllocError, Global};
 
-/// What a loop in one process works on: its ports, where three of them receive, which data packets are left out, a
-/// place for a datagram, and what it listens with.
-// The peers are lent, as those of `TwoLines` are.
+/// What a loop in one process works on: its ports, how it runs, a place for a datagram, what it listens with, and where
+/// memory comes from.
+// The options are lent, as the peers of `TwoLines` are.
 #[derive(Drop)]
 pub(crate) struct LocalFeed<'a, 'p, D: Datagrams + Drop> {
     pub(crate) ports: &'a mut LoopPorts<D>,
-    pub(crate) peers: &'p LoopPeers<D::Peer>,
-    pub(crate) drops: Drops,
+    pub(crate) options: &'p LoopOptions<D::Peer>,
     pub(crate) place: &'a mut [u8],
     pub(crate) listener: &'a mut Listener,
+    pub(crate) alloc: Global,
 }
 
 impl<'a, 'p, D: Datagrams + Drop> LocalFeed<'a, 'p, D> {
@@ -70,7 +70,8 @@ impl<'a, 'p, D: Datagrams + Drop> LocalFeed<'a, 'p, D> {
         ensures only { OnlyPasses D.tells D.port self.old self.new }
     {
         let port = &mut self.ports.publisher;
-        let sent = send_on(port, self.peers, routes, datagram, self.listener);
+        let options = self.options;
+        let sent = send_on(port, &options.peers, routes, datagram, self.listener);
         self.hear_on(sent)
     }
 
@@ -82,7 +83,7 @@ impl<'a, 'p, D: Datagrams + Drop> LocalFeed<'a, 'p, D> {
         ensures counted { number.new ≡ number.old + length (spelled_some (next_datagram publisher.old)) }
         ensures sent { publisher.new ≡ after_datagram publisher.old }
         ensures passed { D.tells ≡ true → Passes D.port
-            (routed self.old.drops (number.old + 1) (spelled_some (next_datagram publisher.old)))
+            (routed self.old.options.now.drops (number.old + 1) (spelled_some (next_datagram publisher.old)))
             result self.old self.new }
         ensures only { OnlyPasses D.tells D.port self.old self.new }
     {
@@ -91,7 +92,7 @@ impl<'a, 'p, D: Datagrams + Drop> LocalFeed<'a, 'p, D> {
             return Ok(());
         };
         *number += 1;
-        let routes = routes_of(self.drops, *number);
+        let routes = routes_of(self.options.drops, *number);
         self.pass(routes, datagram)
     }
 
@@ -99,14 +100,14 @@ impl<'a, 'p, D: Datagrams + Drop> LocalFeed<'a, 'p, D> {
     // after the last line. Answers why a line is refused, where one is.
     fn pass_lines<S: Source, K: Sink>(
         &mut self,
-        alloc: Global,
         publisher: &mut Publisher,
         source: &mut S,
         sink: &mut K,
     ) -> Result<Option<LineRefusal>, CommandFault>
         requires room { HasRoom publisher.old }
         requires place { HasPlace self.old }
-        ensures heard { D.tells ≡ true → HearsLines self.old.drops self.old.peers.now.a self.old.peers.now.b
+        ensures heard { D.tells ≡ true → HearsLines self.old.options.now.drops
+            self.old.options.now.peers.a self.old.options.now.peers.b
             publisher.old publisher.new (S.left source.old) result (lines D.port self.old) (lines D.port self.new)
             (K.held sink.old) (K.held sink.new) }
         ensures only { OnlyPasses D.tells D.port self.old self.new }
@@ -118,8 +119,8 @@ impl<'a, 'p, D: Datagrams + Drop> LocalFeed<'a, 'p, D> {
     {
         front_law();
         packing_law();
-        let mut lines = Lines::new(alloc)?;
-        let mut message = Vec::new(alloc);
+        let mut lines = Lines::new(self.alloc)?;
+        let mut message = Vec::new(self.alloc);
         let mut number = 0;
         'lines: loop {
             match fill(publisher, &mut lines, source, &mut message)? {
@@ -172,12 +173,7 @@ impl<'a, 'p, D: Datagrams + Drop> LocalFeed<'a, 'p, D> {
     }
 
     // Lets the server take a turn, in which it answers a request that came to it, and takes the answers.
-    fn repair(
-        &mut self,
-        alloc: Global,
-        server: &mut Server,
-        journal: &Journal,
-    ) -> Result<(), AllocError>
+    fn repair(&mut self, server: &mut Server, journal: &Journal) -> Result<(), AllocError>
         requires place { HasPlace self.old }
         requires longest { journal.now.max_message ≤ server.old.max_message }
         ensures repaired { D.tells ≡ true → (fails : List Bool) × HasRepaired result (rounds D.port server.new self.new)
@@ -185,7 +181,7 @@ impl<'a, 'p, D: Datagrams + Drop> LocalFeed<'a, 'p, D> {
         ensures server { server.new ≡ record server.old { answered = server.new.answered } }
         ensures only { OnlyRepairs self.old self.new }
     {
-        let mut tally = Tally::new(alloc);
+        let mut tally = Tally::new(self.alloc);
         let mut responder = Responder {
             port: &mut self.ports.server,
             server,
@@ -202,7 +198,6 @@ impl<'a, 'p, D: Datagrams + Drop> LocalFeed<'a, 'p, D> {
     // One round: a request goes to the server, and its answers are taken. A request that can't be sent is counted.
     fn round(
         &mut self,
-        alloc: Global,
         server: &mut Server,
         journal: &Journal,
         request: &Request,
@@ -211,44 +206,43 @@ impl<'a, 'p, D: Datagrams + Drop> LocalFeed<'a, 'p, D> {
         requires longest { journal.now.max_message ≤ server.old.max_message }
         ensures requested { D.tells ≡ true → (choice : Bool × List Bool) × HasRepaired result
             (rounds D.port server.new self.new)
-            (requested (Some request.now) self.old.peers.now.server (service_of journal.now server.old) choice
+            (requested (Some request.now) self.old.options.now.peers.server (service_of journal.now server.old) choice
             (rounds D.port server.old self.old)) }
         ensures server { server.new ≡ record server.old { answered = server.new.answered } }
         ensures only { OnlyRepairs self.old self.new }
     {
-        let to = self.peers.server;
+        let to = self.options.peers.server;
         if self.ports.requests.send(to, &request.encode()).is_err() {
             self.listener.report.outgoing.count_failure();
             return Ok(());
         }
-        self.repair(alloc, server, journal)
+        self.repair(server, journal)
     }
 
     // At most so many rounds while something is wanted: a request, and its answers. What is less than a large write
     // is left to print.
     fn repair_all<K: Sink>(
         &mut self,
-        alloc: Global,
         server: &mut Server,
         journal: &Journal,
-        turns: u32,
         sink: &mut K,
     ) -> Result<(), CommandFault>
         requires place { HasPlace self.old }
         requires longest { journal.now.max_message ≤ server.old.max_message }
         ensures rests { D.tells ≡ true → RestsOfTwo
-            (repairing self.old.peers.now.server (service_of journal.now server.old)) answers_sent text_before turns
+            (repairing self.old.options.now.peers.server (service_of journal.now server.old)) answers_sent text_before
+            self.old.options.now.turns
             (rounds D.port server.old self.old) result (K.held sink.old) (K.held sink.new)
             (rounds D.port server.new self.new) }
         ensures server { server.new ≡ record server.old { answered = server.new.answered } }
         ensures only { OnlyRepairs self.old self.new }
         ensures sink { CountsSink (K.failed sink.old) (K.failed sink.new) result }
     {
-        for _turn in 0..turns {
+        for _turn in 0..self.options.turns {
             let Some(request) = self.listener.arbiter.receiver().wanted() else {
                 return Ok(());
             };
-            self.round(alloc, server, journal, &request)?;
+            self.round(server, journal, &request)?;
             self.listener.report.outgoing.send_large(sink)?;
         }
         Ok(())
@@ -258,11 +252,8 @@ impl<'a, 'p, D: Datagrams + Drop> LocalFeed<'a, 'p, D> {
     /// where they are asked for, and answers the status.
     pub(crate) fn run<S: Source, K: Sink>(
         &mut self,
-        alloc: Global,
         publisher: &mut Publisher,
         server: &mut Server,
-        turns: u32,
-        reporting: bool,
         source: &mut S,
         sink: &mut K,
     ) -> Result<u8, CommandFault>
@@ -270,8 +261,10 @@ impl<'a, 'p, D: Datagrams + Drop> LocalFeed<'a, 'p, D> {
         requires room { HasRoom publisher.old }
         requires longest { publisher.old.journal.max_message ≤ server.old.max_message }
         ensures run { D.tells ≡ true → IfSome (S.left source.old) (λ input.
-            LoopRun reporting self.old.drops self.old.peers.now.a self.old.peers.now.b self.old.peers.now.server
-            turns publisher.old.limit publisher.old.sent (lines_published publisher.old.journal (lines_of input))
+            LoopRun self.old.options.now.reporting self.old.options.now.drops
+            self.old.options.now.peers.a self.old.options.now.peers.b self.old.options.now.peers.server
+            self.old.options.now.turns publisher.old.limit publisher.old.sent
+            (lines_published publisher.old.journal (lines_of input))
             server.old (lines D.port self.old) (rounds D.port server.old self.old) result
             (K.held sink.old) (K.held sink.new) (lines D.port self.new) (rounds D.port server.new self.new)) }
         ensures a { D.tells ≡ true → (D.port self.new.ports.now.a).sent ≡ (D.port self.old.ports.now.a).sent }
@@ -285,7 +278,8 @@ impl<'a, 'p, D: Datagrams + Drop> LocalFeed<'a, 'p, D> {
             (K.failed sink.old) (K.failed sink.new) result }
     {
         publisher_holds(publisher);
-        let refused = self.pass_lines(alloc, publisher, source, sink)?;
+        let options = self.options;
+        let refused = self.pass_lines(publisher, source, sink)?;
         if let Some(why) = refused {
             let number = publisher.journal().next();
             return print_refused(&mut self.listener.report.outgoing, number, why, sink);
@@ -293,7 +287,7 @@ impl<'a, 'p, D: Datagrams + Drop> LocalFeed<'a, 'p, D> {
         self.pass_end(publisher)?;
         publisher_holds(publisher);
         let journal = publisher.journal();
-        self.repair_all(alloc, server, journal, turns, sink)?;
-        print_last(self.listener, reporting, sink)
+        self.repair_all(server, journal, sink)?;
+        print_last(self.listener, options.reporting, sink)
     }
 }

@@ -3,6 +3,8 @@
 use mold_listen::Report;
 use mold_ports::Datagrams;
 use mold_receiver::Arbiter;
+use mold_session::{Publisher, Server};
+use std::alloc::Global;
 
 /// The five ports of a loop.
 #[derive(Drop)]
@@ -29,6 +31,19 @@ pub struct Drops {
     pub b: u32,
 }
 
+/// How a loop runs.
+#[derive(Clone, Copy)]
+pub struct LoopOptions<P: Copy> {
+    /// Where three of its ports receive.
+    pub peers: LoopPeers<P>,
+    /// Which data packets are left out.
+    pub drops: Drops,
+    /// How many rounds of requests are made at most.
+    pub turns: u32,
+    /// Whether reports of both lines are printed before the last line.
+    pub reporting: bool,
+}
+
 /// On which lines a datagram goes.
 #[derive(Clone, Copy)]
 pub struct Routes {
@@ -41,4 +56,13 @@ pub struct Routes {
 pub struct Listener {
     pub arbiter: Arbiter,
     pub report: Report,
+}
+
+/// What a loop is made of beside its ports: a publisher, its server, a listener, and where memory comes from.
+#[derive(Drop)]
+pub struct LoopParts {
+    pub alloc: Global,
+    pub publisher: Publisher,
+    pub server: Server,
+    pub listener: Listener,
 }

@@ -14,16 +14,14 @@ ghost use Rattle.mold_loop.specs.Repairing.{rounds_at};
 ghost use Rattle.mold_publish.specs.Publishing.{HasRoom, lines_published, refused_text};
 
 use crate::local_feed::LocalFeed;
-use crate::loop_parts::{Drops, Listener, LoopPeers, LoopPorts};
+use crate::loop_parts::{Listener, LoopOptions, LoopParts, LoopPorts};
 use mold_devices::{CommandFault, Sink, Source};
 use mold_listen::push_end;
 use mold_ports::Datagrams;
 use mold_publish::LineRefusal;
 use mold_send::print_line_refused;
-use mold_session::{Publisher, Server};
 use mold_turns::Outgoing;
 use mold_wire::MAX_LIMIT;
-use std::alloc::Global;
 
 // Prints why the line with the message of this number is refused, after what was handed on, and answers the status.
 pub(crate) fn print_refused<K: Sink>(
@@ -69,9 +67,9 @@ pub(crate) fn print_last<K: Sink>(
 
 /// Publishes the lines of the source as messages, and listens to them: each datagram goes on both lines but
 /// where it is left out; after the last one the session is closed and its end is sent, and what is missing
-/// is requested in at most `turns` rounds. What is handed on is printed as a listener prints it, with its last
-/// line and its status, and where `reporting` with its reports of the lines. A refused line ends it: what was
-/// handed on stays printed, then comes the refusal, without reports and last line, and the status is 2. A failed
+/// is requested in at most as many rounds as the options say. What is handed on is printed as a listener prints it,
+/// with its last line and its status, and where `reporting` with its reports of the lines. A refused line ends it: what
+/// was handed on stays printed, then comes the refusal, without reports and last line, and the status is 2. A failed
 /// send or receive is counted, and nothing is received on a line where the send failed. The publisher may have
 /// messages, of which those that it didn't put in a packet yet have to fit one; they are sent before the lines' or
 /// with them. The number of a refused line counts them too: it is the number that
@@ -80,46 +78,50 @@ pub(crate) fn print_last<K: Sink>(
 /// the port of requests and the server send were sent. The ports of the lines send nothing. `Read` and `Write` come
 /// only where the source or the sink failed.
 pub fn session_loop<D: Datagrams + Drop, S: Source, K: Sink>(
-    alloc: Global,
     ports: &mut LoopPorts<D>,
-    peers: &LoopPeers<D::Peer>,
-    publisher: &mut Publisher,
-    server: &mut Server,
-    drops: Drops,
-    turns: u32,
-    reporting: bool,
-    listener: &mut Listener,
+    options: &LoopOptions<D::Peer>,
+    parts: &mut LoopParts,
     source: &mut S,
     sink: &mut K,
 ) -> Result<u8, CommandFault>
-    requires room { HasRoom publisher.old }
-    requires longest { publisher.old.journal.max_message ≤ server.old.max_message }
+    requires room { HasRoom parts.old.publisher }
+    requires longest { parts.old.publisher.journal.max_message ≤ parts.old.server.max_message }
     ensures sends { D.tells ≡ true → IfSome (S.left source.old) (λ input.
-        LoopSends drops peers.now.a peers.now.b publisher.old.limit publisher.old.sent
-        (lines_published publisher.old.journal (lines_of input)) result
+        LoopSends options.now.drops options.now.peers.a options.now.peers.b
+        parts.old.publisher.limit parts.old.publisher.sent
+        (lines_published parts.old.publisher.journal (lines_of input)) result
         (D.port ports.old.publisher) (D.port ports.new.publisher)) }
     ensures run { D.tells ≡ true → IfSome (S.left source.old) (λ input.
-        LoopRun reporting drops peers.now.a peers.now.b peers.now.server turns publisher.old.limit publisher.old.sent
-        (lines_published publisher.old.journal (lines_of input)) server.old
-        (lines_at D.port ports.old listener.old) (rounds_at D.port ports.old server.old listener.old)
+        LoopRun options.now.reporting options.now.drops options.now.peers.a options.now.peers.b
+        options.now.peers.server options.now.turns parts.old.publisher.limit parts.old.publisher.sent
+        (lines_published parts.old.publisher.journal (lines_of input)) parts.old.server
+        (lines_at D.port ports.old parts.old.listener) (rounds_at D.port ports.old parts.old.server parts.old.listener)
         result (K.held sink.old) (K.held sink.new)
-        (lines_at D.port ports.new listener.new) (rounds_at D.port ports.new server.new listener.new)) }
+        (lines_at D.port ports.new parts.new.listener)
+        (rounds_at D.port ports.new parts.new.server parts.new.listener)) }
     ensures a { D.tells ≡ true → (D.port ports.new.a).sent ≡ (D.port ports.old.a).sent }
     ensures b { D.tells ≡ true → (D.port ports.new.b).sent ≡ (D.port ports.old.b).sent }
     ensures journal { D.tells ≡ true → OnOk result (IfSome (S.left source.old) (λ input.
-        publisher.new.journal ≡ left_journal (lines_published publisher.old.journal (lines_of input)))) }
-    ensures limit { OnOk result (publisher.new.limit ≡ publisher.old.limit) }
-    ensures server { server.new ≡ record server.old { answered = server.new.answered } }
+        parts.new.publisher.journal ≡ left_journal (lines_published parts.old.publisher.journal (lines_of input)))) }
+    ensures limit { OnOk result (parts.new.publisher.limit ≡ parts.old.publisher.limit) }
+    ensures server { parts.new.server ≡ record parts.old.server { answered = parts.new.server.answered } }
     ensures failures { CountsCommand (S.failed source.old) (S.failed source.new) (K.failed sink.old) (K.failed sink.new)
         result }
 {
+    let alloc = parts.alloc;
     let mut place = vec![in alloc; 0; MAX_LIMIT]?;
+    let LoopParts {
+        publisher,
+        server,
+        listener,
+        ..
+    } = parts;
     let mut feed = LocalFeed {
         ports,
-        peers,
-        drops,
+        options,
         place: place.as_mut_slice(),
         listener,
+        alloc,
     };
-    feed.run(alloc, publisher, server, turns, reporting, source, sink)
+    feed.run(publisher, server, source, sink)
 }

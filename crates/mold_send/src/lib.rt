@@ -1,10 +1,15 @@
 //! Publishing over a port: lines of a source as messages of a session, each datagram sent on two lines.
 #![tactic(auto)]
 
+mod closing;
 mod publication;
+mod publish_devices;
+mod publish_options;
 mod publishing;
 mod sending;
 
 pub use publication::print_line_refused;
-pub use publishing::publish_loop;
+pub use publish_devices::PublishDevices;
+pub use publish_options::PublishOptions;
+pub use publishing::{publish, publish_loop};
 pub use sending::publisher_holds;

@@ -13,6 +13,7 @@ ghost use Rattle.mold_session.specs.File.{AppendsFile};
 ghost use Rattle.mold_session.specs.Publisher.{after_datagram, closed, next_datagram};
 ghost use Rattle.mold_wire.specs.Packet.{spelling_of};
 
+use crate::closing::Closing;
 use crate::sending::{TwoLines, publisher_holds};
 use mold_devices::{CommandFault, Lines, ReadFault, Sink, Source};
 use mold_ports::Datagrams;
@@ -66,13 +67,14 @@ fn push_published(outgoing: &mut Outgoing, messages: u64, datagrams: u64) -> Res
     outgoing.push_line(&words)
 }
 
-/// What publishes: a publisher, the lines that its datagrams are sent on, and how many of data were sent, each counted
-/// once.
+/// What publishes: a publisher, the lines that its datagrams are sent on, how many data packets were sent, each counted
+/// once, and where memory comes from.
 #[derive(Drop)]
 pub(crate) struct Publication<'a, 'p, D: Datagrams> {
     pub(crate) publisher: &'a mut Publisher,
     pub(crate) lines: TwoLines<'a, 'p, D>,
     pub(crate) datagrams: u64,
+    pub(crate) alloc: Global,
 }
 
 impl<'a, 'p, D: Datagrams> Publication<'a, 'p, D> {
@@ -96,11 +98,7 @@ impl<'a, 'p, D: Datagrams> Publication<'a, 'p, D> {
 
     // Publishes line after line of the source, and sends each datagram as soon as the publisher is full, and the
     // rest after the last line. Answers why a line is refused, where one is.
-    fn send_lines<S: Source>(
-        &mut self,
-        alloc: Global,
-        source: &mut S,
-    ) -> Result<Option<LineRefusal>, ReadFault>
+    fn send_lines<S: Source>(&mut self, source: &mut S) -> Result<Option<LineRefusal>, ReadFault>
         requires room { HasRoom self.old.publisher.now }
         requires none { self.old.datagrams ≡ 0 }
         ensures sends { D.tells ≡ true → SendsInput D.port (S.left source.old) result self.old self.new }
@@ -111,8 +109,8 @@ impl<'a, 'p, D: Datagrams> Publication<'a, 'p, D> {
     {
         front_law();
         packing_law();
-        let mut lines = Lines::new(alloc)?;
-        let mut message = Vec::new(alloc);
+        let mut lines = Lines::new(self.alloc)?;
+        let mut message = Vec::new(self.alloc);
         'lines: loop {
             match fill(self.publisher, &mut lines, source, &mut message)? {
                 Filled::Full => self.send_next(),
@@ -173,9 +171,7 @@ impl<'a, 'p, D: Datagrams> Publication<'a, 'p, D> {
     /// status: 0, or 2 where a line is refused, which is printed in place of all that is behind it.
     pub(crate) fn publish<S: Source, K: Sink, J: Sink>(
         &mut self,
-        alloc: Global,
-        beats: u32,
-        ends: u32,
+        closing: Closing,
         source: &mut S,
         sink: &mut K,
         journal_sink: &mut J,
@@ -186,7 +182,8 @@ impl<'a, 'p, D: Datagrams> Publication<'a, 'p, D> {
         requires quiet { self.old.lines.outgoing.now ≡ nothing_out }
         ensures run { D.tells ≡ true → IfSome (S.left source.old) (λ input. PublishRun
             self.old.lines.a.now self.old.lines.b.now
-            beats ends self.old.publisher.now.limit (lines_published self.old.publisher.now.journal (lines_of input))
+            closing.beats closing.ends self.old.publisher.now.limit
+            (lines_published self.old.publisher.now.journal (lines_of input))
             result (D.port self.old.lines.port.now) (D.port self.new.lines.port.now)
             (K.held sink.old) (K.held sink.new) (J.held journal_sink.old) (J.held journal_sink.new)) }
         ensures journal { IfOk result (λ _. D.tells ≡ true → IfSome (S.left source.old) (λ input.
@@ -198,13 +195,13 @@ impl<'a, 'p, D: Datagrams> Publication<'a, 'p, D> {
     {
         publisher_holds(self.publisher);
         packet_length_law();
-        if let Some(why) = self.send_lines(alloc, source)? {
+        if let Some(why) = self.send_lines(source)? {
             let number = self.publisher.journal().next();
             print_line_refused(self.lines.outgoing, number, why)?;
             self.lines.outgoing.send(sink)?;
             return Ok(2);
         }
-        self.send_close(beats, ends);
+        self.send_close(closing.beats, closing.ends);
         save_journal(self.publisher.journal(), journal_sink)?;
         let messages = self.publisher.journal().next() - 1;
         push_published(self.lines.outgoing, messages, self.datagrams)?;

@@ -5,7 +5,10 @@ ghost use Rattle.mold_devices.specs.Lines.{lines_of};
 ghost use Rattle.mold_send.specs.PublishLoop.{CountsPublish, PublishRun, left_journal};
 ghost use Rattle.mold_publish.specs.Publishing.{lines_published};
 
+use crate::closing::Closing;
 use crate::publication::Publication;
+use crate::publish_devices::PublishDevices;
+use crate::publish_options::PublishOptions;
 use crate::sending::TwoLines;
 use mold_devices::{CommandFault, Sink, Source};
 use mold_ports::Datagrams;
@@ -53,6 +56,39 @@ pub fn publish_loop<D: Datagrams, S: Source, K: Sink, J: Sink>(
         publisher,
         lines,
         datagrams: 0,
+        alloc,
     };
-    publication.publish(alloc, beats, ends, source, sink, journal_sink)
+    publication.publish(Closing { beats, ends }, source, sink, journal_sink)
+}
+
+/// Publishes as `publish_loop` does, with these options, from these devices and to them.
+pub fn publish<D: Datagrams, S: Source + Drop, K: Sink + Drop, J: Sink + Drop>(
+    alloc: Global,
+    port: &mut D,
+    options: PublishOptions<D::Peer>,
+    publisher: &mut Publisher,
+    devices: &mut PublishDevices<S, K, J>,
+) -> Result<u8, CommandFault>
+    requires unclosed { publisher.old.journal.closed ≡ false }
+    requires empty { publisher.old.journal.messages ≡ [] }
+    ensures run { D.tells ≡ true → IfSome (S.left devices.old.source) (λ input.
+        PublishRun options.a options.b options.beats options.ends publisher.old.limit
+        (lines_published publisher.old.journal (lines_of input)) result (D.port port.old) (D.port port.new)
+        (K.held devices.old.sink) (K.held devices.new.sink)
+        (J.held devices.old.journal) (J.held devices.new.journal)) }
+    ensures journal { IfOk result (λ _. D.tells ≡ true → IfSome (S.left devices.old.source) (λ input.
+        publisher.new.journal ≡ left_journal (lines_published publisher.old.journal (lines_of input)))) }
+    ensures failures { CountsPublish (S.failed devices.old.source) (S.failed devices.new.source)
+        (K.failed devices.old.sink) (K.failed devices.new.sink)
+        (J.failed devices.old.journal) (J.failed devices.new.journal) result }
+{
+    let PublishDevices {
+        source,
+        sink,
+        journal,
+    } = devices;
+    let PublishOptions { a, b, beats, ends } = options;
+    publish_loop(
+        alloc, port, a, b, publisher, beats, ends, source, sink, journal,
+    )
 }

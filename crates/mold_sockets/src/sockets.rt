@@ -2,13 +2,17 @@
 
 ghost use Rattle.std.specs.Prelude.{◌≡◌, ◌-◌};
 
+use crate::options::{listen_options, publish_options, serve_turns};
 use mold_devices::{CommandFault, FromRead, IntoWrite, NewFile};
-use mold_loop::{LoopPeers, LoopPorts, loop_over};
+use mold_listen::{ListenPorts, listen};
+use mold_loop::{LoopPeers, LoopPorts, loop_options, make_parts, session_loop};
 use mold_ports::UdpPort;
+use mold_send::{PublishDevices, publish};
+use mold_serve::serve_loop;
 use mold_session::{FileError, Journal};
 use mold_wiring::{
-    ProgramFault, flushed, listen_over, load_journal, make_arbiter, make_publisher,
-    make_server, publish_over, serve_over, socket_address, tell_file_refused,
+    ProgramFault, flushed, load_journal, make_arbiter, make_publisher, make_server, socket_address,
+    tell_file_refused,
 };
 use mold_words::{Address, ListenOrder, LoopOrder, PublishOrder, ServeOrder};
 use std::fs::File;
@@ -73,7 +77,14 @@ fn serve_on(
 {
     let mut server = make_server(rt.alloc(), order)?;
     let mut sink = standard_output(rt, order.live);
-    let outcome = serve_over(rt.alloc(), order, port, &mut server, journal, &mut sink);
+    let outcome = serve_loop(
+        rt.alloc(),
+        port,
+        &mut server,
+        journal,
+        serve_turns(order),
+        &mut sink,
+    );
     flushed(outcome, sink.into_inner().flush())
 }
 
@@ -88,30 +99,20 @@ pub fn run_listen(rt: &HostRuntime, order: &ListenOrder) -> Result<u8, ProgramFa
     b.stand_beside(&a);
     requests.stand_beside(&a);
     requests.stand_beside(&b);
-    Ok(listen_on(rt, order, &mut a, &mut b, &mut requests)?)
+    Ok(listen_on(rt, order, &mut ListenPorts { a, b, requests })?)
 }
 
 // Listens on the ports.
 fn listen_on(
     rt: &HostRuntime,
     order: &ListenOrder,
-    a: &mut UdpPort,
-    b: &mut UdpPort,
-    requests: &mut UdpPort,
+    ports: &mut ListenPorts<UdpPort>,
 ) -> Result<u8, CommandFault> {
     let mut arbiter = make_arbiter(rt.alloc(), order)?;
     let server = SocketAddr::V4(socket_address(order.server));
     let mut sink = standard_output(rt, order.live);
-    let outcome = listen_over(
-        rt.alloc(),
-        order,
-        a,
-        b,
-        requests,
-        server,
-        &mut arbiter,
-        &mut sink,
-    );
+    let options = listen_options(order, server);
+    let outcome = listen(rt.alloc(), ports, options, &mut arbiter, &mut sink);
     flushed(outcome, sink.into_inner().flush())
 }
 
@@ -129,20 +130,16 @@ fn publish_on(
     port: &mut UdpPort,
 ) -> Result<u8, CommandFault> {
     let mut publisher = make_publisher(rt.alloc(), order)?;
-    let mut source = FromRead::new(rt.stdin());
-    let mut journal = IntoWrite::new(NewFile::new(rt, order.journal.as_str()));
-    let mut sink = IntoWrite::new(rt.stdout());
-    let outcome = publish_over(
-        rt.alloc(),
-        order,
-        port,
-        SocketAddr::V4(socket_address(order.a)),
-        SocketAddr::V4(socket_address(order.b)),
-        &mut publisher,
-        &mut source,
-        &mut sink,
-        &mut journal,
-    );
+    let a = SocketAddr::V4(socket_address(order.a));
+    let b = SocketAddr::V4(socket_address(order.b));
+    let mut devices = PublishDevices {
+        source: FromRead::new(rt.stdin()),
+        sink: IntoWrite::new(rt.stdout()),
+        journal: IntoWrite::new(NewFile::new(rt, order.journal.as_str())),
+    };
+    let options = publish_options(order, a, b);
+    let outcome = publish(rt.alloc(), port, options, &mut publisher, &mut devices);
+    let PublishDevices { sink, .. } = devices;
     flushed(outcome, sink.into_inner().flush())
 }
 
@@ -174,8 +171,10 @@ fn loop_on(
         b: ports.b.address(),
         server: ports.server.address(),
     };
+    let options = loop_options(order, peers);
+    let mut parts = make_parts(rt.alloc(), order)?;
     let mut source = FromRead::new(rt.stdin());
     let mut sink = IntoWrite::new(rt.stdout());
-    let outcome = loop_over(rt.alloc(), order, ports, &peers, &mut source, &mut sink);
+    let outcome = session_loop(ports, &options, &mut parts, &mut source, &mut sink);
     flushed(outcome, sink.into_inner().flush())
 }

@@ -1,22 +1,17 @@
 //! What `serve` is made of.
 
-ghost use Rattle.std.specs.Prelude.{◌≡◌, ◌-◌, true, IfErr, IfOk, IfSome};
+ghost use Rattle.std.specs.Prelude.{◌≡◌, ◌-◌, IfErr, IfOk, IfSome};
 ghost use Rattle.std.specs.Io.KnownBytes.{Appends};
 ghost use Rattle.mold_devices.specs.Devices.{AppendsFront};
 ghost use Rattle.mold_refusals.specs.Words.{file_fault_words};
-ghost use Rattle.mold_serve.specs.Serving.{served_by, service_of, serving, responder_of};
-ghost use Rattle.mold_serve.specs.Tally.{served_line, no_tally};
 ghost use Rattle.mold_text.specs.Text.{refused_line};
 ghost use Rattle.mold_devices.specs.Faults.{CountsSink};
-ghost use Rattle.mold_turns.specs.Runs.{Ran};
 ghost use Rattle.mold_wiring.specs.File.{CountsSource, IsAtFault, SpellsFile};
 ghost use Rattle.mold_wiring.specs.Wiring.{server_of};
 
 use crate::limits::longest_message;
 use mold_devices::{CommandFault, Sink, Source, send};
-use mold_ports::Datagrams;
 use mold_refusals::push_file_refusal;
-use mold_serve::serve_loop;
 use mold_session::{FileError, Journal, Server};
 use mold_words::ServeOrder;
 use std::alloc::{AllocError, Global};
@@ -69,24 +64,4 @@ pub fn make_server(alloc: Global, order: &ServeOrder) -> Result<Server, AllocErr
         Ok(server) => Ok(server),
         Err(_) => Err(AllocError),
     }
-}
-
-/// Serves requests from the journal, as `serve_loop` does, with the order's server and in as many turns as it says.
-pub fn serve_over<D: Datagrams, K: Sink>(
-    alloc: Global,
-    order: &ServeOrder,
-    port: &mut D,
-    server: &mut Server,
-    journal: &Journal,
-    sink: &mut K,
-) -> Result<u8, CommandFault>
-    requires server { server.old ≡ server_of order.now }
-    requires journal { journal.now.max_message ≡ order.now.limit - 22 }
-    ensures run { D.tells ≡ true → Ran (serving (service_of journal.now (server_of order.now))) order.now.turns
-        (responder_of (D.port port.old) no_tally (server_of order.now)) (λ s. served_line s.tally) (λ s. 0)
-        (λ responder. (D.port port.new ≡ responder.port) × (server.new ≡ served_by (server_of order.now) responder))
-        result (K.held sink.old) (K.held sink.new) (D.port port.new).sent }
-    ensures sink { CountsSink (K.failed sink.old) (K.failed sink.new) result }
-{
-    serve_loop(alloc, port, server, journal, u64::from(order.turns), sink)
 }

@@ -2,8 +2,8 @@
 
 use crate::comparisons::same_size;
 use mold_devices::{IntoWrite, MemorySink, Sink};
-use mold_turns::Outgoing;
 use mold_text::Word;
+use mold_turns::Outgoing;
 use std::test::Fail;
 
 #[test]

@@ -5,8 +5,8 @@ ghost use Rattle.std.specs.Prelude.{◌≡◌, [], false, IfOk};
 
 use crate::comparisons::{begins_with_at, same_bytes_at, same_number_at, same_outcome_at};
 use mold_devices::{CommandFault, MemorySink, MemorySource, Sink};
-use mold_send::publish_loop;
 use mold_ports::{Datagrams, MemoryPort};
+use mold_send::publish_loop;
 use mold_session::Publisher;
 use mold_wire::Session;
 use std::alloc::Global;

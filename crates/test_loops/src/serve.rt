@@ -3,8 +3,8 @@
 
 use crate::comparisons::{same_bytes, same_number, same_outcome, same_size};
 use mold_devices::{CommandFault, MemorySink, Sink};
-use mold_serve::{Tally, answer_request, serve_loop};
 use mold_ports::{Datagrams, MemoryPort, Step};
+use mold_serve::{Tally, answer_request, serve_loop};
 use mold_session::{AppendError, Journal, Server};
 use mold_wire::Session;
 use std::alloc::{AllocError, Global};

@@ -1,7 +1,7 @@
 //! A publisher, its server and a listener over ports in memory: which datagrams go where, what is left out, and
 //! sends that fail. What a port gives is its script's: nothing that is sent comes anywhere.
 
-ghost use Rattle.std.specs.Prelude.{◌≡◌, IfOk};
+ghost use Rattle.std.specs.Prelude.{◌≡◌, ◌≤◌, IfOk};
 ghost use Rattle.mold_publish.specs.Publishing.{HasRoom};
 
 use crate::comparisons::{same_bytes, same_outcome, same_size};
@@ -9,7 +9,7 @@ use crate::listen::port;
 use crate::publish::expect_sent;
 use mold_devices::{CommandFault, MemorySink, MemorySource};
 use mold_listen::Report;
-use mold_loop::{Drops, Listener, LoopPeers, LoopPorts, session_loop};
+use mold_loop::{Drops, Listener, LoopOptions, LoopParts, LoopPeers, LoopPorts, session_loop};
 use mold_ports::MemoryPort;
 use mold_receiver::{Arbiter, Receiver};
 use mold_session::{Publisher, Server};
@@ -70,11 +70,26 @@ fn new_server(alloc: Global) -> Result<Server, Fail>
     Ok(Server::new(alloc, 64, 42, 1)?)
 }
 
-/// The ports, what listens, and where it prints.
+// Both, and what listens from the first message on.
+fn new_parts(alloc: Global) -> Result<LoopParts, Fail>
+    ensures room { IfOk result (λ parts. HasRoom parts.publisher) }
+    ensures longest { IfOk result (λ parts. parts.publisher.journal.max_message ≤ parts.server.max_message) }
+{
+    Ok(LoopParts {
+        alloc,
+        publisher: new_publisher(alloc)?,
+        server: new_server(alloc)?,
+        listener: Listener {
+            arbiter: Arbiter::new(Receiver::new(alloc, SESSION, 1, 4)?),
+            report: Report::new(alloc),
+        },
+    })
+}
+
+/// The ports, and where the listener prints.
 #[derive(Drop)]
 struct Fixture {
     ports: LoopPorts<MemoryPort>,
-    listener: Listener,
     sink: MemorySink,
 }
 
@@ -90,10 +105,6 @@ fn make_fixture(alloc: Global, a: &[&[u8]]) -> Result<Fixture, Fail> {
     };
     Ok(Fixture {
         ports,
-        listener: Listener {
-            arbiter: Arbiter::new(Receiver::new(alloc, SESSION, 1, 4)?),
-            report: Report::new(alloc),
-        },
         sink: MemorySink::new(alloc),
     })
 }
@@ -107,22 +118,16 @@ fn run(
     reporting: bool,
     lines: &[u8],
 ) -> Result<Result<u8, CommandFault>, Fail> {
-    let mut publisher = new_publisher(alloc)?;
-    let mut server = new_server(alloc)?;
-    let mut source = MemorySource::new(lines);
-    Ok(session_loop(
-        alloc,
-        &mut fixture.ports,
-        &PEERS,
-        &mut publisher,
-        &mut server,
+    let options = LoopOptions {
+        peers: PEERS,
         drops,
         turns,
         reporting,
-        &mut fixture.listener,
-        &mut source,
-        &mut fixture.sink,
-    ))
+    };
+    let mut parts = new_parts(alloc)?;
+    let mut source = MemorySource::new(lines);
+    let (ports, sink) = (&mut fixture.ports, &mut fixture.sink);
+    Ok(session_loop(ports, &options, &mut parts, &mut source, sink))
 }
 
 // The five messages with these drops end so, and print this text.

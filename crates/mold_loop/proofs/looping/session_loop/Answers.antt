@@ -9,21 +9,25 @@ use Rattle.mold_loop.proofs.looping.session_loop.Goals as goal
 
 pub returns-in_err-place-clause-run : goal.returns-in_err-place-clause-run
 returns-in_err-place-clause-run g c tells =
+    let options = c.args.options.now in
+    let peers = options.peers in
     let port = g.D.Datagrams.port in
-    loop_unbegun c.args.reporting c.args.drops c.args.peers.now.a c.args.peers.now.b c.args.peers.now.server c.args.turns c.args.publisher.now
-    c.args.server.now (lines_at port c.args.ports.now c.args.listener.now)
-    (rounds_at port c.args.ports.now c.args.server.now c.args.listener.now) _ c.from_residual.result _
+    loop_unbegun options.reporting options.drops peers.a peers.b peers.server options.turns c.args.parts.now.publisher
+    c.args.parts.now.server (lines_at port c.args.ports.now c.args.parts.now.listener)
+    (rounds_at port c.args.ports.now c.args.parts.now.server c.args.parts.now.listener) _ c.from_residual.result _
     c.from_residual.ensures.0
 
 pub returns-clause-run : goal.returns-clause-run
 returns-clause-run g c tells =
+    let options = c.args.options.now in
+    let peers = options.peers in
     let port = g.D.Datagrams.port in
     let feed = c.run.new.self in
     let ports = sym c.run.ensures.same.ports in
     let listener = sym c.run.ensures.same.listener in
-    loop_so c.args.reporting c.args.drops c.args.peers.now.a c.args.peers.now.b c.args.peers.now.server c.args.turns
-    c.args.publisher.now c.args.server.now (lines_at port c.args.ports.now c.args.listener.now)
-    (rounds_at port c.args.ports.now c.args.server.now c.args.listener.now) _ c.run.result _ _
+    loop_so options.reporting options.drops peers.a peers.b peers.server options.turns
+    c.args.parts.now.publisher c.args.parts.now.server (lines_at port c.args.ports.now c.args.parts.now.listener)
+    (rounds_at port c.args.ports.now c.args.parts.now.server c.args.parts.now.listener) _ c.run.result _ _
     (lines_at port feed.ports.now feed.listener.now) _
     (rounds_at port feed.ports.now c.run.new.server feed.listener.now) _
     (lines_so port feed.ports.now feed.listener.now _ _ _ _ _ (search (rules, ends_publisher)) (search (rules, ends_a))
@@ -44,12 +48,16 @@ returns-clause-b g c tells =
 
 pub returns-in_err-place-clause-sends : goal.returns-in_err-place-clause-sends
 returns-in_err-place-clause-sends g c tells =
-    loop_sends c.args.reporting c.args.drops c.args.peers.now.a c.args.peers.now.b c.args.peers.now.server c.args.turns
-    c.args.publisher.now c.args.server.now _ _ _ c.from_residual.result _ _ _ _
+    let options = c.args.options.now in
+    let peers = options.peers in
+    loop_sends options.reporting options.drops peers.a peers.b peers.server options.turns
+    c.args.parts.now.publisher c.args.parts.now.server _ _ _ c.from_residual.result _ _ _ _
     (returns-in_err-place-clause-run g c tells)
 
 pub returns-clause-sends : goal.returns-clause-sends
 returns-clause-sends g c tells =
-    loop_sends c.args.reporting c.args.drops c.args.peers.now.a c.args.peers.now.b c.args.peers.now.server c.args.turns
-    c.args.publisher.now c.args.server.now _ _ _ c.run.result _ _ _ _
+    let options = c.args.options.now in
+    let peers = options.peers in
+    loop_sends options.reporting options.drops peers.a peers.b peers.server options.turns
+    c.args.parts.now.publisher c.args.parts.now.server _ _ _ c.run.result _ _ _ _
     (returns-clause-run g c tells)

@@ -8,9 +8,9 @@ use Rattle.mold_listen.proofs.feed_listener.FeedListener.listen.Goals as goal
 
 pub returns-in_err-take_turns-clause-run : goal.returns-in_err-take_turns-clause-run
 returns-in_err-take_turns-clause-run g c = λ t.
-    ran_cut (is_loop c.args.server c.args.burst) c.args.turns
+    ran_cut (is_loop c.args.options.server c.args.options.burst) c.args.options.turns
     (state g.D.Datagrams.port c.args.self.now)
-    (listened_lines c.args.reporting) status _ c.take_turns.result c.from_residual.result
+    (listened_lines c.args.options.reporting) status _ c.take_turns.result c.from_residual.result
     (c.take_turns.ensures.run t)
     c.from_residual.ensures.0
 
@@ -21,9 +21,9 @@ returns-in_err-take_turns-clause-sink g c =
 
 pub returns-in_err-status-clause-run : goal.returns-in_err-status-clause-run
 returns-in_err-status-clause-run g c = λ t.
-    ran_cut (is_loop c.args.server c.args.burst) c.args.turns
+    ran_cut (is_loop c.args.options.server c.args.options.burst) c.args.options.turns
     (state g.D.Datagrams.port c.args.self.now)
-    (listened_lines c.args.reporting) status _ c.take_turns.result c.from_residual-in_err-status.result
+    (listened_lines c.args.options.reporting) status _ c.take_turns.result c.from_residual-in_err-status.result
     (c.take_turns.ensures.run t)
     c.from_residual-in_err-status.ensures.0
 
@@ -34,9 +34,9 @@ returns-in_err-status-clause-sink g c =
 
 pub returns-in_err-send-clause-run : goal.returns-in_err-send-clause-run
 returns-in_err-send-clause-run g c = λ t.
-    ran_front (is_loop c.args.server c.args.burst) c.args.turns
+    ran_front (is_loop c.args.options.server c.args.options.burst) c.args.options.turns
     (state g.D.Datagrams.port c.args.self.now)
-    (listened_lines c.args.reporting) status _ (λ front s. refl) c.in_ok-take_turns.field-0
+    (listened_lines c.args.options.reporting) status _ (λ front s. refl) c.in_ok-take_turns.field-0
     (state g.D.Datagrams.port c.take_turns.new.self)
     (c.in_ok-take_turns.ensures.run t)
     c.from_residual-in_err-send.result c.push_end.new.outgoing.text
@@ -51,9 +51,9 @@ returns-in_err-send-clause-sink g c =
 
 pub returns-clause-run : goal.returns-clause-run
 returns-clause-run g c = λ t.
-    ran_whole (is_loop c.args.server c.args.burst) c.args.turns
+    ran_whole (is_loop c.args.options.server c.args.options.burst) c.args.options.turns
     (state g.D.Datagrams.port c.args.self.now)
-    (listened_lines c.args.reporting) status
+    (listened_lines c.args.options.reporting) status
     (Agrees (g.D.Datagrams.port c.take_turns.new.self.a.now) (g.D.Datagrams.port c.take_turns.new.self.b.now)
     (g.D.Datagrams.port c.take_turns.new.self.requests.now) c.take_turns.new.self.arbiter.now)
     (λ front s. refl) c.in_ok-take_turns.field-0

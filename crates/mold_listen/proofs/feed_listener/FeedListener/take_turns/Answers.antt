@@ -8,7 +8,7 @@ use Rattle.mold_listen.proofs.feed_listener.FeedListener.take_turns.Goals as goa
 
 pub loop-turn-init : goal.loop-turn-init
 loop-turn-init g c = record {
-  going = λ t. going_init (is_loop c.args.server c.args.burst) _ (g.K.Sink.held c.args.sink.now);
+  going = λ t. going_init (is_loop c.args.options.server c.args.options.burst) _ (g.K.Sink.held c.args.sink.now);
   same = same_at_first c.args.self.now;
   sink = refl;
 }
@@ -16,7 +16,7 @@ loop-turn-init g c = record {
 pub loop-turn-preserved : goal.loop-turn-preserved
 loop-turn-preserved g c = record {
   going = λ t.
-      let laws = is_loop c.args.server c.args.burst in
+      let laws = is_loop c.args.options.server c.args.options.burst in
       let turned = c.in_ok-take_turn.ensures.turned t in
       let made = state g.D.Datagrams.port c.take_turn.new.self in
       let after = listener made.a made.b made.requests made.hearing.arbitration c.send_large.new.self in
@@ -35,7 +35,7 @@ loop-turn-preserved g c = record {
 pub returns-in_err-take_turn-clause-run : goal.returns-in_err-take_turn-clause-run
 returns-in_err-take_turn-clause-run g c = λ t.
     let turned = c.take_turn.ensures.turned t in
-    rests_failed (is_loop c.args.server c.args.burst) c.from_residual.result c.args.turns turned.fails _
+    rests_failed (is_loop c.args.options.server c.args.options.burst) c.from_residual.result c.args.options.turns turned.fails _
     (c.loop-turn.invariant.going t) c.loop-turn-test.true turned.sent c.from_residual.ensures.0
 
 pub returns-in_err-take_turn-clause-same : goal.returns-in_err-take_turn-clause-same
@@ -51,7 +51,7 @@ returns-then-finished-clause-run g c = λ t.
     let turned = c.in_ok-take_turn.ensures.turned t in
     let over = finished_is c.finished.result c.receiver.result.now c.take_turn.new.self.arbiter.now.view c.finished.ensures
     c.receiver.ensures ∙ c.if-finished.true in
-    rests_over (is_loop c.args.server c.args.burst) _ c.args.turns turned.fails _ (c.loop-turn.invariant.going t)
+    rests_over (is_loop c.args.options.server c.args.options.burst) _ c.args.options.turns turned.fails _ (c.loop-turn.invariant.going t)
     c.loop-turn-test.true turned.whole over
 
 pub returns-then-finished-clause-same : goal.returns-then-finished-clause-same
@@ -63,11 +63,11 @@ returns-then-finished-clause-sink g c = c.loop-turn.invariant.sink
 
 pub returns-in_err-send_large-clause-run : goal.returns-in_err-send_large-clause-run
 returns-in_err-send_large-clause-run g c = λ t.
-    let laws = is_loop c.args.server c.args.burst in
+    let laws = is_loop c.args.options.server c.args.options.burst in
     let turned = c.in_ok-take_turn.ensures.turned t in
     let failed = c.from_residual-in_err-send_large.ensures.0 in
     rests_left laws c.from_residual-in_err-send_large.result _
-    (rests_cut laws c.from_residual-in_err-send_large.result c.args.turns turned.fails _
+    (rests_cut laws c.from_residual-in_err-send_large.result c.args.options.turns turned.fails _
     (c.loop-turn.invariant.going t) c.loop-turn-test.true turned.whole c.send_large.ensures.front failed)
     refl failed
 
@@ -85,8 +85,8 @@ returns-in_err-send_large-clause-sink g c =
 pub returns : goal.returns
 returns g c = record {
   run = λ t.
-      let made : c.loop-turn._turn ≡ c.args.turns = omega (arith, c.loop-turn-test.false, c.loop-turn.auto._turn-end) in
-      rests_all (is_loop c.args.server c.args.burst) _ c.args.turns made (c.loop-turn.invariant.going t);
+      let made : c.loop-turn._turn ≡ c.args.options.turns = omega (arith, c.loop-turn-test.false, c.loop-turn.auto._turn-end) in
+      rests_all (is_loop c.args.options.server c.args.options.burst) _ c.args.options.turns made (c.loop-turn.invariant.going t);
   same = c.loop-turn.invariant.same;
   sink = c.loop-turn.invariant.sink;
 }

@@ -7,7 +7,7 @@ pub returns-clause-passed : goal.returns-clause-passed
 returns-clause-passed g c = λ t.
     let known = g.D.Datagrams.port in
     let feed = c.args.self.now in
-    has_passed feed.peers.now.a feed.peers.now.b c.args.routes c.send_on-sent.result c.args.datagram.now
+    has_passed feed.options.now.peers.a feed.options.now.peers.b c.args.routes c.send_on-sent.result c.args.datagram.now
     c.hear_on.result (lines known feed) (lines known c.hear_on.new.self)
     (known c.send_on-sent.new.port) c.send_on-sent.new.listener.report.outgoing (c.send_on-sent.ensures.comes t)
     (ap known c.hear_on.ensures.publisher) (rw c.send_on-sent.ensures.arbiter at (c.hear_on.ensures.heard t))

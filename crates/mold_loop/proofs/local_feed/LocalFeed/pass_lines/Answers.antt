@@ -30,7 +30,7 @@ lines-init g c = record {
   few = omega arith;
   heard = λ tells.
       let feed = c.args.self.now in
-      so_far_begun feed.drops feed.peers.now.a feed.peers.now.b c.args.publisher.now
+      so_far_begun feed.options.now.drops feed.options.now.peers.a feed.options.now.peers.b c.args.publisher.now
       (g.S.Source.left c.args.source.now) c.in_ok-lines.lines.rest _ _ c.in_ok-lines.ensures;
   only = passes_at_first g.D.Datagrams.tells g.D.Datagrams.port c.args.self.now;
   limit = refl;
@@ -56,9 +56,9 @@ lines-preserved g c =
           let has = next_passed port (c.lines.number + 1) (spelled_some (next_datagram c.fill.new.publisher)) _
           c.pass_next.new.self c.lines.invariant.only.same (c.in_ok-pass_next-in-Full.ensures.passed tells) in
           let moves = c.in_ok-send_large.ensures.moved in
-          so_far_moved feed.drops feed.peers.now.a feed.peers.now.b c.args.publisher.now c.pass_next.new.publisher
+          so_far_moved feed.options.now.drops feed.options.now.peers.a feed.options.now.peers.b c.args.publisher.now c.pass_next.new.publisher
           _ _ _ made _ _ _ c.pass_next.new.number _ after
-          (so_far_full known feed.drops feed.peers.now.a feed.peers.now.b c.args.publisher.now c.lines.publisher
+          (so_far_full known feed.options.now.drops feed.options.now.peers.a feed.options.now.peers.b c.args.publisher.now c.lines.publisher
           c.fill.new.publisher c.pass_next.new.publisher _ _ _ _ _ made _ _ c.lines.number c.pass_next.new.number
           c.in_ok-pass_next-in-Full.field-0 (c.lines.invariant.heard tells) filled c.pass_next.ensures.sent
           has c.pass_next.ensures.counted)
@@ -68,8 +68,7 @@ lines-preserved g c =
       only = record {
         same = record {
           ports = only.same.ports;
-          peers = only.same.peers;
-          drops = only.same.drops;
+          options = only.same.options;
           place = only.same.place;
           listener = only.same.listener;
         };
@@ -92,13 +91,13 @@ returns-in-End-clause-all g c none =
 pub returns-in_err-lines-clause-heard : goal.returns-in_err-lines-clause-heard
 returns-in_err-lines-clause-heard g c tells =
     let feed = c.args.self.now in
-    hears_none feed.drops feed.peers.now.a feed.peers.now.b c.args.publisher.now c.args.publisher.now _
+    hears_none feed.options.now.drops feed.options.now.peers.a feed.options.now.peers.b c.args.publisher.now c.args.publisher.now _
     c.from_residual.result _ _ c.from_residual.ensures.0
 
 pub returns-in_err-fill-clause-heard : goal.returns-in_err-fill-clause-heard
 returns-in_err-fill-clause-heard g c tells =
     let feed = c.args.self.now in
-    hears_still feed.drops feed.peers.now.a feed.peers.now.b c.args.publisher.now c.lines.publisher
+    hears_still feed.options.now.drops feed.options.now.peers.a feed.options.now.peers.b c.args.publisher.now c.lines.publisher
     c.fill.new.publisher _ _
     c.from_residual-in_err-fill.result _ _ _ _ c.lines.number (c.lines.invariant.heard tells)
     c.from_residual-in_err-fill.ensures.0
@@ -106,8 +105,8 @@ returns-in_err-fill-clause-heard g c tells =
 pub returns-in_err-pass_next-in-Full-clause-heard : goal.returns-in_err-pass_next-in-Full-clause-heard
 returns-in_err-pass_next-in-Full-clause-heard g c tells =
     let feed = c.args.self.now in
-    hears_full (laws g (goal.at.returns-in_err-pass_next-in-Full-clause-heard g c).After-packing_law) feed.drops
-    feed.peers.now.a feed.peers.now.b c.args.publisher.now c.lines.publisher c.fill.new.publisher
+    hears_full (laws g (goal.at.returns-in_err-pass_next-in-Full-clause-heard g c).After-packing_law) feed.options.now.drops
+    feed.options.now.peers.a feed.options.now.peers.b c.args.publisher.now c.lines.publisher c.fill.new.publisher
     c.pass_next.new.publisher _ _ _ _ _ _ _ _ c.lines.number c.pass_next.result
     c.from_residual-in_err-pass_next-in-Full.result (c.lines.invariant.heard tells)
     (rw c.in-Full.is at c.in_ok-fill.ensures.filled)
@@ -124,9 +123,9 @@ returns-in_err-send_large-clause-heard g c tells =
     let made = lines port c.pass_next.new.self in
     let has = next_passed port (c.lines.number + 1) (spelled_some (next_datagram c.fill.new.publisher)) _
     c.pass_next.new.self c.lines.invariant.only.same (c.in_ok-pass_next-in-Full.ensures.passed tells) in
-    hears_unwritten feed.drops feed.peers.now.a feed.peers.now.b c.args.publisher.now c.pass_next.new.publisher
+    hears_unwritten feed.options.now.drops feed.options.now.peers.a feed.options.now.peers.b c.args.publisher.now c.pass_next.new.publisher
     c.pass_next.new.publisher _ _ c.from_residual-in_err-send_large.result _ made _ _ _ _ c.pass_next.new.number
-    (so_far_full known feed.drops feed.peers.now.a feed.peers.now.b c.args.publisher.now c.lines.publisher
+    (so_far_full known feed.options.now.drops feed.options.now.peers.a feed.options.now.peers.b c.args.publisher.now c.lines.publisher
     c.fill.new.publisher c.pass_next.new.publisher _ _ _ _ _ made _ _ c.lines.number c.pass_next.new.number
     c.in_ok-pass_next-in-Full.field-0 (c.lines.invariant.heard tells) filled c.pass_next.ensures.sent
     has c.pass_next.ensures.counted)
@@ -135,8 +134,8 @@ returns-in_err-send_large-clause-heard g c tells =
 pub returns-in_err-pass_next-in-End-clause-heard : goal.returns-in_err-pass_next-in-End-clause-heard
 returns-in_err-pass_next-in-End-clause-heard g c tells =
     let feed = c.args.self.now in
-    hears_last (laws g (goal.at.returns-in_err-pass_next-in-End-clause-heard g c).After-packing_law) feed.drops
-    feed.peers.now.a feed.peers.now.b c.args.publisher.now c.lines.publisher c.fill.new.publisher
+    hears_last (laws g (goal.at.returns-in_err-pass_next-in-End-clause-heard g c).After-packing_law) feed.options.now.drops
+    feed.options.now.peers.a feed.options.now.peers.b c.args.publisher.now c.lines.publisher c.fill.new.publisher
     c.pass_next-in-End.new.publisher _ _ _ _ _ _ _ _ c.lines.number c.pass_next-in-End.result
     c.from_residual-in_err-pass_next-in-End.result (c.lines.invariant.heard tells)
     (rw c.in-End.is at c.in_ok-fill.ensures.filled)
@@ -147,8 +146,8 @@ returns-in_err-pass_next-in-End-clause-heard g c tells =
 pub returns-in-End-clause-heard : goal.returns-in-End-clause-heard
 returns-in-End-clause-heard g c tells =
     let feed = c.args.self.now in
-    hears_end (laws g (goal.at.returns-in-End-clause-heard g c).After-packing_law) feed.drops
-    feed.peers.now.a feed.peers.now.b c.args.publisher.now c.lines.publisher c.fill.new.publisher
+    hears_end (laws g (goal.at.returns-in-End-clause-heard g c).After-packing_law) feed.options.now.drops
+    feed.options.now.peers.a feed.options.now.peers.b c.args.publisher.now c.lines.publisher c.fill.new.publisher
     c.pass_next-in-End.new.publisher _ _ _ _ _ _ _ _ c.lines.number c.in_ok-pass_next-in-End.field-0
     (c.lines.invariant.heard tells) (rw c.in-End.is at c.in_ok-fill.ensures.filled)
     (next_passed g.D.Datagrams.port (c.lines.number + 1) (spelled_some (next_datagram c.fill.new.publisher)) _
@@ -158,8 +157,8 @@ returns-in-End-clause-heard g c tells =
 pub returns-in-Refused-clause-heard : goal.returns-in-Refused-clause-heard
 returns-in-Refused-clause-heard g c tells =
     let feed = c.args.self.now in
-    hears_refused (laws g (goal.at.returns-in-Refused-clause-heard g c).After-packing_law) feed.drops
-    feed.peers.now.a feed.peers.now.b c.args.publisher.now c.lines.publisher c.fill.new.publisher _ _ _
+    hears_refused (laws g (goal.at.returns-in-Refused-clause-heard g c).After-packing_law) feed.options.now.drops
+    feed.options.now.peers.a feed.options.now.peers.b c.args.publisher.now c.lines.publisher c.fill.new.publisher _ _ _
     c.in-Refused.why _ _ _ _ c.lines.number (c.lines.invariant.heard tells)
     (rw c.in-Refused.is at c.in_ok-fill.ensures.filled)
 

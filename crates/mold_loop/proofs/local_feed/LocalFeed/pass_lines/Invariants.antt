@@ -14,7 +14,7 @@ invariant-lines g l = record {
   few : l.number ≤ l.publisher.sent;
   heard :
       g.D.Datagrams.tells ≡ true →
-      HeardSoFar l.fn.self.drops l.fn.self.peers.now.a l.fn.self.peers.now.b l.fn.publisher l.publisher
+      HeardSoFar l.fn.self.options.now.drops l.fn.self.options.now.peers.a l.fn.self.options.now.peers.b l.fn.publisher l.publisher
       (g.S.Source.left l.fn.source) (prepend_known l.lines.rest (g.S.Source.left l.source))
       (lines g.D.Datagrams.port l.fn.self) (lines g.D.Datagrams.port l.self)
       (g.K.Sink.held l.fn.sink) (g.K.Sink.held l.sink) l.number;

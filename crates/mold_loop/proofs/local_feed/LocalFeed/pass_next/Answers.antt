@@ -5,5 +5,5 @@ use Rattle.mold_loop.proofs.local_feed.LocalFeed.pass_next.Goals as goal
 
 pub returns-in_default-clause-passed : goal.returns-in_default-clause-passed
 returns-in_default-clause-passed g c = λ t.
-    passed_not c.args.self.now.drops (c.args.number.now + 1) c.args.self.now.peers.now.a c.args.self.now.peers.now.b
+    passed_not c.args.self.now.options.now.drops (c.args.number.now + 1) c.args.self.now.options.now.peers.a c.args.self.now.options.now.peers.b
     (next_datagram c.args.publisher.now) _ _ c.in_default.ensures.lent

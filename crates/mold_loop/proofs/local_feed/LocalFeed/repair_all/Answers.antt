@@ -14,7 +14,7 @@ use Rattle.mold_loop.proofs.local_feed.LocalFeed.repair_all.Goals as goal
 pub loop-turn-init : goal.loop-turn-init
 loop-turn-init g c = record {
   going = λ t.
-      going_init (rounds_are c.args.self.now.peers.now.server (service_of c.args.journal.now c.args.server.now)) _
+      going_init (rounds_are c.args.self.now.options.now.peers.server (service_of c.args.journal.now c.args.server.now)) _
       (g.K.Sink.held c.args.sink.now);
   server = refl;
   only = repairs_at_first c.args.self.now;
@@ -30,7 +30,7 @@ round-requires-clause-longest g c =
 pub loop-turn-preserved : goal.loop-turn-preserved
 loop-turn-preserved g c = record {
   going = λ t.
-      let to = c.args.self.now.peers.now.server in
+      let to = c.args.self.now.options.now.peers.server in
       let known = g.D.Datagrams.port in
       let service = service_of c.args.journal.now c.args.server.now in
       let same =
@@ -58,8 +58,7 @@ loop-turn-preserved g c = record {
       record {
         same = record {
           ports = only.same.ports;
-          peers = only.same.peers;
-          drops = only.same.drops;
+          options = only.same.options;
           place = only.same.place;
           listener = only.same.listener;
         };
@@ -72,8 +71,8 @@ loop-turn-preserved g c = record {
 
 pub returns-in_default-clause-rests : goal.returns-in_default-clause-rests
 returns-in_default-clause-rests g c = λ t.
-    rests_still c.args.self.now.peers.now.server (service_of c.args.journal.now c.args.server.now) _ _ _ _ _
-    c.loop-turn._turn c.args.turns (c.loop-turn.invariant.going t) (omega (arith, c.loop-turn-test.true))
+    rests_still c.args.self.now.options.now.peers.server (service_of c.args.journal.now c.args.server.now) _ _ _ _ _
+    c.loop-turn._turn c.args.self.now.options.now.turns (c.loop-turn.invariant.going t) (omega (arith, c.loop-turn-test.true))
     (ap wanted (sym c.receiver.ensures) ∙ sym c.in_default.ensures.wanted)
 
 pub returns-in_default-clause-only : goal.returns-in_default-clause-only
@@ -81,7 +80,7 @@ returns-in_default-clause-only g c = c.loop-turn.invariant.only
 
 pub returns-in_err-round-clause-rests : goal.returns-in_err-round-clause-rests
 returns-in_err-round-clause-rests g c = λ t.
-    let to = c.args.self.now.peers.now.server in
+    let to = c.args.self.now.options.now.peers.server in
     let known = g.D.Datagrams.port in
     let service = service_of c.args.journal.now c.args.server.now in
     let same = same_service c.args.journal.now c.loop-turn.server c.args.server.now _ c.loop-turn.invariant.server in
@@ -93,7 +92,7 @@ returns-in_err-round-clause-rests g c = λ t.
     (request_from _ (Some c.in-Some.request) (service_of c.args.journal.now c.loop-turn.server) done.0 before after
     c.loop-turn.invariant.only.same done.1) in
     two_failed (rounds_are to service) answers_sent (λ front s. refl) (round_answers to service)
-    c.from_residual.result c.args.turns done.0 after (c.loop-turn.invariant.going t) c.loop-turn-test.true
+    c.from_residual.result c.args.self.now.options.now.turns done.0 after (c.loop-turn.invariant.going t) c.loop-turn-test.true
     (sent_alike (has.requests ∙ ap (λ (s : Service). (round to s done.0 before).requests.sent) same))
     (subst (λ (s : Service). Begins after.server.sent (round to s done.0 before).server.sent) same has.answers)
     c.from_residual.ensures.0
@@ -103,7 +102,7 @@ returns-in_err-round-clause-only g c = repairs_twice c.loop-turn.invariant.only 
 
 pub returns-in_err-send_large-clause-rests : goal.returns-in_err-send_large-clause-rests
 returns-in_err-send_large-clause-rests g c = λ t.
-    let to = c.args.self.now.peers.now.server in
+    let to = c.args.self.now.options.now.peers.server in
     let known = g.D.Datagrams.port in
     let service = service_of c.args.journal.now c.args.server.now in
     let same = same_service c.args.journal.now c.loop-turn.server c.args.server.now _ c.loop-turn.invariant.server in
@@ -116,16 +115,16 @@ returns-in_err-send_large-clause-rests g c = λ t.
     c.loop-turn.invariant.only.same done.1) in
     let left = repair_state made.server made.requests c.round.new.server made.hearing.arbitration c.send_large.new.self in
     two_cut (rounds_are to service) answers_sent (λ front s. refl) (round_answers to service)
-    c.from_residual-in_err-send_large.result c.args.turns done.0 made left (c.loop-turn.invariant.going t)
+    c.from_residual-in_err-send_large.result c.args.self.now.options.now.turns done.0 made left (c.loop-turn.invariant.going t)
     c.loop-turn-test.true (has.whole ∙ ap (λ (s : Service). round to s done.0 before) same)
     c.send_large.ensures.front refl refl c.from_residual-in_err-send_large.ensures.0
 
 pub returns-clause-rests : goal.returns-clause-rests
 returns-clause-rests g c = λ t.
-    let to = c.args.self.now.peers.now.server in
-    let made : c.loop-turn._turn ≡ c.args.turns = omega (arith, c.loop-turn-test.false, c.loop-turn.auto._turn-end) in
+    let to = c.args.self.now.options.now.peers.server in
+    let made : c.loop-turn._turn ≡ c.args.self.now.options.now.turns = omega (arith, c.loop-turn-test.false, c.loop-turn.auto._turn-end) in
     let service = service_of c.args.journal.now c.args.server.now in
-    two_all (rounds_are to service) answers_sent (λ front s. refl) (round_answers to service) _ c.args.turns
+    two_all (rounds_are to service) answers_sent (λ front s. refl) (round_answers to service) _ c.args.self.now.options.now.turns
     made (c.loop-turn.invariant.going t)
 
 pub returns-clause-only : goal.returns-clause-only

@@ -12,7 +12,7 @@ invariant-loop-turn g l =
     record {
       going :
           g.D.Datagrams.tells ≡ true →
-          Going (repairing l.fn.self.peers.now.server (service_of l.journal l.fn.server)) text_before
+          Going (repairing l.fn.self.options.now.peers.server (service_of l.journal l.fn.server)) text_before
           (rounds known l.fn.server l.fn.self) (g.K.Sink.held l.fn.sink) (g.K.Sink.held l.sink) l._turn
           (rounds known l.server l.self);
       server : l.server ≡ record l.fn.server { answered = l.server.answered };

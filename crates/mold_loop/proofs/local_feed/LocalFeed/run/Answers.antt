@@ -22,8 +22,8 @@ pub returns-in_err-refused-clause-run : goal.returns-in_err-refused-clause-run
 returns-in_err-refused-clause-run g c tells =
     let port = g.D.Datagrams.port in
     let feed = c.args.self.now in
-    let peers = feed.peers.now in
-    loop_unheard c.args.reporting feed.drops peers.a peers.b peers.server c.args.turns c.args.publisher.now
+    let peers = feed.options.now.peers in
+    loop_unheard feed.options.now.reporting feed.options.now.drops peers.a peers.b peers.server feed.options.now.turns c.args.publisher.now
     c.pass_lines.new.publisher c.args.server.now (lines port feed) (rounds port c.args.server.now feed) _
     c.pass_lines.result c.from_residual.result _ _ (lines port c.pass_lines.new.self)
     (rounds port c.args.server.now c.pass_lines.new.self) c.from_residual.ensures.0
@@ -34,13 +34,13 @@ pub returns-in-Some-clause-run : goal.returns-in-Some-clause-run
 returns-in-Some-clause-run g c tells =
     let port = g.D.Datagrams.port in
     let feed = c.args.self.now in
-    let peers = feed.peers.now in
+    let peers = feed.options.now.peers in
     let here = lines port c.pass_lines.new.self in
     let here_left = line_state here.publisher here.a here.b here.hearing.arbitration c.print_refused.new.outgoing in
     let behind = rounds port c.args.server.now c.pass_lines.new.self in
     let left = repair_state behind.server behind.requests c.args.server.now here.hearing.arbitration
     c.print_refused.new.outgoing in
-    loop_stopped c.args.reporting feed.drops peers.a peers.b peers.server c.args.turns c.args.publisher.now
+    loop_stopped feed.options.now.reporting feed.options.now.drops peers.a peers.b peers.server feed.options.now.turns c.args.publisher.now
     c.pass_lines.new.publisher c.args.server.now (lines port feed) (rounds port c.args.server.now feed) _
     c.in-Some.why c.next-number.result c.print_refused.result
     _ _ _ here here_left left
@@ -62,8 +62,8 @@ pub returns-in_err-pass_end-clause-run : goal.returns-in_err-pass_end-clause-run
 returns-in_err-pass_end-clause-run g c tells =
     let port = g.D.Datagrams.port in
     let feed = c.args.self.now in
-    let peers = feed.peers.now in
-    loop_unended c.args.reporting feed.drops peers.a peers.b peers.server c.args.turns c.args.publisher.now
+    let peers = feed.options.now.peers in
+    loop_unended feed.options.now.reporting feed.options.now.drops peers.a peers.b peers.server feed.options.now.turns c.args.publisher.now
     c.pass_lines.new.publisher c.args.server.now (lines port feed) (rounds port c.args.server.now feed) _
     c.pass_end.result c.from_residual-in_err-pass_end.result _ _ (lines port c.pass_lines.new.self)
     (lines port c.pass_end.new.self) (rounds port c.args.server.now c.pass_end.new.self)
@@ -78,17 +78,17 @@ pub returns-in_err-repair_all-clause-run : goal.returns-in_err-repair_all-clause
 returns-in_err-repair_all-clause-run g c tells =
     let port = g.D.Datagrams.port in
     let feed = c.args.self.now in
-    let peers = feed.peers.now in
+    let peers = feed.options.now.peers in
     let there = lines port c.pass_end.new.self in
     let left = rounds port c.repair_all.new.server c.repair_all.new.self in
-    loop_unrepaired c.args.reporting feed.drops peers.a peers.b peers.server c.args.turns c.args.publisher.now
+    loop_unrepaired feed.options.now.reporting feed.options.now.drops peers.a peers.b peers.server feed.options.now.turns c.args.publisher.now
     c.pass_lines.new.publisher c.args.server.now (lines port feed) (rounds port c.args.server.now feed) _
     c.in_ok-pass_end.field-0 c.repair_all.result c.from_residual-in_err-repair_all.result _ _ _
     (lines port c.pass_lines.new.self) there (lines port c.repair_all.new.self) left
     (rw c.in_default.is at (c.in_ok-refused.ensures.heard tells))
     (passed_from port (routed_end c.pass_lines.new.publisher.journal None) _ c.pass_end.new.self
     c.pass_lines.ensures.only.same (c.in_ok-pass_end.ensures.passed tells))
-    (rests_from peers.server c.args.server.now c.args.turns _ _ _ _ there.hearing.arbitration there.hearing.outgoing
+    (rests_from peers.server c.args.server.now feed.options.now.turns _ _ _ _ there.hearing.arbitration there.hearing.outgoing
     (rounds port c.args.server.now feed) c.repair_all.result _ _ left
     (c.journal-journal.ensures ∙ ap (λ (p : PublisherState). p.journal) c.pass_end.ensures.closed)
     (ap port (c.pass_end.ensures.only.server ∙ c.pass_lines.ensures.only.server))
@@ -103,7 +103,7 @@ pub returns-clause-run : goal.returns-clause-run
 returns-clause-run g c tells =
     let port = g.D.Datagrams.port in
     let feed = c.args.self.now in
-    let peers = feed.peers.now in
+    let peers = feed.options.now.peers in
     let there = lines port c.pass_end.new.self in
     let behind = rounds port c.repair_all.new.server c.repair_all.new.self in
     let after = lines port c.repair_all.new.self in
@@ -111,14 +111,14 @@ returns-clause-run g c tells =
     c.print_last.new.listener.report.outgoing in
     let left = repair_state behind.server behind.requests c.repair_all.new.server c.print_last.new.listener.arbiter
     c.print_last.new.listener.report.outgoing in
-    loop_done c.args.reporting feed.drops peers.a peers.b peers.server c.args.turns c.args.publisher.now
+    loop_done feed.options.now.reporting feed.options.now.drops peers.a peers.b peers.server feed.options.now.turns c.args.publisher.now
     c.pass_lines.new.publisher c.args.server.now (lines port feed) (rounds port c.args.server.now feed) _
     c.in_ok-pass_end.field-0 c.in_ok-repair_all.field-0 c.print_last.result _ _ _ _
     (lines port c.pass_lines.new.self) there there_left behind left
     (rw c.in_default.is at (c.in_ok-refused.ensures.heard tells))
     (passed_from port (routed_end c.pass_lines.new.publisher.journal None) _ c.pass_end.new.self
     c.pass_lines.ensures.only.same (c.in_ok-pass_end.ensures.passed tells))
-    (rests_from peers.server c.args.server.now c.args.turns _ _ _ _ there.hearing.arbitration there.hearing.outgoing
+    (rests_from peers.server c.args.server.now feed.options.now.turns _ _ _ _ there.hearing.arbitration there.hearing.outgoing
     (rounds port c.args.server.now feed) _ _ _ behind
     (c.journal-journal.ensures ∙ ap (λ (p : PublisherState). p.journal) c.pass_end.ensures.closed)
     (ap port (c.pass_end.ensures.only.server ∙ c.pass_lines.ensures.only.server))
@@ -143,14 +143,14 @@ pub returns-in-Some-clause-journal : goal.returns-in-Some-clause-journal
 returns-in-Some-clause-journal g c tells =
     let feed = c.args.self.now in
     on_ok c.print_refused.result
-    (journal_left feed.drops feed.peers.now.a feed.peers.now.b c.args.publisher.now c.pass_lines.new.publisher _
+    (journal_left feed.options.now.drops feed.options.now.peers.a feed.options.now.peers.b c.args.publisher.now c.pass_lines.new.publisher _
     (Some c.in-Some.why) _ _ _ _ _ (rw c.in-Some.is at (c.in_ok-refused.ensures.heard tells)) refl)
 
 pub returns-clause-journal : goal.returns-clause-journal
 returns-clause-journal g c tells =
     let feed = c.args.self.now in
     on_ok c.print_last.result
-    (journal_left feed.drops feed.peers.now.a feed.peers.now.b c.args.publisher.now c.pass_lines.new.publisher _
+    (journal_left feed.options.now.drops feed.options.now.peers.a feed.options.now.peers.b c.args.publisher.now c.pass_lines.new.publisher _
     None _ _ _ _ _ (rw c.in_default.is at (c.in_ok-refused.ensures.heard tells))
     (ap (λ (p : PublisherState). p.journal) c.pass_end.ensures.closed))
 
@@ -200,8 +200,7 @@ returns-in-Some-clause-same g c =
     let same = c.pass_lines.ensures.only.same in
     record {
       ports = same.ports;
-      peers = same.peers;
-      drops = same.drops;
+      options = same.options;
       place = same.place;
       listener = same.listener;
     }
@@ -219,8 +218,7 @@ returns-clause-same g c =
     c.repair_all.ensures.only.same in
     record {
       ports = same.ports;
-      peers = same.peers;
-      drops = same.drops;
+      options = same.options;
       place = same.place;
       listener = same.listener;
     }

@@ -31,7 +31,7 @@ loop-answer-preserved g c = record {
   server = c.loop-answer.invariant.server;
   only =
       repairs_twice c.loop-answer.invariant.only (record {
-        same = record { ports = refl; peers = refl; drops = refl; place = c.hear_once.auto.place; listener = refl };
+        same = record { ports = refl; options = refl; place = c.hear_once.auto.place; listener = refl };
         publisher = refl;
         a = refl;
         b = refl;
@@ -45,7 +45,7 @@ returns-in_err-hear_once-clause-sent g c = λ t.
 pub returns-in_err-hear_once-clause-only : goal.returns-in_err-hear_once-clause-only
 returns-in_err-hear_once-clause-only g c =
     repairs_twice c.loop-answer.invariant.only (record {
-      same = record { ports = refl; peers = refl; drops = refl; place = c.hear_once.auto.place; listener = refl };
+      same = record { ports = refl; options = refl; place = c.hear_once.auto.place; listener = refl };
       publisher = refl;
       a = refl;
       b = refl;

@@ -1,0 +1,102 @@
+//! What an order makes of a loop.
+
+ghost use Rattle.std.specs.Prelude.{◌≡◌, ◌-◌, ◌≤◌, IfOk};
+ghost use Rattle.mold_loop.specs.Ordered.{drops_of, loop_arbiter_of, loop_publisher_of, loop_server_of};
+ghost use Rattle.mold_publish.specs.Publishing.{HasRoom};
+ghost use Rattle.mold_turns.specs.Outgoing.{nothing_out};
+
+use crate::loop_parts::{Drops, Listener, LoopOptions, LoopParts, LoopPeers};
+use mold_listen::Report;
+use mold_receiver::{Arbiter, Receiver};
+use mold_session::{Publisher, Server};
+use mold_wire::Session;
+use mold_wire::laws::packet_length_law;
+use mold_wiring::longest_message;
+use mold_words::LoopOrder;
+use std::alloc::{AllocError, Global};
+
+// The publisher of an order, whose limit is in its range: so only memory can be wanting.
+fn make_publisher(alloc: Global, order: &LoopOrder) -> Result<Publisher, AllocError>
+    ensures made { IfOk result (λ publisher. publisher ≡ loop_publisher_of order.now) }
+    ensures room { IfOk result (λ publisher. HasRoom publisher) }
+    ensures longest { IfOk result (λ publisher. publisher.journal.max_message ≡ order.now.limits.limit - 22) }
+{
+    packet_length_law();
+    match Publisher::new(alloc, Session(order.session), order.limits.limit) {
+        Ok(publisher) => Ok(publisher),
+        Err(_) => Err(AllocError),
+    }
+}
+
+// The server of an order, whose numbers are in their ranges: so only memory can be wanting.
+fn make_server(alloc: Global, order: &LoopOrder) -> Result<Server, AllocError>
+    ensures made { IfOk result (λ server. server ≡ loop_server_of order.now) }
+    ensures longest { IfOk result (λ server. server.max_message ≡ order.now.limits.limit - 22) }
+{
+    let limits = order.limits;
+    let longest = longest_message(limits.limit);
+    match Server::new(alloc, limits.server_limit, longest, order.burst) {
+        Ok(server) => Ok(server),
+        Err(_) => Err(AllocError),
+    }
+}
+
+// What listens to an order's session from its first message on, and has nothing to tell. The window is in its
+// range: so only memory can be wanting.
+fn make_listener(alloc: Global, order: &LoopOrder) -> Result<Listener, AllocError>
+    ensures arbiter { IfOk result (λ listener. listener.arbiter ≡ loop_arbiter_of order.now) }
+    ensures report { IfOk result (λ listener. listener.report.outgoing ≡ nothing_out) }
+{
+    match Receiver::new(alloc, Session(order.session), 1, order.window) {
+        Ok(receiver) => Ok(Listener {
+            arbiter: Arbiter::new(receiver),
+            report: Report::new(alloc),
+        }),
+        Err(_) => Err(AllocError),
+    }
+}
+
+// Which data packets are left out of which line.
+fn make_drops(order: &LoopOrder) -> Drops
+    ensures { result ≡ drops_of order.now }
+{
+    Drops {
+        a: order.drop_a,
+        b: order.drop_b,
+    }
+}
+
+/// How the loop of an order runs whose ports receive there.
+pub fn loop_options<P: Copy>(order: &LoopOrder, peers: LoopPeers<P>) -> LoopOptions<P>
+    ensures peers { result.peers ≡ peers }
+    ensures drops { result.drops ≡ drops_of order.now }
+    ensures turns { result.turns ≡ order.now.turns }
+    ensures reporting { result.reporting ≡ order.now.report }
+{
+    LoopOptions {
+        peers,
+        drops: make_drops(order),
+        turns: order.turns,
+        reporting: order.report,
+    }
+}
+
+/// Publisher, server and listener of an order. The listener begins with the first message.
+pub fn make_parts(alloc: Global, order: &LoopOrder) -> Result<LoopParts, AllocError>
+    ensures publisher { IfOk result (λ parts. parts.publisher ≡ loop_publisher_of order.now) }
+    ensures server { IfOk result (λ parts. parts.server ≡ loop_server_of order.now) }
+    ensures arbiter { IfOk result (λ parts. parts.listener.arbiter ≡ loop_arbiter_of order.now) }
+    ensures report { IfOk result (λ parts. parts.listener.report.outgoing ≡ nothing_out) }
+    ensures room { IfOk result (λ parts. HasRoom parts.publisher) }
+    ensures longest { IfOk result (λ parts. parts.publisher.journal.max_message ≤ parts.server.max_message) }
+{
+    let publisher = make_publisher(alloc, order)?;
+    let server = make_server(alloc, order)?;
+    let listener = make_listener(alloc, order)?;
+    Ok(LoopParts {
+        alloc,
+        publisher,
+        server,
+        listener,
+    })
+}
