@@ -49,42 +49,42 @@
 extern "C" {
 #endif
 
-/* ---- Codes ---- */
+/* ---- Codes: what mold_text says of each ---- */
 
 enum {
-    MOLD_DONE = 0,            /* what was asked for is done */
-    MOLD_SHORT = 1,           /* a datagram of fewer than 20 bytes */
-    MOLD_BLOCK_CUT = 2,       /* a message block that goes beyond the datagram's end */
-    MOLD_TRAILING = 3,        /* bytes behind the last message block that the datagram states */
-    MOLD_LIMIT = 4,           /* a datagram's limit outside 64 to 65,507 bytes */
-    MOLD_FULL = 5,            /* no room is left in the packet */
-    MOLD_BROKEN = 6,          /* a handle that is empty, of another kind or in use; or fields that can't be */
-    MOLD_MEMORY = 7,          /* memory was refused */
-    MOLD_WRONG_SESSION = 8,   /* a packet or a request of another session */
-    MOLD_SEQUENCE_ZERO = 9,   /* the sequence number 0, which no message has */
-    MOLD_PAST_LAST = 10,      /* a packet whose numbers go above the greatest, 18446744073709551615 */
-    MOLD_END_CONFLICT = 11,   /* another end of the session than the one that was told */
-    MOLD_END_BELOW = 12,      /* an end of the session below what is known to be there */
-    MOLD_PAST_END = 13,       /* a packet that goes beyond the session's end */
-    MOLD_CONFLICT = 14,       /* another message than the one that came before at this number */
+    MOLD_DONE = 0,            /* done */
+    MOLD_SHORT = 1,           /* a packet has at least 20 bytes */
+    MOLD_BLOCK_CUT = 2,       /* a message block is cut */
+    MOLD_TRAILING = 3,        /* more bytes follow the packet's end */
+    MOLD_LIMIT = 4,           /* a datagram's limit is 64 to 65,507 bytes */
+    MOLD_FULL = 5,            /* the packet has no room for the message */
+    MOLD_BROKEN = 6,          /* the handle is empty or of another kind, or the fields can't be */
+    MOLD_MEMORY = 7,          /* out of memory */
+    MOLD_WRONG_SESSION = 8,   /* another session */
+    MOLD_SEQUENCE_ZERO = 9,   /* the sequence number is 0 */
+    MOLD_PAST_LAST = 10,      /* the numbers end above 18446744073709551615 */
+    MOLD_END_CONFLICT = 11,   /* the packet tells another end of the session */
+    MOLD_END_BELOW = 12,      /* the packet ends the session below what is known */
+    MOLD_PAST_END = 13,       /* the packet goes on behind the session's end */
+    MOLD_CONFLICT = 14,       /* a message differs from the one that came before */
     MOLD_LINE = 15,           /* there is no such line */
-    MOLD_NEXT_ZERO = 16,      /* a listener that is to begin at number 0 */
-    MOLD_WINDOW = 17,         /* a window outside 1 to 65,536 messages */
+    MOLD_NEXT_ZERO = 16,      /* the next message can't have number 0 */
+    MOLD_WINDOW = 17,         /* a window is 1 to 65,536 messages */
     MOLD_ABSENT = 18,         /* there is nothing of what was asked for */
     MOLD_CLOSED = 19,         /* the session is closed */
-    MOLD_TOO_LONG = 20,       /* a message that is longer than may be */
-    MOLD_NUMBERS = 21,        /* no sequence number is left for a message */
-    MOLD_UNSENT = 22,         /* messages that were not yet put in a datagram */
-    MOLD_ROOM = 23,           /* the buffer or array that was lent is too small */
-    MOLD_REQUEST_LENGTH = 24, /* a request of another length than 20 bytes */
+    MOLD_TOO_LONG = 20,       /* the message is too long */
+    MOLD_NUMBERS = 21,        /* the session has no number left for a message */
+    MOLD_UNSENT = 22,         /* some messages were not yet put in a datagram */
+    MOLD_ROOM = 23,           /* the buffer is too small */
+    MOLD_REQUEST_LENGTH = 24, /* a request has 20 bytes */
     MOLD_EMPTY_REQUEST = 25,  /* a request for no message */
-    MOLD_AHEAD = 26,          /* a request for messages behind the last one */
-    MOLD_BURST = 27,          /* a burst outside 1 to 64 datagrams */
-    MOLD_FILE_SHORT = 28,     /* a journal's bytes that end before its messages begin */
-    MOLD_BAD_MAGIC = 29,      /* bytes that are no journal */
-    MOLD_BAD_FLAG = 30,       /* a journal that says neither that it is open nor that it is closed */
-    MOLD_FILE_CUT = 31,       /* a journal that ends within a message */
-    MOLD_COUNT_DIFFERS = 32   /* a journal that has another number of messages than it states */
+    MOLD_AHEAD = 26,          /* a request for a message behind the last one */
+    MOLD_BURST = 27,          /* a request is answered by at most 1 to 64 datagrams */
+    MOLD_FILE_SHORT = 28,     /* too few bytes for a journal */
+    MOLD_BAD_MAGIC = 29,      /* no journal of version 1 or 2 */
+    MOLD_BAD_FLAG = 30,       /* the journal says neither open nor closed */
+    MOLD_FILE_CUT = 31,       /* the journal ends within a message */
+    MOLD_COUNT_DIFFERS = 32   /* the journal has another number of messages than it states */
 };
 
 /* Bytes that lie elsewhere. */

@@ -6,11 +6,11 @@ use Rattle.std_alloc.proofs.BoxSteps.Form.{Bx}
 use Rattle.std.specs.contracts.alloc.Global as heap
 use Rattle.std.specs.contracts.impls.GlobalAllocator.TheImpl.{ghosts, dict}
 use Rattle.std.proofs.alloc.Global.TheLaws as heap_laws
-use Rattle.mold_ffi.specs.contracts.held.Held as held
-use Rattle.mold_ffi.proofs.held.Held.TheLaws as held_laws
-use Rattle.mold_ffi.specs.contracts.parts.Parts as parts
+use Rattle.mold_ffi.specs.contracts.handle.held.Held as held
+use Rattle.mold_ffi.proofs.handle.held.Held.TheLaws as held_laws
+use Rattle.mold_ffi.specs.contracts.handle.box_parts.BoxParts as parts
 use Rattle.mold_ffi.specs.contracts.handle.Handle as handle
-use Rattle.mold_ffi.specs.declared.held.Held.{Held}
+use Rattle.mold_ffi.specs.declared.handle.held.Held.{Held}
 
 -- the box: its element, and the allocator
 abbrev pub E : Bx

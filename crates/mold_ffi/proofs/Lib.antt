@@ -1,7 +1,7 @@
 mod AsBox
-mod CheckingLemmas
-mod HearingLemmas
+mod CheckerLemmas
+mod ListenerLemmas
 mod LoanLemmas
 mod PlaceLemmas
-mod ServingLemmas
+mod ServerLemmas
 mod Walking

@@ -7,8 +7,8 @@ use Rattle.std.specs.List.{sum_by}
 use Rattle.std.proofs.lemmas.List.{length-set}
 use Rattle.std.proofs.lemmas.List.Sums.{sum_by-cons}
 use Rattle.mold_wire.specs.Packing.{packet_length}
-use Rattle.mold_ffi.specs.declared.reading.MoldPlace.{MoldPlace}
-use Rattle.mold_ffi.specs.Reading.{places_of, written_front}
+use Rattle.mold_ffi.specs.declared.packets.mold_place.MoldPlace.{MoldPlace}
+use Rattle.mold_ffi.specs.Packets.MoldPlace.{places_of, written_front}
 
 -- an array with what is still found written from a place on
 abbrev pub written_from : ℕ → List MoldPlace → List MoldPlace → List MoldPlace

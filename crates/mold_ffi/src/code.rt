@@ -1,4 +1,11 @@
-//! The codes that calls answer. Each stands for one thing, and for the same for ever.
+//! The codes that calls return. Each has one meaning, which never changes.
+
+pub(crate) mod answer_error;
+pub(crate) mod append_error;
+pub(crate) mod decode_error;
+pub(crate) mod file_error;
+pub(crate) mod refusal;
+mod text;
 
 /// What was asked for is done.
 pub const DONE: u32 = 0;

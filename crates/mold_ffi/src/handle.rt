@@ -2,11 +2,17 @@
 
 ghost use Rattle.std.specs.Prelude.{◌≡◌, Option, None, Some, is_some, true};
 ghost use Rattle.std.specs.Coded.{coded_option};
-ghost use Rattle.mold_ffi.specs.contracts.held.Held.{the_row as held_row};
-ghost use Rattle.mold_ffi.specs.declared.held.Held.{Held};
+ghost use Rattle.mold_ffi.specs.contracts.handle.held.Held.{the_row as held_row};
+ghost use Rattle.mold_ffi.specs.declared.handle.held.Held.{Held};
 
-use crate::held::Held;
-use crate::parts::Parts;
+pub(crate) mod borrow;
+mod box_parts;
+pub(crate) mod free;
+pub(crate) mod held;
+pub(crate) mod mold_handle;
+
+use crate::handle::box_parts::BoxParts;
+use crate::handle::held::Held;
 use std::alloc::{AllocError, Global};
 use std::marker::Model;
 use std::ptr::null_mut;
@@ -21,14 +27,14 @@ pub struct Handle {
 }
 
 impl Model for Handle {
-    ghost use Rattle.mold_ffi.specs.Owned.{handle_owns};
+    ghost use Rattle.mold_ffi.specs.Handle.Ownership.{handle_owns};
 
     ghost also_owns = { λ h. handle_owns h.alloc h.at h.value };
 }
 
 impl Handle {
     ghost use Rattle.std.specs.Borrow.{sem};
-    ghost use Rattle.mold_ffi.specs.Lending.{LendsHeld};
+    ghost use Rattle.mold_ffi.specs.Handle.Lending.{LendsHeld};
 
     /// A handle that holds nothing.
     pub(crate) fn empty(alloc: Global) -> Handle
@@ -41,10 +47,10 @@ impl Handle {
     }
 
     // A handle of what the parts hold.
-    fn of_parts(parts: Parts<Held, Global>) -> Handle
+    fn of_parts(parts: BoxParts<Held, Global>) -> Handle
         ensures { result.value ≡ Some parts.value }
     {
-        let Parts { pointer, alloc } = parts;
+        let BoxParts { pointer, alloc } = parts;
         Handle {
             at: pointer as *mut u8,
             alloc,
@@ -52,12 +58,12 @@ impl Handle {
     }
 
     // The pointer and the allocator of a handle that holds something.
-    fn into_parts(self) -> Parts<Held, Global>
+    fn into_parts(self) -> BoxParts<Held, Global>
         requires { is_some self.value ≡ true }
         ensures { Some result.value ≡ self.value }
     {
         let Handle { at, alloc } = self;
-        Parts {
+        BoxParts {
             pointer: at as *mut Held,
             alloc,
         }
@@ -76,7 +82,7 @@ impl Handle {
     pub(crate) fn of(boxed: Box<Held>) -> Handle
         ensures { result.value ≡ Some boxed.value }
     {
-        Handle::of_parts(Parts::of(boxed))
+        Handle::of_parts(BoxParts::of(boxed))
     }
 
     /// The box of what the handle holds.

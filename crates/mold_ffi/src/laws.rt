@@ -4,11 +4,12 @@ ghost use Rattle.std.specs.Prelude.{◌≡◌, [], List, ℕ, length, ◌+◌, �
 ghost use Rattle.std.specs.List.{All};
 ghost use Rattle.mold_capture.specs.Consistent.{Consistent, Whole};
 ghost use Rattle.mold_capture.specs.Seen.{seen_of};
-ghost use Rattle.mold_ffi.specs.Checking.{AreTaken, TellsMissing, TellsWhole, said};
-ghost use Rattle.mold_ffi.specs.declared.verdict.MoldVerdict.{MoldVerdict};
+ghost use Rattle.mold_ffi.specs.Checker.MoldVerdict.{TellsMissing, TellsWhole};
+ghost use Rattle.mold_ffi.specs.Laws.{AreTaken, said};
+ghost use Rattle.mold_ffi.specs.declared.checker.mold_verdict.MoldVerdict.{MoldVerdict};
 ghost use Rattle.mold_wire.specs.Block.{IsBytes};
-ghost use Rattle.mold_ffi.specs.Reading.{places_read};
-ghost use Rattle.mold_ffi.specs.declared.reading.MoldPlace.{MoldPlace};
+ghost use Rattle.mold_ffi.specs.Packets.MoldPlace.{places_read};
+ghost use Rattle.mold_ffi.specs.declared.packets.mold_place.MoldPlace.{MoldPlace};
 ghost use Rattle.mold_wire.specs.Packet.{Spells, messages_of};
 ghost use Rattle.mold_wire.specs.Packing.{packet_length};
 ghost use Rattle.mold_wire.specs.Reading.{reading};

@@ -1,157 +1,34 @@
 //! The calls on their happy path, as a program in C makes them.
 
-use crate::checker_calls::{
-    mold_checker_new, mold_checker_ranges, mold_checker_take, mold_checker_verdict,
-};
-use crate::free::mold_free;
-use crate::listener_calls::{mold_listener_clear, mold_listener_new, mold_listener_take};
-use crate::listener_reads::{
-    mold_listener_copy, mold_listener_count, mold_listener_first, mold_listener_message,
-    mold_listener_messages,
-};
-use crate::listener_tells::{
-    mold_listener_finished, mold_listener_known, mold_listener_next, mold_listener_report,
-    mold_listener_wanted,
-};
-use crate::mold_handle::MoldHandle;
-use crate::range::MoldRange;
-use crate::report::MoldReport;
-use crate::told::MoldTold;
-use crate::verdict::MoldVerdict;
+mod checker;
+mod exchange;
+mod listener;
+mod packets;
+
 use std::process::Abort;
 
 /// Messages 1, which is `AB`, and 2, which is empty.
-const DATA: &[u8] = b"SESSION001\0\0\0\0\0\0\0\x01\0\x02\0\x02AB\0\0";
+pub(crate) const DATA: &[u8] = b"SESSION001\0\0\0\0\0\0\0\x01\0\x02\0\x02AB\0\0";
 
 /// The end behind two messages.
-const END: &[u8] = b"SESSION001\0\0\0\0\0\0\0\x03\xff\xff";
+pub(crate) const END: &[u8] = b"SESSION001\0\0\0\0\0\0\0\x03\xff\xff";
 
-/// Asks for two messages from 1 on.
-const REQUEST: &[u8; 20] = b"SESSION001\0\0\0\0\0\0\0\x01\0\x02";
-
-fn same_number(rt: &impl Abort, found: u64, wanted: u64) {
+pub(crate) fn same_number(rt: &impl Abort, found: u64, wanted: u64) {
     assert_eq!(rt; found, wanted);
 }
 
-fn same_code(rt: &impl Abort, found: u32, wanted: u32) {
+pub(crate) fn same_code(rt: &impl Abort, found: u32, wanted: u32) {
     assert_eq!(rt; found, wanted);
 }
 
-fn same_size(rt: &impl Abort, found: usize, wanted: usize) {
+pub(crate) fn same_size(rt: &impl Abort, found: usize, wanted: usize) {
     assert_eq!(rt; found, wanted);
 }
 
-fn same_bytes(rt: &impl Abort, found: &[u8], wanted: &[u8]) {
+pub(crate) fn same_bytes(rt: &impl Abort, found: &[u8], wanted: &[u8]) {
     assert_eq!(rt; found, wanted);
 }
 
-fn same_answer(rt: &impl Abort, found: bool, wanted: bool) {
+pub(crate) fn same_answer(rt: &impl Abort, found: bool, wanted: bool) {
     assert_eq!(rt; found, wanted);
-}
-
-// The end on line A, an answer with what is missing.
-fn hear(rt: &impl Abort, listener: &mut MoldHandle) {
-    let mut told = MoldTold {
-        detail: 9,
-        handed: 9,
-        kept: 9,
-        beyond: 9,
-        unused: 9,
-    };
-    let mut request = [0; 20];
-    same_code(rt, mold_listener_take(listener, 0, END, &mut told), 0);
-    same_answer(rt, mold_listener_wanted(listener, &mut request), true);
-    same_bytes(rt, &request, REQUEST);
-    same_code(rt, mold_listener_take(listener, 2, DATA, &mut told), 0);
-    same_number(rt, u64::from(told.handed), 2);
-    same_code(
-        rt,
-        mold_listener_take(listener, 1, &DATA[..19], &mut told),
-        1,
-    );
-    same_number(rt, told.detail, 19);
-    same_code(rt, mold_listener_take(listener, 3, DATA, &mut told), 15);
-}
-
-fn read(rt: &impl Abort, listener: &mut MoldHandle) {
-    same_size(rt, mold_listener_count(listener), 2);
-    same_number(rt, mold_listener_first(listener), 1);
-    let mut buffer = [7; 3];
-    let mut size = 0;
-    same_code(
-        rt,
-        mold_listener_copy(listener, 0, &mut buffer, &mut size),
-        0,
-    );
-    same_bytes(rt, &buffer, b"AB\x07");
-}
-
-fn read_one<'a>(rt: &impl Abort, listener: &'a mut MoldHandle, message: &mut &'a [u8]) {
-    same_code(rt, mold_listener_message(listener, 0, message), 0);
-    same_bytes(rt, message, b"AB");
-}
-
-fn read_all<'a>(rt: &impl Abort, listener: &'a mut MoldHandle, messages: &mut [&'a [u8]]) {
-    same_size(rt, mold_listener_messages(listener, messages), 2);
-}
-
-fn ask(rt: &impl Abort, listener: &mut MoldHandle) {
-    let mut report = MoldReport {
-        datagrams: 9,
-        refused: 9,
-        front: 9,
-    };
-    same_number(rt, mold_listener_next(listener), 3);
-    same_number(rt, mold_listener_known(listener), 3);
-    same_answer(rt, mold_listener_finished(listener), true);
-    same_code(rt, mold_listener_report(listener, 1, &mut report), 0);
-    same_number(rt, report.refused, 1);
-    same_code(rt, mold_listener_clear(listener), 0);
-    same_size(rt, mold_listener_count(listener), 0);
-}
-
-#[test]
-fn a_listener_hears_a_session(rt: HostRuntime) {
-    let mut listener = MoldHandle::empty(rt.alloc());
-    same_code(
-        &rt,
-        mold_listener_new(rt.alloc(), &mut listener, b"SESSION001", 1, 16),
-        0,
-    );
-    hear(&rt, &mut listener);
-    read(&rt, &mut listener);
-    read_one(&rt, &mut listener, &mut b"".as_slice());
-    read_all(&rt, &mut listener, &mut [b"0", b"1", b"2"]);
-    ask(&rt, &mut listener);
-    mold_free(rt.alloc(), &mut listener);
-    same_code(&rt, mold_listener_clear(&mut listener), 6);
-}
-
-#[test]
-fn a_checker_tells_what_is_missing(rt: HostRuntime) {
-    let mut checker = MoldHandle::empty(rt.alloc());
-    let mut number = 9;
-    let mut verdict = MoldVerdict {
-        messages: 9,
-        end: 9,
-        ranges: 9,
-        whole: 9,
-        unused: 9,
-    };
-    let mut ranges = [MoldRange { first: 9, last: 9 }; 2];
-    let mut count = 9;
-    same_code(&rt, mold_checker_new(rt.alloc(), &mut checker), 0);
-    same_code(&rt, mold_checker_take(&mut checker, END, &mut number), 0);
-    same_code(
-        &rt,
-        mold_checker_ranges(&mut checker, &mut ranges, &mut count),
-        0,
-    );
-    same_size(&rt, count, 1);
-    same_number(&rt, ranges[0].last, 2);
-    same_number(&rt, ranges[1].last, 9);
-    same_code(&rt, mold_checker_take(&mut checker, DATA, &mut number), 0);
-    same_code(&rt, mold_checker_verdict(&mut checker, &mut verdict), 0);
-    same_number(&rt, verdict.messages, 2);
-    mold_free(rt.alloc(), &mut checker);
 }

@@ -3,9 +3,9 @@ use Rattle.std.specs.List.{All}
 use Rattle.mold_capture.specs.Consistent.{Consistent}
 use Rattle.mold_capture.specs.Seen.{Seen, seen_of}
 use Rattle.mold_capture.specs.Verdict.{IsWholeSeen}
-use Rattle.mold_ffi.specs.Checking.{AreTaken, said}
+use Rattle.mold_ffi.specs.Laws.{AreTaken, said}
 use Rattle.mold_wire.specs.Block.{IsBytes}
-use Rattle.mold_ffi.proofs.CheckingLemmas.{all_joined}
+use Rattle.mold_ffi.proofs.CheckerLemmas.{all_joined}
 use Rattle.mold_ffi.proofs.laws.checked_law.Goals as goal
 
 -- from no datagram on

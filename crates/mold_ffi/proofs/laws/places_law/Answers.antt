@@ -3,7 +3,7 @@ use Rattle.mold_wire.specs.Packing.{packet_length}
 use Rattle.mold_wire.specs.declared.packet.Packet.{Packet}
 use Rattle.mold_wire.specs.declared.error.DecodeError.{DecodeError}
 use Rattle.mold_wire.specs.Packet.{messages_of}
-use Rattle.mold_ffi.specs.Reading.{places_read}
+use Rattle.mold_ffi.specs.Packets.MoldPlace.{places_read}
 use Rattle.mold_ffi.proofs.PlaceLemmas.{placed, kept, lies_there}
 use Rattle.mold_ffi.proofs.laws.places_law.Goals as goal
 

@@ -10,10 +10,10 @@ use Rattle.std.proofs.Common.{Option, None, Some, Global}
 use Rattle.std.proofs.Crossing as crossing
 use Rattle.std_alloc.proofs.SendSync.{quiet, lies}
 use Rattle.std.proofs.alloc.Global.TheSendSync as allocator
-use Rattle.mold_ffi.specs.Owned.{handle_owns}
-use Rattle.mold_ffi.specs.declared.held.Held.{Held}
-use Rattle.mold_ffi.specs.contracts.held.Held as held
-use Rattle.mold_ffi.proofs.held.Held.TheSendSync.{the_send as held_send}
+use Rattle.mold_ffi.specs.Handle.Ownership.{handle_owns}
+use Rattle.mold_ffi.specs.declared.handle.held.Held.{Held}
+use Rattle.mold_ffi.specs.contracts.handle.held.Held as held
+use Rattle.mold_ffi.proofs.handle.held.Held.TheSendSync.{the_send as held_send}
 use Rattle.mold_ffi.specs.contracts.handle.Handle.{the_row, the_type}
 
 -- what a handle owns is bound to no thread

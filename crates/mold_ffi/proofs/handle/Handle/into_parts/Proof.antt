@@ -5,7 +5,7 @@ use Rattle.mold_ffi.proofs.Walking.{split, rewrite, fsplit, fjoin, suffices, don
 use Rattle.mold_ffi.proofs.Walking.{alloc_all, pass_all, free_all, look_at, get, get_in, sets, yes, type_at, heard, nothing, triple_of, entered, says, Stays}
 use Rattle.mold_ffi.proofs.Walking.{stay_dropped, walk_of, ends_at, Goes-dropped, walk_Meets, D, B, word, box_typed, box_out, box_in, Option, is_some, true}
 use Rattle.mold_ffi.proofs.AsBox.{E, FromHandle, has}
-use Rattle.mold_ffi.specs.declared.held.Held.{Held}
+use Rattle.mold_ffi.specs.declared.handle.held.Held.{Held}
 use Rattle.mold_ffi.specs.contracts.handle.Handle as handle
 use Rattle.mold_ffi.specs.contracts.handle.Handle.into_parts as this_one
 use Rattle.mold_ffi.specs.contracts.handle.Handle.into_parts.Key.{name as own_name}

@@ -8,8 +8,8 @@ use Rattle.mold_ffi.proofs.Walking.{cell_at, part_of, block_ptr, MutRef, mut_val
 use Rattle.mold_ffi.proofs.Walking.{Stays, stay_dropped, walk_of, ends_at, walked, walk_Meets, Goes-spent_ref, token, bare, no, follows, Part, lends_Part}
 use Rattle.mold_ffi.proofs.Walking.{D, R, B, τ, word, allocator_owns, box_out, box_in, Option, Some, is_some, true, after, says}
 use Rattle.mold_ffi.proofs.AsBox.{E, has}
-use Rattle.mold_ffi.specs.declared.held.Held.{Held}
-use Rattle.mold_ffi.specs.contracts.held.Held as held
+use Rattle.mold_ffi.specs.declared.handle.held.Held.{Held}
+use Rattle.mold_ffi.specs.contracts.handle.held.Held as held
 use Rattle.mold_ffi.specs.contracts.handle.Handle.{the_row as H}
 use Rattle.mold_ffi.specs.contracts.handle.Handle.lend as this_one
 use Rattle.mold_ffi.specs.contracts.handle.Handle.lend.Key.{name as own_name}

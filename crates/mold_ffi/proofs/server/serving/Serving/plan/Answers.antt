@@ -1,0 +1,12 @@
+use Rattle.std.proofs.Common.{Option, refl}
+use Rattle.mold_ffi.specs.Server.Serving.{with_serving}
+use Rattle.mold_ffi.specs.declared.handle.held.Held.{Held}
+use Rattle.mold_ffi.proofs.ServerLemmas.{plans_held}
+use Rattle.mold_ffi.proofs.server.serving.Serving.plan.Goals as goal
+
+pub returns : goal.returns
+returns c =
+    let serving = c.args.self.now in
+    plans_held (Option Held) serving.server serving.server serving.journal serving.journal c.args.request.now
+    c.args.told.now c.plan.new.told c.args.number.now c.plan.result c.plan.new.number (with_serving serving)
+    c.plan.new.server refl refl c.plan.ensures

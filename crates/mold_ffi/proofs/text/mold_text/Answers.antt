@@ -1,7 +1,0 @@
-use Rattle.std.proofs.Common.{codes, sym, arith}
-use Rattle.std.proofs.lemmas.List.{get_or_past}
-use Rattle.mold_ffi.specs.Texts.{texts}
-use Rattle.mold_ffi.proofs.text.mold_text.Goals as goal
-
-pub returns-in_default : goal.returns-in_default
-returns-in_default c = sym (get_or_past texts c.args.code (codes "unknown code") (omega (arith, c.in_default)))

@@ -1,0 +1,15 @@
+-- The code of a fault of a packet, and the number that goes with it.
+use Rattle.std.specs.Prelude.{ℕ}
+use Rattle.mold_wire.specs.declared.error.DecodeError.{DecodeError}
+use Rattle.mold_wire.specs.declared.error.DecodeError.TheVariants.{Short, BlockCut, Trailing}
+use Rattle.mold_ffi.specs.declared.code.TheConstants as codes
+
+abbrev pub decode_error_code : DecodeError → ℕ
+decode_error_code (Short len) = codes.SHORT
+decode_error_code (BlockCut index) = codes.BLOCK_CUT
+decode_error_code (Trailing at) = codes.TRAILING
+
+abbrev pub decode_error_number : DecodeError → ℕ
+decode_error_number (Short len) = len
+decode_error_number (BlockCut index) = index
+decode_error_number (Trailing at) = at

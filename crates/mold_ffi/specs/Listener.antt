@@ -1,0 +1,6 @@
+-- A listener, and what its calls return.
+pub mod BatchedArbiter
+pub mod Calls
+pub mod MoldReport
+pub mod MoldTold
+pub mod Origin

@@ -1,0 +1,65 @@
+-- What a listener is made of: an arbiter, and the batch of the messages that it delivered.
+use Rattle.std.specs.Prelude.{◌≡◌, ◌⊎◌, ℕ, List, [], Option, Result, Ok, Err, refl}
+use Rattle.std.specs.Coded.{Coded, code_by, coded×, coded_list, coded_ℕ}
+use Rattle.mold_receiver.specs.Arbiter.{Arbitration, arbitrated, arbitration_code}
+use Rattle.mold_receiver.specs.Batch.{Handed, Follows, followed_by}
+use Rattle.mold_receiver.specs.Receive.{IsCopied, Reception, receive}
+use Rattle.mold_receiver.specs.View.{fresh}
+use Rattle.mold_receiver.specs.declared.line.Line.{Line}
+use Rattle.mold_receiver.specs.declared.taken.Taken.{Taken}
+use Rattle.mold_rule.specs.declared.refusal.Refusal.{Refusal}
+use Rattle.mold_rule.specs.declared.refusal.Refusal.TheVariants.{Memory}
+use Rattle.mold_wire.specs.declared.session.Session.{Session}
+
+pub record BatchedArbitration : Type 0 where
+  pub arbitration : Arbitration
+  pub batch : Handed
+
+-- it is stored as the tuple of its parts
+abbrev pub batched_code : Coded BatchedArbitration
+batched_code = code_by (Arbitration × (ℕ × List (List ℕ)))
+    (coded× arbitration_code (coded× coded_ℕ (coded_list (coded_list coded_ℕ))))
+    (λ b. (b.arbitration, (b.batch.first, b.batch.messages)))
+    (λ p. record { arbitration = p.0; batch = record { first = p.1.0; messages = p.1.1 } })
+    (λ _. refl)
+
+-- the message that is delivered next follows the batch
+abbrev pub IsFollowed : BatchedArbitration → Type 0
+IsFollowed batched = Follows batched.batch batched.arbitration.view.next
+
+-- a listener that begins at a sequence number: nothing was received on either line, and nothing was delivered
+abbrev pub begun : Session → ℕ → ℕ → BatchedArbitration
+begun session next window = record {
+  arbitration = record {
+    view = fresh session next window;
+    reports = record {
+      a = record { datagrams = 0; refused = 0; front = next };
+      b = record { datagrams = 0; refused = 0; front = next };
+    };
+  };
+  batch = record { first = 0; messages = [] };
+}
+
+-- a listener after a datagram, by what the receiving rule makes of it: the delivered messages join the batch
+abbrev pub received : Option Line → List ℕ → BatchedArbitration → Result Reception Refusal → BatchedArbitration
+received line bytes old (Ok reception) = record {
+  arbitration = arbitrated line bytes old.arbitration (Ok reception);
+  batch = followed_by old.batch old.arbitration.view.next reception.handed;
+}
+received line bytes old (Err refusal) = record {
+  arbitration = arbitrated line bytes old.arbitration (Err refusal);
+  batch = old.batch;
+}
+
+-- a datagram was taken or refused as the receiving rule says; or memory for a copy was refused, and nothing changed
+abbrev pub HasReceived : Option Line → List ℕ → BatchedArbitration → BatchedArbitration → Result Taken Refusal → Type 0
+HasReceived line bytes old new (Ok taken) =
+    (reception : Reception) × (receive old.arbitration.view bytes ≡ Ok reception)
+    × (taken ≡ reception.taken) × (new ≡ received line bytes old (Ok reception))
+HasReceived line bytes old new (Err refusal) =
+    ((refusal ≡ Memory) × IsCopied old.arbitration.view bytes × (new ≡ old))
+    ⊎ ((receive old.arbitration.view bytes ≡ Err refusal) × (new ≡ received line bytes old (Err refusal)))
+
+-- the batch without its messages
+abbrev pub cleared : BatchedArbitration → BatchedArbitration
+cleared old = record { arbitration = old.arbitration; batch = record { first = 0; messages = [] } }

@@ -1,0 +1,18 @@
+-- What the receiving rule makes of a datagram, as the fields of a struct.
+use Rattle.std.specs.Prelude.{ℕ, Result, Ok, Err}
+use Rattle.mold_receiver.specs.Receive.{Reception}
+use Rattle.mold_rule.specs.declared.refusal.Refusal.{Refusal}
+use Rattle.mold_ffi.specs.Code.Refusal.{refusal_number}
+use Rattle.mold_ffi.specs.declared.listener.mold_told.MoldTold.{MoldTold}
+
+-- three counts, or the number that goes with the refusal; `unused` stays
+abbrev pub told_of : Result Reception Refusal → ℕ → MoldTold
+told_of (Ok reception) unused = record {
+  detail = 0;
+  handed = reception.taken.handed;
+  kept = reception.taken.kept;
+  beyond = reception.taken.beyond;
+  unused = unused;
+}
+told_of (Err refusal) unused =
+    record { detail = refusal_number refusal; handed = 0; kept = 0; beyond = 0; unused = unused }

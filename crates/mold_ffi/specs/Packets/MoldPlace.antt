@@ -1,0 +1,21 @@
+-- Where the messages of a packet lie in its bytes.
+use Rattle.std.specs.Prelude.{ℕ, ◌+◌, List, [], ◌∷◌, ◌++◌, length, take, drop, Result, Ok, Err}
+use Rattle.mold_wire.specs.Packet.{messages_of}
+use Rattle.mold_wire.specs.declared.error.DecodeError.{DecodeError}
+use Rattle.mold_wire.specs.declared.packet.Packet.{Packet}
+use Rattle.mold_ffi.specs.declared.packets.mold_place.MoldPlace.{MoldPlace}
+
+-- where messages lie whose blocks begin at this offset and follow one another
+unfoldable pub places_of : ℕ → List (List ℕ) → List MoldPlace
+places_of at [] = []
+places_of at (message ∷ messages) =
+    record { offset = at + 2; length = length message } ∷ places_of (at + (2 + length message)) messages
+
+-- an array whose first elements are replaced by these, as many as it has room for
+abbrev pub written_front : List MoldPlace → List MoldPlace → List MoldPlace
+written_front found old = take (length old) found ++ drop (length found) old
+
+-- the array after a packet was read; after a fault it is as it was
+abbrev pub places_read : Result Packet DecodeError → List MoldPlace → List MoldPlace
+places_read (Ok packet) old = written_front (places_of 20 (messages_of packet.body)) old
+places_read (Err error) old = old

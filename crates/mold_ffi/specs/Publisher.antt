@@ -1,0 +1,2 @@
+-- A publisher, and what its calls return.
+pub mod Exchange

@@ -1,0 +1,89 @@
+-- A publisher with its server, and what the calls on it return.
+use Rattle.std.specs.Prelude.{◌≡◌, ◌⊎◌, ℕ, ◌+◌, ◌-◌, ◌<◌, ◌≤◌, true, false, List, [], length, Option, None, Some}
+use Rattle.std.specs.Prelude.{is_some}
+use Rattle.mold_wire.specs.declared.packet.Packet.{Packet}
+use Rattle.mold_wire.specs.declared.session.Session.{Session}
+use Rattle.mold_session.specs.File.{file_length}
+use Rattle.mold_session.specs.Journal.{JournalState, append_refusal}
+use Rattle.mold_session.specs.Publisher.{PublisherState, closed, published}
+use Rattle.mold_session.specs.Putting.{Puts, PutsFile}
+use Rattle.mold_session.specs.Server.{ServerState}
+use Rattle.mold_session.specs.declared.error.AppendError.{AppendError}
+use Rattle.mold_ffi.specs.Buffer.{PutsPacket}
+use Rattle.mold_ffi.specs.Code.AppendError.{append_error_code, append_error_number}
+use Rattle.mold_ffi.specs.declared.code.TheConstants as codes
+use Rattle.mold_ffi.specs.declared.publisher.exchange.Exchange.{Exchange}
+use Rattle.mold_ffi.specs.declared.handle.held.Held.{Held}
+use Rattle.mold_ffi.specs.declared.handle.held.Held.TheVariants.{Publisher}
+
+-- the publisher of an open session without messages, and no server
+abbrev pub opened : Session → ℕ → Exchange
+opened session limit = record {
+  publisher = record {
+    journal = record { session = session; max_message = limit - 22; messages = []; closed = false };
+    limit = limit;
+    sent = 0;
+  };
+  server = None;
+}
+
+-- what a handle holds: an exchange, the same with another publisher, and the same with this server
+abbrev pub holding : Exchange → Option Held
+holding exchange = Some (Publisher exchange)
+
+abbrev pub with_publisher : Exchange → PublisherState → Option Held
+with_publisher exchange publisher = holding (record { publisher = publisher; server = exchange.server })
+
+abbrev pub with_server : Exchange → ServerState → Option Held
+with_server exchange server = holding (record { publisher = exchange.publisher; server = Some server })
+
+-- a server with the limit of the publisher and for its journal, that has answered no request
+abbrev pub server_beside : PublisherState → ℕ → ServerState
+server_beside publisher burst =
+    record { limit = publisher.limit; max_message = publisher.journal.max_message; burst = burst; answered = 0 }
+
+-- the greatest number of datagrams that answer a request
+abbrev pub IsBurst : ℕ → Type 0
+IsBurst burst = (1 ≤ burst) × (burst ≤ 64)
+
+-- a message is published, or memory for it was refused; or it is refused for the first reason that applies
+pub record Publishes (exchange : Exchange) (message : List ℕ) (code number : ℕ) (held : Option Held) : Type 0 where
+  pub taken : append_refusal exchange.publisher.journal message ≡ None →
+      ((code ≡ codes.DONE) × (number ≡ length exchange.publisher.journal.messages + 1)
+      × (held ≡ with_publisher exchange (published exchange.publisher message)))
+      ⊎ ((code ≡ codes.MEMORY) × (number ≡ 0) × (held ≡ holding exchange))
+  pub refused : (error : AppendError) → append_refusal exchange.publisher.journal message ≡ Some error →
+      (code ≡ append_error_code error) × (number ≡ append_error_number error) × (held ≡ holding exchange)
+
+-- the next packet, if there is one, is written to a buffer with room for the limit
+pub record Sends (exchange : Exchange) (next : Option Packet) (after : PublisherState) (old new : List ℕ)
+    (code size : ℕ) (held : Option Held) : Type 0 where
+  pub room : length old < exchange.publisher.limit →
+      (code ≡ codes.ROOM) × (size ≡ exchange.publisher.limit) × (new ≡ old) × (held ≡ holding exchange)
+  pub absent : exchange.publisher.limit ≤ length old → next ≡ None →
+      (code ≡ codes.ABSENT) × (size ≡ 0) × (new ≡ old) × (held ≡ holding exchange)
+  pub put : (packet : Packet) → exchange.publisher.limit ≤ length old → next ≡ Some packet →
+      (code ≡ codes.DONE) × PutsPacket packet old new size × (held ≡ with_publisher exchange after)
+
+-- the session is closed if every message was sent in a datagram; otherwise the number of unsent messages is returned
+pub record Closes (exchange : Exchange) (code number : ℕ) (held : Option Held) : Type 0 where
+  pub done : exchange.publisher.sent ≡ length exchange.publisher.journal.messages →
+      (code ≡ codes.DONE) × (number ≡ 0) × (held ≡ with_publisher exchange (closed exchange.publisher))
+  pub unsent : exchange.publisher.sent < length exchange.publisher.journal.messages →
+      (code ≡ codes.UNSENT) × (number ≡ length exchange.publisher.journal.messages - exchange.publisher.sent)
+      × (held ≡ holding exchange)
+
+-- the journal's file is written to a buffer that has room for it
+pub record Saves (journal : JournalState) (old new : List ℕ) (code size : ℕ) : Type 0 where
+  pub sized : size ≡ file_length journal.messages
+  pub room : length old < file_length journal.messages → (code ≡ codes.ROOM) × (new ≡ old)
+  pub put : file_length journal.messages ≤ length old →
+      (code ≡ codes.DONE) × PutsFile old new journal.session journal.messages journal.closed size
+
+-- a publisher without a server gets one, or memory for it was refused
+pub record GivesServer (exchange : Exchange) (burst code : ℕ) (held : Option Held) : Type 0 where
+  pub had : is_some exchange.server ≡ true → (code ≡ codes.BROKEN) × (held ≡ holding exchange)
+  pub burst_fault : exchange.server ≡ None → (IsBurst burst → ⊥) → (code ≡ codes.BURST) × (held ≡ holding exchange)
+  pub given : exchange.server ≡ None → IsBurst burst →
+      ((code ≡ codes.DONE) × (held ≡ with_server exchange (server_beside exchange.publisher burst)))
+      ⊎ ((code ≡ codes.MEMORY) × (held ≡ holding exchange))

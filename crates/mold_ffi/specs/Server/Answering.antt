@@ -1,0 +1,72 @@
+-- What a server does with requests and plans.
+use Rattle.std.specs.Prelude.{◌≡◌, ℕ, ◌+◌, ◌<◌, ◌≤◌, List, length, Ok, Err}
+use Rattle.mold_wire.specs.declared.request.Request.{Request}
+use Rattle.mold_session.specs.Answer.{PlanState, IsSpent, next_part, next_packet, moved}
+use Rattle.mold_session.specs.Journal.{JournalState}
+use Rattle.mold_session.specs.Putting.{Puts}
+use Rattle.mold_session.specs.Server.{ServerState, SpellsAnswer, asking, planning, counted}
+use Rattle.mold_session.specs.declared.error.AnswerError.{AnswerError}
+use Rattle.mold_ffi.specs.Buffer.{PutsPacket}
+use Rattle.mold_ffi.specs.Code.AnswerError.{answer_error_code, answer_error_number}
+use Rattle.mold_ffi.specs.Server.MoldPlan.{plan_of, told_plan}
+use Rattle.mold_ffi.specs.declared.code.TheConstants as codes
+use Rattle.mold_ffi.specs.declared.server.mold_plan.MoldPlan.{MoldPlan}
+
+-- the server may answer from the journal: it allows the longest message that the journal allows
+abbrev pub Suits : ServerState → JournalState → Type 0
+Suits server journal = journal.max_message ≤ server.max_message
+
+-- the buffer begins with the first packet of the answer to a request, and its other bytes stay
+pub record PutsAnswer (server : ServerState) (journal : JournalState) (request old new : List ℕ)
+    (size : ℕ) : Type 0 where
+  pub bytes : List ℕ
+  pub spelled : SpellsAnswer journal server request bytes
+  pub put : Puts old new bytes size
+
+-- the first packet of the answer is written to a buffer with room for the limit, or the request is refused for the
+-- first reason that applies; `holding` gives what then holds the server
+pub record Answers (T : Type 0) (server : ServerState) (journal : JournalState) (request old new : List ℕ)
+    (before code number : ℕ) (holding : ServerState → T) (held : T) : Type 0 where
+  pub foreign : (Suits server journal → ⊥) →
+      (code ≡ codes.BROKEN) × (number ≡ before) × (new ≡ old) × (held ≡ holding server)
+  pub room : Suits server journal → length old < server.limit →
+      (code ≡ codes.ROOM) × (number ≡ server.limit) × (new ≡ old) × (held ≡ holding server)
+  pub refused : (error : AnswerError) → Suits server journal → server.limit ≤ length old →
+      asking journal request ≡ Err error →
+      (code ≡ answer_error_code error) × (number ≡ answer_error_number error) × (new ≡ old) × (held ≡ holding server)
+  pub answered : (asked : Request) → Suits server journal → server.limit ≤ length old →
+      asking journal request ≡ Ok asked →
+      (code ≡ codes.DONE) × PutsAnswer server journal request old new number × (held ≡ holding (counted server))
+
+-- the answer to a request is planned, or the request is refused for the first reason that applies
+pub record Plans (T : Type 0) (server : ServerState) (journal : JournalState) (request : List ℕ) (old new : MoldPlan)
+    (before code number : ℕ) (holding : ServerState → T) (held : T) : Type 0 where
+  pub foreign : (Suits server journal → ⊥) →
+      (code ≡ codes.BROKEN) × (number ≡ before) × (new ≡ old) × (held ≡ holding server)
+  pub refused : (error : AnswerError) → Suits server journal → planning journal server.burst request ≡ Err error →
+      (code ≡ answer_error_code error) × (number ≡ answer_error_number error) × (new ≡ old) × (held ≡ holding server)
+  pub planned : (plan : PlanState) → Suits server journal → planning journal server.burst request ≡ Ok plan →
+      (code ≡ codes.DONE) × (number ≡ 0) × (new ≡ told_plan plan) × (held ≡ holding (counted server))
+
+-- a plan that the server may have made for this journal
+pub record MayServe (server : ServerState) (journal : JournalState) (plan : PlanState) : Type 0 where
+  pub suits : Suits server journal
+  pub first : 1 ≤ plan.from
+  pub ordered : plan.from ≤ plan.to
+  pub within : plan.to ≤ length journal.messages + 1
+  pub session : plan.session ≡ journal.session
+
+-- the next packet of a plan is written to a buffer with room for the limit, and the plan moves past its messages
+pub record Serves (server : ServerState) (journal : JournalState) (told after : MoldPlan) (old new : List ℕ)
+    (before code size : ℕ) : Type 0 where
+  pub broken : (MayServe server journal (plan_of told) → ⊥) →
+      (code ≡ codes.BROKEN) × (size ≡ before) × (new ≡ old) × (after ≡ told)
+  pub room : MayServe server journal (plan_of told) → length old < server.limit →
+      (code ≡ codes.ROOM) × (size ≡ server.limit) × (new ≡ old) × (after ≡ told)
+  pub absent : MayServe server journal (plan_of told) → server.limit ≤ length old → IsSpent (plan_of told) →
+      (code ≡ codes.ABSENT) × (size ≡ 0) × (new ≡ old) × (after ≡ told)
+  pub put : MayServe server journal (plan_of told) → server.limit ≤ length old → (IsSpent (plan_of told) → ⊥) →
+      (code ≡ codes.DONE)
+      × PutsPacket (next_packet journal.messages server.limit (plan_of told)) old new size
+      × (after ≡ told_plan
+      (moved (plan_of told) (length (next_part journal.messages server.limit (plan_of told)))))

@@ -1,0 +1,22 @@
+-- What `mold_server_new` returns and leaves.
+use Rattle.std.specs.Prelude.{◌≡◌, ◌⊎◌, ℕ, List, Option, None, Some}
+use Rattle.mold_ffi.specs.Server.Serving.{IsFault, IsOfFile}
+use Rattle.mold_ffi.specs.declared.code.TheConstants as codes
+use Rattle.mold_ffi.specs.declared.handle.held.Held.{Held}
+use Rattle.mold_ffi.specs.declared.handle.held.Held.TheVariants.{Server}
+use Rattle.mold_ffi.specs.declared.server.serving.Serving.{Serving}
+
+-- a handle that was empty holds a server of a journal's file
+pub record HasLoaded (limit burst : ℕ) (bytes : List ℕ) (code number : ℕ) (held : Option Held) : Type 0 where
+  pub serving : Serving
+  pub made : IsOfFile limit burst bytes serving
+  pub by_code : code ≡ codes.DONE
+  pub by_number : number ≡ 0
+  pub held_is : held ≡ Some (Server serving)
+
+-- it does, or the bytes are not such a file, or memory was refused
+abbrev pub Loads : ℕ → ℕ → List ℕ → ℕ → ℕ → Option Held → Type 0
+Loads limit burst bytes code number held =
+    HasLoaded limit burst bytes code number held
+    ⊎ (IsFault limit bytes code number × (held ≡ None))
+    ⊎ ((code ≡ codes.MEMORY) × (number ≡ 0) × (held ≡ None))

@@ -1,0 +1,125 @@
+//! The calls on a checker.
+
+ghost use Rattle.std.specs.Prelude.{◌≡◌, ◌⊎◌, [], None, Some, is_some, true};
+ghost use Rattle.mold_capture.specs.Refusal.{refusal};
+ghost use Rattle.mold_capture.specs.Seen.{Seen, seen_of};
+ghost use Rattle.mold_ffi.specs.Checker.Calls.{Joins, TellsRanges};
+ghost use Rattle.mold_ffi.specs.Checker.MoldVerdict.{Tells};
+ghost use Rattle.mold_ffi.specs.Handle.Borrow.{IsNoChecker};
+ghost use Rattle.mold_ffi.specs.declared.code.TheConstants as codes;
+ghost use Rattle.mold_ffi.specs.declared.handle.held.Held.TheVariants.{Checker as AChecker};
+
+use crate::checker::mold_range::{MoldRange, fill_places};
+use crate::checker::mold_verdict::MoldVerdict;
+use crate::code::refusal::code_of_refusal;
+use crate::code::{BROKEN, DONE, MEMORY};
+use crate::handle::borrow::lend_checker;
+use crate::handle::held::Held;
+use crate::handle::mold_handle::MoldHandle;
+use mold_capture::{Checker, Verdict};
+use std::alloc::Global;
+
+/// Makes a checker that has taken no datagram. The handle must hold nothing.
+#[unsafe(no_mangle)]
+pub extern "C" fn mold_checker_new(alloc: Global, checker: &mut MoldHandle) -> u32
+    ensures full { is_some checker.old.handle.value ≡ true →
+        (result ≡ codes.BROKEN) × (checker.new.handle.value ≡ checker.old.handle.value) }
+    ensures made { checker.old.handle.value ≡ None →
+        ((result ≡ codes.DONE) × (checker.new.handle.value ≡ Some (AChecker (seen_of []))))
+        ⊎ ((result ≡ codes.MEMORY) × (checker.new.handle.value ≡ None)) }
+{
+    if checker.live {
+        return BROKEN;
+    }
+    match Box::new(alloc, Held::Checker(Checker::new(alloc))) {
+        Ok(boxed) => {
+            *checker = MoldHandle::of(boxed);
+            DONE
+        }
+        Err(_) => MEMORY,
+    }
+}
+
+/// Takes a datagram, or refuses it with the code of the first reason why it may not come after those that were
+/// taken, and then nothing changes but `number`: the number that goes with the reason, 0 where none does. The
+/// session is that of the first datagram taken. Datagrams may come in any order.
+#[unsafe(no_mangle)]
+pub extern "C" fn mold_checker_take(checker: &mut MoldHandle, bytes: &[u8], number: &mut u64) -> u32
+    ensures joins { (seen : Seen) → checker.old.handle.value ≡ Some (AChecker seen) →
+        Joins (refusal seen bytes.now) bytes.now seen result number.new checker.new.handle.value }
+    ensures broken { IsNoChecker checker.old.handle.value →
+        (result ≡ codes.BROKEN) × (number.new ≡ number.old) × (checker.new.handle.value ≡ checker.old.handle.value) }
+{
+    if !checker.live {
+        return BROKEN;
+    }
+    let Held::Checker(held) = checker.handle.lend() else {
+        return BROKEN;
+    };
+    match held.add(bytes) {
+        Ok(()) => {
+            *number = 0;
+            DONE
+        }
+        Err(reason) => {
+            let (code, detail) = code_of_refusal(reason);
+            *number = detail;
+            code
+        }
+    }
+}
+
+/// Tells whether the datagrams that were taken are whole, and what is missing where they aren't. Where memory is
+/// refused nothing is written.
+#[unsafe(no_mangle)]
+pub extern "C" fn mold_checker_verdict(checker: &mut MoldHandle, verdict: &mut MoldVerdict) -> u32
+    ensures tells { (seen : Seen) → checker.old.handle.value ≡ Some (AChecker seen) →
+        ((result ≡ codes.DONE) × Tells seen verdict.new × (verdict.new.unused ≡ verdict.old.unused))
+        ⊎ ((result ≡ codes.MEMORY) × (verdict.new ≡ verdict.old)) }
+    ensures broken { IsNoChecker checker.old.handle.value →
+        (result ≡ codes.BROKEN) × (verdict.new ≡ verdict.old) }
+    ensures same { checker.new.handle.value ≡ checker.old.handle.value }
+{
+    let Some(held) = lend_checker(checker) else {
+        return BROKEN;
+    };
+    match held.verdict() {
+        Ok(found) => {
+            verdict.tell(&found);
+            DONE
+        }
+        Err(_) => MEMORY,
+    }
+}
+
+/// Writes the ranges of numbers that are missing, ascending, into places from the first on, as many as there are
+/// places, and how many ranges there are in all. Where memory is refused nothing is written.
+#[unsafe(no_mangle)]
+pub extern "C" fn mold_checker_ranges(
+    checker: &mut MoldHandle,
+    ranges: &mut [MoldRange],
+    count: &mut usize,
+) -> u32
+    ensures tells { (seen : Seen) → checker.old.handle.value ≡ Some (AChecker seen) →
+        ((result ≡ codes.DONE) × TellsRanges seen ranges.old ranges.new count.new)
+        ⊎ ((result ≡ codes.MEMORY) × (ranges.new ≡ ranges.old) × (count.new ≡ count.old)) }
+    ensures broken { IsNoChecker checker.old.handle.value →
+        (result ≡ codes.BROKEN) × (ranges.new ≡ ranges.old) × (count.new ≡ count.old) }
+    ensures same { checker.new.handle.value ≡ checker.old.handle.value }
+{
+    let Some(held) = lend_checker(checker) else {
+        return BROKEN;
+    };
+    match held.verdict() {
+        Ok(Verdict::Whole { .. }) => {
+            *count = 0;
+            DONE
+        }
+        Ok(Verdict::Incomplete { missing, .. }) => {
+            fill_places(&missing, ranges);
+            *count = missing.len();
+            DONE
+        }
+        Err(_) => MEMORY,
+    }
+}

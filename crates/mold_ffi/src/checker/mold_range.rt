@@ -1,0 +1,41 @@
+//! A range of numbers, as it crosses.
+
+ghost use Rattle.std.specs.Prelude.{◌≡◌};
+ghost use Rattle.mold_capture.specs.Verdict.{ranges_of};
+ghost use Rattle.mold_ffi.specs.Checker.MoldRange.{AreFilled, range_of};
+ghost use Rattle.mold_ranges.specs.Ranges.{range as numbers};
+
+use mold_capture::Range;
+
+/// Numbers from the first to the last, both among them.
+#[repr(C)]
+#[derive(Clone, Copy)]
+pub struct MoldRange {
+    pub first: u64,
+    pub last: u64,
+}
+
+impl MoldRange {
+    pub(crate) fn of(range: Range) -> MoldRange
+        ensures { range_of result ≡ numbers range.first range.last }
+    {
+        MoldRange {
+            first: range.first,
+            last: range.last,
+        }
+    }
+}
+
+/// Writes ranges into places from the first on, as many as there are places.
+pub(crate) fn fill_places(missing: &[Range], places: &mut [MoldRange])
+    ensures { AreFilled (ranges_of missing.now) places.old places.new }
+{
+    let mut filled = 0;
+    for range in missing {
+        if filled == places.len() {
+            return;
+        }
+        places[filled] = MoldRange::of(*range);
+        filled += 1;
+    }
+}

@@ -1,0 +1,48 @@
+//! The handle as a program in C declares it.
+
+ghost use Rattle.std.specs.Prelude.{◌≡◌, None, Some, is_some};
+
+use crate::handle::Handle;
+use crate::handle::held::Held;
+use std::alloc::Global;
+
+/// A handle as a program in C declares it: `{ NULL, false }` holds nothing. Whoever declares it ends with
+/// `mold_free`.
+#[repr(C)]
+pub struct MoldHandle {
+    pub(crate) handle: Handle,
+    /// Whether it holds something.
+    pub(crate) live: bool,
+    ghost tied: { is_some handle.value ≡ live },
+}
+
+impl MoldHandle {
+    /// A handle that holds nothing.
+    pub(crate) fn empty(alloc: Global) -> MoldHandle
+        ensures { result.handle.value ≡ None }
+    {
+        MoldHandle {
+            handle: Handle::empty(alloc),
+            live: false,
+        }
+    }
+
+    /// A handle of what the box holds.
+    pub(crate) fn of(boxed: Box<Held>) -> MoldHandle
+        ensures { result.handle.value ≡ Some boxed.value }
+    {
+        MoldHandle {
+            handle: Handle::of(boxed),
+            live: true,
+        }
+    }
+}
+
+impl Drop for MoldHandle {
+    fn drop(self) {
+        let MoldHandle { handle, live } = self;
+        if live {
+            drop(handle.into_box());
+        }
+    }
+}

@@ -1,0 +1,146 @@
+//! The messages that a listener handed on.
+
+ghost use Rattle.std.specs.Prelude.{◌≡◌, ◌≤◌, ◌<◌, ◌++◌, ℕ, List, None, Some, length, take, drop, map, min};
+ghost use Rattle.std.specs.Prelude.{slice_get, unwrap_or};
+ghost use Rattle.mold_ffi.specs.declared.code.TheConstants as codes;
+ghost use Rattle.mold_ffi.specs.Listener.BatchedArbiter.{BatchedArbitration};
+ghost use Rattle.mold_ffi.specs.Handle.Borrow.{IsNoListener};
+ghost use Rattle.mold_ffi.specs.declared.handle.held.Held.TheVariants.{Listener as AListener};
+ghost use Rattle.mold_receiver.specs.Batch.{first_of};
+
+use crate::code::{ABSENT, BROKEN, DONE, ROOM};
+use crate::handle::borrow::lend_listener;
+use crate::handle::mold_handle::MoldHandle;
+use mold_receiver::Batch;
+
+/// How many messages the batch has; 0 where the handle holds no listener.
+#[unsafe(no_mangle)]
+pub extern "C" fn mold_listener_count(listener: &mut MoldHandle) -> usize
+    ensures count { (batched : BatchedArbitration) → listener.old.handle.value ≡ Some (AListener batched) →
+        result ≡ length batched.batch.messages }
+    ensures broken { IsNoListener listener.old.handle.value → result ≡ 0 }
+    ensures same { listener.new.handle.value ≡ listener.old.handle.value }
+{
+    match lend_listener(listener) {
+        Some(held) => held.batch().len(),
+        None => 0,
+    }
+}
+
+/// The number of the batch's first message, from 1; 0 where it has none, or the handle holds no listener.
+#[unsafe(no_mangle)]
+pub extern "C" fn mold_listener_first(listener: &mut MoldHandle) -> u64
+    ensures first { (batched : BatchedArbitration) → listener.old.handle.value ≡ Some (AListener batched) →
+        result ≡ unwrap_or (first_of batched.batch) 0 }
+    ensures broken { IsNoListener listener.old.handle.value → result ≡ 0 }
+    ensures same { listener.new.handle.value ≡ listener.old.handle.value }
+{
+    match lend_listener(listener) {
+        Some(held) => held.batch().first().unwrap_or(0),
+        None => 0,
+    }
+}
+
+/// Lends the message at place `i` of the batch, counted from 0. It is valid until the next call on this handle.
+/// Nothing is written but on code 0.
+#[unsafe(no_mangle)]
+pub extern "C" fn mold_listener_message<'a>(
+    listener: &'a mut MoldHandle,
+    i: usize,
+    message: &mut &'a [u8],
+) -> u32
+    ensures lent { (batched : BatchedArbitration) (bytes : List ℕ) →
+        listener.old.handle.value ≡ Some (AListener batched) → slice_get batched.batch.messages i ≡ Some bytes →
+        (result ≡ codes.DONE) × (message.new.now ≡ bytes) }
+    ensures absent { (batched : BatchedArbitration) →
+        listener.old.handle.value ≡ Some (AListener batched) → slice_get batched.batch.messages i ≡ None →
+        (result ≡ codes.ABSENT) × (message.new ≡ message.old) }
+    ensures broken { IsNoListener listener.old.handle.value →
+        (result ≡ codes.BROKEN) × (message.new ≡ message.old) }
+{
+    let Some(held) = lend_listener(listener) else {
+        return BROKEN;
+    };
+    match held.batch().get(i) {
+        Some(bytes) => {
+            *message = bytes;
+            DONE
+        }
+        None => ABSENT,
+    }
+}
+
+/// Copies the message at place `i` of the batch to the front of the buffer, and writes how many bytes it has. Where
+/// the buffer is too small that is all that is written.
+#[unsafe(no_mangle)]
+pub extern "C" fn mold_listener_copy(
+    listener: &mut MoldHandle,
+    i: usize,
+    buffer: &mut [u8],
+    size: &mut usize,
+) -> u32
+    ensures copied { (batched : BatchedArbitration) (bytes : List ℕ) →
+        listener.old.handle.value ≡ Some (AListener batched) → slice_get batched.batch.messages i ≡ Some bytes →
+        length bytes ≤ length buffer.old →
+        (result ≡ codes.DONE) × (size.new ≡ length bytes) × (buffer.new ≡ bytes ++ drop (length bytes) buffer.old) }
+    ensures room { (batched : BatchedArbitration) (bytes : List ℕ) →
+        listener.old.handle.value ≡ Some (AListener batched) → slice_get batched.batch.messages i ≡ Some bytes →
+        length buffer.old < length bytes →
+        (result ≡ codes.ROOM) × (size.new ≡ length bytes) × (buffer.new ≡ buffer.old) }
+    ensures absent { (batched : BatchedArbitration) →
+        listener.old.handle.value ≡ Some (AListener batched) → slice_get batched.batch.messages i ≡ None →
+        (result ≡ codes.ABSENT) × (size.new ≡ size.old) × (buffer.new ≡ buffer.old) }
+    ensures broken { IsNoListener listener.old.handle.value →
+        (result ≡ codes.BROKEN) × (size.new ≡ size.old) × (buffer.new ≡ buffer.old) }
+    ensures same { listener.new.handle.value ≡ listener.old.handle.value }
+{
+    let Some(held) = lend_listener(listener) else {
+        return BROKEN;
+    };
+    let Some(bytes) = held.batch().get(i) else {
+        return ABSENT;
+    };
+    *size = bytes.len();
+    if buffer.len() < bytes.len() {
+        return ROOM;
+    }
+    buffer[..bytes.len()].copy_from_slice(bytes);
+    DONE
+}
+
+// Lends a batch's messages from the first on, as many as there are places, and answers how many.
+fn lend_messages<'a>(batch: &'a Batch, messages: &mut [&'a [u8]]) -> usize
+    ensures count { result ≡ min (length messages.old) (length batch.now.messages) }
+    ensures lent { map (λ bytes. bytes.now) (take result messages.new) ≡ take result batch.now.messages }
+    ensures behind { drop result messages.new ≡ drop result messages.old }
+{
+    let mut filled = 0;
+    for bytes in batch.iter() {
+        if filled == messages.len() {
+            return filled;
+        }
+        messages[filled] = bytes;
+        filled += 1;
+    }
+    filled
+}
+
+/// Lends the messages of the batch from the first on, as many as there are places, and answers how many; 0 where the
+/// handle holds no listener. They are lent as `mold_listener_message` lends one, and places behind them stay.
+#[unsafe(no_mangle)]
+pub extern "C" fn mold_listener_messages<'a>(
+    listener: &'a mut MoldHandle,
+    messages: &mut [&'a [u8]],
+) -> usize
+    ensures count { (batched : BatchedArbitration) → listener.old.handle.value ≡ Some (AListener batched) →
+        result ≡ min (length messages.old) (length batched.batch.messages) }
+    ensures lent { (batched : BatchedArbitration) → listener.old.handle.value ≡ Some (AListener batched) →
+        map (λ bytes. bytes.now) (take result messages.new) ≡ take result batched.batch.messages }
+    ensures behind { drop result messages.new ≡ drop result messages.old }
+    ensures broken { IsNoListener listener.old.handle.value → (result ≡ 0) × (messages.new ≡ messages.old) }
+{
+    match lend_listener(listener) {
+        Some(held) => lend_messages(held.batch(), messages),
+        None => 0,
+    }
+}

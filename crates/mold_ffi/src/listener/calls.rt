@@ -1,0 +1,113 @@
+//! The calls on a listener.
+
+ghost use Rattle.std.specs.Prelude.{◌≡◌, ◌⊎◌, ◌<◌, Option, None, Some, is_some, true};
+ghost use Rattle.mold_ffi.specs.declared.code.TheConstants as codes;
+ghost use Rattle.mold_ffi.specs.Listener.BatchedArbiter.{BatchedArbitration, begun, cleared};
+ghost use Rattle.mold_ffi.specs.Handle.Borrow.{IsNoListener};
+ghost use Rattle.mold_ffi.specs.Listener.Calls.{Takes};
+ghost use Rattle.mold_ffi.specs.Listener.Origin.{origin_at};
+ghost use Rattle.mold_ffi.specs.declared.handle.held.Held.TheVariants.{Listener as AListener};
+ghost use Rattle.mold_receiver.specs.View.{IsWindow};
+ghost use Rattle.mold_receiver.specs.declared.line.Line.{Line as ALine};
+
+use crate::code::{BROKEN, DONE, LINE, MEMORY, NEXT_ZERO, WINDOW};
+use crate::handle::held::Held;
+use crate::handle::mold_handle::MoldHandle;
+use crate::listener::batched_arbiter::BatchedArbiter;
+use crate::listener::mold_told::MoldTold;
+use crate::listener::origin::origin_of;
+use mold_receiver::ReceiverError;
+use mold_wire::Session;
+use std::alloc::Global;
+
+/// Makes a listener of a session that begins at the message `next`, and stores messages of less than
+/// `next + window`; the window is 1 to 65,536. The handle must hold nothing.
+#[unsafe(no_mangle)]
+pub extern "C" fn mold_listener_new(
+    alloc: Global,
+    listener: &mut MoldHandle,
+    session: &[u8; 10],
+    next: u64,
+    window: u32,
+) -> u32
+    ensures full { is_some listener.old.handle.value ≡ true →
+        (result ≡ codes.BROKEN) × (listener.new.handle.value ≡ listener.old.handle.value) }
+    ensures zero { listener.old.handle.value ≡ None → next ≡ 0 →
+        (result ≡ codes.NEXT_ZERO) × (listener.new.handle.value ≡ None) }
+    ensures window { listener.old.handle.value ≡ None → 0 < next → (IsWindow window → ⊥) →
+        (result ≡ codes.WINDOW) × (listener.new.handle.value ≡ None) }
+    ensures made { listener.old.handle.value ≡ None → 0 < next → IsWindow window →
+        ((result ≡ codes.DONE)
+        × (listener.new.handle.value ≡ Some (AListener (begun (record { 0 = session.now }) next window))))
+        ⊎ ((result ≡ codes.MEMORY) × (listener.new.handle.value ≡ None)) }
+{
+    if listener.live {
+        return BROKEN;
+    }
+    match BatchedArbiter::new(alloc, Session(*session), next, window) {
+        Ok(made) => match Box::new(alloc, Held::Listener(made)) {
+            Ok(boxed) => {
+                *listener = MoldHandle::of(boxed);
+                DONE
+            }
+            Err(_) => MEMORY,
+        },
+        Err(ReceiverError::NextZero) => NEXT_ZERO,
+        Err(ReceiverError::Window) => WINDOW,
+        Err(ReceiverError::Memory) => MEMORY,
+    }
+}
+
+/// Takes a datagram that came on line A, 0, or B, 1, or on none as the answer to a request, 2. The messages that
+/// are handed on stand at the end of the batch.
+#[unsafe(no_mangle)]
+pub extern "C" fn mold_listener_take(
+    listener: &mut MoldHandle,
+    line: u32,
+    bytes: &[u8],
+    told: &mut MoldTold,
+) -> u32
+    ensures takes { (batched : BatchedArbitration) (origin : Option ALine) →
+        listener.old.handle.value ≡ Some (AListener batched) → origin_at line ≡ Some origin →
+        Takes origin bytes.now batched told.old.unused result told.new listener.new.handle.value }
+    ensures line { (batched : BatchedArbitration) →
+        listener.old.handle.value ≡ Some (AListener batched) → origin_at line ≡ None →
+        (result ≡ codes.LINE) × (told.new ≡ told.old) × (listener.new.handle.value ≡ listener.old.handle.value) }
+    ensures broken { IsNoListener listener.old.handle.value →
+        (result ≡ codes.BROKEN) × (told.new ≡ told.old) × (listener.new.handle.value ≡ listener.old.handle.value) }
+{
+    if !listener.live {
+        return BROKEN;
+    }
+    let Held::Listener(held) = listener.handle.lend() else {
+        return BROKEN;
+    };
+    let Some(origin) = origin_of(line) else {
+        return LINE;
+    };
+    match held.take(origin, bytes) {
+        Ok(taken) => {
+            told.tell_taken(taken);
+            DONE
+        }
+        Err(refused) => told.tell_refused(refused),
+    }
+}
+
+/// Clears the batch away, and keeps its room for what is handed on next. What was lent of it is no longer valid.
+#[unsafe(no_mangle)]
+pub extern "C" fn mold_listener_clear(listener: &mut MoldHandle) -> u32
+    ensures cleared { (batched : BatchedArbitration) → listener.old.handle.value ≡ Some (AListener batched) →
+        (result ≡ codes.DONE) × (listener.new.handle.value ≡ Some (AListener (cleared batched))) }
+    ensures broken { IsNoListener listener.old.handle.value →
+        (result ≡ codes.BROKEN) × (listener.new.handle.value ≡ listener.old.handle.value) }
+{
+    if !listener.live {
+        return BROKEN;
+    }
+    let Held::Listener(held) = listener.handle.lend() else {
+        return BROKEN;
+    };
+    held.clear();
+    DONE
+}

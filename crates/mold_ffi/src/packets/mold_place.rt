@@ -1,0 +1,38 @@
+//! Where the messages of a packet lie.
+
+ghost use Rattle.std.specs.Prelude.{◌≡◌, ◌<◌, ◌^◌};
+ghost use Rattle.mold_ffi.specs.Packets.MoldPlace.{places_of, written_front};
+ghost use Rattle.mold_wire.specs.Packing.{packet_length};
+
+use mold_wire::{Blocks, HEADER_LENGTH, LENGTH_BYTES};
+
+/// Where a message lies in a datagram, in bytes.
+#[repr(C)]
+#[derive(Clone, Copy)]
+pub struct MoldPlace {
+    /// The offset of its first byte.
+    pub offset: usize,
+    /// Its length.
+    pub length: usize,
+}
+
+/// Writes where the messages lie, as many as the array has room for.
+pub(crate) fn put_places(blocks: &Blocks<'_>, places: &mut [MoldPlace])
+    requires { packet_length blocks.now < 2 ^ 63 }
+    ensures { places.new ≡ written_front (places_of 20 blocks.now) places.old }
+{
+    let mut at = HEADER_LENGTH;
+    let mut filled = 0;
+    for message in blocks.iter() {
+        if filled == places.len() {
+            return;
+        }
+        at += LENGTH_BYTES;
+        places[filled] = MoldPlace {
+            offset: at,
+            length: message.len(),
+        };
+        at += message.len();
+        filled += 1;
+    }
+}

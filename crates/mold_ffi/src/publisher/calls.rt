@@ -1,0 +1,225 @@
+//! The calls on a publisher.
+
+ghost use Rattle.std.specs.Prelude.{◌≡◌, ◌⊎◌, ◌↔◌, None, Some, is_some, true, false, IsTrue};
+ghost use Rattle.mold_wire.specs.Packer.{IsLimit};
+ghost use Rattle.mold_wire.specs.Packing.{Fits};
+ghost use Rattle.mold_session.specs.Publisher.{unsent_of, next_datagram, next_heartbeat, next_end, after_datagram};
+ghost use Rattle.mold_ffi.specs.declared.code.TheConstants as codes;
+ghost use Rattle.mold_ffi.specs.Handle.Borrow.{IsNoPublisher};
+ghost use Rattle.mold_ffi.specs.Publisher.Exchange.{opened, holding, Publishes, Sends, Closes, Saves, GivesServer};
+ghost use Rattle.mold_ffi.specs.declared.publisher.exchange.Exchange.{Exchange as AnExchange};
+
+use crate::code::{BROKEN, DONE, LIMIT, MEMORY};
+use crate::handle::held::Held;
+use crate::handle::mold_handle::MoldHandle;
+use crate::publisher::exchange::Exchange;
+use mold_session::PublisherError;
+use mold_wire::Session;
+use std::alloc::Global;
+
+/// Makes a publisher of an open session without messages, whose datagrams have at most `limit` bytes, 64 to 65,507,
+/// and whose messages at most 22 fewer. The handle must hold nothing.
+#[unsafe(no_mangle)]
+pub extern "C" fn mold_publisher_new(
+    alloc: Global,
+    publisher: &mut MoldHandle,
+    session: &[u8; 10],
+    limit: usize,
+) -> u32
+    ensures full { is_some publisher.old.handle.value ≡ true →
+        (result ≡ codes.BROKEN) × (publisher.new.handle.value ≡ publisher.old.handle.value) }
+    ensures limit { publisher.old.handle.value ≡ None → (IsLimit limit → ⊥) →
+        (result ≡ codes.LIMIT) × (publisher.new.handle.value ≡ None) }
+    ensures made { publisher.old.handle.value ≡ None → IsLimit limit →
+        ((result ≡ codes.DONE)
+        × (publisher.new.handle.value ≡ holding (opened (record { 0 = session.now }) limit)))
+        ⊎ ((result ≡ codes.MEMORY) × (publisher.new.handle.value ≡ None)) }
+{
+    if publisher.live {
+        return BROKEN;
+    }
+    match Exchange::new(alloc, Session(*session), limit) {
+        Ok(made) => match Box::new(alloc, Held::Publisher(made)) {
+            Ok(boxed) => {
+                *publisher = MoldHandle::of(boxed);
+                DONE
+            }
+            Err(_) => MEMORY,
+        },
+        Err(PublisherError::Limit) => LIMIT,
+        Err(PublisherError::Memory) => MEMORY,
+    }
+}
+
+/// Publishes a message and tells its number; where it is too long, how many bytes it has, and where it is refused for
+/// another reason, 0. After a refusal nothing else changed.
+#[unsafe(no_mangle)]
+pub extern "C" fn mold_publisher_publish(
+    publisher: &mut MoldHandle,
+    message: &[u8],
+    number: &mut u64,
+) -> u32
+    ensures publishes { (exchange : AnExchange) → publisher.old.handle.value ≡ holding exchange →
+        Publishes exchange message.now result number.new publisher.new.handle.value }
+    ensures broken { IsNoPublisher publisher.old.handle.value → (result ≡ codes.BROKEN)
+        × (number.new ≡ number.old) × (publisher.new.handle.value ≡ publisher.old.handle.value) }
+{
+    if !publisher.live {
+        return BROKEN;
+    }
+    let Held::Publisher(exchange) = publisher.handle.lend() else {
+        return BROKEN;
+    };
+    exchange.publish(message, number)
+}
+
+/// Whether the messages that were not yet put in a datagram don't all fit one; false where the handle holds no
+/// publisher.
+#[unsafe(no_mangle)]
+pub extern "C" fn mold_publisher_is_full(publisher: &mut MoldHandle) -> bool
+    ensures full { (exchange : AnExchange) → publisher.old.handle.value ≡ holding exchange →
+        (IsTrue result ↔ (Fits exchange.publisher.limit (unsent_of exchange.publisher) → ⊥)) }
+    ensures broken { IsNoPublisher publisher.old.handle.value → result ≡ false }
+    ensures same { publisher.new.handle.value ≡ publisher.old.handle.value }
+{
+    if !publisher.live {
+        return false;
+    }
+    let Held::Publisher(exchange) = publisher.handle.lend() else {
+        return false;
+    };
+    exchange.is_full()
+}
+
+/// Writes a datagram of the longest front that fits of the messages that were not yet put in one, and counts these as
+/// put in one. The buffer must have room for the limit; `size` is the datagram's length, 0 where there is no message
+/// to send, and the limit where the buffer is shorter.
+#[unsafe(no_mangle)]
+pub extern "C" fn mold_publisher_datagram(
+    publisher: &mut MoldHandle,
+    buffer: &mut [u8],
+    size: &mut usize,
+) -> u32
+    ensures sends { (exchange : AnExchange) → publisher.old.handle.value ≡ holding exchange →
+        Sends exchange (next_datagram exchange.publisher) (after_datagram exchange.publisher)
+        buffer.old buffer.new result size.new publisher.new.handle.value }
+    ensures broken { IsNoPublisher publisher.old.handle.value → (result ≡ codes.BROKEN) × (size.new ≡ size.old)
+        × (buffer.new ≡ buffer.old) × (publisher.new.handle.value ≡ publisher.old.handle.value) }
+{
+    if !publisher.live {
+        return BROKEN;
+    }
+    let Held::Publisher(exchange) = publisher.handle.lend() else {
+        return BROKEN;
+    };
+    exchange.datagram(buffer, size)
+}
+
+/// Writes a heartbeat with the number of the first message that was not yet put in a datagram; there is none where the
+/// session is closed. Buffer and `size` are as for a datagram.
+#[unsafe(no_mangle)]
+pub extern "C" fn mold_publisher_heartbeat(
+    publisher: &mut MoldHandle,
+    buffer: &mut [u8],
+    size: &mut usize,
+) -> u32
+    ensures sends { (exchange : AnExchange) → publisher.old.handle.value ≡ holding exchange →
+        Sends exchange (next_heartbeat exchange.publisher) exchange.publisher
+        buffer.old buffer.new result size.new publisher.new.handle.value }
+    ensures broken { IsNoPublisher publisher.old.handle.value → (result ≡ codes.BROKEN) × (size.new ≡ size.old)
+        × (buffer.new ≡ buffer.old) × (publisher.new.handle.value ≡ publisher.old.handle.value) }
+{
+    if !publisher.live {
+        return BROKEN;
+    }
+    let Held::Publisher(exchange) = publisher.handle.lend() else {
+        return BROKEN;
+    };
+    exchange.heartbeat(buffer, size)
+}
+
+/// Writes an end packet, with one more than the number of messages; there is none where the session is not closed.
+/// Buffer and `size` are as for a datagram.
+#[unsafe(no_mangle)]
+pub extern "C" fn mold_publisher_end(
+    publisher: &mut MoldHandle,
+    buffer: &mut [u8],
+    size: &mut usize,
+) -> u32
+    ensures sends { (exchange : AnExchange) → publisher.old.handle.value ≡ holding exchange →
+        Sends exchange (next_end exchange.publisher) exchange.publisher
+        buffer.old buffer.new result size.new publisher.new.handle.value }
+    ensures broken { IsNoPublisher publisher.old.handle.value → (result ≡ codes.BROKEN) × (size.new ≡ size.old)
+        × (buffer.new ≡ buffer.old) × (publisher.new.handle.value ≡ publisher.old.handle.value) }
+{
+    if !publisher.live {
+        return BROKEN;
+    }
+    let Held::Publisher(exchange) = publisher.handle.lend() else {
+        return BROKEN;
+    };
+    exchange.end(buffer, size)
+}
+
+/// Closes the session, where every message was put in a datagram; else `number` is how many were not, and nothing
+/// else changed. On a closed session it changes nothing.
+#[unsafe(no_mangle)]
+pub extern "C" fn mold_publisher_close(publisher: &mut MoldHandle, number: &mut u64) -> u32
+    ensures closes { (exchange : AnExchange) → publisher.old.handle.value ≡ holding exchange →
+        Closes exchange result number.new publisher.new.handle.value }
+    ensures broken { IsNoPublisher publisher.old.handle.value → (result ≡ codes.BROKEN)
+        × (number.new ≡ number.old) × (publisher.new.handle.value ≡ publisher.old.handle.value) }
+{
+    if !publisher.live {
+        return BROKEN;
+    }
+    let Held::Publisher(exchange) = publisher.handle.lend() else {
+        return BROKEN;
+    };
+    exchange.close(number)
+}
+
+/// Writes the file of the publisher's journal, in version 2. `size` is its length, also where the buffer is shorter
+/// and nothing is written.
+#[unsafe(no_mangle)]
+pub extern "C" fn mold_publisher_save(
+    publisher: &mut MoldHandle,
+    buffer: &mut [u8],
+    size: &mut usize,
+) -> u32
+    ensures saves { (exchange : AnExchange) → publisher.old.handle.value ≡ holding exchange →
+        Saves exchange.publisher.journal buffer.old buffer.new result size.new }
+    ensures same { publisher.new.handle.value ≡ publisher.old.handle.value }
+    ensures broken { IsNoPublisher publisher.old.handle.value → (result ≡ codes.BROKEN) × (size.new ≡ size.old)
+        × (buffer.new ≡ buffer.old) }
+{
+    if !publisher.live {
+        return BROKEN;
+    }
+    let Held::Publisher(exchange) = publisher.handle.lend() else {
+        return BROKEN;
+    };
+    exchange.save(buffer, size)
+}
+
+/// Lets the publisher answer requests too, with at most `burst` datagrams each, 1 to 64, of its own limit. From then on
+/// its handle goes as a server's. A publisher that has a server stays as it is.
+#[unsafe(no_mangle)]
+pub extern "C" fn mold_server_from_publisher(
+    alloc: Global,
+    publisher: &mut MoldHandle,
+    burst: u16,
+) -> u32
+    ensures gives { (exchange : AnExchange) → publisher.old.handle.value ≡ holding exchange →
+        GivesServer exchange burst result publisher.new.handle.value }
+    ensures broken { IsNoPublisher publisher.old.handle.value →
+        (result ≡ codes.BROKEN) × (publisher.new.handle.value ≡ publisher.old.handle.value) }
+{
+    if !publisher.live {
+        return BROKEN;
+    }
+    let Held::Publisher(exchange) = publisher.handle.lend() else {
+        return BROKEN;
+    };
+    exchange.give_server(alloc, burst)
+}

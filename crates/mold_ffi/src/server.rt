@@ -1,0 +1,5 @@
+//! A server: its calls, and the journal or publisher that it answers from.
+pub(crate) mod answering;
+pub(crate) mod calls;
+pub(crate) mod mold_plan;
+pub(crate) mod serving;

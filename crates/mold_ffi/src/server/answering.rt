@@ -1,0 +1,103 @@
+//! Requests answered for a program in C.
+
+ghost use Rattle.std.specs.Prelude.{◌≡◌};
+ghost use Rattle.mold_session.specs.Server.{ServerState};
+ghost use Rattle.mold_ffi.specs.Code.AnswerError.{answer_error_code, answer_error_number};
+ghost use Rattle.mold_ffi.specs.Server.Answering.{Answers, Plans, Serves};
+
+use crate::buffer::{give, put_front};
+use crate::code::answer_error::code_of_answer_error;
+use crate::code::{ABSENT, BROKEN, DONE, ROOM};
+use crate::server::mold_plan::MoldPlan;
+use mold_session::{Journal, Server};
+
+/// Writes the first datagram of the answer to a request at the front of the buffer.
+pub(crate) fn answer(
+    server: &mut Server,
+    journal: &Journal,
+    request: &[u8],
+    buffer: &mut [u8],
+    number: &mut u64,
+) -> u32
+    ensures { Answers ServerState server.old journal.now request.now buffer.old buffer.new number.old
+        result number.new (λ s. s) server.new }
+{
+    if journal.max_message() > server.max_message() {
+        return BROKEN;
+    }
+    let limit = server.limit();
+    if buffer.len() < limit {
+        *number = limit as u64;
+        return ROOM;
+    }
+    match server.answer(journal, request) {
+        Ok(bytes) => {
+            put_front(buffer, bytes);
+            *number = bytes.len() as u64;
+            DONE
+        }
+        Err(error) => {
+            let (code, told) = code_of_answer_error(error);
+            *number = told;
+            code
+        }
+    }
+}
+
+/// Plans the answer to a request.
+pub(crate) fn plan(
+    server: &mut Server,
+    journal: &Journal,
+    request: &[u8],
+    told: &mut MoldPlan,
+    number: &mut u64,
+) -> u32
+    ensures { Plans ServerState server.old journal.now request.now told.old told.new number.old
+        result number.new (λ s. s) server.new }
+{
+    if journal.max_message() > server.max_message() {
+        return BROKEN;
+    }
+    match server.plan(journal, request) {
+        Ok(plan) => {
+            told.tell(&plan);
+            *number = 0;
+            DONE
+        }
+        Err(error) => {
+            let (code, detail) = code_of_answer_error(error);
+            *number = detail;
+            code
+        }
+    }
+}
+
+/// Writes the next datagram of a plan at the front of the buffer, and moves the plan behind its messages.
+pub(crate) fn datagram(
+    server: &mut Server,
+    journal: &Journal,
+    told: &mut MoldPlan,
+    buffer: &mut [u8],
+    size: &mut usize,
+) -> u32
+    ensures serves { Serves server.old journal.now told.old told.new buffer.old buffer.new size.old result size.new }
+    ensures same { server.new ≡ server.old }
+{
+    let Some(mut plan) = told.resumed() else {
+        return BROKEN;
+    };
+    if journal.max_message() > server.max_message()
+        || plan.session() != journal.session()
+        || plan.to() > journal.next()
+    {
+        return BROKEN;
+    }
+    let limit = server.limit();
+    if buffer.len() < limit {
+        *size = limit;
+        return ROOM;
+    }
+    let code = give(server.datagram(journal, &mut plan), buffer, size);
+    told.tell(&plan);
+    code
+}

@@ -1,0 +1,147 @@
+//! The calls on a server: on one of a saved journal, or on a publisher that was given one.
+
+ghost use Rattle.std.specs.Prelude.{◌≡◌, Option, None, Some, is_some, true};
+ghost use Rattle.mold_wire.specs.Packer.{IsLimit};
+ghost use Rattle.mold_session.specs.Server.{ServerState};
+ghost use Rattle.mold_ffi.specs.declared.code.TheConstants as codes;
+ghost use Rattle.mold_ffi.specs.Publisher.Exchange.{IsBurst, holding, with_server};
+ghost use Rattle.mold_ffi.specs.Handle.Borrow.{IsNoServer};
+ghost use Rattle.mold_ffi.specs.Server.Answering.{Answers, Plans, Serves};
+ghost use Rattle.mold_ffi.specs.Server.Calls.{Loads};
+ghost use Rattle.mold_ffi.specs.Server.Serving.{with_serving};
+ghost use Rattle.mold_ffi.specs.declared.publisher.exchange.Exchange.{Exchange as AnExchange};
+ghost use Rattle.mold_ffi.specs.declared.server.serving.Serving.{Serving as AServing};
+ghost use Rattle.mold_ffi.specs.declared.handle.held.Held.{Held as AHeld};
+ghost use Rattle.mold_ffi.specs.declared.handle.held.Held.TheVariants.{Server as AServer};
+
+use crate::code::{BROKEN, DONE, MEMORY};
+use crate::handle::held::Held;
+use crate::handle::mold_handle::MoldHandle;
+use crate::server::mold_plan::MoldPlan;
+use crate::server::serving::Serving;
+use std::alloc::Global;
+
+/// Makes a server of a saved journal, whose file the bytes are, of version 1 or 2, and whose messages have at most 22
+/// bytes less than the limit, 64 to 65,507. It answers a request with at most `burst` datagrams, 1 to 64. `number` goes
+/// with the fault of a file that is none: its length, a message's length or number, a byte, or how many messages were
+/// found; else it is 0. The handle must hold nothing.
+#[unsafe(no_mangle)]
+pub extern "C" fn mold_server_new(
+    alloc: Global,
+    server: &mut MoldHandle,
+    limit: usize,
+    burst: u16,
+    bytes: &[u8],
+    number: &mut u64,
+) -> u32
+    ensures full { is_some server.old.handle.value ≡ true → (result ≡ codes.BROKEN) × (number.new ≡ number.old)
+        × (server.new.handle.value ≡ server.old.handle.value) }
+    ensures limit { server.old.handle.value ≡ None → (IsLimit limit → ⊥) →
+        (result ≡ codes.LIMIT) × (number.new ≡ 0) × (server.new.handle.value ≡ None) }
+    ensures burst { server.old.handle.value ≡ None → IsLimit limit → (IsBurst burst → ⊥) →
+        (result ≡ codes.BURST) × (number.new ≡ 0) × (server.new.handle.value ≡ None) }
+    ensures loads { server.old.handle.value ≡ None → IsLimit limit → IsBurst burst →
+        Loads limit burst bytes.now result number.new server.new.handle.value }
+{
+    if server.live {
+        return BROKEN;
+    }
+    match Serving::new(alloc, limit, burst, bytes, number) {
+        Ok(serving) => match Box::new(alloc, Held::Server(serving)) {
+            Ok(boxed) => {
+                *server = MoldHandle::of(boxed);
+                DONE
+            }
+            Err(_) => MEMORY,
+        },
+        Err(code) => code,
+    }
+}
+
+/// Answers a request with the first datagram of its answer. The buffer must have room for the limit. `number` is the
+/// datagram's length; the limit where the buffer is shorter; a request's length, or the number of the journal's next
+/// message, where these are why it is refused; and else 0.
+#[unsafe(no_mangle)]
+pub extern "C" fn mold_server_answer(
+    server: &mut MoldHandle,
+    request: &[u8],
+    buffer: &mut [u8],
+    number: &mut u64,
+) -> u32
+    ensures saved { (serving : AServing) → server.old.handle.value ≡ Some (AServer serving) →
+        Answers (Option AHeld) serving.server serving.journal request.now buffer.old buffer.new number.old
+        result number.new (with_serving serving) server.new.handle.value }
+    ensures published { (exchange : AnExchange) (beside : ServerState) →
+        server.old.handle.value ≡ holding exchange → exchange.server ≡ Some beside →
+        Answers (Option AHeld) beside exchange.publisher.journal request.now buffer.old buffer.new number.old
+        result number.new (with_server exchange) server.new.handle.value }
+    ensures broken { IsNoServer server.old.handle.value → (result ≡ codes.BROKEN) × (number.new ≡ number.old)
+        × (buffer.new ≡ buffer.old) × (server.new.handle.value ≡ server.old.handle.value) }
+{
+    if !server.live {
+        return BROKEN;
+    }
+    match server.handle.lend() {
+        Held::Server(serving) => serving.answer(request, buffer, number),
+        Held::Publisher(exchange) => exchange.answer(request, buffer, number),
+        _ => BROKEN,
+    }
+}
+
+/// Plans the answer to a request, for `mold_server_datagram` to go through. `number` is as for an answer, and 0 where
+/// it is planned. Where the request is refused the plan stays as it was.
+#[unsafe(no_mangle)]
+pub extern "C" fn mold_server_plan(
+    server: &mut MoldHandle,
+    request: &[u8],
+    plan: &mut MoldPlan,
+    number: &mut u64,
+) -> u32
+    ensures saved { (serving : AServing) → server.old.handle.value ≡ Some (AServer serving) →
+        Plans (Option AHeld) serving.server serving.journal request.now plan.old plan.new number.old
+        result number.new (with_serving serving) server.new.handle.value }
+    ensures published { (exchange : AnExchange) (beside : ServerState) →
+        server.old.handle.value ≡ holding exchange → exchange.server ≡ Some beside →
+        Plans (Option AHeld) beside exchange.publisher.journal request.now plan.old plan.new number.old
+        result number.new (with_server exchange) server.new.handle.value }
+    ensures broken { IsNoServer server.old.handle.value → (result ≡ codes.BROKEN) × (number.new ≡ number.old)
+        × (plan.new ≡ plan.old) × (server.new.handle.value ≡ server.old.handle.value) }
+{
+    if !server.live {
+        return BROKEN;
+    }
+    match server.handle.lend() {
+        Held::Server(serving) => serving.plan(request, plan, number),
+        Held::Publisher(exchange) => exchange.plan(request, plan, number),
+        _ => BROKEN,
+    }
+}
+
+/// Writes the next datagram of a plan, and moves the plan behind its messages; where nothing is left of the plan there
+/// is none. A plan of another session, or of messages that the journal doesn't have, is broken. Buffer and `size` are
+/// as for a publisher's datagram.
+#[unsafe(no_mangle)]
+pub extern "C" fn mold_server_datagram(
+    server: &mut MoldHandle,
+    plan: &mut MoldPlan,
+    buffer: &mut [u8],
+    size: &mut usize,
+) -> u32
+    ensures saved { (serving : AServing) → server.old.handle.value ≡ Some (AServer serving) →
+        Serves serving.server serving.journal plan.old plan.new buffer.old buffer.new size.old result size.new }
+    ensures published { (exchange : AnExchange) (beside : ServerState) →
+        server.old.handle.value ≡ holding exchange → exchange.server ≡ Some beside →
+        Serves beside exchange.publisher.journal plan.old plan.new buffer.old buffer.new size.old result size.new }
+    ensures same { server.new.handle.value ≡ server.old.handle.value }
+    ensures broken { IsNoServer server.old.handle.value → (result ≡ codes.BROKEN) × (size.new ≡ size.old)
+        × (buffer.new ≡ buffer.old) × (plan.new ≡ plan.old) }
+{
+    if !server.live {
+        return BROKEN;
+    }
+    match server.handle.lend() {
+        Held::Server(serving) => serving.datagram(plan, buffer, size),
+        Held::Publisher(exchange) => exchange.planned(plan, buffer, size),
+        _ => BROKEN,
+    }
+}

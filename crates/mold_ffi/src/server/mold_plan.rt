@@ -1,0 +1,43 @@
+//! A plan as a program in C keeps it.
+
+ghost use Rattle.std.specs.Prelude.{◌≡◌, ◌↔◌, IsSome, IfSome};
+ghost use Rattle.mold_session.specs.Answer.{IsPlan};
+ghost use Rattle.mold_ffi.specs.Server.MoldPlan.{plan_of, told_plan};
+
+use mold_session::Plan;
+use mold_wire::Session;
+
+/// What is left of the answer to a request: the messages from `from` to below `to`, in at most `left` datagrams.
+#[repr(C)]
+#[derive(Clone, Copy)]
+pub struct MoldPlan {
+    /// The number of the next message, at least 1.
+    pub from: u64,
+    /// One more than the number of the last message, at least `from`.
+    pub to: u64,
+    /// How many datagrams may still come.
+    pub left: u16,
+    /// The session of the messages.
+    pub session: [u8; 10],
+}
+
+impl MoldPlan {
+    /// The plan that is told so; none where `from` is 0 or above `to`.
+    pub(crate) fn resumed(&self) -> Option<Plan>
+        ensures some { IsSome result ↔ IsPlan (plan_of self.now) }
+        ensures plan { IfSome result (λ plan. plan ≡ plan_of self.now) }
+    {
+        Plan::resumed(Session(self.session), self.from, self.to, self.left)
+    }
+
+    /// Tells a plan.
+    pub(crate) fn tell(&mut self, plan: &Plan)
+        ensures { self.new ≡ told_plan plan.now }
+    {
+        self.from = plan.from();
+        self.to = plan.to();
+        self.left = plan.left();
+        let Session(name) = plan.session();
+        self.session = name;
+    }
+}
