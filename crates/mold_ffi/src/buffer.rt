@@ -1,4 +1,4 @@
-//! What was lent, given to the caller in a buffer of its own.
+//! Bytes copied to the caller's buffer.
 
 ghost use Rattle.std.specs.Prelude.{◌≡◌, ◌≤◌, length, IfSome, IfNone};
 ghost use Rattle.mold_ffi.specs.declared.code.TheConstants as codes;
@@ -6,8 +6,8 @@ ghost use Rattle.mold_session.specs.Putting.{Puts};
 
 use crate::code::{ABSENT, DONE};
 
-/// Writes the text at the front of the buffer, and leaves what is behind it.
-pub(crate) fn put_front(buffer: &mut [u8], text: &[u8])
+/// Copies the text to the start of the buffer. The bytes after it stay.
+pub(crate) fn copy_to_front(buffer: &mut [u8], text: &[u8])
     requires { length text.now ≤ length buffer.old }
     ensures { Puts buffer.old buffer.new text.now (length text.now) }
 {
@@ -15,17 +15,18 @@ pub(crate) fn put_front(buffer: &mut [u8], text: &[u8])
     front.copy_from_slice(text);
 }
 
-/// Writes what was lent at the front of the buffer, and tells its length; where nothing was, the buffer stays.
-pub(crate) fn give(lent: Option<&[u8]>, buffer: &mut [u8], size: &mut usize) -> u32
-    requires { IfSome lent (λ bytes. length bytes.now ≤ length buffer.old) }
-    ensures absent { IfNone lent.entry ((result ≡ codes.ABSENT) × (size.new ≡ 0) × (buffer.new ≡ buffer.old)) }
-    ensures put { IfSome lent.entry (λ bytes. (result ≡ codes.DONE) × Puts buffer.old buffer.new bytes.now size.new) }
+/// Copies the bytes to the start of the buffer and writes their length. Without bytes the buffer stays, and the
+/// length is 0.
+pub(crate) fn copy_if_some(found: Option<&[u8]>, buffer: &mut [u8], size: &mut usize) -> u32
+    requires { IfSome found (λ bytes. length bytes.now ≤ length buffer.old) }
+    ensures absent { IfNone found.entry ((result ≡ codes.ABSENT) × (size.new ≡ 0) × (buffer.new ≡ buffer.old)) }
+    ensures put { IfSome found.entry (λ bytes. (result ≡ codes.DONE) × Puts buffer.old buffer.new bytes.now size.new) }
 {
-    let Some(bytes) = lent else {
+    let Some(bytes) = found else {
         *size = 0;
         return ABSENT;
     };
-    put_front(buffer, bytes);
+    copy_to_front(buffer, bytes);
     *size = bytes.len();
     DONE
 }

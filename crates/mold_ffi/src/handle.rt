@@ -17,7 +17,7 @@ use std::alloc::{AllocError, Global};
 use std::marker::Model;
 use std::ptr::null_mut;
 
-/// What a handle holds, if anything: a box of it, as a pointer that crosses to C. It is let go by `into_box` alone.
+/// What a handle holds, if anything: a box of it, as a pointer that crosses to C. Only `into_box` frees it.
 #[repr(C)]
 #[derive(Drop)]
 pub struct Handle {
@@ -36,7 +36,7 @@ impl Handle {
     ghost use Rattle.std.specs.Borrow.{sem};
     ghost use Rattle.mold_ffi.specs.Handle.Lending.{LendsHeld};
 
-    /// A handle that holds nothing.
+    /// An empty handle.
     pub(crate) fn empty(alloc: Global) -> Handle
         ensures { result.value ≡ None }
     {

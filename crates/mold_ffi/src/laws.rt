@@ -4,12 +4,12 @@ ghost use Rattle.std.specs.Prelude.{◌≡◌, [], List, ℕ, length, ◌+◌, �
 ghost use Rattle.std.specs.List.{All};
 ghost use Rattle.mold_capture.specs.Consistent.{Consistent, Whole};
 ghost use Rattle.mold_capture.specs.Seen.{seen_of};
-ghost use Rattle.mold_ffi.specs.Checker.MoldVerdict.{TellsMissing, TellsWhole};
+ghost use Rattle.mold_ffi.specs.Checker.MoldVerdict.{IsMissingVerdict, IsWholeVerdict};
 ghost use Rattle.mold_ffi.specs.Laws.{AreTaken, said};
-ghost use Rattle.mold_ffi.specs.declared.checker.mold_verdict.MoldVerdict.{MoldVerdict};
-ghost use Rattle.mold_wire.specs.Block.{IsBytes};
 ghost use Rattle.mold_ffi.specs.Packets.MoldPlace.{places_read};
+ghost use Rattle.mold_ffi.specs.declared.checker.mold_verdict.MoldVerdict.{MoldVerdict};
 ghost use Rattle.mold_ffi.specs.declared.packets.mold_place.MoldPlace.{MoldPlace};
+ghost use Rattle.mold_wire.specs.Block.{IsBytes};
 ghost use Rattle.mold_wire.specs.Packet.{Spells, messages_of};
 ghost use Rattle.mold_wire.specs.Packing.{packet_length};
 ghost use Rattle.mold_wire.specs.Reading.{reading};
@@ -18,18 +18,18 @@ ghost use Rattle.mold_wire.specs.declared.packet.Packet.{Packet};
 use mold_capture::laws::{after_law, reason_law, whole_is_one_law};
 use mold_wire::laws::{message_place_law, reading_law};
 
-/// What a checker's verdict says of the datagrams that it took, one after the other, from a new one on: they are
-/// consistent; where it tells a whole session they are whole, by as many messages as it tells; where it tells that
-/// something is missing they are whole by none.
+/// What the verdict of a checker says of the datagrams that it took, from its first on: they are consistent. If the
+/// verdict is a whole session, they are whole, with that number of messages. If it is that something is missing, they
+/// are not whole.
 pub fn checked_law()
     ensures consistent { (list : List (List ℕ)) → All IsBytes list → AreTaken (seen_of []) list → Consistent list }
     ensures said { (list : List (List ℕ)) → All IsBytes list → AreTaken (seen_of []) list →
         said (seen_of []) list ≡ seen_of list }
     ensures whole { (list : List (List ℕ)) (verdict : MoldVerdict) → All IsBytes list →
-        AreTaken (seen_of []) list → TellsWhole (said (seen_of []) list) verdict →
+        AreTaken (seen_of []) list → IsWholeVerdict (said (seen_of []) list) verdict →
         (messages : List (List ℕ)) × (Whole list messages × (length messages ≡ verdict.messages)) }
     ensures missing { (list : List (List ℕ)) (verdict : MoldVerdict) → All IsBytes list →
-        AreTaken (seen_of []) list → TellsMissing (said (seen_of []) list) verdict →
+        AreTaken (seen_of []) list → IsMissingVerdict (said (seen_of []) list) verdict →
         (messages : List (List ℕ)) → Whole list messages → ⊥ }
 {
     reason_law();
@@ -37,9 +37,9 @@ pub fn checked_law()
     whole_is_one_law();
 }
 
-/// What `mold_read` writes is where the messages lie. Each message has a place, as far as there are any: behind the
-/// header, the blocks before it and the two bytes of its own length. The bytes there are the message. Places behind
-/// the last message stay as they were.
+/// What `mold_read` writes is where the messages lie. Each message has a place, as far as the array has room: after the
+/// header, the blocks before it and the two bytes of its own length. The bytes there are the message. The other
+/// elements of the array stay.
 pub fn places_law()
     ensures placed { (packet : Packet) (bytes : List ℕ) (before behind : List (List ℕ)) (message : List ℕ)
         (old : List MoldPlace) → Spells packet bytes → messages_of packet.body ≡ before ++ message ∷ behind →

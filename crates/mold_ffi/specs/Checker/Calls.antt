@@ -19,8 +19,8 @@ Joins None bytes seen code number new =
     ⊎ ((code ≡ codes.MEMORY) × (number ≡ 0) × (new ≡ Some (Checker seen)) × BringsNew seen bytes)
 
 -- the missing ranges: none if the session is whole
-abbrev pub TellsRanges : Seen → List MoldRange → List MoldRange → ℕ → Type 0
-TellsRanges seen old new count =
+abbrev pub GivesRanges : Seen → List MoldRange → List MoldRange → ℕ → Type 0
+GivesRanges seen old new count =
     (((number : ℕ) × IsWholeSeen seen number) × (count ≡ 0) × (new ≡ old))
     ⊎ (((number : ℕ) → IsWholeSeen seen number → ⊥) × (count ≡ length (missing_in seen))
     × AreFilled (missing_in seen) old new)

@@ -1,11 +1,12 @@
 -- What a listener is made of: an arbiter, and the batch of the messages that it delivered.
-use Rattle.std.specs.Prelude.{◌≡◌, ◌⊎◌, ℕ, List, [], Option, Result, Ok, Err, refl}
+use Rattle.std.specs.Prelude.{◌≡◌, ◌⊎◌, ℕ, List, [], Result, Ok, Err, refl}
 use Rattle.std.specs.Coded.{Coded, code_by, coded×, coded_list, coded_ℕ}
 use Rattle.mold_receiver.specs.Arbiter.{Arbitration, arbitrated, arbitration_code}
 use Rattle.mold_receiver.specs.Batch.{Handed, Follows, followed_by}
+use Rattle.mold_receiver.specs.Origin.{line_of}
 use Rattle.mold_receiver.specs.Receive.{IsCopied, Reception, receive}
 use Rattle.mold_receiver.specs.View.{fresh}
-use Rattle.mold_receiver.specs.declared.line.Line.{Line}
+use Rattle.mold_receiver.specs.declared.origin.Origin.{Origin}
 use Rattle.mold_receiver.specs.declared.taken.Taken.{Taken}
 use Rattle.mold_rule.specs.declared.refusal.Refusal.{Refusal}
 use Rattle.mold_rule.specs.declared.refusal.Refusal.TheVariants.{Memory}
@@ -41,24 +42,24 @@ begun session next window = record {
 }
 
 -- a listener after a datagram, by what the receiving rule makes of it: the delivered messages join the batch
-abbrev pub received : Option Line → List ℕ → BatchedArbitration → Result Reception Refusal → BatchedArbitration
-received line bytes old (Ok reception) = record {
-  arbitration = arbitrated line bytes old.arbitration (Ok reception);
+abbrev pub received : Origin → List ℕ → BatchedArbitration → Result Reception Refusal → BatchedArbitration
+received origin bytes old (Ok reception) = record {
+  arbitration = arbitrated (line_of origin) bytes old.arbitration (Ok reception);
   batch = followed_by old.batch old.arbitration.view.next reception.handed;
 }
-received line bytes old (Err refusal) = record {
-  arbitration = arbitrated line bytes old.arbitration (Err refusal);
+received origin bytes old (Err refusal) = record {
+  arbitration = arbitrated (line_of origin) bytes old.arbitration (Err refusal);
   batch = old.batch;
 }
 
 -- a datagram was taken or refused as the receiving rule says; or memory for a copy was refused, and nothing changed
-abbrev pub HasReceived : Option Line → List ℕ → BatchedArbitration → BatchedArbitration → Result Taken Refusal → Type 0
-HasReceived line bytes old new (Ok taken) =
+abbrev pub HasReceived : Origin → List ℕ → BatchedArbitration → BatchedArbitration → Result Taken Refusal → Type 0
+HasReceived origin bytes old new (Ok taken) =
     (reception : Reception) × (receive old.arbitration.view bytes ≡ Ok reception)
-    × (taken ≡ reception.taken) × (new ≡ received line bytes old (Ok reception))
-HasReceived line bytes old new (Err refusal) =
+    × (taken ≡ reception.taken) × (new ≡ received origin bytes old (Ok reception))
+HasReceived origin bytes old new (Err refusal) =
     ((refusal ≡ Memory) × IsCopied old.arbitration.view bytes × (new ≡ old))
-    ⊎ ((receive old.arbitration.view bytes ≡ Err refusal) × (new ≡ received line bytes old (Err refusal)))
+    ⊎ ((receive old.arbitration.view bytes ≡ Err refusal) × (new ≡ received origin bytes old (Err refusal)))
 
 -- the batch without its messages
 abbrev pub cleared : BatchedArbitration → BatchedArbitration

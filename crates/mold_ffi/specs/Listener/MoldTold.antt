@@ -6,13 +6,13 @@ use Rattle.mold_ffi.specs.Code.Refusal.{refusal_number}
 use Rattle.mold_ffi.specs.declared.listener.mold_told.MoldTold.{MoldTold}
 
 -- three counts, or the number that goes with the refusal; `unused` stays
-abbrev pub told_of : Result Reception Refusal → ℕ → MoldTold
-told_of (Ok reception) unused = record {
+abbrev pub taking_fields : Result Reception Refusal → ℕ → MoldTold
+taking_fields (Ok reception) unused = record {
   detail = 0;
   handed = reception.taken.handed;
   kept = reception.taken.kept;
   beyond = reception.taken.beyond;
   unused = unused;
 }
-told_of (Err refusal) unused =
+taking_fields (Err refusal) unused =
     record { detail = refusal_number refusal; handed = 0; kept = 0; beyond = 0; unused = unused }

@@ -1,13 +1,15 @@
 -- The numbers by which a caller names lines, and where a datagram came from.
 use Rattle.std.specs.Prelude.{ℕ, ◌==◌, if◌then◌else◌, Option, None, Some}
-use Rattle.mold_receiver.specs.declared.line.Line.{Line}
+use Rattle.mold_receiver.specs.declared.line.Line.{Line as TheLine}
 use Rattle.mold_receiver.specs.declared.line.Line.TheVariants.{A, B}
+use Rattle.mold_receiver.specs.declared.origin.Origin.{Origin}
+use Rattle.mold_receiver.specs.declared.origin.Origin.TheVariants.{Line, Response}
 
 -- the line with this number: 0 is A, and 1 is B
-abbrev pub line_at : ℕ → Option Line
+abbrev pub line_at : ℕ → Option TheLine
 line_at number = if number == 0 then Some A else if number == 1 then Some B else None
 
--- where a datagram came from: on a line, or as the answer to a request, which is 2
-abbrev pub origin_at : ℕ → Option (Option Line)
-origin_at number = if number == 0 then Some (Some A) else if number == 1 then Some (Some B)
-    else if number == 2 then Some None else None
+-- where a datagram came from: a line by its number, or a server's response, which is 2
+abbrev pub origin_at : ℕ → Option Origin
+origin_at number = if number == 0 then Some (Line A) else if number == 1 then Some (Line B)
+    else if number == 2 then Some Response else None

@@ -6,7 +6,7 @@ use Rattle.mold_wire.specs.declared.session.Session.{Session}
 use Rattle.mold_session.specs.File.{file_length}
 use Rattle.mold_session.specs.Journal.{JournalState, append_refusal}
 use Rattle.mold_session.specs.Publisher.{PublisherState, closed, published}
-use Rattle.mold_session.specs.Putting.{Puts, PutsFile}
+use Rattle.mold_session.specs.Putting.{PutsFile}
 use Rattle.mold_session.specs.Server.{ServerState}
 use Rattle.mold_session.specs.declared.error.AppendError.{AppendError}
 use Rattle.mold_ffi.specs.Buffer.{PutsPacket}

@@ -8,7 +8,7 @@ use Rattle.mold_session.specs.Server.{ServerState, SpellsAnswer, asking, plannin
 use Rattle.mold_session.specs.declared.error.AnswerError.{AnswerError}
 use Rattle.mold_ffi.specs.Buffer.{PutsPacket}
 use Rattle.mold_ffi.specs.Code.AnswerError.{answer_error_code, answer_error_number}
-use Rattle.mold_ffi.specs.Server.MoldPlan.{plan_of, told_plan}
+use Rattle.mold_ffi.specs.Server.MoldPlan.{plan_of, plan_fields}
 use Rattle.mold_ffi.specs.declared.code.TheConstants as codes
 use Rattle.mold_ffi.specs.declared.server.mold_plan.MoldPlan.{MoldPlan}
 
@@ -46,7 +46,7 @@ pub record Plans (T : Type 0) (server : ServerState) (journal : JournalState) (r
   pub refused : (error : AnswerError) → Suits server journal → planning journal server.burst request ≡ Err error →
       (code ≡ answer_error_code error) × (number ≡ answer_error_number error) × (new ≡ old) × (held ≡ holding server)
   pub planned : (plan : PlanState) → Suits server journal → planning journal server.burst request ≡ Ok plan →
-      (code ≡ codes.DONE) × (number ≡ 0) × (new ≡ told_plan plan) × (held ≡ holding (counted server))
+      (code ≡ codes.DONE) × (number ≡ 0) × (new ≡ plan_fields plan) × (held ≡ holding (counted server))
 
 -- a plan that the server may have made for this journal
 pub record MayServe (server : ServerState) (journal : JournalState) (plan : PlanState) : Type 0 where
@@ -57,16 +57,16 @@ pub record MayServe (server : ServerState) (journal : JournalState) (plan : Plan
   pub session : plan.session ≡ journal.session
 
 -- the next packet of a plan is written to a buffer with room for the limit, and the plan moves past its messages
-pub record Serves (server : ServerState) (journal : JournalState) (told after : MoldPlan) (old new : List ℕ)
+pub record Serves (server : ServerState) (journal : JournalState) (fields after : MoldPlan) (old new : List ℕ)
     (before code size : ℕ) : Type 0 where
-  pub broken : (MayServe server journal (plan_of told) → ⊥) →
-      (code ≡ codes.BROKEN) × (size ≡ before) × (new ≡ old) × (after ≡ told)
-  pub room : MayServe server journal (plan_of told) → length old < server.limit →
-      (code ≡ codes.ROOM) × (size ≡ server.limit) × (new ≡ old) × (after ≡ told)
-  pub absent : MayServe server journal (plan_of told) → server.limit ≤ length old → IsSpent (plan_of told) →
-      (code ≡ codes.ABSENT) × (size ≡ 0) × (new ≡ old) × (after ≡ told)
-  pub put : MayServe server journal (plan_of told) → server.limit ≤ length old → (IsSpent (plan_of told) → ⊥) →
+  pub broken : (MayServe server journal (plan_of fields) → ⊥) →
+      (code ≡ codes.BROKEN) × (size ≡ before) × (new ≡ old) × (after ≡ fields)
+  pub room : MayServe server journal (plan_of fields) → length old < server.limit →
+      (code ≡ codes.ROOM) × (size ≡ server.limit) × (new ≡ old) × (after ≡ fields)
+  pub absent : MayServe server journal (plan_of fields) → server.limit ≤ length old → IsSpent (plan_of fields) →
+      (code ≡ codes.ABSENT) × (size ≡ 0) × (new ≡ old) × (after ≡ fields)
+  pub put : MayServe server journal (plan_of fields) → server.limit ≤ length old → (IsSpent (plan_of fields) → ⊥) →
       (code ≡ codes.DONE)
-      × PutsPacket (next_packet journal.messages server.limit (plan_of told)) old new size
-      × (after ≡ told_plan
-      (moved (plan_of told) (length (next_part journal.messages server.limit (plan_of told)))))
+      × PutsPacket (next_packet journal.messages server.limit (plan_of fields)) old new size
+      × (after ≡ plan_fields
+      (moved (plan_of fields) (length (next_part journal.messages server.limit (plan_of fields)))))

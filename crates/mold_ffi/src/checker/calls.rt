@@ -3,8 +3,8 @@
 ghost use Rattle.std.specs.Prelude.{◌≡◌, ◌⊎◌, [], None, Some, is_some, true};
 ghost use Rattle.mold_capture.specs.Refusal.{refusal};
 ghost use Rattle.mold_capture.specs.Seen.{Seen, seen_of};
-ghost use Rattle.mold_ffi.specs.Checker.Calls.{Joins, TellsRanges};
-ghost use Rattle.mold_ffi.specs.Checker.MoldVerdict.{Tells};
+ghost use Rattle.mold_ffi.specs.Checker.Calls.{Joins, GivesRanges};
+ghost use Rattle.mold_ffi.specs.Checker.MoldVerdict.{IsVerdictOf};
 ghost use Rattle.mold_ffi.specs.Handle.Borrow.{IsNoChecker};
 ghost use Rattle.mold_ffi.specs.declared.code.TheConstants as codes;
 ghost use Rattle.mold_ffi.specs.declared.handle.held.Held.TheVariants.{Checker as AChecker};
@@ -19,7 +19,7 @@ use crate::handle::mold_handle::MoldHandle;
 use mold_capture::{Checker, Verdict};
 use std::alloc::Global;
 
-/// Makes a checker that has taken no datagram. The handle must hold nothing.
+/// Makes a checker that has taken no datagram. The handle must be empty.
 #[unsafe(no_mangle)]
 pub extern "C" fn mold_checker_new(alloc: Global, checker: &mut MoldHandle) -> u32
     ensures full { is_some checker.old.handle.value ≡ true →
@@ -40,9 +40,9 @@ pub extern "C" fn mold_checker_new(alloc: Global, checker: &mut MoldHandle) -> u
     }
 }
 
-/// Takes a datagram, or refuses it with the code of the first reason why it may not come after those that were
-/// taken, and then nothing changes but `number`: the number that goes with the reason, 0 where none does. The
-/// session is that of the first datagram taken. Datagrams may come in any order.
+/// Takes a datagram, or refuses it with the code of the first reason why it disagrees with those that were taken. A
+/// refusal changes only `number`, which is the number that goes with the reason, or 0. The session is that of the
+/// first datagram taken. Datagrams may come in any order.
 #[unsafe(no_mangle)]
 pub extern "C" fn mold_checker_take(checker: &mut MoldHandle, bytes: &[u8], number: &mut u64) -> u32
     ensures joins { (seen : Seen) → checker.old.handle.value ≡ Some (AChecker seen) →
@@ -62,19 +62,19 @@ pub extern "C" fn mold_checker_take(checker: &mut MoldHandle, bytes: &[u8], numb
             DONE
         }
         Err(reason) => {
-            let (code, detail) = code_of_refusal(reason);
-            *number = detail;
+            let (code, found) = code_of_refusal(reason);
+            *number = found;
             code
         }
     }
 }
 
-/// Tells whether the datagrams that were taken are whole, and what is missing where they aren't. Where memory is
-/// refused nothing is written.
+/// Writes whether the datagrams that were taken are a whole session, and how much is missing if they are not. If
+/// memory is refused, nothing is written.
 #[unsafe(no_mangle)]
 pub extern "C" fn mold_checker_verdict(checker: &mut MoldHandle, verdict: &mut MoldVerdict) -> u32
     ensures tells { (seen : Seen) → checker.old.handle.value ≡ Some (AChecker seen) →
-        ((result ≡ codes.DONE) × Tells seen verdict.new × (verdict.new.unused ≡ verdict.old.unused))
+        ((result ≡ codes.DONE) × IsVerdictOf seen verdict.new × (verdict.new.unused ≡ verdict.old.unused))
         ⊎ ((result ≡ codes.MEMORY) × (verdict.new ≡ verdict.old)) }
     ensures broken { IsNoChecker checker.old.handle.value →
         (result ≡ codes.BROKEN) × (verdict.new ≡ verdict.old) }
@@ -85,15 +85,15 @@ pub extern "C" fn mold_checker_verdict(checker: &mut MoldHandle, verdict: &mut M
     };
     match held.verdict() {
         Ok(found) => {
-            verdict.tell(&found);
+            verdict.write(&found);
             DONE
         }
         Err(_) => MEMORY,
     }
 }
 
-/// Writes the ranges of numbers that are missing, ascending, into places from the first on, as many as there are
-/// places, and how many ranges there are in all. Where memory is refused nothing is written.
+/// Writes the first missing ranges, ascending, as many as the array has room for, and the number of all of them. If
+/// memory is refused, nothing is written.
 #[unsafe(no_mangle)]
 pub extern "C" fn mold_checker_ranges(
     checker: &mut MoldHandle,
@@ -101,7 +101,7 @@ pub extern "C" fn mold_checker_ranges(
     count: &mut usize,
 ) -> u32
     ensures tells { (seen : Seen) → checker.old.handle.value ≡ Some (AChecker seen) →
-        ((result ≡ codes.DONE) × TellsRanges seen ranges.old ranges.new count.new)
+        ((result ≡ codes.DONE) × GivesRanges seen ranges.old ranges.new count.new)
         ⊎ ((result ≡ codes.MEMORY) × (ranges.new ≡ ranges.old) × (count.new ≡ count.old)) }
     ensures broken { IsNoChecker checker.old.handle.value →
         (result ≡ codes.BROKEN) × (ranges.new ≡ ranges.old) × (count.new ≡ count.old) }

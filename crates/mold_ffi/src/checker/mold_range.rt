@@ -1,4 +1,4 @@
-//! A range of numbers, as it crosses.
+//! A range of sequence numbers as the fields of a struct.
 
 ghost use Rattle.std.specs.Prelude.{◌≡◌};
 ghost use Rattle.mold_capture.specs.Verdict.{ranges_of};
@@ -7,7 +7,7 @@ ghost use Rattle.mold_ranges.specs.Ranges.{range as numbers};
 
 use mold_capture::Range;
 
-/// Numbers from the first to the last, both among them.
+/// The sequence numbers from the first to the last, inclusive.
 #[repr(C)]
 #[derive(Clone, Copy)]
 pub struct MoldRange {
@@ -26,7 +26,7 @@ impl MoldRange {
     }
 }
 
-/// Writes ranges into places from the first on, as many as there are places.
+/// Writes the first ranges, as many as the array has room for.
 pub(crate) fn fill_places(missing: &[Range], places: &mut [MoldRange])
     ensures { AreFilled (ranges_of missing.now) places.old places.new }
 {

@@ -1,33 +1,33 @@
-//! A verdict, as it crosses.
+//! A verdict as the fields of a struct.
 
 ghost use Rattle.std.specs.Prelude.{◌≡◌};
 ghost use Rattle.mold_capture.specs.Seen.{Seen};
 ghost use Rattle.mold_capture.specs.Verdict.{IsVerdict};
-ghost use Rattle.mold_ffi.specs.Checker.MoldVerdict.{Tells};
+ghost use Rattle.mold_ffi.specs.Checker.MoldVerdict.{IsVerdictOf};
 
 use mold_capture::Verdict;
 
-/// Whether the datagrams that a checker took are whole.
+/// Whether the datagrams that a checker took are a whole session.
 #[repr(C)]
 #[derive(Clone, Copy)]
 pub struct MoldVerdict {
-    /// How many messages the session has, where the datagrams are whole; else 0.
+    /// The number of messages of the session if the datagrams are whole; otherwise 0.
     pub messages: u64,
-    /// The number of the end packet, where the datagrams aren't whole and one came; else 0. It is one more than the
-    /// number of messages.
+    /// The sequence number of the end packet if the datagrams are not whole and one was taken; otherwise 0. It is one
+    /// more than the number of messages.
     pub end: u64,
-    /// How many ranges of numbers are missing.
+    /// The number of missing ranges.
     pub ranges: u64,
-    /// 1 where the datagrams are whole, else 0.
+    /// 1 if the datagrams are whole, otherwise 0.
     pub whole: u32,
-    /// Nothing is written here.
+    /// Padding, which is never written.
     pub unused: u32,
 }
 
 impl MoldVerdict {
-    /// Tells a verdict.
-    pub(crate) fn tell(&mut self, verdict: &Verdict)
-        ensures tells { (seen : Seen) → IsVerdict verdict.now seen → Tells seen self.new }
+    /// Writes a verdict.
+    pub(crate) fn write(&mut self, verdict: &Verdict)
+        ensures tells { (seen : Seen) → IsVerdict verdict.now seen → IsVerdictOf seen self.new }
         ensures unused { self.new.unused ≡ self.old.unused }
     {
         match verdict {

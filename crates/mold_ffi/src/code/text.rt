@@ -1,4 +1,4 @@
-//! The text of a code.
+//! The text of each code.
 
 ghost use Rattle.std.specs.Prelude.{◌≡◌};
 ghost use Rattle.mold_ffi.specs.Code.Text.{text_of};
@@ -10,8 +10,8 @@ use crate::code::{
     TRAILING, UNSENT, WINDOW, WRONG_SESSION,
 };
 
-/// What a code means, as one short sentence for people, not ended by a zero byte; `unknown code` of a number that is
-/// none. The bytes are lent for ever.
+/// Writes what a code means, as one short sentence that is not ended by a zero byte; `unknown code` for any other
+/// number. The bytes are valid forever.
 #[unsafe(no_mangle)]
 pub extern "C" fn mold_text(code: u32, text: &mut &'static [u8])
     ensures { text.new.now ≡ text_of code }

@@ -6,7 +6,7 @@ ghost use Rattle.std.specs.Box.Ownership.{box_owns};
 use std::alloc::Allocator;
 use std::marker::Model;
 
-/// What a box is made of, in sight. It owns what the box owned.
+/// The pointer and the allocator of a box. It owns what the box owned.
 pub(crate) struct BoxParts<T, A: Allocator> {
     pub(crate) pointer: *mut T,
     pub(crate) alloc: A,

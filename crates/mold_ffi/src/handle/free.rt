@@ -1,12 +1,11 @@
-//! Letting go of what a handle holds.
+//! The call that empties a handle.
 
 ghost use Rattle.std.specs.Prelude.{◌≡◌, None};
 
 use crate::handle::mold_handle::MoldHandle;
 use std::alloc::Global;
 
-/// Lets go of what the handle holds, if anything, and its memory. The handle then holds nothing, and may be made to
-/// hold something again.
+/// Frees what the handle holds, if anything. The handle is then empty, and may be used for something else.
 #[unsafe(no_mangle)]
 pub extern "C" fn mold_free(alloc: Global, held: &mut MoldHandle)
     ensures { held.new.handle.value ≡ None }

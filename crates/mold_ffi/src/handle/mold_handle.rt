@@ -6,8 +6,8 @@ use crate::handle::Handle;
 use crate::handle::held::Held;
 use std::alloc::Global;
 
-/// A handle as a program in C declares it: `{ NULL, false }` holds nothing. Whoever declares it ends with
-/// `mold_free`.
+/// A handle as a program in C declares it: `{ NULL, false }` is empty. Whoever declares it calls `mold_free` at the
+/// end.
 #[repr(C)]
 pub struct MoldHandle {
     pub(crate) handle: Handle,
@@ -17,7 +17,7 @@ pub struct MoldHandle {
 }
 
 impl MoldHandle {
-    /// A handle that holds nothing.
+    /// An empty handle.
     pub(crate) fn empty(alloc: Global) -> MoldHandle
         ensures { result.handle.value ≡ None }
     {

@@ -1,10 +1,10 @@
-//! The messages that a listener handed on.
+//! The calls that read the batch: the messages that a listener delivered.
 
 ghost use Rattle.std.specs.Prelude.{◌≡◌, ◌≤◌, ◌<◌, ◌++◌, ℕ, List, None, Some, length, take, drop, map, min};
 ghost use Rattle.std.specs.Prelude.{slice_get, unwrap_or};
-ghost use Rattle.mold_ffi.specs.declared.code.TheConstants as codes;
-ghost use Rattle.mold_ffi.specs.Listener.BatchedArbiter.{BatchedArbitration};
 ghost use Rattle.mold_ffi.specs.Handle.Borrow.{IsNoListener};
+ghost use Rattle.mold_ffi.specs.Listener.BatchedArbiter.{BatchedArbitration};
+ghost use Rattle.mold_ffi.specs.declared.code.TheConstants as codes;
 ghost use Rattle.mold_ffi.specs.declared.handle.held.Held.TheVariants.{Listener as AListener};
 ghost use Rattle.mold_receiver.specs.Batch.{first_of};
 
@@ -13,7 +13,7 @@ use crate::handle::borrow::lend_listener;
 use crate::handle::mold_handle::MoldHandle;
 use mold_receiver::Batch;
 
-/// How many messages the batch has; 0 where the handle holds no listener.
+/// The number of messages of the batch; 0 if the handle holds no listener.
 #[unsafe(no_mangle)]
 pub extern "C" fn mold_listener_count(listener: &mut MoldHandle) -> usize
     ensures count { (batched : BatchedArbitration) → listener.old.handle.value ≡ Some (AListener batched) →
@@ -27,7 +27,7 @@ pub extern "C" fn mold_listener_count(listener: &mut MoldHandle) -> usize
     }
 }
 
-/// The number of the batch's first message, from 1; 0 where it has none, or the handle holds no listener.
+/// The sequence number of the first message of the batch; 0 if the batch is empty or the handle holds no listener.
 #[unsafe(no_mangle)]
 pub extern "C" fn mold_listener_first(listener: &mut MoldHandle) -> u64
     ensures first { (batched : BatchedArbitration) → listener.old.handle.value ≡ Some (AListener batched) →
@@ -41,8 +41,8 @@ pub extern "C" fn mold_listener_first(listener: &mut MoldHandle) -> u64
     }
 }
 
-/// Lends the message at place `i` of the batch, counted from 0. It is valid until the next call on this handle.
-/// Nothing is written but on code 0.
+/// Writes a slice of the message at index `i` of the batch, from 0. It is valid until the next call on this handle.
+/// Only code 0 writes anything.
 #[unsafe(no_mangle)]
 pub extern "C" fn mold_listener_message<'a>(
     listener: &'a mut MoldHandle,
@@ -70,8 +70,8 @@ pub extern "C" fn mold_listener_message<'a>(
     }
 }
 
-/// Copies the message at place `i` of the batch to the front of the buffer, and writes how many bytes it has. Where
-/// the buffer is too small that is all that is written.
+/// Copies the message at index `i` of the batch to the start of the buffer, and writes its length. If the buffer is
+/// too small, only the length is written.
 #[unsafe(no_mangle)]
 pub extern "C" fn mold_listener_copy(
     listener: &mut MoldHandle,
@@ -108,7 +108,7 @@ pub extern "C" fn mold_listener_copy(
     DONE
 }
 
-// Lends a batch's messages from the first on, as many as there are places, and answers how many.
+// Writes slices of the first messages of a batch, as many as the array has room for, and returns how many.
 fn lend_messages<'a>(batch: &'a Batch, messages: &mut [&'a [u8]]) -> usize
     ensures count { result ≡ min (length messages.old) (length batch.now.messages) }
     ensures lent { map (λ bytes. bytes.now) (take result messages.new) ≡ take result batch.now.messages }
@@ -125,8 +125,8 @@ fn lend_messages<'a>(batch: &'a Batch, messages: &mut [&'a [u8]]) -> usize
     filled
 }
 
-/// Lends the messages of the batch from the first on, as many as there are places, and answers how many; 0 where the
-/// handle holds no listener. They are lent as `mold_listener_message` lends one, and places behind them stay.
+/// Writes slices of the first messages of the batch, as many as the array has room for, and returns how many; 0 if the
+/// handle holds no listener. They are valid until the next call on this handle. The other elements of the array stay.
 #[unsafe(no_mangle)]
 pub extern "C" fn mold_listener_messages<'a>(
     listener: &'a mut MoldHandle,

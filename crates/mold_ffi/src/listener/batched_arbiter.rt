@@ -1,4 +1,4 @@
-//! A listener: an arbiter, and the batch of what it handed on.
+//! What a listener is made of: an arbiter, and the batch of the messages that it delivered.
 
 ghost use Rattle.std.specs.Prelude.{◌≡◌, ◌<◌, IfOk, IfErr, OnOk};
 ghost use Rattle.mold_ffi.specs.Listener.BatchedArbiter.{HasReceived, begun, cleared};
@@ -6,12 +6,12 @@ ghost use Rattle.mold_receiver.specs.View.{IsWellFormed, IsWindow};
 ghost use Rattle.mold_receiver.specs.declared.error.ReceiverError.TheVariants.{NextZero, Window, Memory};
 
 use mold_receiver::laws::{followed_law, taken_law};
-use mold_receiver::{Arbiter, Batch, Line, Receiver, ReceiverError, Refused, Taken};
+use mold_receiver::{Arbiter, Batch, Origin, Receiver, ReceiverError, Refused, Taken};
 use mold_wire::Session;
 use std::alloc::Global;
 use std::marker::Model;
 
-/// An arbiter of two lines and the batch of the messages that it handed on and that were not yet cleared away.
+/// An arbiter of two lines, and the batch of the messages that it delivered since the last `clear`.
 #[derive(Drop)]
 pub(crate) struct BatchedArbiter {
     arbiter: Arbiter,
@@ -25,13 +25,13 @@ impl Model for BatchedArbiter {
 
     ghost coded = { batched_code };
 
-    ghost view = { λ l. record { arbitration = l.arbiter; batch = l.batch } };
+    ghost view = { λ b. record { arbitration = b.arbiter; batch = b.batch } };
 
-    ghost invariant = { λ l. IsFollowed (record { arbitration = l.arbiter; batch = l.batch }) };
+    ghost invariant = { λ b. IsFollowed (record { arbitration = b.arbiter; batch = b.batch }) };
 }
 
 impl BatchedArbiter {
-    /// A listener that begins at the message `next` and stores messages of less than `next + window`. It makes its
+    /// A listener that begins at sequence number `next` and stores messages below `next + window`. It allocates its
     /// window here; later only messages take memory.
     pub(crate) fn new(
         alloc: Global,
@@ -52,18 +52,14 @@ impl BatchedArbiter {
         })
     }
 
-    /// Takes a datagram that came on a line, or on none as the answer to a request. What is handed on joins the
-    /// batch.
-    #[tactic(auto, using(crate::proofs::ListenerLemmas::line_received, crate::proofs::ListenerLemmas::answer_received))]
-    pub(crate) fn take(&mut self, line: Option<Line>, bytes: &[u8]) -> Result<Taken, Refused>
-        ensures { HasReceived line bytes.now self.old self.new result }
+    /// Takes a datagram. The messages that are delivered join the batch.
+    #[tactic(auto, using(crate::proofs::ListenerLemmas::datagram_received))]
+    pub(crate) fn take(&mut self, origin: Origin, bytes: &[u8]) -> Result<Taken, Refused>
+        ensures { HasReceived origin bytes.now self.old self.new result }
     {
         taken_law();
         followed_law();
-        match line {
-            Some(line) => self.arbiter.take(line, bytes, &mut self.batch),
-            None => self.arbiter.take_answer(bytes, &mut self.batch),
-        }
+        self.arbiter.take_from(origin, bytes, &mut self.batch)
     }
 
     /// The arbiter.
@@ -73,14 +69,14 @@ impl BatchedArbiter {
         &self.arbiter
     }
 
-    /// What was handed on and not yet cleared away.
+    /// The messages that were delivered since the last `clear`.
     pub(crate) fn batch(&self) -> &Batch
         ensures { result.now ≡ self.now.batch }
     {
         &self.batch
     }
 
-    /// Clears the batch, and keeps its room.
+    /// Clears the batch, and keeps its memory.
     pub(crate) fn clear(&mut self)
         ensures { self.new ≡ cleared self.old }
     {

@@ -1,14 +1,14 @@
 //! The calls on a listener.
 
-ghost use Rattle.std.specs.Prelude.{◌≡◌, ◌⊎◌, ◌<◌, Option, None, Some, is_some, true};
-ghost use Rattle.mold_ffi.specs.declared.code.TheConstants as codes;
-ghost use Rattle.mold_ffi.specs.Listener.BatchedArbiter.{BatchedArbitration, begun, cleared};
+ghost use Rattle.std.specs.Prelude.{◌≡◌, ◌⊎◌, ◌<◌, None, Some, is_some, true};
 ghost use Rattle.mold_ffi.specs.Handle.Borrow.{IsNoListener};
+ghost use Rattle.mold_ffi.specs.Listener.BatchedArbiter.{BatchedArbitration, begun, cleared};
 ghost use Rattle.mold_ffi.specs.Listener.Calls.{Takes};
 ghost use Rattle.mold_ffi.specs.Listener.Origin.{origin_at};
+ghost use Rattle.mold_ffi.specs.declared.code.TheConstants as codes;
 ghost use Rattle.mold_ffi.specs.declared.handle.held.Held.TheVariants.{Listener as AListener};
 ghost use Rattle.mold_receiver.specs.View.{IsWindow};
-ghost use Rattle.mold_receiver.specs.declared.line.Line.{Line as ALine};
+ghost use Rattle.mold_receiver.specs.declared.origin.Origin.{Origin as AnOrigin};
 
 use crate::code::{BROKEN, DONE, LINE, MEMORY, NEXT_ZERO, WINDOW};
 use crate::handle::held::Held;
@@ -20,8 +20,8 @@ use mold_receiver::ReceiverError;
 use mold_wire::Session;
 use std::alloc::Global;
 
-/// Makes a listener of a session that begins at the message `next`, and stores messages of less than
-/// `next + window`; the window is 1 to 65,536. The handle must hold nothing.
+/// Makes a listener of a session that begins at sequence number `next`, and stores messages below `next + window`;
+/// the window is 1 to 65,536. The handle must be empty.
 #[unsafe(no_mangle)]
 pub extern "C" fn mold_listener_new(
     alloc: Global,
@@ -58,8 +58,8 @@ pub extern "C" fn mold_listener_new(
     }
 }
 
-/// Takes a datagram that came on line A, 0, or B, 1, or on none as the answer to a request, 2. The messages that
-/// are handed on stand at the end of the batch.
+/// Takes a datagram of line A, 0, of line B, 1, or of a server's response, 2. The messages that are delivered join the
+/// batch.
 #[unsafe(no_mangle)]
 pub extern "C" fn mold_listener_take(
     listener: &mut MoldHandle,
@@ -67,7 +67,7 @@ pub extern "C" fn mold_listener_take(
     bytes: &[u8],
     told: &mut MoldTold,
 ) -> u32
-    ensures takes { (batched : BatchedArbitration) (origin : Option ALine) →
+    ensures takes { (batched : BatchedArbitration) (origin : AnOrigin) →
         listener.old.handle.value ≡ Some (AListener batched) → origin_at line ≡ Some origin →
         Takes origin bytes.now batched told.old.unused result told.new listener.new.handle.value }
     ensures line { (batched : BatchedArbitration) →
@@ -87,14 +87,14 @@ pub extern "C" fn mold_listener_take(
     };
     match held.take(origin, bytes) {
         Ok(taken) => {
-            told.tell_taken(taken);
+            told.write_taken(taken);
             DONE
         }
-        Err(refused) => told.tell_refused(refused),
+        Err(refused) => told.write_refused(refused),
     }
 }
 
-/// Clears the batch away, and keeps its room for what is handed on next. What was lent of it is no longer valid.
+/// Clears the batch, and keeps its memory. Slices of the batch are no longer valid.
 #[unsafe(no_mangle)]
 pub extern "C" fn mold_listener_clear(listener: &mut MoldHandle) -> u32
     ensures cleared { (batched : BatchedArbitration) → listener.old.handle.value ≡ Some (AListener batched) →

@@ -1,19 +1,20 @@
-//! A line's report, as it crosses.
+//! A line's report as the fields of a struct.
 
 ghost use Rattle.std.specs.Prelude.{◌≡◌};
 ghost use Rattle.mold_ffi.specs.Listener.MoldReport.{reported};
 
 use mold_receiver::LineReport;
 
-/// What came on a line. Both counts stay at 18446744073709551615.
+/// What was received on a line. Both counts stop at 18446744073709551615.
 #[repr(C)]
 #[derive(Clone, Copy)]
 pub struct MoldReport {
-    /// How many datagrams were taken.
+    /// The number of datagrams that were taken.
     pub datagrams: u64,
-    /// How many datagrams were refused for another cause than want of memory.
+    /// The number of datagrams that were refused for any reason but memory.
     pub refused: u64,
-    /// The greatest top of a packet that was taken, and at least what was known when the listener was made.
+    /// One more than the greatest sequence number of a packet that was taken, and at least the first sequence number
+    /// of the listener.
     pub front: u64,
 }
 

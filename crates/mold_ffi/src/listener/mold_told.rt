@@ -1,4 +1,4 @@
-//! What is told of a datagram beside the code.
+//! What a listener made of a datagram, as the fields of a struct.
 
 ghost use Rattle.std.specs.Prelude.{◌≡◌};
 ghost use Rattle.mold_ffi.specs.Code.Refusal.{refusal_code, refusal_number};
@@ -6,27 +6,26 @@ ghost use Rattle.mold_ffi.specs.Code.Refusal.{refusal_code, refusal_number};
 use crate::code::refusal::code_of_refusal;
 use mold_receiver::{Refused, Taken};
 
-/// What is told of a datagram that came to a listener. Where it was taken, `detail` is 0; where it was refused,
-/// the counts are 0.
+/// What a listener made of a datagram. If it was taken, `detail` is 0; if it was refused, the counts are 0.
 #[repr(C)]
 #[derive(Clone, Copy)]
 pub struct MoldTold {
-    /// The number that goes with a refusal: a length, an index, a place, an end or a message's number; 0 where the
+    /// The number that goes with a refusal: a length, an index, an offset, an end or a sequence number; 0 if the
     /// refusal has none.
     pub detail: u64,
-    /// How many messages were handed on; they stand at the end of the batch.
+    /// The number of messages that were delivered. They are the last ones of the batch.
     pub handed: u32,
-    /// How many messages of the datagram were stored.
+    /// The number of messages of the datagram that were stored.
     pub kept: u32,
-    /// How many messages of the datagram lie behind the window and are lost.
+    /// The number of messages of the datagram above the window, which are lost.
     pub beyond: u32,
-    /// Nothing is written here.
+    /// Padding, which is never written.
     pub unused: u32,
 }
 
 impl MoldTold {
-    /// Tells of a datagram that was taken.
-    pub(crate) fn tell_taken(&mut self, taken: Taken)
+    /// Writes the counts of a datagram that was taken.
+    pub(crate) fn write_taken(&mut self, taken: Taken)
         ensures { self.new ≡ record {
           detail = 0;
           handed = taken.handed;
@@ -41,8 +40,8 @@ impl MoldTold {
         self.beyond = taken.beyond;
     }
 
-    /// Tells of a datagram that was refused, and answers the code.
-    pub(crate) fn tell_refused(&mut self, refused: Refused) -> u32
+    /// Writes the number that goes with a refusal, and returns its code.
+    pub(crate) fn write_refused(&mut self, refused: Refused) -> u32
         ensures code { result ≡ refusal_code refused }
         ensures told { self.new ≡ record {
           detail = refusal_number refused;

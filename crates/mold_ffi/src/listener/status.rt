@@ -1,11 +1,11 @@
-//! What a listener tells: how far it is, what it lacks, and what came on a line.
+//! The calls that return how far a listener is, what it lacks, and what was received on a line.
 
 ghost use Rattle.std.specs.Prelude.{◌≡◌, ◌↔◌, None, Some, IsTrue, IsFalse};
-ghost use Rattle.mold_ffi.specs.declared.code.TheConstants as codes;
-ghost use Rattle.mold_ffi.specs.Listener.BatchedArbiter.{BatchedArbitration};
 ghost use Rattle.mold_ffi.specs.Handle.Borrow.{IsNoListener};
+ghost use Rattle.mold_ffi.specs.Listener.BatchedArbiter.{BatchedArbitration};
 ghost use Rattle.mold_ffi.specs.Listener.MoldReport.{reported};
 ghost use Rattle.mold_ffi.specs.Listener.Origin.{line_at};
+ghost use Rattle.mold_ffi.specs.declared.code.TheConstants as codes;
 ghost use Rattle.mold_ffi.specs.declared.handle.held.Held.TheVariants.{Listener as AListener};
 ghost use Rattle.mold_receiver.specs.Arbiter.{report_on};
 ghost use Rattle.mold_receiver.specs.Wanted.{wanted};
@@ -19,7 +19,7 @@ use crate::handle::mold_handle::MoldHandle;
 use crate::listener::mold_report::MoldReport;
 use crate::listener::origin::line_of;
 
-/// The number of the message that is handed on next, from 1; 0 where the handle holds no listener.
+/// The sequence number of the message that is delivered next; 0 if the handle holds no listener.
 #[unsafe(no_mangle)]
 pub extern "C" fn mold_listener_next(listener: &mut MoldHandle) -> u64
     ensures next { (batched : BatchedArbitration) → listener.old.handle.value ≡ Some (AListener batched) →
@@ -33,7 +33,7 @@ pub extern "C" fn mold_listener_next(listener: &mut MoldHandle) -> u64
     held.arbiter().receiver().next()
 }
 
-/// One more than the greatest number that the listener has heard of; 0 where the handle holds no listener.
+/// One more than the greatest sequence number that the listener knows of; 0 if the handle holds no listener.
 #[unsafe(no_mangle)]
 pub extern "C" fn mold_listener_known(listener: &mut MoldHandle) -> u64
     ensures known { (batched : BatchedArbitration) → listener.old.handle.value ≡ Some (AListener batched) →
@@ -47,7 +47,7 @@ pub extern "C" fn mold_listener_known(listener: &mut MoldHandle) -> u64
     held.arbiter().receiver().known()
 }
 
-/// Whether every message up to the session's end was handed on; false where the handle holds no listener.
+/// Whether every message up to the session's end was delivered; false if the handle holds no listener.
 #[unsafe(no_mangle)]
 pub extern "C" fn mold_listener_finished(listener: &mut MoldHandle) -> bool
     ensures finished { (batched : BatchedArbitration) → listener.old.handle.value ≡ Some (AListener batched) →
@@ -61,8 +61,8 @@ pub extern "C" fn mold_listener_finished(listener: &mut MoldHandle) -> bool
     held.arbiter().receiver().finished()
 }
 
-/// Writes the 20 bytes of the request for what the listener lacks, at most 65,534 messages. Where it lacks nothing,
-/// or the handle holds no listener, the answer is false and nothing is written.
+/// Writes the 20 bytes of the request for what the listener lacks, at most 65,534 messages. If it lacks nothing, or
+/// the handle holds no listener, it returns false and writes nothing.
 #[unsafe(no_mangle)]
 pub extern "C" fn mold_listener_wanted(listener: &mut MoldHandle, out: &mut [u8; 20]) -> bool
     ensures asked { (batched : BatchedArbitration) (request : Request) →
@@ -86,7 +86,7 @@ pub extern "C" fn mold_listener_wanted(listener: &mut MoldHandle, out: &mut [u8;
     }
 }
 
-/// What came on line A, 0, or B, 1.
+/// Writes the report of line A, 0, or of line B, 1.
 #[unsafe(no_mangle)]
 pub extern "C" fn mold_listener_report(
     listener: &mut MoldHandle,

@@ -1,16 +1,16 @@
-//! Packing messages into a buffer that the caller lends.
+//! Packing messages into a buffer of the caller.
 
 ghost use Rattle.std.specs.Prelude.{◌≡◌, ◌↔◌, ◌+◌, ◌≤◌, length, IsTrue, true, false, []};
-ghost use Rattle.mold_ffi.specs.declared.code.TheConstants as codes;
 ghost use Rattle.mold_ffi.specs.Packets.Packer.{fields_of, CanBe, Packs};
+ghost use Rattle.mold_ffi.specs.declared.code.TheConstants as codes;
 ghost use Rattle.mold_wire.specs.Buffer.{Holds};
 ghost use Rattle.mold_wire.specs.Packer.{Begun, Open, Ended, IsLimit, HasRoom, with_message};
 
 use crate::code::{BROKEN, DONE, FULL, LIMIT};
 use mold_wire::{Session, add_in, can_hold, end_in, fits_in, is_limit, start_in};
 
-/// A packer over memory that the caller lends: what was begun is the first `used` bytes of `buffer`, whose length is
-/// the datagrams' limit. `{ buffer, limit, 0, 0, false }` has begun nothing.
+/// A packer over the caller's memory: the packet is the first `used` bytes of `buffer`, whose length is the limit of
+/// datagrams. `{ buffer, limit, 0, 0, false }` has no packet.
 #[repr(C)]
 #[derive(Drop)]
 pub struct MoldPacker<'a> {
@@ -37,7 +37,7 @@ fn can_be(packer: &MoldPacker<'_>) -> bool
     )
 }
 
-// Whether a packet is open that leaves room in the buffer for one more message of so many bytes.
+// Whether a packet is open that leaves room in the buffer for one more message of `len` bytes.
 fn leaves_room(packer: &MoldPacker<'_>, len: usize) -> bool
     ensures exact { IsTrue result
         ↔ ((packer.now.is_open ≡ true) × (packer.now.used + (2 + len) ≤ length packer.now.buffer.now)) }
@@ -47,8 +47,8 @@ fn leaves_room(packer: &MoldPacker<'_>, len: usize) -> bool
     fits_in(packer.buffer, packer.used, packer.is_open, len)
 }
 
-/// Opens a packet without messages, in place of what was there: a heartbeat, until a message is added. Code 4 where
-/// the buffer has no length that a datagram's limit may have, and then nothing changes.
+/// Opens a packet without messages, in place of what was there: a heartbeat, until a message is added. If the buffer's
+/// length is not a valid datagram limit, the code is 4 and nothing changes.
 #[unsafe(no_mangle)]
 pub extern "C" fn mold_packer_start(
     packer: &mut MoldPacker<'_>,
@@ -68,7 +68,7 @@ pub extern "C" fn mold_packer_start(
     DONE
 }
 
-/// Whether a packet is open that has room for one more message of so many bytes. False where the fields can't be.
+/// Whether a packet is open that has room for one more message of `len` bytes; false if the fields are invalid.
 #[unsafe(no_mangle)]
 pub extern "C" fn mold_packer_fits(packer: &MoldPacker<'_>, len: usize) -> bool
     ensures held { (begun : Begun) → Holds (fields_of packer.now) begun →
@@ -78,8 +78,8 @@ pub extern "C" fn mold_packer_fits(packer: &MoldPacker<'_>, len: usize) -> bool
     can_be(packer) && leaves_room(packer, len)
 }
 
-/// Adds a message behind those of the open packet. Code 5 where no packet is open that has room for it, 6 where the
-/// fields can't be; then nothing changes.
+/// Adds a message after those of the open packet. The code is 5 if no packet is open that has room for it, and 6 if the
+/// fields are invalid; then nothing changes.
 #[unsafe(no_mangle)]
 pub extern "C" fn mold_packer_add(packer: &mut MoldPacker<'_>, message: &[u8]) -> u32
     ensures added { (begun : Begun) → Holds (fields_of packer.old) begun →
@@ -102,8 +102,8 @@ pub extern "C" fn mold_packer_add(packer: &mut MoldPacker<'_>, message: &[u8]) -
     DONE
 }
 
-/// Makes the bytes an end packet, in place of what was there, to which nothing can be added. Code 4 where the buffer
-/// has no length that a datagram's limit may have, and then nothing changes.
+/// Writes an end packet in place of what was there; nothing can be added to it. If the buffer's length is not a valid
+/// datagram limit, the code is 4 and nothing changes.
 #[unsafe(no_mangle)]
 pub extern "C" fn mold_packer_end(
     packer: &mut MoldPacker<'_>,

@@ -11,9 +11,8 @@ use crate::packets::mold_place::{MoldPlace, put_places};
 use mold_wire::laws::spelling_length_law;
 use mold_wire::{Body, decode};
 
-/// Reads the packet that a datagram's bytes spell, in one pass over them. Done: all of `packet` is written, its
-/// `detail` 0. Else the code of the one fault (1, 2 or 3), `packet.detail` is its number, and the rest of `packet`
-/// stays as it was.
+/// Reads the packet that a datagram's bytes encode, in one pass. Code 0 writes all of `packet`, with `detail` 0. Codes
+/// 1, 2 and 3 write only `packet.detail`, the number that goes with the fault.
 #[unsafe(no_mangle)]
 pub extern "C" fn mold_decode(bytes: &[u8], packet: &mut MoldPacket) -> u32
     ensures code { result ≡ code_read (reading bytes.now) }
@@ -28,9 +27,8 @@ pub extern "C" fn mold_decode(bytes: &[u8], packet: &mut MoldPacket) -> u32
     }
 }
 
-/// Reads a datagram as `mold_decode` does, and writes where its messages lie, in their order. Where there are fewer
-/// places than messages, these are the first ones; places behind the last message stay as they were, and after a
-/// refusal all of them.
+/// Reads a datagram as `mold_decode` does, and writes where its messages lie, in order, as many as the array has room
+/// for. The other elements of the array stay; after a fault all of them do.
 #[unsafe(no_mangle)]
 #[tactic(auto, using(crate::proofs::PlaceLemmas::no_places))]
 pub extern "C" fn mold_read(bytes: &[u8], packet: &mut MoldPacket, places: &mut [MoldPlace]) -> u32

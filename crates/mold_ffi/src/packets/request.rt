@@ -7,20 +7,20 @@ ghost use Rattle.mold_wire.specs.Request.{request_reading, SpellsRequest};
 use crate::code::{DONE, REQUEST_LENGTH};
 use mold_wire::{Request, Session};
 
-/// What a request asks for.
+/// A request as the fields of a struct.
 #[repr(C)]
 #[derive(Clone, Copy)]
 pub struct MoldRequest {
-    /// The number of the first message that is asked for. Any number is read and written.
+    /// The sequence number of the first message. Any number is read and written.
     pub sequence: u64,
-    /// How many messages are asked for, 0 to 65,535.
+    /// The number of messages, 0 to 65,535.
     pub count: u16,
     /// The session that the messages belong to.
     pub session: [u8; 10],
 }
 
-/// Reads the request that a datagram's bytes spell: any 20 bytes spell one. Else code 24, and `request` stays as it
-/// was.
+/// Reads the request that a datagram's bytes encode: any 20 bytes are a request. Any other length is code 24, and
+/// `request` stays.
 #[unsafe(no_mangle)]
 pub extern "C" fn mold_request_decode(bytes: &[u8], request: &mut MoldRequest) -> u32
     ensures code { result ≡ code_asked (request_reading bytes.now) }
@@ -45,7 +45,7 @@ pub extern "C" fn mold_request_decode(bytes: &[u8], request: &mut MoldRequest) -
     DONE
 }
 
-/// Writes the 20 bytes that spell the request.
+/// Writes the 20 bytes of the request.
 #[unsafe(no_mangle)]
 pub extern "C" fn mold_request_encode(request: &MoldRequest, bytes: &mut [u8; 20])
     ensures { SpellsRequest (request_of request.now) bytes.new }

@@ -1,13 +1,13 @@
 //! The calls on a publisher.
 
 ghost use Rattle.std.specs.Prelude.{◌≡◌, ◌⊎◌, ◌↔◌, None, Some, is_some, true, false, IsTrue};
-ghost use Rattle.mold_wire.specs.Packer.{IsLimit};
-ghost use Rattle.mold_wire.specs.Packing.{Fits};
-ghost use Rattle.mold_session.specs.Publisher.{unsent_of, next_datagram, next_heartbeat, next_end, after_datagram};
-ghost use Rattle.mold_ffi.specs.declared.code.TheConstants as codes;
 ghost use Rattle.mold_ffi.specs.Handle.Borrow.{IsNoPublisher};
 ghost use Rattle.mold_ffi.specs.Publisher.Exchange.{opened, holding, Publishes, Sends, Closes, Saves, GivesServer};
+ghost use Rattle.mold_ffi.specs.declared.code.TheConstants as codes;
 ghost use Rattle.mold_ffi.specs.declared.publisher.exchange.Exchange.{Exchange as AnExchange};
+ghost use Rattle.mold_session.specs.Publisher.{unsent_of, next_datagram, next_heartbeat, next_end, after_datagram};
+ghost use Rattle.mold_wire.specs.Packer.{IsLimit};
+ghost use Rattle.mold_wire.specs.Packing.{Fits};
 
 use crate::code::{BROKEN, DONE, LIMIT, MEMORY};
 use crate::handle::held::Held;
@@ -18,7 +18,7 @@ use mold_wire::Session;
 use std::alloc::Global;
 
 /// Makes a publisher of an open session without messages, whose datagrams have at most `limit` bytes, 64 to 65,507,
-/// and whose messages at most 22 fewer. The handle must hold nothing.
+/// and whose messages at most 22 fewer. The handle must be empty.
 #[unsafe(no_mangle)]
 pub extern "C" fn mold_publisher_new(
     alloc: Global,
@@ -51,8 +51,8 @@ pub extern "C" fn mold_publisher_new(
     }
 }
 
-/// Publishes a message and tells its number; where it is too long, how many bytes it has, and where it is refused for
-/// another reason, 0. After a refusal nothing else changed.
+/// Publishes a message and writes its sequence number. If it is too long, the number is its length; after any other
+/// refusal it is 0. A refusal changes nothing else.
 #[unsafe(no_mangle)]
 pub extern "C" fn mold_publisher_publish(
     publisher: &mut MoldHandle,
@@ -73,8 +73,7 @@ pub extern "C" fn mold_publisher_publish(
     exchange.publish(message, number)
 }
 
-/// Whether the messages that were not yet put in a datagram don't all fit one; false where the handle holds no
-/// publisher.
+/// Whether the unsent messages do not all fit one datagram; false if the handle holds no publisher.
 #[unsafe(no_mangle)]
 pub extern "C" fn mold_publisher_is_full(publisher: &mut MoldHandle) -> bool
     ensures full { (exchange : AnExchange) → publisher.old.handle.value ≡ holding exchange →
@@ -91,9 +90,9 @@ pub extern "C" fn mold_publisher_is_full(publisher: &mut MoldHandle) -> bool
     exchange.is_full()
 }
 
-/// Writes a datagram of the longest front that fits of the messages that were not yet put in one, and counts these as
-/// put in one. The buffer must have room for the limit; `size` is the datagram's length, 0 where there is no message
-/// to send, and the limit where the buffer is shorter.
+/// Writes a datagram of the unsent messages, as many as fit in order, and counts them as sent. The buffer must have
+/// room for the limit. `size` is the datagram's length; 0 if there is no message to send, and the limit if the buffer
+/// is shorter.
 #[unsafe(no_mangle)]
 pub extern "C" fn mold_publisher_datagram(
     publisher: &mut MoldHandle,
@@ -115,8 +114,8 @@ pub extern "C" fn mold_publisher_datagram(
     exchange.datagram(buffer, size)
 }
 
-/// Writes a heartbeat with the number of the first message that was not yet put in a datagram; there is none where the
-/// session is closed. Buffer and `size` are as for a datagram.
+/// Writes a heartbeat with the sequence number of the first unsent message; a closed session has none. Buffer and
+/// `size` are as for a datagram.
 #[unsafe(no_mangle)]
 pub extern "C" fn mold_publisher_heartbeat(
     publisher: &mut MoldHandle,
@@ -138,7 +137,7 @@ pub extern "C" fn mold_publisher_heartbeat(
     exchange.heartbeat(buffer, size)
 }
 
-/// Writes an end packet, with one more than the number of messages; there is none where the session is not closed.
+/// Writes an end packet, whose sequence number is one more than the number of messages; an open session has none.
 /// Buffer and `size` are as for a datagram.
 #[unsafe(no_mangle)]
 pub extern "C" fn mold_publisher_end(
@@ -161,8 +160,8 @@ pub extern "C" fn mold_publisher_end(
     exchange.end(buffer, size)
 }
 
-/// Closes the session, where every message was put in a datagram; else `number` is how many were not, and nothing
-/// else changed. On a closed session it changes nothing.
+/// Closes the session if every message was sent; otherwise `number` is the number of unsent messages, and nothing else
+/// changes. On a closed session it changes nothing.
 #[unsafe(no_mangle)]
 pub extern "C" fn mold_publisher_close(publisher: &mut MoldHandle, number: &mut u64) -> u32
     ensures closes { (exchange : AnExchange) → publisher.old.handle.value ≡ holding exchange →
@@ -179,8 +178,8 @@ pub extern "C" fn mold_publisher_close(publisher: &mut MoldHandle, number: &mut 
     exchange.close(number)
 }
 
-/// Writes the file of the publisher's journal, in version 2. `size` is its length, also where the buffer is shorter
-/// and nothing is written.
+/// Writes the file of the publisher's journal, in version 2. `size` is its length, also if the buffer is shorter and
+/// nothing is written.
 #[unsafe(no_mangle)]
 pub extern "C" fn mold_publisher_save(
     publisher: &mut MoldHandle,
@@ -202,8 +201,8 @@ pub extern "C" fn mold_publisher_save(
     exchange.save(buffer, size)
 }
 
-/// Lets the publisher answer requests too, with at most `burst` datagrams each, 1 to 64, of its own limit. From then on
-/// its handle goes as a server's. A publisher that has a server stays as it is.
+/// Lets the publisher answer requests too, with at most `burst` datagrams each, 1 to 64, of its own limit. Its handle
+/// is then also a server's. A publisher that has a server stays as it is.
 #[unsafe(no_mangle)]
 pub extern "C" fn mold_server_from_publisher(
     alloc: Global,

@@ -1,19 +1,18 @@
 //! A publisher, and the server that answers from its journal.
 
 ghost use Rattle.std.specs.Prelude.{◌≡◌, ◌↔◌, Option, None, Some, IsTrue, IfOk, IfErr, OnOk};
+ghost use Rattle.mold_ffi.specs.Publisher.Exchange.{GivesServer, with_server};
+ghost use Rattle.mold_ffi.specs.Publisher.Exchange.{opened, holding, Publishes, Sends, Closes, Saves};
+ghost use Rattle.mold_ffi.specs.Server.Answering.{Answers, Plans, Serves};
+ghost use Rattle.mold_ffi.specs.declared.code.TheConstants as codes;
+ghost use Rattle.mold_ffi.specs.declared.handle.held.Held.{Held as AHeld};
+ghost use Rattle.mold_session.specs.Publisher.{unsent_of, next_datagram, next_heartbeat, next_end, after_datagram};
+ghost use Rattle.mold_session.specs.Server.{ServerState};
+ghost use Rattle.mold_session.specs.declared.error.PublisherError.{PublisherError as APublisherError};
 ghost use Rattle.mold_wire.specs.Packer.{IsLimit};
 ghost use Rattle.mold_wire.specs.Packing.{Fits};
-ghost use Rattle.mold_session.specs.Publisher.{unsent_of, next_datagram, next_heartbeat, next_end, after_datagram};
-ghost use Rattle.mold_session.specs.declared.error.PublisherError.{PublisherError as APublisherError};
-ghost use Rattle.mold_ffi.specs.Code.AppendError.{append_error_code, append_error_number};
-ghost use Rattle.mold_ffi.specs.Publisher.Exchange.{opened, holding, Publishes, Sends, Closes, Saves};
-ghost use Rattle.mold_ffi.specs.Publisher.Exchange.{GivesServer, with_server};
-ghost use Rattle.mold_ffi.specs.declared.code.TheConstants as codes;
-ghost use Rattle.mold_ffi.specs.Server.Answering.{Answers, Plans, Serves};
-ghost use Rattle.mold_ffi.specs.declared.handle.held.Held.{Held as AHeld};
-ghost use Rattle.mold_session.specs.Server.{ServerState};
 
-use crate::buffer::give;
+use crate::buffer::copy_if_some;
 use crate::code::append_error::code_of_append_error;
 use crate::code::{BROKEN, BURST, DONE, LIMIT, MEMORY, ROOM, UNSENT};
 use crate::server::answering::{answer, datagram, plan};
@@ -22,7 +21,7 @@ use mold_session::{Publisher, PublisherError, Server, ServerError, Unsent};
 use mold_wire::Session;
 use std::alloc::Global;
 
-/// A publisher, and the server that answers from its journal where it was given one.
+/// A publisher, and the server that answers from its journal, if it has one.
 #[derive(Drop)]
 pub struct Exchange {
     pub(crate) publisher: Publisher,
@@ -30,7 +29,7 @@ pub struct Exchange {
 }
 
 impl Exchange {
-    /// A publisher of an open session without messages, and no server beside it.
+    /// A publisher of an open session without messages, and no server.
     pub(crate) fn new(
         alloc: Global,
         session: Session,
@@ -47,7 +46,7 @@ impl Exchange {
         })
     }
 
-    /// Publishes a message and tells its number, or the number that goes with the refusal.
+    /// Publishes a message and writes its sequence number, or the number that goes with the refusal.
     pub(crate) fn publish(&mut self, message: &[u8], number: &mut u64) -> u32
         ensures { Publishes self.old message.now result number.new (holding self.new) }
     {
@@ -57,21 +56,21 @@ impl Exchange {
                 DONE
             }
             Err(error) => {
-                let (code, told) = code_of_append_error(error);
-                *number = told;
+                let (code, found) = code_of_append_error(error);
+                *number = found;
                 code
             }
         }
     }
 
-    /// Whether the messages that were not yet put in a datagram don't all fit one.
+    /// Whether the unsent messages do not all fit one datagram.
     pub(crate) fn is_full(&self) -> bool
         ensures { IsTrue result ↔ (Fits self.now.publisher.limit (unsent_of self.now.publisher) → ⊥) }
     {
         self.publisher.is_full()
     }
 
-    /// Writes the next datagram at the front of the buffer.
+    /// Writes the next datagram at the start of the buffer.
     pub(crate) fn datagram(&mut self, buffer: &mut [u8], size: &mut usize) -> u32
         ensures { Sends self.old (next_datagram self.old.publisher) (after_datagram self.old.publisher)
             buffer.old buffer.new result size.new (holding self.new) }
@@ -81,10 +80,10 @@ impl Exchange {
             *size = limit;
             return ROOM;
         }
-        give(self.publisher.datagram(), buffer, size)
+        copy_if_some(self.publisher.datagram(), buffer, size)
     }
 
-    /// Writes a heartbeat at the front of the buffer.
+    /// Writes a heartbeat at the start of the buffer.
     pub(crate) fn heartbeat(&mut self, buffer: &mut [u8], size: &mut usize) -> u32
         ensures { Sends self.old (next_heartbeat self.old.publisher) self.old.publisher
             buffer.old buffer.new result size.new (holding self.new) }
@@ -94,10 +93,10 @@ impl Exchange {
             *size = limit;
             return ROOM;
         }
-        give(self.publisher.heartbeat(), buffer, size)
+        copy_if_some(self.publisher.heartbeat(), buffer, size)
     }
 
-    /// Writes an end packet at the front of the buffer.
+    /// Writes an end packet at the start of the buffer.
     pub(crate) fn end(&mut self, buffer: &mut [u8], size: &mut usize) -> u32
         ensures { Sends self.old (next_end self.old.publisher) self.old.publisher
             buffer.old buffer.new result size.new (holding self.new) }
@@ -107,10 +106,10 @@ impl Exchange {
             *size = limit;
             return ROOM;
         }
-        give(self.publisher.end(), buffer, size)
+        copy_if_some(self.publisher.end(), buffer, size)
     }
 
-    /// Closes the session, or tells how many messages were not yet put in a datagram.
+    /// Closes the session, or writes the number of unsent messages.
     pub(crate) fn close(&mut self, number: &mut u64) -> u32
         ensures { Closes self.old result number.new (holding self.new) }
     {
@@ -126,7 +125,7 @@ impl Exchange {
         }
     }
 
-    /// Writes the journal's file at the front of the buffer, and tells its length.
+    /// Writes the journal's file at the start of the buffer, and its length.
     pub(crate) fn save(&self, buffer: &mut [u8], size: &mut usize) -> u32
         ensures { Saves self.now.publisher.journal buffer.old buffer.new result size.new }
     {
@@ -138,7 +137,7 @@ impl Exchange {
         }
     }
 
-    /// Puts a server beside the publisher, with its limit and for its journal.
+    /// Gives the publisher a server, with its limit and for its journal.
     pub(crate) fn give_server(&mut self, alloc: Global, burst: u16) -> u32
         ensures { GivesServer self.old burst result (holding self.new) }
     {
@@ -173,15 +172,15 @@ impl Exchange {
     }
 
     /// Plans the answer to a request.
-    pub(crate) fn plan(&mut self, request: &[u8], told: &mut MoldPlan, number: &mut u64) -> u32
+    pub(crate) fn plan(&mut self, request: &[u8], fields: &mut MoldPlan, number: &mut u64) -> u32
         ensures plans { (server : ServerState) → self.old.server ≡ Some server →
-            Plans (Option AHeld) server self.old.publisher.journal request.now told.old told.new number.old
+            Plans (Option AHeld) server self.old.publisher.journal request.now fields.old fields.new number.old
             result number.new (with_server self.old) (holding self.new) }
         ensures broken { self.old.server ≡ None → (result ≡ codes.BROKEN) × (number.new ≡ number.old)
-            × (told.new ≡ told.old) × (self.new ≡ self.old) }
+            × (fields.new ≡ fields.old) × (self.new ≡ self.old) }
     {
         match &mut self.server {
-            Some(server) => plan(server, self.publisher.journal(), request, told, number),
+            Some(server) => plan(server, self.publisher.journal(), request, fields, number),
             None => BROKEN,
         }
     }
@@ -189,19 +188,19 @@ impl Exchange {
     /// Writes the next datagram of a plan.
     pub(crate) fn planned(
         &mut self,
-        told: &mut MoldPlan,
+        fields: &mut MoldPlan,
         buffer: &mut [u8],
         size: &mut usize,
     ) -> u32
         ensures serves { (server : ServerState) → self.old.server ≡ Some server →
-            Serves server self.old.publisher.journal told.old told.new buffer.old buffer.new size.old
+            Serves server self.old.publisher.journal fields.old fields.new buffer.old buffer.new size.old
             result size.new }
         ensures broken { self.old.server ≡ None → (result ≡ codes.BROKEN) × (size.new ≡ size.old)
-            × (buffer.new ≡ buffer.old) × (told.new ≡ told.old) }
+            × (buffer.new ≡ buffer.old) × (fields.new ≡ fields.old) }
         ensures same { self.new ≡ self.old }
     {
         match &mut self.server {
-            Some(server) => datagram(server, self.publisher.journal(), told, buffer, size),
+            Some(server) => datagram(server, self.publisher.journal(), fields, buffer, size),
             None => BROKEN,
         }
     }

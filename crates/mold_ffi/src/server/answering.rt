@@ -1,17 +1,16 @@
-//! Requests answered for a program in C.
+//! Requests answered and plans served, for a server of any handle.
 
 ghost use Rattle.std.specs.Prelude.{◌≡◌};
-ghost use Rattle.mold_session.specs.Server.{ServerState};
-ghost use Rattle.mold_ffi.specs.Code.AnswerError.{answer_error_code, answer_error_number};
 ghost use Rattle.mold_ffi.specs.Server.Answering.{Answers, Plans, Serves};
+ghost use Rattle.mold_session.specs.Server.{ServerState};
 
-use crate::buffer::{give, put_front};
+use crate::buffer::{copy_if_some, copy_to_front};
 use crate::code::answer_error::code_of_answer_error;
 use crate::code::{ABSENT, BROKEN, DONE, ROOM};
 use crate::server::mold_plan::MoldPlan;
 use mold_session::{Journal, Server};
 
-/// Writes the first datagram of the answer to a request at the front of the buffer.
+/// Writes the first datagram of the answer to a request at the start of the buffer.
 pub(crate) fn answer(
     server: &mut Server,
     journal: &Journal,
@@ -32,13 +31,13 @@ pub(crate) fn answer(
     }
     match server.answer(journal, request) {
         Ok(bytes) => {
-            put_front(buffer, bytes);
+            copy_to_front(buffer, bytes);
             *number = bytes.len() as u64;
             DONE
         }
         Err(error) => {
-            let (code, told) = code_of_answer_error(error);
-            *number = told;
+            let (code, found) = code_of_answer_error(error);
+            *number = found;
             code
         }
     }
@@ -49,10 +48,10 @@ pub(crate) fn plan(
     server: &mut Server,
     journal: &Journal,
     request: &[u8],
-    told: &mut MoldPlan,
+    fields: &mut MoldPlan,
     number: &mut u64,
 ) -> u32
-    ensures { Plans ServerState server.old journal.now request.now told.old told.new number.old
+    ensures { Plans ServerState server.old journal.now request.now fields.old fields.new number.old
         result number.new (λ s. s) server.new }
 {
     if journal.max_message() > server.max_message() {
@@ -60,30 +59,31 @@ pub(crate) fn plan(
     }
     match server.plan(journal, request) {
         Ok(plan) => {
-            told.tell(&plan);
+            fields.write(&plan);
             *number = 0;
             DONE
         }
         Err(error) => {
-            let (code, detail) = code_of_answer_error(error);
-            *number = detail;
+            let (code, found) = code_of_answer_error(error);
+            *number = found;
             code
         }
     }
 }
 
-/// Writes the next datagram of a plan at the front of the buffer, and moves the plan behind its messages.
+/// Writes the next datagram of a plan at the start of the buffer, and moves the plan past its messages.
 pub(crate) fn datagram(
     server: &mut Server,
     journal: &Journal,
-    told: &mut MoldPlan,
+    fields: &mut MoldPlan,
     buffer: &mut [u8],
     size: &mut usize,
 ) -> u32
-    ensures serves { Serves server.old journal.now told.old told.new buffer.old buffer.new size.old result size.new }
+    ensures serves { Serves server.old journal.now fields.old fields.new buffer.old buffer.new size.old
+        result size.new }
     ensures same { server.new ≡ server.old }
 {
-    let Some(mut plan) = told.resumed() else {
+    let Some(mut plan) = fields.resumed() else {
         return BROKEN;
     };
     if journal.max_message() > server.max_message()
@@ -97,7 +97,7 @@ pub(crate) fn datagram(
         *size = limit;
         return ROOM;
     }
-    let code = give(server.datagram(journal, &mut plan), buffer, size);
-    told.tell(&plan);
+    let code = copy_if_some(server.datagram(journal, &mut plan), buffer, size);
+    fields.write(&plan);
     code
 }

@@ -1,18 +1,18 @@
-//! The calls on a server: on one of a saved journal, or on a publisher that was given one.
+//! The calls on a server: one of a saved journal, or that of a publisher.
 
 ghost use Rattle.std.specs.Prelude.{◌≡◌, Option, None, Some, is_some, true};
-ghost use Rattle.mold_wire.specs.Packer.{IsLimit};
-ghost use Rattle.mold_session.specs.Server.{ServerState};
-ghost use Rattle.mold_ffi.specs.declared.code.TheConstants as codes;
-ghost use Rattle.mold_ffi.specs.Publisher.Exchange.{IsBurst, holding, with_server};
 ghost use Rattle.mold_ffi.specs.Handle.Borrow.{IsNoServer};
+ghost use Rattle.mold_ffi.specs.Publisher.Exchange.{IsBurst, holding, with_server};
 ghost use Rattle.mold_ffi.specs.Server.Answering.{Answers, Plans, Serves};
 ghost use Rattle.mold_ffi.specs.Server.Calls.{Loads};
 ghost use Rattle.mold_ffi.specs.Server.Serving.{with_serving};
+ghost use Rattle.mold_ffi.specs.declared.code.TheConstants as codes;
+ghost use Rattle.mold_ffi.specs.declared.handle.held.Held.TheVariants.{Server as AServer};
+ghost use Rattle.mold_ffi.specs.declared.handle.held.Held.{Held as AHeld};
 ghost use Rattle.mold_ffi.specs.declared.publisher.exchange.Exchange.{Exchange as AnExchange};
 ghost use Rattle.mold_ffi.specs.declared.server.serving.Serving.{Serving as AServing};
-ghost use Rattle.mold_ffi.specs.declared.handle.held.Held.{Held as AHeld};
-ghost use Rattle.mold_ffi.specs.declared.handle.held.Held.TheVariants.{Server as AServer};
+ghost use Rattle.mold_session.specs.Server.{ServerState};
+ghost use Rattle.mold_wire.specs.Packer.{IsLimit};
 
 use crate::code::{BROKEN, DONE, MEMORY};
 use crate::handle::held::Held;
@@ -23,8 +23,8 @@ use std::alloc::Global;
 
 /// Makes a server of a saved journal, whose file the bytes are, of version 1 or 2, and whose messages have at most 22
 /// bytes less than the limit, 64 to 65,507. It answers a request with at most `burst` datagrams, 1 to 64. `number` goes
-/// with the fault of a file that is none: its length, a message's length or number, a byte, or how many messages were
-/// found; else it is 0. The handle must hold nothing.
+/// with the fault of bytes that are not a journal: their length, a message's length or sequence number, a byte, or the
+/// number of messages found; otherwise it is 0. The handle must be empty.
 #[unsafe(no_mangle)]
 pub extern "C" fn mold_server_new(
     alloc: Global,
@@ -58,9 +58,9 @@ pub extern "C" fn mold_server_new(
     }
 }
 
-/// Answers a request with the first datagram of its answer. The buffer must have room for the limit. `number` is the
-/// datagram's length; the limit where the buffer is shorter; a request's length, or the number of the journal's next
-/// message, where these are why it is refused; and else 0.
+/// Writes the first datagram of the answer to a request. The buffer must have room for the limit. `number` is the
+/// datagram's length; the limit if the buffer is shorter; the request's length, or the sequence number of the
+/// journal's next message, if that is why it is refused; otherwise 0.
 #[unsafe(no_mangle)]
 pub extern "C" fn mold_server_answer(
     server: &mut MoldHandle,
@@ -88,8 +88,8 @@ pub extern "C" fn mold_server_answer(
     }
 }
 
-/// Plans the answer to a request, for `mold_server_datagram` to go through. `number` is as for an answer, and 0 where
-/// it is planned. Where the request is refused the plan stays as it was.
+/// Plans the answer to a request, which `mold_server_datagram` then sends. `number` is 0 if it is planned, and as for
+/// an answer if it is refused. A refusal does not change the plan.
 #[unsafe(no_mangle)]
 pub extern "C" fn mold_server_plan(
     server: &mut MoldHandle,
@@ -117,9 +117,9 @@ pub extern "C" fn mold_server_plan(
     }
 }
 
-/// Writes the next datagram of a plan, and moves the plan behind its messages; where nothing is left of the plan there
-/// is none. A plan of another session, or of messages that the journal doesn't have, is broken. Buffer and `size` are
-/// as for a publisher's datagram.
+/// Writes the next datagram of a plan, and moves the plan past its messages; a plan that is spent has none. The code is
+/// 6 for a plan of another session or of messages that the journal does not have. Buffer and `size` are as for a
+/// publisher's datagram.
 #[unsafe(no_mangle)]
 pub extern "C" fn mold_server_datagram(
     server: &mut MoldHandle,

@@ -1,13 +1,13 @@
-//! A plan as a program in C keeps it.
+//! A plan as the fields of a struct.
 
 ghost use Rattle.std.specs.Prelude.{◌≡◌, ◌↔◌, IsSome, IfSome};
+ghost use Rattle.mold_ffi.specs.Server.MoldPlan.{plan_of, plan_fields};
 ghost use Rattle.mold_session.specs.Answer.{IsPlan};
-ghost use Rattle.mold_ffi.specs.Server.MoldPlan.{plan_of, told_plan};
 
 use mold_session::Plan;
 use mold_wire::Session;
 
-/// What is left of the answer to a request: the messages from `from` to below `to`, in at most `left` datagrams.
+/// The rest of the answer to a request: the messages from `from` to below `to`, in at most `left` datagrams.
 #[repr(C)]
 #[derive(Clone, Copy)]
 pub struct MoldPlan {
@@ -15,14 +15,14 @@ pub struct MoldPlan {
     pub from: u64,
     /// One more than the number of the last message, at least `from`.
     pub to: u64,
-    /// How many datagrams may still come.
+    /// The most datagrams that may still be sent.
     pub left: u16,
     /// The session of the messages.
     pub session: [u8; 10],
 }
 
 impl MoldPlan {
-    /// The plan that is told so; none where `from` is 0 or above `to`.
+    /// The plan with these fields; none if `from` is 0 or above `to`.
     pub(crate) fn resumed(&self) -> Option<Plan>
         ensures some { IsSome result ↔ IsPlan (plan_of self.now) }
         ensures plan { IfSome result (λ plan. plan ≡ plan_of self.now) }
@@ -30,9 +30,9 @@ impl MoldPlan {
         Plan::resumed(Session(self.session), self.from, self.to, self.left)
     }
 
-    /// Tells a plan.
-    pub(crate) fn tell(&mut self, plan: &Plan)
-        ensures { self.new ≡ told_plan plan.now }
+    /// Writes the fields of a plan.
+    pub(crate) fn write(&mut self, plan: &Plan)
+        ensures { self.new ≡ plan_fields plan.now }
     {
         self.from = plan.from();
         self.to = plan.to();

@@ -1,14 +1,13 @@
 //! A server and the journal that it answers from.
 
 ghost use Rattle.std.specs.Prelude.{◌≡◌, ◌⊎◌, Option, Some, IfOk, IfErr, OnOk};
-ghost use Rattle.mold_wire.specs.Packer.{IsLimit};
-ghost use Rattle.mold_ffi.specs.declared.code.TheConstants as codes;
 ghost use Rattle.mold_ffi.specs.Publisher.Exchange.{IsBurst};
-ghost use Rattle.mold_ffi.specs.Code.FileError.{file_error_code, file_error_number};
 ghost use Rattle.mold_ffi.specs.Server.Answering.{Answers, Plans, Serves};
 ghost use Rattle.mold_ffi.specs.Server.Serving.{IsOfFile, IsFault, with_serving};
-ghost use Rattle.mold_ffi.specs.declared.handle.held.Held.{Held as AHeld};
+ghost use Rattle.mold_ffi.specs.declared.code.TheConstants as codes;
 ghost use Rattle.mold_ffi.specs.declared.handle.held.Held.TheVariants.{Server as AServer};
+ghost use Rattle.mold_ffi.specs.declared.handle.held.Held.{Held as AHeld};
+ghost use Rattle.mold_wire.specs.Packer.{IsLimit};
 
 use crate::code::file_error::code_of_file_error;
 use crate::code::{BURST, LIMIT, MEMORY};
@@ -26,8 +25,8 @@ pub struct Serving {
 }
 
 impl Serving {
-    /// A server of the journal whose file the bytes are, whose messages have at most 22 bytes less than the limit; or
-    /// the code that tells why there is none. The number that goes with it is told, or 0.
+    /// A server of the journal whose file the bytes are, and whose messages have at most 22 bytes less than the limit;
+    /// or the code of the refusal. `number` goes with it, or is 0.
     pub(crate) fn new(
         alloc: Global,
         limit: usize,
@@ -57,8 +56,8 @@ impl Serving {
         match Journal::load(alloc, longest, &mut SliceSource::new(bytes)) {
             Ok(journal) => Ok(Serving { server, journal }),
             Err(error) => {
-                let (code, told) = code_of_file_error(error);
-                *number = told;
+                let (code, found) = code_of_file_error(error);
+                *number = found;
                 Err(code)
             }
         }
@@ -73,24 +72,24 @@ impl Serving {
     }
 
     /// Plans the answer to a request.
-    pub(crate) fn plan(&mut self, request: &[u8], told: &mut MoldPlan, number: &mut u64) -> u32
-        ensures { Plans (Option AHeld) self.old.server self.old.journal request.now told.old told.new number.old
+    pub(crate) fn plan(&mut self, request: &[u8], fields: &mut MoldPlan, number: &mut u64) -> u32
+        ensures { Plans (Option AHeld) self.old.server self.old.journal request.now fields.old fields.new number.old
             result number.new (with_serving self.old) (Some (AServer self.new)) }
     {
-        plan(&mut self.server, &self.journal, request, told, number)
+        plan(&mut self.server, &self.journal, request, fields, number)
     }
 
     /// Writes the next datagram of a plan.
     pub(crate) fn datagram(
         &mut self,
-        told: &mut MoldPlan,
+        fields: &mut MoldPlan,
         buffer: &mut [u8],
         size: &mut usize,
     ) -> u32
-        ensures serves { Serves self.old.server self.old.journal told.old told.new buffer.old buffer.new size.old
+        ensures serves { Serves self.old.server self.old.journal fields.old fields.new buffer.old buffer.new size.old
             result size.new }
         ensures same { self.new ≡ self.old }
     {
-        datagram(&mut self.server, &self.journal, told, buffer, size)
+        datagram(&mut self.server, &self.journal, fields, buffer, size)
     }
 }

@@ -9,5 +9,5 @@ returns-in-Some-clause-plans c server some =
     let exchange = c.args.self.now in
     let same : c.in-Some.server ≡ server = cc in
     plans_held (Option Held) server c.in-Some.server exchange.publisher.journal c.journal.result.now c.args.request.now
-    c.args.told.now c.plan.new.told c.args.number.now c.plan.result c.plan.new.number (with_server exchange)
+    c.args.fields.now c.plan.new.fields c.args.number.now c.plan.result c.plan.new.number (with_server exchange)
     c.plan.new.server same c.journal.ensures c.plan.ensures

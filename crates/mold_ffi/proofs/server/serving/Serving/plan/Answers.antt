@@ -8,5 +8,5 @@ pub returns : goal.returns
 returns c =
     let serving = c.args.self.now in
     plans_held (Option Held) serving.server serving.server serving.journal serving.journal c.args.request.now
-    c.args.told.now c.plan.new.told c.args.number.now c.plan.result c.plan.new.number (with_serving serving)
+    c.args.fields.now c.plan.new.fields c.args.number.now c.plan.result c.plan.new.number (with_serving serving)
     c.plan.new.server refl refl c.plan.ensures
