@@ -1,3 +1,4 @@
 pub mod Memory
+pub mod Outlook
 pub mod Ports
 pub mod Udp

@@ -3,10 +3,12 @@
 
 mod datagrams;
 mod memory_port;
+mod outlook;
 mod step;
 mod udp_port;
 
 pub use datagrams::Datagrams;
 pub use memory_port::MemoryPort;
+pub use outlook::Outlook;
 pub use step::Step;
 pub use udp_port::UdpPort;

@@ -1,9 +1,12 @@
 //! A UDP socket as a port.
 
 ghost use Rattle.std.specs.Prelude.{◌≡◌, ◌≤◌, false, [], length, IfOk, IfSome};
-ghost use Rattle.mold_devices.specs.Devices.{one_more};
+ghost use Rattle.mold_devices.specs.Devices.{Counts, one_more};
+ghost use Rattle.mold_ports.specs.Outlook.{after_receive, after_send};
+ghost use Rattle.mold_ports.specs.declared.outlook.Outlook.TheVariants.{Quiet};
 
 use crate::datagrams::Datagrams;
+use crate::outlook::Outlook;
 use libc::net::{POLLIN, POLLOUT, SO_RCVBUF, SOL_SOCKET, poll, setsockopt};
 use libc::types::pollfd;
 use mold_devices::DeviceFault;
@@ -17,36 +20,22 @@ use std::time::Duration;
 /// How many milliseconds a receive or a send waits at most.
 const WAIT: u16 = 100;
 
-/// How many of them a receive after a send waits for the answer alone: it is mostly here by then, and to ask
-/// anew before it is lets answers pile up.
+/// How many of them a receive after a send waits for the answer alone: the answer is mostly here by then, and a
+/// second request before it comes would let answers pile up.
 const ANSWER_WAIT: u16 = 2;
 
-/// How many bytes the system is asked to keep of what was not received yet. It may keep fewer.
+/// How many bytes of datagrams that were not received yet the system is asked to keep. It may keep fewer.
 const RECEIVE_BUFFER: i32 = 1 << 22;
 
 /// No descriptor, as `poll` takes it.
 const NO_DESCRIPTOR: RawFd = -1;
 
-// What a receive beside other ports does first, by what the last look told.
-#[derive(Clone, Copy, Debug, PartialEq, Eq)]
-enum Outlook {
-    // A datagram was here: it looks for the next one.
-    Busy,
-    // None was: it waits, for a datagram here or at a port beside.
-    Quiet,
-    // Something was sent: it waits for the answer.
-    Asking,
-    // The last wait for an answer was in vain: it waits as where none was here, also after a send, until a
-    // datagram comes.
-    Unanswered,
-}
-
-/// A UDP socket over IPv4 as a port. A receive gives none only where the system said that nothing is here, and
-/// waits at most 100 milliseconds for something. The wait of a port that stands beside others ends early where one
-/// of them has a datagram; after a send it is for the answer alone in its first two milliseconds, unless the last
-/// answer did not come in them. Such a port looks before it waits where its last receive gave a datagram, and else
-/// waits first. A wait that the system refuses or interrupts is a failure, and so is a datagram that was here and
-/// can't be taken, as by a wrong checksum. It takes no memory. The socket is closed where the port is dropped.
+/// A UDP socket over IPv4 as a port. A receive returns none only if the system reports that nothing is here, and
+/// waits at most 100 milliseconds for a datagram. If the port is beside others, the wait ends early if one of them
+/// has a datagram; what a receive does first is in the table at [`Outlook`]. After a send, the first two
+/// milliseconds of the wait are for the answer alone. A wait that the system refuses or interrupts is a failure, and
+/// so is a datagram that was here and can't be taken, as by a wrong checksum. The port takes no memory. Its socket is
+/// closed when the port is dropped.
 #[derive(Debug, Drop)]
 pub struct UdpPort {
     socket: UdpSocket,
@@ -62,14 +51,14 @@ impl Model for UdpPort {
 
     ghost Value = { UdpState };
 
-    ghost view = { λ p. record { failures = p.failures } };
+    ghost view = { λ p. record { failures = p.failures; outlook = p.outlook } };
 }
 
 impl UdpPort {
-    /// A port at an address of this machine, at port 0 one that the system gives. It fails where the address
-    /// is not the machine's or is taken, and where a socket can't be had.
+    /// A port at an address of this machine; at port 0, the system chooses one. It fails if the address
+    /// is not the machine's or is taken, or if no socket is available.
     pub fn bind<R: Net>(rt: &R, address: SocketAddrV4) -> Result<UdpPort, DeviceFault>
-        ensures { IfOk result (λ port. port.failures ≡ 0) }
+        ensures { IfOk result (λ port. port ≡ record { failures = 0; outlook = Quiet }) }
     {
         match open(rt, address) {
             Ok((socket, address)) => Ok(UdpPort {
@@ -88,10 +77,17 @@ impl UdpPort {
         self.address
     }
 
-    /// Lets its receives end their wait where the other port has a datagram, so that a silent port does not
-    /// hold up a busy one. It stands beside at most two, the last ones that it was given. They have to be
-    /// kept as long as it is: what is left unreceived at one of them ends its every wait. Where the system
-    /// refuses a socket that doesn't wait by itself, it does not stand beside the other port.
+    /// What its next receive does first, if it is beside other ports.
+    pub fn outlook(&self) -> Outlook
+        ensures { result ≡ self.now.outlook }
+    {
+        self.outlook
+    }
+
+    /// Lets its receives end their wait if the other port has a datagram, so that a silent port does not
+    /// hold up a busy one. The port is beside at most two others, the last ones that it was given. Keep them
+    /// as long as this port: a datagram that is left unreceived at one of them ends each wait. If the system
+    /// refuses a socket that doesn't wait by itself, the port is not put beside the other one.
     pub fn stand_beside(&mut self, other: &UdpPort)
         ensures { self.new ≡ self.old }
     {
@@ -105,35 +101,26 @@ impl UdpPort {
         self.beside[0] == NO_DESCRIPTOR
     }
 
-    // Takes a datagram: one that is here or, alone, comes in its time; none where none does.
-    fn take(&mut self, place: &mut [u8]) -> Result<Option<(usize, SocketAddr)>, DeviceFault>
-        ensures count { IfOk result (λ answer. IfSome answer (λ found. found.0 ≤ length place.new)) }
-        ensures failures { self.new ≡ self.old }
+    // Takes a datagram that is here; alone, one that comes in the port's time. It returns none if there is none.
+    fn take(&self, place: &mut [u8]) -> Result<Option<(usize, SocketAddr)>, DeviceFault>
+        ensures { IfOk result (λ answer. IfSome answer (λ found. found.0 ≤ length place.new)) }
     {
         match self.socket.recv_from(place) {
-            Ok(found) => {
-                self.outlook = Outlook::Busy;
-                Ok(Some(found))
-            }
+            Ok(found) => Ok(Some(found)),
             Err(error) if error.kind() == ErrorKind::WouldBlock => Ok(None),
             Err(_) => Err(DeviceFault),
         }
     }
 
-    // Waits for an answer alone. Answers whether one is here.
-    fn wait_for_answer(&mut self) -> Result<bool, DeviceFault>
-        ensures { self.new ≡ self.old }
-    {
-        self.outlook = Outlook::Unanswered;
+    // Waits for an answer alone, and returns whether a datagram is here.
+    fn wait_for_answer(&self) -> Result<bool, DeviceFault> {
         let mut asked = [watched(self.socket.as_raw_fd(), POLLIN)];
         wait_for(&mut asked, ANSWER_WAIT)?;
         Ok(asked[0].revents != 0)
     }
 
-    // Waits until a datagram is here or at a port beside, or the time is over. Answers whether one is here.
-    fn wait(&mut self) -> Result<bool, DeviceFault>
-        ensures { self.new ≡ self.old }
-    {
+    // Waits until a datagram is here or at a port beside, or the time is over. It returns whether one is here.
+    fn wait(&self) -> Result<bool, DeviceFault> {
         let mut time = WAIT;
         if self.outlook == Outlook::Asking {
             if self.wait_for_answer()? {
@@ -151,13 +138,9 @@ impl UdpPort {
         Ok(asked[0].revents != 0)
     }
 
-    // Waits, and takes the datagram that is here then; none where none is.
-    fn take_after_wait(
-        &mut self,
-        place: &mut [u8],
-    ) -> Result<Option<(usize, SocketAddr)>, DeviceFault>
-        ensures count { IfOk result (λ answer. IfSome answer (λ found. found.0 ≤ length place.new)) }
-        ensures failures { self.new ≡ self.old }
+    // Waits, and takes the datagram that is here then. It returns none if there is none.
+    fn take_after_wait(&self, place: &mut [u8]) -> Result<Option<(usize, SocketAddr)>, DeviceFault>
+        ensures { IfOk result (λ answer. IfSome answer (λ found. found.0 ≤ length place.new)) }
     {
         if !self.wait()? {
             return Ok(None);
@@ -168,16 +151,14 @@ impl UdpPort {
         }
     }
 
-    // Takes a datagram that is here or comes in its time; none where none does.
-    fn take_in_time(&mut self, place: &mut [u8]) -> Result<Option<(usize, SocketAddr)>, DeviceFault>
-        ensures count { IfOk result (λ answer. IfSome answer (λ found. found.0 ≤ length place.new)) }
-        ensures failures { self.new ≡ self.old }
+    // Takes a datagram that is here or comes in the port's time. It returns none if there is none.
+    fn take_in_time(&self, place: &mut [u8]) -> Result<Option<(usize, SocketAddr)>, DeviceFault>
+        ensures { IfOk result (λ answer. IfSome answer (λ found. found.0 ≤ length place.new)) }
     {
         if self.is_alone() {
             return self.take(place);
         }
         if self.outlook == Outlook::Busy {
-            self.outlook = Outlook::Quiet;
             if let Some(found) = self.take(place)? {
                 return Ok(Some(found));
             }
@@ -185,18 +166,22 @@ impl UdpPort {
         self.take_after_wait(place)
     }
 
-    // From now on an answer is waited for, unless the last wait for one was in vain.
-    fn expect_answer(&mut self)
-        ensures { self.new ≡ self.old }
-    {
-        if self.outlook != Outlook::Unanswered {
-            self.outlook = Outlook::Asking;
+    // Sends a datagram; beside other ports it waits until the system has room for it.
+    fn send_in_time(&self, to: SocketAddr, bytes: &[u8]) -> io::Result<usize> {
+        let sent = self.socket.send_to(bytes, to);
+        if self.is_alone()
+            || !matches!(&sent, Err(error) if error.kind() == ErrorKind::WouldBlock)
+        {
+            return sent;
         }
+        let mut asked = [watched(self.socket.as_raw_fd(), POLLOUT)];
+        let _ = wait_for(&mut asked, WAIT);
+        self.socket.send_to(bytes, to)
     }
 
     // Counts a failure.
     fn fail(&mut self) -> DeviceFault
-        ensures { self.new.failures ≡ one_more self.old.failures }
+        ensures { self.new ≡ record self.old { failures = one_more self.old.failures } }
     {
         self.failures = self.failures.saturating_add(1);
         DeviceFault
@@ -210,27 +195,36 @@ impl Datagrams for UdpPort {
 
     ghost port = { λ p. record { comes = []; sent = []; failures = p.failures } };
 
-    fn send(&mut self, to: SocketAddr, bytes: &[u8]) -> Result<(), DeviceFault> {
-        let mut sent = self.socket.send_to(bytes, to);
-        if !self.is_alone()
-            && matches!(&sent, Err(error) if error.kind() == ErrorKind::WouldBlock)
-        {
-            // The system has no room for it yet.
-            let mut asked = [watched(self.socket.as_raw_fd(), POLLOUT)];
-            let _ = wait_for(&mut asked, WAIT);
-            sent = self.socket.send_to(bytes, to);
-        }
-        match sent {
+    fn send(&mut self, to: SocketAddr, bytes: &[u8]) -> Result<(), DeviceFault>
+        // What a port does.
+        ensures failures { Counts self.old.failures self.new.failures result }
+
+        // Just what this one does.
+        ensures outlook { self.new.outlook ≡ after_send result self.old.outlook }
+    {
+        match self.send_in_time(to, bytes) {
             Ok(count) if count == bytes.len() => {
-                self.expect_answer();
+                self.outlook = self.outlook.after_sent();
                 Ok(())
             }
             _ => Err(self.fail()),
         }
     }
 
-    fn receive(&mut self, place: &mut [u8]) -> Result<Option<(usize, SocketAddr)>, DeviceFault> {
-        match self.take_in_time(place) {
+    fn receive(&mut self, place: &mut [u8]) -> Result<Option<(usize, SocketAddr)>, DeviceFault>
+        // What a port does.
+        ensures count { IfOk result (λ answer. IfSome answer (λ found. found.0 ≤ length place.new)) }
+        ensures failures { Counts self.old.failures self.new.failures result }
+
+        // Just what this one does.
+        ensures outlook { self.new.outlook ≡ after_receive result self.old.outlook }
+    {
+        let answer = self.take_in_time(place);
+        self.outlook = match &answer {
+            Ok(Some(_)) => Outlook::Busy,
+            Ok(None) | Err(_) => self.outlook.after_nothing(),
+        };
+        match answer {
             Ok(answer) => Ok(answer),
             Err(_) => Err(self.fail()),
         }
@@ -247,6 +241,7 @@ fn open<R: Net>(rt: &R, address: SocketAddrV4) -> io::Result<(UdpSocket, SocketA
     let time = Duration::from_millis(u64::from(WAIT));
     socket.set_read_timeout(Some(time))?;
     socket.set_write_timeout(Some(time))?;
+    // The toolchain's `setsockopt` takes a value of 16 bytes for each option, and reads the first 4 of this one.
     let mut size = [0u8; 16];
     size[..4].copy_from_slice(&RECEIVE_BUFFER.to_ne_bytes());
     // Where the system refuses it, fewer datagrams wait and more are lost, as may happen anyway.
@@ -255,7 +250,7 @@ fn open<R: Net>(rt: &R, address: SocketAddrV4) -> io::Result<(UdpSocket, SocketA
     Ok((socket, address))
 }
 
-// Waits until one of the descriptors is ready, or so many milliseconds are over.
+// Waits until one of the descriptors is ready, at most this many milliseconds.
 fn wait_for(asked: &mut [pollfd], time: u16) -> Result<(), DeviceFault> {
     if poll(asked, i32::from(time)) < 0 {
         return Err(DeviceFault);
@@ -263,7 +258,7 @@ fn wait_for(asked: &mut [pollfd], time: u16) -> Result<(), DeviceFault> {
     Ok(())
 }
 
-// A descriptor of which `poll` is to tell whether it is ready for the events; none never is.
+// A descriptor for `poll`, which reports whether it is ready for these events. `NO_DESCRIPTOR` never is.
 fn watched(descriptor: RawFd, events: i16) -> pollfd {
     pollfd {
         fd: descriptor,

@@ -10,6 +10,8 @@ mod digits;
 #[cfg(test)]
 mod messages;
 #[cfg(test)]
+mod outlook;
+#[cfg(test)]
 mod ports;
 #[cfg(test)]
 mod text;

@@ -4,13 +4,13 @@ use crate::comparisons::{same_bytes, same_number, same_outcome, same_size};
 use mold_devices::DeviceFault;
 use mold_ports::{Datagrams, MemoryPort, Step, UdpPort};
 use std::alloc::Global;
-use std::net::{Ipv4Addr, SocketAddr, SocketAddrV4};
+use std::net::{Ipv4Addr, Net, SocketAddr, SocketAddrV4};
 use std::process::Abort;
 use std::test::Fail;
 use std::time::{Clock, Instant};
 
 // The loopback address with a port, where 0 is one that the system gives.
-fn loopback(port: u16) -> SocketAddrV4 {
+pub fn loopback(port: u16) -> SocketAddrV4 {
     SocketAddrV4::new(Ipv4Addr::new(127, 0, 0, 1), port)
 }
 
@@ -122,7 +122,7 @@ fn a_refused_growth_is_a_failed_send(rt: HostRuntime) -> Result<(), Fail> {
 }
 
 // A port of the loopback address.
-fn open(rt: &HostRuntime) -> Result<UdpPort, Fail> {
+pub fn open(rt: &impl Net) -> Result<UdpPort, Fail> {
     Ok(UdpPort::bind(rt, loopback(0))?)
 }
 
@@ -188,7 +188,8 @@ fn least_wait(rt: &impl Clock, port: &mut UdpPort, receives: u8) -> Result<u128,
     Ok(least)
 }
 
-// A wait for nothing lasts its time; one beside a port that has a datagram ends at once.
+// A wait for nothing lasts its time. Beside a port that has a datagram it ends at once, or after a send once the time
+// for the answer is over.
 #[test]
 fn a_wait_ends_where_a_port_beside_has_a_datagram(rt: HostRuntime) -> Result<(), Fail> {
     let mut silent = open(&rt)?;
@@ -207,6 +208,9 @@ fn expect_wait_ended(
     let address = busy.address();
     same_outcome(rt, busy.send(address, b"abc"), Ok(()));
     assert!(rt; least_wait(rt, silent, 5)? < 90);
+    // After a send two milliseconds are for the answer alone.
+    same_outcome(rt, silent.send(address, b"ask"), Ok(()));
+    assert!(rt; least_wait(rt, silent, 1)? >= 2);
     expect_datagram(rt, busy, &mut place, 3, address);
     Ok(())
 }
