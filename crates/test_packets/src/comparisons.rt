@@ -15,9 +15,9 @@ pub fn same_bytes(rt: &impl Abort, found: &[u8], wanted: &[u8]) {
     assert_eq!(rt; found, wanted);
 }
 
-/// What stands at a place of a list, or nothing.
-pub fn same_message(rt: &impl Abort, place: usize, found: Option<&[u8]>, wanted: Option<&[u8]>) {
-    assert_eq!(rt; found, wanted, "message {place}");
+/// The message at an index of a list, or none.
+pub fn same_message(rt: &impl Abort, i: usize, found: Option<&[u8]>, wanted: Option<&[u8]>) {
+    assert!(rt; found == wanted, "message {i}");
 }
 
 /// How many bytes a device read or wrote.

@@ -1,5 +1,5 @@
 //! Each public call on its happy path. Digits are compared with what the crate `hex` makes of them: at every
-//! length that fills whole vectors and leaves a rest, and with every byte at every place.
+//! length that fills whole vectors and leaves a rest, and with every byte at every index.
 
 use crate::comparisons::{same_bytes, same_size};
 use mold_digits::{decode, write_bytes, write_long_number, write_number, write_text};
@@ -28,9 +28,10 @@ fn expect_as_hex(
     expected.resize(digits.len() / 2, 0)?;
     let good = hex::decode_to_slice(digits, expected.as_mut_slice()).is_ok();
     let found = decode(digits, bytes)?;
-    assert!(rt; found == good, "{digits:?}");
+    let len = digits.len();
+    assert!(rt; found == good, "{len} digits");
     if good {
-        assert!(rt; bytes.as_slice() == expected.as_slice(), "{digits:?}");
+        same_bytes(rt, bytes.as_slice(), expected.as_slice());
     }
     Ok(())
 }
@@ -46,20 +47,35 @@ fn digits_of_every_length_are_read(rt: HostRuntime) -> Result<(), Fail> {
     Ok(())
 }
 
+fn put(digits: &mut Vec<u8>, i: usize, byte: u8) {
+    if let Some(digit) = digits.get_mut(i) {
+        *digit = byte;
+    }
+}
+
+// Decodes the digits with each byte at this index.
+fn expect_each_byte_as_hex(
+    rt: &impl Abort,
+    digits: &mut Vec<u8>,
+    i: usize,
+    bytes: &mut Vec<u8>,
+    expected: &mut Vec<u8>,
+) -> Result<(), Fail> {
+    for byte in 0..=u8::MAX {
+        put(digits, i, byte);
+        expect_as_hex(rt, digits.as_slice(), bytes, expected)?;
+    }
+    put(digits, i, b'0');
+    Ok(())
+}
+
 #[test]
-fn every_byte_is_judged_at_every_place(rt: HostRuntime) -> Result<(), Fail> {
+fn every_byte_is_judged_at_every_index(rt: HostRuntime) -> Result<(), Fail> {
     let mut bytes = Vec::new(rt.alloc());
     let mut expected = Vec::new(rt.alloc());
     let mut digits = some_digits(rt.alloc(), LONGEST)?;
-    for place in 0..LONGEST {
-        for byte in 0..=u8::MAX {
-            assert_eq!(rt; digits.len(), LONGEST);
-            let kept = digits[place];
-            digits[place] = byte;
-            expect_as_hex(&rt, digits.as_slice(), &mut bytes, &mut expected)?;
-            assert_eq!(rt; digits.len(), LONGEST);
-            digits[place] = kept;
-        }
+    for i in 0..LONGEST {
+        expect_each_byte_as_hex(&rt, &mut digits, i, &mut bytes, &mut expected)?;
     }
     Ok(())
 }
@@ -70,22 +86,23 @@ fn bytes_of_every_length_are_written(rt: HostRuntime) -> Result<(), Fail> {
     let mut text = Vec::new(rt.alloc());
     for byte in 0..=u8::MAX {
         bytes.push(byte.wrapping_mul(37))?;
-        expect_written_as_hex(&rt, bytes.as_slice(), &mut text)?;
+        write_digits(&rt, bytes.as_slice(), &mut text)?;
+        expect_encoded(&rt, bytes.as_slice(), text.as_slice())?;
     }
     Ok(())
 }
 
-// Writes the digits of these bytes in the place of `text`.
-fn expect_written_as_hex(
-    rt: &(impl Abort + AllocGlobal),
-    bytes: &[u8],
-    text: &mut Vec<u8>,
-) -> Result<(), Fail> {
+// Writes the digits of these bytes over `text`.
+fn write_digits(rt: &impl Abort, bytes: &[u8], text: &mut Vec<u8>) -> Result<(), AllocError> {
     text.resize(2 * bytes.len(), 0)?;
     let end = write_bytes(text.as_mut_slice(), 0, bytes);
-    assert_eq!(rt; end, text.len());
+    same_size(rt, end, text.len());
+    Ok(())
+}
+
+fn expect_encoded(rt: &(impl Abort + AllocGlobal), bytes: &[u8], text: &[u8]) -> Result<(), Fail> {
     let expected = hex::encode(rt.alloc(), bytes)?;
-    assert!(rt; text.as_slice() == expected.as_bytes(), "{bytes:?}");
+    same_bytes(rt, text, expected.as_bytes());
     Ok(())
 }
 

@@ -1,17 +1,23 @@
 //! Each public call on its happy path, with its answer.
 
+ghost use Rattle.std.specs.Prelude.{◌≡◌};
+
 use crate::comparisons::{same_message, same_size};
 use mold_messages::{MessageList, PartList};
-use std::alloc::Global;
+use std::alloc::{AllocError, Global};
 use std::process::Abort;
 use std::test::Fail;
+
+fn push_three(list: &mut MessageList) -> Result<(), AllocError> {
+    list.push(b"AB")?;
+    list.push(b"")?;
+    list.push(b"C")
+}
 
 /// `AB`, an empty message and `C`.
 fn three(alloc: Global) -> Result<MessageList, Fail> {
     let mut list = MessageList::new(alloc);
-    list.push(b"AB")?;
-    list.push(b"")?;
-    list.push(b"C")?;
+    push_three(&mut list)?;
     Ok(list)
 }
 
@@ -36,7 +42,7 @@ fn joined(rt: &impl Abort, list: &MessageList, from: usize, to: usize) -> usize 
 fn messages_are_lent_as_they_were_pushed(rt: HostRuntime) -> Result<(), Fail> {
     let list = three(rt.alloc())?;
     same_size(&rt, list.len(), 3);
-    assert!(rt; !list.is_empty());
+    same_size(&rt, usize::from(list.is_empty()), 0);
     expect_at(&rt, &list, 0, b"AB");
     expect_at(&rt, &list, 1, b"");
     expect_at(&rt, &list, 2, b"C");
@@ -54,34 +60,41 @@ fn messages_are_visited_from_any_of_them_on(rt: HostRuntime) -> Result<(), Fail>
     expect_from(&rt, &list, 1, &[b"", b"C"]);
     same_message(&rt, 0, list.iter_from(3).next(), None);
     same_message(&rt, 0, list.iter_from(4).next(), None);
-    expect_lengths(&rt, &list);
+    expect_three(&rt, &list);
     Ok(())
 }
 
-fn expect_lengths(rt: &impl Abort, list: &MessageList) {
-    let mut lengths = [9usize; 4];
-    for (place, message) in lengths.iter_mut().zip(list) {
-        *place = message.len();
+/// The three messages come one after the other.
+fn expect_three(rt: &impl Abort, list: &MessageList) {
+    let mut i = 0usize;
+    for message in list {
+        same_message(rt, i, list.get(i), Some(message));
+        i = i.saturating_add(1);
     }
-    assert_eq!(rt; lengths, [2, 0, 1, 9]);
+    same_size(rt, i, 3);
 }
 
 #[test]
 fn a_list_is_cut_and_filled_again(rt: HostRuntime) -> Result<(), Fail> {
     let mut list = three(rt.alloc())?;
+    expect_cut_and_filled(&rt, &mut list)?;
+    Ok(())
+}
+
+fn expect_cut_and_filled(rt: &impl Abort, list: &mut MessageList) -> Result<(), AllocError> {
     list.truncate(4);
-    expect_from(&rt, &list, 0, &[b"AB", b"", b"C"]);
+    expect_from(rt, list, 0, &[b"AB", b"", b"C"]);
     list.truncate(1);
     list.push(b"DEF")?;
-    expect_from(&rt, &list, 0, &[b"AB", b"DEF"]);
-    same_size(&rt, joined(&rt, &list, 0, 2), 5);
+    expect_from(rt, list, 0, &[b"AB", b"DEF"]);
+    same_size(rt, joined(rt, list, 0, 2), 5);
     list.clear();
-    assert!(rt; list.is_empty());
-    same_message(&rt, 0, list.get(0), None);
+    same_size(rt, usize::from(list.is_empty()), 1);
+    same_message(rt, 0, list.get(0), None);
     list.reserve(2, 4)?;
     list.push(b"AB")?;
     list.push(b"CD")?;
-    expect_from(&rt, &list, 0, &[b"AB", b"CD"]);
+    expect_from(rt, list, 0, &[b"AB", b"CD"]);
     Ok(())
 }
 
@@ -100,14 +113,17 @@ fn a_thousand_messages_are_pushed(rt: HostRuntime) -> Result<(), Fail> {
 #[test]
 fn a_message_comes_in_parts(rt: HostRuntime) -> Result<(), Fail> {
     let mut list = three(rt.alloc())?;
-    assert!(rt; list.len() > 0);
-    list.extend_last(b"DE")?;
+    extend(&rt, &mut list, b"DE")?;
     list.push(b"")?;
-    assert!(rt; list.len() > 0);
-    list.extend_last(b"F")?;
+    extend(&rt, &mut list, b"F")?;
     expect_at(&rt, &list, 2, b"CDE");
     expect_at(&rt, &list, 3, b"F");
     Ok(())
+}
+
+fn extend(rt: &impl Abort, list: &mut MessageList, part: &[u8]) -> Result<(), AllocError> {
+    assert!(rt; list.len() > 0);
+    list.extend_last(part)
 }
 
 fn expect_part(rt: &impl Abort, list: &PartList, i: usize, want: &[u8]) {
@@ -117,7 +133,8 @@ fn expect_part(rt: &impl Abort, list: &PartList, i: usize, want: &[u8]) {
 /// `AB` and `C` behind their lengths, and an empty message.
 #[test]
 fn parts_lie_in_copied_bytes(rt: HostRuntime) -> Result<(), Fail> {
-    let mut list = parts(&rt)?;
+    let mut list = PartList::new(rt.alloc());
+    push_parts(&rt, &mut list)?;
     same_size(&rt, list.len(), 3);
     expect_part(&rt, &list, 0, b"AB");
     expect_part(&rt, &list, 1, b"C");
@@ -128,14 +145,14 @@ fn parts_lie_in_copied_bytes(rt: HostRuntime) -> Result<(), Fail> {
     Ok(())
 }
 
-fn parts(rt: &(impl Abort + AllocGlobal)) -> Result<PartList, Fail> {
-    let mut list = PartList::new(rt.alloc());
-    assert!(rt; list.is_empty());
-    same_size(rt, list.append(b"\0\x02AB\0\x01C")?, 0);
+fn push_parts(rt: &impl Abort, list: &mut PartList) -> Result<(), AllocError>
+    requires { list.old.end ≡ 0 }
+{
+    let offset = list.append(b"\0\x02AB\0\x01C")?;
+    same_size(rt, offset, 0);
     list.mark(2, 4)?;
     list.mark(6, 7)?;
-    list.push(b"")?;
-    Ok(list)
+    list.push(b"")
 }
 
 /// The three parts come one after the other.
@@ -153,5 +170,5 @@ fn expect_cut(rt: &impl Abort, list: &mut PartList) {
     same_size(rt, list.len(), 1);
     expect_part(rt, list, 0, b"AB");
     list.clear();
-    assert!(rt; list.is_empty());
+    same_size(rt, usize::from(list.is_empty()), 1);
 }

@@ -6,32 +6,38 @@ use mold_text::{
     push_request, request_fault_words, write_line,
 };
 use mold_wire::{DecodeError, Request, RequestError, Session, decode};
+use std::alloc::AllocError;
 use std::test::Fail;
 
 const SESSION: Session = Session(*b"SESSION001");
 
+// A line of each kind of word, and one without words.
+fn push_lines(out: &mut Vec<u8>) -> Result<(), AllocError> {
+    let words = [
+        Word::Text(b"delivered"),
+        Word::Number(7),
+        Word::LongNumber(18_446_744_073_709_551_616),
+        Word::Digits(b"\x0a\xff"),
+        Word::Message(b""),
+        Word::Message(b"A"),
+    ];
+    push_line(out, &words)?;
+    push_line(out, &[])
+}
+
+// Lines of which the first words, the last words or neither are left out.
+fn push_lines_in_two_parts(out: &mut Vec<u8>) -> Result<(), AllocError> {
+    let sent = [Word::Text(b"sent"), Word::Number(0)];
+    push_line_with(out, &[], &[Word::Text(b"nothing")])?;
+    push_line_with(out, &sent, &[])?;
+    push_line_with(out, &sent, &[Word::Number(1)])
+}
+
 #[test]
 fn words_are_joined_by_single_spaces(rt: HostRuntime) -> Result<(), Fail> {
     let mut out = Vec::new(rt.alloc());
-    push_line(
-        &mut out,
-        &[
-            Word::Text(b"delivered"),
-            Word::Number(7),
-            Word::LongNumber(18_446_744_073_709_551_616),
-            Word::Digits(b"\x0a\xff"),
-            Word::Message(b""),
-            Word::Message(b"A"),
-        ],
-    )?;
-    push_line(&mut out, &[])?;
-    push_line_with(&mut out, &[], &[Word::Text(b"nothing")])?;
-    push_line_with(&mut out, &[Word::Text(b"sent"), Word::Number(0)], &[])?;
-    push_line_with(
-        &mut out,
-        &[Word::Text(b"sent"), Word::Number(0)],
-        &[Word::Number(1)],
-    )?;
+    push_lines(&mut out)?;
+    push_lines_in_two_parts(&mut out)?;
     let text = b"delivered 7 18446744073709551616 0aff - 41\n\nnothing\nsent 0\nsent 0 1\n";
     same_bytes(&rt, out.as_slice(), text);
     Ok(())
@@ -46,35 +52,42 @@ fn a_line_is_written_into_a_slice(rt: HostRuntime) {
     same_bytes(&rt, &place[..end], b".7 41\n");
 }
 
-#[test]
-fn packets_and_requests_are_printed(rt: HostRuntime) -> Result<(), Fail> {
-    let mut out = Vec::new(rt.alloc());
-    let packet = decode(b"SESSION001\x00\x00\x00\x00\x00\x00\x00\x01\x00\x02\x00\x02AB\x00\x00")?;
-    push_packet(&mut out, &packet)?;
+fn push_packet_and_request(out: &mut Vec<u8>) -> Result<(), Fail> {
+    let packet = decode(b"SESSION001\0\0\0\0\0\0\0\x01\0\x02\0\x02AB\0\0")?;
+    push_packet(out, &packet)?;
     let request = Request {
         session: SESSION,
         sequence: 1,
         count: 2,
     };
-    push_request(&mut out, &request)?;
+    push_request(out, &request)?;
+    Ok(())
+}
+
+#[test]
+fn packets_and_requests_are_printed(rt: HostRuntime) -> Result<(), Fail> {
+    let mut out = Vec::new(rt.alloc());
+    push_packet_and_request(&mut out)?;
     let text =
         b"data 53455353494f4e303031 1 2\n  1 2 4142\n  2 0 -\nrequest 53455353494f4e303031 1 2\n";
     same_bytes(&rt, out.as_slice(), text);
     Ok(())
 }
 
+fn push_refusals(out: &mut Vec<u8>) -> Result<(), AllocError> {
+    push_refused(out, &packet_fault_words(DecodeError::Short { len: 19 }))?;
+    push_refused(out, &packet_fault_words(DecodeError::BlockCut { index: 1 }))?;
+    push_refused(out, &packet_fault_words(DecodeError::Trailing { at: 20 }))?;
+    push_refused(
+        out,
+        &request_fault_words(RequestError::RequestLength { len: 21 }),
+    )
+}
+
 #[test]
 fn refusals_are_names_and_numbers(rt: HostRuntime) -> Result<(), Fail> {
     let mut out = Vec::new(rt.alloc());
-    for fault in [
-        DecodeError::Short { len: 19 },
-        DecodeError::BlockCut { index: 1 },
-        DecodeError::Trailing { at: 20 },
-    ] {
-        push_refused(&mut out, &packet_fault_words(fault))?;
-    }
-    let fault = RequestError::RequestLength { len: 21 };
-    push_refused(&mut out, &request_fault_words(fault))?;
+    push_refusals(&mut out)?;
     let text =
         b"refused Short 19\nrefused BlockCut 1\nrefused Trailing 20\nrefused RequestLength 21\n";
     same_bytes(&rt, out.as_slice(), text);

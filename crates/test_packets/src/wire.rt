@@ -31,39 +31,40 @@ const HEADER_END: usize = 20;
 
 const FIRST_END: usize = 24;
 
-fn same_top(rt: &impl Abort, found: Option<u64>, wanted: Option<u64>) {
-    assert_eq!(rt; found, wanted);
-}
-
 // A packet of the session from this number on, up to this one.
-fn expect_header(rt: &impl Abort, packet: &Packet<'_>, sequence: u64, top: Option<u64>) {
+fn expect_header(rt: &impl Abort, packet: &Packet<'_>, sequence: u64, top: u64) {
     assert!(rt; packet.session == SESSION, "another session");
     same_number(rt, packet.sequence, sequence);
-    same_top(rt, packet.top(), top);
+    same_number(rt, packet.top().unwrap_or(0), top);
 }
 
-fn expect_bare(rt: &impl Abort, bytes: &[u8], sequence: u64, ends: bool) -> Result<(), Fail> {
-    let packet = decode(bytes)?;
-    expect_header(rt, &packet, sequence, Some(sequence));
-    match packet.body {
-        Body::Data(_) => assert!(rt; false, "messages"),
-        Body::Heartbeat => assert!(rt; !ends, "a heartbeat"),
-        Body::End => assert!(rt; ends, "an end"),
+fn name_of(body: &Body<'_>) -> &'static [u8] {
+    match body {
+        Body::Data(_) => b"data",
+        Body::Heartbeat => b"heartbeat",
+        Body::End => b"end",
     }
+}
+
+// A packet without messages.
+fn expect_bare(rt: &impl Abort, bytes: &[u8], sequence: u64, name: &[u8]) -> Result<(), Fail> {
+    let packet = decode(bytes)?;
+    expect_header(rt, &packet, sequence, sequence);
+    same_bytes(rt, name_of(&packet.body), name);
     Ok(())
 }
 
 #[test]
 fn heartbeats_and_ends_are_read(rt: HostRuntime) -> Result<(), Fail> {
-    expect_bare(&rt, HEARTBEAT, 1, false)?;
-    expect_bare(&rt, END_1, 1, true)?;
-    expect_bare(&rt, END, 3, true)
+    expect_bare(&rt, HEARTBEAT, 1, b"heartbeat")?;
+    expect_bare(&rt, END_1, 1, b"end")?;
+    expect_bare(&rt, END, 3, b"end")
 }
 
 #[test]
 fn messages_are_lent_in_order(rt: HostRuntime) -> Result<(), Fail> {
     let packet = decode(TWO_MESSAGES)?;
-    expect_header(&rt, &packet, 1, Some(3));
+    expect_header(&rt, &packet, 1, 3);
     match &packet.body {
         Body::Data(blocks) => expect_two(&rt, blocks),
         Body::Heartbeat | Body::End => assert!(rt; false, "no messages"),
@@ -76,67 +77,73 @@ fn expect_two(rt: &impl Abort, blocks: &Blocks<'_>) {
     same_message(rt, 0, blocks.get(0), Some(b"AB"));
     same_message(rt, 1, blocks.get(1), Some(b""));
     same_message(rt, 2, blocks.get(2), None);
-    expect_lengths(rt, blocks);
+    expect_each(rt, blocks);
     same_size(rt, blocks.iter().count(), 2);
 }
 
-fn expect_lengths(rt: &impl Abort, blocks: &Blocks<'_>) {
-    let mut lengths = [None; 3];
-    for (place, message) in lengths.iter_mut().zip(blocks) {
-        *place = Some(message.len());
+// The messages come one after the other.
+fn expect_each(rt: &impl Abort, blocks: &Blocks<'_>) {
+    let mut i = 0u16;
+    for message in blocks {
+        same_message(rt, usize::from(i), Some(message), blocks.get(i));
+        i = i.saturating_add(1);
     }
-    assert_eq!(rt; lengths, [Some(2), Some(0), None]);
+    same_number(rt, u64::from(i), 2);
 }
 
 #[test]
-fn packets_are_compared_by_what_they_say(rt: HostRuntime) -> Result<(), Fail> {
+fn packets_are_compared_by_value(rt: HostRuntime) -> Result<(), Fail> {
     let elsewhere = *b"SESSION001\0\0\0\0\0\0\0\x01\0\x02\0\x02AB\0\0";
+    expect_compared(&rt, &elsewhere, TWO_MESSAGES, true)?;
+    let another = b"SESSION001\0\0\0\0\0\0\0\x01\0\x02\0\x02AC\0\0";
+    expect_compared(&rt, &elsewhere, another, false)?;
+    expect_compared(&rt, &elsewhere, HEARTBEAT, false)?;
     let packet = decode(&elsewhere)?;
-    expect_compared(&rt, &packet, &decode(TWO_MESSAGES)?, true);
-    expect_compared(&rt, &packet.clone()?, &packet, true);
-    let another = decode(b"SESSION001\0\0\0\0\0\0\0\x01\0\x02\0\x02AC\0\0")?;
-    expect_compared(&rt, &packet, &another, false);
-    expect_compared(&rt, &packet, &decode(HEARTBEAT)?, false);
+    same_packets(&rt, &packet.clone()?, &packet, true);
     Ok(())
 }
 
-fn expect_compared(rt: &impl Abort, one: &Packet<'_>, other: &Packet<'_>, same: bool) {
-    assert!(rt;
-        (one == other) == same,
-        "{one:?} and {other:?}, the same: {same}"
-    );
+fn expect_compared(rt: &impl Abort, one: &[u8], other: &[u8], same: bool) -> Result<(), Fail> {
+    let one = decode(one)?;
+    let other = decode(other)?;
+    same_packets(rt, &one, &other, same);
+    Ok(())
+}
+
+fn same_packets(rt: &impl Abort, one: &Packet<'_>, other: &Packet<'_>, same: bool) {
+    assert!(rt; (one == other) == same, "the same: {same}");
 }
 
 #[test]
 fn a_top_beyond_64_bits_is_none(rt: HostRuntime) -> Result<(), Fail> {
     let packet = decode(LAST)?;
     same_number(&rt, packet.sequence, 18446744073709551615);
-    same_top(&rt, packet.top(), None);
+    assert!(rt; packet.top().is_none());
     Ok(())
+}
+
+fn expect_fault(rt: &impl Abort, bytes: &[u8], fault: DecodeError) {
+    let len = bytes.len();
+    assert!(rt; decode(bytes).err() == Some(fault), "{len} bytes");
+}
+
+// Where the first bytes of `TWO_MESSAGES` end too early.
+fn fault_after(len: usize) -> DecodeError {
+    match len {
+        0..HEADER_END => DecodeError::Short { len },
+        HEADER_END..FIRST_END => DecodeError::BlockCut { index: 0 },
+        _ => DecodeError::BlockCut { index: 1 },
+    }
 }
 
 #[test]
 fn each_front_of_two_messages_has_its_fault(rt: HostRuntime) {
     for len in 0..TWO_MESSAGES.len() {
-        let fault = match len {
-            0..HEADER_END => DecodeError::Short { len },
-            HEADER_END..FIRST_END => DecodeError::BlockCut { index: 0 },
-            _ => DecodeError::BlockCut { index: 1 },
-        };
-        match decode(&TWO_MESSAGES[..len]) {
-            Ok(_) => assert!(rt; false, "{len} bytes are read"),
-            Err(error) => assert_eq!(rt; error, fault, "{len} bytes"),
-        }
+        expect_fault(&rt, &TWO_MESSAGES[..len], fault_after(len));
     }
-    match decode(b"SESSION001\0\0\0\0\0\0\0\x01\0\x02\0\x02AB\0\0\0") {
-        Ok(_) => assert!(rt; false, "a byte behind is read"),
-        Err(error) => assert_eq!(rt;
-            error,
-            DecodeError::Trailing {
-                at: TWO_MESSAGES.len()
-            }
-        ),
-    }
+    let longer = b"SESSION001\0\0\0\0\0\0\0\x01\0\x02\0\x02AB\0\0\0";
+    let at = TWO_MESSAGES.len();
+    expect_fault(&rt, longer, DecodeError::Trailing { at });
 }
 
 #[test]
@@ -210,19 +217,19 @@ fn expect_written(rt: &impl Abort, packer: &mut Packer) {
 
 #[test]
 fn requests_are_read_and_written(rt: HostRuntime) -> Result<(), Fail> {
-    let table = [
-        (1, 2, b"SESSION001\0\0\0\0\0\0\0\x01\0\x02"),
-        (2, 65535, b"SESSION001\0\0\0\0\0\0\0\x02\xff\xff"),
-    ];
-    for (sequence, count, bytes) in table {
-        let request = Request {
-            session: SESSION,
-            sequence,
-            count,
-        };
-        assert_eq!(rt; request.encode(), *bytes);
-        assert_eq!(rt; Request::decode(bytes)?, request);
-    }
+    expect_request(&rt, 1, 2, b"SESSION001\0\0\0\0\0\0\0\x01\0\x02")?;
+    expect_request(&rt, 2, 65535, b"SESSION001\0\0\0\0\0\0\0\x02\xff\xff")
+}
+
+fn expect_request(rt: &impl Abort, sequence: u64, count: u16, bytes: &[u8]) -> Result<(), Fail> {
+    let request = Request {
+        session: SESSION,
+        sequence,
+        count,
+    };
+    same_bytes(rt, &request.encode(), bytes);
+    let read = Request::decode(bytes)?;
+    assert!(rt; read == request, "another request");
     Ok(())
 }
 
@@ -239,6 +246,6 @@ fn requests_of_other_lengths_are_refused(rt: HostRuntime) {
             Some(RequestError::RequestLength { len })
         };
         let found = Request::decode(&LONGER[..len]).err();
-        assert_eq!(rt; found, refusal);
+        assert!(rt; found == refusal, "{len} bytes");
     }
 }
