@@ -4,15 +4,11 @@ use crate::comparisons::same_number;
 use crate::reception::{
     DATA_1_3, DATA_2_3, END_4, SESSION, expect_batch, handed_kept_beyond, same_outcome,
 };
-use mold_receiver::{Arbiter, Batch, Line, LineReport, Receiver, Refused, Taken};
+use mold_receiver::{Arbiter, Batch, Line, Receiver, Refused, Taken};
 use mold_wire::DecodeError;
 use std::alloc::Global;
 use std::process::Abort;
 use std::test::Fail;
-
-fn same_report(rt: &impl Abort, found: LineReport, wanted: LineReport) {
-    assert_eq!(rt; found, wanted);
-}
 
 /// An arbiter at message 1 with a window of 4, and the batch that it hands on to.
 #[derive(Drop)]
@@ -44,25 +40,20 @@ impl Arbitration {
         }
     }
 
-    fn expect_taken(
-        &mut self,
-        rt: &impl Abort,
-        line: Option<Line>,
-        packet: &[u8],
-        counts: (u32, u32, u32),
-    ) {
-        let found = self.take(rt, line, packet);
-        same_outcome(rt, found, handed_kept_beyond(counts));
+    /// Takes messages 1 to 3 of line A, once more if memory is refused: neither line has a datagram then.
+    fn take_again(&mut self, rt: &impl Abort) -> Result<(), Refused> {
+        if self.take(rt, Some(Line::A), DATA_1_3) == Err(Refused::Memory) {
+            self.expect_lines(rt, (0, 0, 1), (0, 0, 1));
+            self.take(rt, Some(Line::A), DATA_1_3)?;
+        }
+        Ok(())
     }
 
     fn expect_line(&self, rt: &impl Abort, line: Line, wanted: (u64, u64, u64)) {
-        let (datagrams, refused, front) = wanted;
-        let report = LineReport {
-            datagrams,
-            refused,
-            front,
-        };
-        same_report(rt, self.arbiter.report(line), report);
+        let found = self.arbiter.report(line);
+        same_number(rt, found.datagrams, wanted.0);
+        same_number(rt, found.refused, wanted.1);
+        same_number(rt, found.front, wanted.2);
     }
 
     fn expect_lines(&self, rt: &impl Abort, a: (u64, u64, u64), b: (u64, u64, u64)) {
@@ -70,77 +61,122 @@ impl Arbitration {
         self.expect_line(rt, Line::B, b);
     }
 
-    fn expect_lag(&self, rt: &impl Abort, line: Line, wanted: u64) {
-        same_number(rt, self.arbiter.lag(line), wanted);
+    fn expect_step(&mut self, rt: &impl Abort, step: Step) {
+        match step {
+            Step::Taken(line, packet, handed) => {
+                let wanted = handed_kept_beyond((handed, 0, 0));
+                same_outcome(rt, self.take(rt, line, packet), wanted);
+            }
+            Step::Short(line, packet) => {
+                let fault = DecodeError::Short { len: packet.len() };
+                let wanted = Err(Refused::Malformed(fault));
+                same_outcome(rt, self.take(rt, line, packet), wanted);
+            }
+            Step::Lines(a, b) => self.expect_lines(rt, a, b),
+            Step::Lags(a, b) => {
+                same_number(rt, self.arbiter.lag(Line::A), a);
+                same_number(rt, self.arbiter.lag(Line::B), b);
+            }
+        }
+    }
+
+    fn expect_steps(&mut self, rt: &impl Abort, steps: &[Step]) {
+        for step in steps {
+            self.expect_step(rt, *step);
+        }
     }
 }
+
+/// A call of an arbiter with its result, or what can be read of it.
+#[derive(Clone, Copy)]
+enum Step {
+    /// A packet of a line, or an answer, of which this many messages are delivered and none kept.
+    Taken(Option<Line>, &'static [u8], u32),
+    /// Bytes that are too short for a packet.
+    Short(Option<Line>, &'static [u8]),
+    /// The reports of both lines: datagrams, refused ones, front.
+    Lines((u64, u64, u64), (u64, u64, u64)),
+    /// How many messages each line lags.
+    Lags(u64, u64),
+}
+
+// An arbiter goes through the steps, after which its batch has messages 1 to 3.
+fn expect_steps(rt: &impl Abort, alloc: Global, steps: &[Step]) -> Result<(), Fail> {
+    let mut arbitration = Arbitration::new(alloc)?;
+    arbitration.expect_steps(rt, steps);
+    expect_batch(rt, &arbitration.batch, 1, &[b"A", b"B", b"C"]);
+    Ok(())
+}
+
+const HEARTBEAT_4: &[u8] = b"SESSION001\0\0\0\0\0\0\0\x04\0\0";
+
+const TWO_LINES: &[Step] = &[
+    Step::Taken(Some(Line::A), DATA_1_3, 3),
+    Step::Lines((1, 0, 4), (0, 0, 1)),
+    Step::Lags(0, 3),
+    Step::Taken(Some(Line::B), DATA_1_3, 0),
+    Step::Lines((1, 0, 4), (1, 0, 4)),
+    Step::Lags(0, 0),
+];
 
 #[test]
 fn two_lines(rt: HostRuntime) -> Result<(), Fail> {
-    let mut arbitration = Arbitration::new(rt.alloc())?;
-    arbitration.expect_taken(&rt, Some(Line::A), DATA_1_3, (3, 0, 0));
-    arbitration.expect_lines(&rt, (1, 0, 4), (0, 0, 1));
-    arbitration.expect_lag(&rt, Line::A, 0);
-    arbitration.expect_lag(&rt, Line::B, 3);
-    arbitration.expect_taken(&rt, Some(Line::B), DATA_1_3, (0, 0, 0));
-    arbitration.expect_lines(&rt, (1, 0, 4), (1, 0, 4));
-    arbitration.expect_lag(&rt, Line::B, 0);
-    expect_batch(&rt, &arbitration.batch, 1, &[b"A", b"B", b"C"]);
-    Ok(())
+    expect_steps(&rt, rt.alloc(), TWO_LINES)
 }
+
+const ANSWERS: &[Step] = &[
+    Step::Taken(None, DATA_1_3, 3),
+    Step::Lines((0, 0, 1), (0, 0, 1)),
+    Step::Lags(3, 3),
+    Step::Short(Some(Line::A), b"\0"),
+    Step::Lines((0, 1, 1), (0, 0, 1)),
+];
 
 #[test]
 fn answers_are_on_no_line(rt: HostRuntime) -> Result<(), Fail> {
-    let mut arbitration = Arbitration::new(rt.alloc())?;
-    arbitration.expect_taken(&rt, None, DATA_1_3, (3, 0, 0));
-    arbitration.expect_lines(&rt, (0, 0, 1), (0, 0, 1));
-    arbitration.expect_lag(&rt, Line::A, 3);
-    arbitration.expect_lag(&rt, Line::B, 3);
-    let found = arbitration.take(&rt, Some(Line::A), b"\0");
-    let short = Refused::Malformed(DecodeError::Short { len: 1 });
-    same_outcome(&rt, found, Err(short));
-    arbitration.expect_lines(&rt, (0, 1, 1), (0, 0, 1));
-    Ok(())
+    expect_steps(&rt, rt.alloc(), ANSWERS)
 }
 
-/// Want of memory is on no report of a line.
+/// Being out of memory is in no line's report.
 #[test]
 fn a_refused_growth_is_not_reported(rt: HostRuntime) -> Result<(), Fail> {
     let mut arbitration = Arbitration::new(rt.alloc())?;
-    if arbitration.take(&rt, Some(Line::A), DATA_1_3) == Err(Refused::Memory) {
-        arbitration.expect_lines(&rt, (0, 0, 1), (0, 0, 1));
-        arbitration.take(&rt, Some(Line::A), DATA_1_3)?;
-    }
+    arbitration.take_again(&rt)?;
     arbitration.expect_lines(&rt, (1, 0, 4), (0, 0, 1));
     expect_batch(&rt, &arbitration.batch, 1, &[b"A", b"B", b"C"]);
     Ok(())
 }
+
+const NO_NEWS: &[Step] = &[
+    Step::Taken(None, DATA_2_3, 0),
+    Step::Taken(None, HEARTBEAT_4, 0),
+    Step::Taken(None, END_4, 0),
+    Step::Lines((0, 0, 1), (0, 0, 1)),
+];
 
 /// No memory is taken by an answer that brings nothing.
 #[test]
 fn no_growth_of_an_answer_of_nothing_new(rt: HostRuntime) -> Result<(), Fail> {
     let mut arbitration = Arbitration::new(rt.alloc())?;
     arbitration.take(&rt, None, DATA_1_3)?;
-    arbitration.expect_taken(&rt, None, DATA_2_3, (0, 0, 0));
-    let heartbeat = b"SESSION001\0\0\0\0\0\0\0\x04\0\0";
-    arbitration.expect_taken(&rt, None, heartbeat, (0, 0, 0));
-    arbitration.expect_taken(&rt, None, END_4, (0, 0, 0));
-    arbitration.expect_lines(&rt, (0, 0, 1), (0, 0, 1));
+    arbitration.expect_steps(&rt, NO_NEWS);
     Ok(())
 }
+
+const NO_NEWS_OF_LINES: &[Step] = &[
+    Step::Taken(Some(Line::A), DATA_2_3, 0),
+    Step::Taken(Some(Line::B), HEARTBEAT_4, 0),
+    Step::Taken(Some(Line::A), END_4, 0),
+    Step::Short(Some(Line::B), b""),
+    Step::Lines((2, 0, 4), (1, 1, 4)),
+    Step::Lags(0, 0),
+];
 
 /// Nor by datagrams of lines that bring nothing, or are refused.
 #[test]
 fn no_growth_of_lines_of_nothing_new(rt: HostRuntime) -> Result<(), Fail> {
     let mut arbitration = Arbitration::new(rt.alloc())?;
     arbitration.take(&rt, None, DATA_1_3)?;
-    let heartbeat = b"SESSION001\0\0\0\0\0\0\0\x04\0\0";
-    for (line, packet) in [(Line::A, DATA_2_3), (Line::B, heartbeat), (Line::A, END_4)] {
-        arbitration.expect_taken(&rt, Some(line), packet, (0, 0, 0));
-    }
-    let short = Refused::Malformed(DecodeError::Short { len: 0 });
-    same_outcome(&rt, arbitration.take(&rt, Some(Line::B), b""), Err(short));
-    arbitration.expect_lines(&rt, (2, 0, 4), (1, 1, 4));
-    arbitration.expect_lag(&rt, Line::B, 0);
+    arbitration.expect_steps(&rt, NO_NEWS_OF_LINES);
     Ok(())
 }

@@ -7,7 +7,7 @@ pub fn same_number(rt: &impl Abort, found: u64, wanted: u64) {
 }
 
 pub fn same_truth(rt: &impl Abort, found: bool, wanted: bool) {
-    assert_eq!(rt; found, wanted);
+    assert!(rt; found == wanted, "not {wanted}");
 }
 
 pub fn same_bytes(rt: &impl Abort, found: &[u8], wanted: &[u8]) {
@@ -15,5 +15,5 @@ pub fn same_bytes(rt: &impl Abort, found: &[u8], wanted: &[u8]) {
 }
 
 pub fn same_message(rt: &impl Abort, found: Option<&[u8]>, wanted: Option<&[u8]>) {
-    assert_eq!(rt; found, wanted);
+    assert!(rt; found == wanted, "another message, or none");
 }

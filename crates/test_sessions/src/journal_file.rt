@@ -3,7 +3,7 @@
 
 use crate::comparisons::{same_bytes, same_message, same_number};
 use mold_devices::{FromRead, IntoWrite, MemorySink, MemorySource, Sink, Source};
-use mold_session::{FileError, Journal};
+use mold_session::{AppendError, FileError, Journal};
 use mold_wire::Session;
 use std::alloc::Global;
 use std::io;
@@ -32,20 +32,25 @@ const BAD_FLAG: [u8; 33] =
 pub const FIRST: [u8; 24] = *b"MOLDJNL1SESSION001\x00\x02AB\x00\x00";
 
 fn same_saved(rt: &impl Abort, found: Result<(), FileError>, wanted: Result<(), FileError>) {
-    assert_eq!(rt; found, wanted);
+    assert!(rt; found == wanted, "another outcome");
 }
 
 /// How many messages a journal has that was loaded, and whether it is closed.
 type Loaded = Result<(u64, bool), FileError>;
 
 fn same_loaded(rt: &impl Abort, found: Loaded, wanted: Loaded) {
-    assert_eq!(rt; found, wanted);
+    assert!(rt; found == wanted, "another outcome");
+}
+
+fn append_two(journal: &mut Journal, one: &[u8], other: &[u8]) -> Result<(), AppendError> {
+    journal.append(one)?;
+    journal.append(other)?;
+    Ok(())
 }
 
 fn two_messages(alloc: Global) -> Result<Journal, Fail> {
     let mut journal = Journal::new(alloc, SESSION, 42);
-    journal.append(b"AB")?;
-    journal.append(b"")?;
+    append_two(&mut journal, b"AB", b"")?;
     Ok(journal)
 }
 
@@ -156,10 +161,20 @@ fn load<S: Source>(alloc: Global, max_message: u16, source: &mut S) -> Loaded {
     Ok((journal.next() - 1, journal.is_closed()))
 }
 
-/// The bytes are loaded at once and byte by byte, which answers the same.
+/// The bytes are loaded at once and byte by byte, with the same result.
 fn expect_loaded(rt: &impl Abort, alloc: Global, max_message: u16, bytes: &[u8], wanted: Loaded) {
     let mut source = MemorySource::new(bytes);
     same_loaded(rt, load(alloc, max_message, &mut source), wanted);
+    expect_loaded_by_bytes(rt, alloc, max_message, bytes, wanted);
+}
+
+fn expect_loaded_by_bytes(
+    rt: &impl Abort,
+    alloc: Global,
+    max_message: u16,
+    bytes: &[u8],
+    wanted: Loaded,
+) {
     let mut source = MemorySource::new(bytes);
     source.at_most(1);
     same_loaded(rt, load(alloc, max_message, &mut source), wanted);
@@ -245,7 +260,7 @@ fn a_failed_read_is_told(rt: HostRuntime) {
 }
 
 pub fn same_refusal(rt: &impl Abort, found: FileError, wanted: FileError) {
-    assert_eq!(rt; found, wanted);
+    assert!(rt; found == wanted, "another refusal");
 }
 
 /// The journal of `AB` and an empty message.
@@ -257,15 +272,18 @@ fn expect_two(rt: &impl Abort, journal: &Journal, closed: bool) {
     assert!(rt; journal.is_closed() == closed);
 }
 
-/// Loads the file of two messages, and once more from a new source where memory was refused.
-fn load_again(rt: &impl Abort, alloc: Global, file: &[u8], closed: bool) -> Result<(), Fail> {
-    match Journal::load(alloc, 42, &mut MemorySource::new(file)) {
-        Ok(journal) => expect_two(rt, &journal, closed),
-        Err(error) => {
-            same_refusal(rt, error, FileError::Memory);
-            let journal = Journal::load(alloc, 42, &mut MemorySource::new(file))?;
-            expect_two(rt, &journal, closed);
-        }
+/// Loads the file of two messages.
+fn load_two(rt: &impl Abort, alloc: Global, file: &[u8], closed: bool) -> Result<(), FileError> {
+    let journal = Journal::load(alloc, 42, &mut MemorySource::new(file))?;
+    expect_two(rt, &journal, closed);
+    Ok(())
+}
+
+/// The same, once more from a new source if memory is refused.
+fn load_again(rt: &impl Abort, alloc: Global, file: &[u8], closed: bool) -> Result<(), FileError> {
+    if let Err(error) = load_two(rt, alloc, file, closed) {
+        same_refusal(rt, error, FileError::Memory);
+        load_two(rt, alloc, file, closed)?;
     }
     Ok(())
 }
@@ -273,13 +291,13 @@ fn load_again(rt: &impl Abort, alloc: Global, file: &[u8], closed: bool) -> Resu
 #[test]
 fn a_refused_growth_loads_nothing(rt: HostRuntime) -> Result<(), Fail> {
     load_again(&rt, rt.alloc(), &FIRST, false)?;
-    load_again(&rt, rt.alloc(), &CLOSED, true)
+    load_again(&rt, rt.alloc(), &CLOSED, true)?;
+    Ok(())
 }
 
 fn long_messages(alloc: Global) -> Result<Journal, Fail> {
     let mut journal = Journal::new(alloc, SESSION, 10000);
-    journal.append(&[b'x'; 10000])?;
-    journal.append(b"AB")?;
+    append_two(&mut journal, &[b'x'; 10000], b"AB")?;
     Ok(journal)
 }
 
@@ -289,10 +307,18 @@ fn saved(rt: &impl Abort, alloc: Global, journal: &Journal) -> MemorySink {
     sink
 }
 
-fn loaded_again(alloc: Global, bytes: &[u8]) -> Result<Journal, FileError> {
-    let mut source = MemorySource::new(bytes);
+/// The journal is loaded from its file, by reads of at most 100 bytes.
+fn expect_loaded_again(
+    rt: &impl Abort,
+    alloc: Global,
+    file: &[u8],
+    journal: &Journal,
+) -> Result<(), FileError> {
+    let mut source = MemorySource::new(file);
     source.at_most(100);
-    Journal::load(alloc, 10000, &mut source)
+    let again = Journal::load(alloc, 10000, &mut source)?;
+    expect_same(rt, &again, journal);
+    Ok(())
 }
 
 fn expect_same(rt: &impl Abort, again: &Journal, journal: &Journal) {
@@ -307,8 +333,7 @@ fn expect_same(rt: &impl Abort, again: &Journal, journal: &Journal) {
 fn long_messages_are_loaded(rt: HostRuntime) -> Result<(), Fail> {
     let journal = long_messages(rt.alloc())?;
     let sink = saved(&rt, rt.alloc(), &journal);
-    let again = loaded_again(rt.alloc(), sink.bytes())?;
-    expect_same(&rt, &again, &journal);
+    expect_loaded_again(&rt, rt.alloc(), sink.bytes(), &journal)?;
     Ok(())
 }
 

@@ -9,7 +9,7 @@ use std::process::Abort;
 use std::test::Fail;
 
 fn same_turn(rt: &impl Abort, found: Result<bool, FileError>, wanted: Result<bool, FileError>) {
-    assert_eq!(rt; found, wanted);
+    assert!(rt; found == wanted, "another turn");
 }
 
 /// The messages are `AB` and one without bytes, and the file says of its journal whether it is closed.
@@ -21,15 +21,19 @@ fn expect_two(
 ) -> Result<(), FileError> {
     let mut reader = JournalReader::new(alloc, source)?;
     same_truth(rt, reader.head().closed, closed);
-    same_bytes(rt, reader.message(), b"");
+    expect_read(rt, &reader, b"", 0);
     same_turn(rt, reader.advance(source), Ok(true));
-    same_bytes(rt, reader.message(), b"AB");
-    same_number(rt, reader.count(), 1);
+    expect_read(rt, &reader, b"AB", 1);
     same_turn(rt, reader.advance(source), Ok(true));
-    same_bytes(rt, reader.message(), b"");
-    same_number(rt, reader.count(), 2);
+    expect_read(rt, &reader, b"", 2);
     same_turn(rt, reader.advance(source), Ok(false));
     Ok(())
+}
+
+/// The message that was read last, and how many were read.
+fn expect_read(rt: &impl Abort, reader: &JournalReader, message: &[u8], count: u64) {
+    same_bytes(rt, reader.message(), message);
+    same_number(rt, reader.count(), count);
 }
 
 #[test]
@@ -69,8 +73,12 @@ fn a_cut_file_is_refused_where_it_is_cut(rt: HostRuntime) -> Result<(), Fail> {
 fn read_two(alloc: Global, file: &[u8]) -> Result<(), FileError> {
     let mut source = MemorySource::new(file);
     let mut reader = JournalReader::new(alloc, &mut source)?;
+    advance_thrice(&mut reader, &mut source)
+}
+
+fn advance_thrice(reader: &mut JournalReader, source: &mut MemorySource) -> Result<(), FileError> {
     for _ in 0..3 {
-        reader.advance(&mut source)?;
+        reader.advance(source)?;
     }
     Ok(())
 }

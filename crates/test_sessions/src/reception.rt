@@ -1,6 +1,6 @@
 //! Packets of one session, and a receiver beside its batch: what tests of receivers and arbiters share.
 
-use crate::comparisons::{same_message, same_number};
+use crate::comparisons::{same_message, same_number, same_truth};
 use mold_receiver::{Batch, Receiver, Refused, Taken};
 use mold_wire::Session;
 use std::alloc::Global;
@@ -28,7 +28,7 @@ pub const END_3: &[u8] = b"SESSION001\0\0\0\0\0\0\0\x03\xff\xff";
 pub const END_4: &[u8] = b"SESSION001\0\0\0\0\0\0\0\x04\xff\xff";
 
 pub fn same_maybe(rt: &impl Abort, found: Option<u64>, wanted: Option<u64>) {
-    assert_eq!(rt; found, wanted);
+    assert!(rt; found == wanted, "another number, or none");
 }
 
 pub fn same_outcome(
@@ -36,7 +36,7 @@ pub fn same_outcome(
     found: Result<Taken, Refused>,
     wanted: Result<Taken, Refused>,
 ) {
-    assert_eq!(rt; found, wanted);
+    assert!(rt; found == wanted, "another outcome");
 }
 
 pub fn handed_kept_beyond(counts: (u32, u32, u32)) -> Result<Taken, Refused> {
@@ -77,6 +77,23 @@ pub struct Reception {
     pub batch: Batch,
 }
 
+/// A call of a receiver with its result, or what can be read of the receiver and its batch.
+#[derive(Clone, Copy)]
+pub enum Step {
+    /// A packet is taken: how many of its messages are delivered, stored and beyond the window.
+    Taken(&'static [u8], (u32, u32, u32)),
+    /// A packet is refused, and nothing changes.
+    Refused(&'static [u8], Refused),
+    /// The next message, the greatest number that is known, and how many messages are stored.
+    Numbers(u64, u64, u32),
+    /// The request for what is missing: its first number and its count.
+    Wanted(Option<(u64, u16)>),
+    /// The batch: its first number and its messages.
+    Batch(u64, &'static [&'static [u8]]),
+    /// The end that is known, and whether the receiver has all messages before it.
+    Ended(Option<u64>, bool),
+}
+
 /// What a refusal leaves: `next`, `known`, how many are stored, the batch's length and first number.
 pub type State = (u64, u64, u32, usize, Option<u64>);
 
@@ -104,7 +121,7 @@ impl Reception {
     }
 
     pub fn expect_state(&self, rt: &impl Abort, wanted: State) {
-        assert_eq!(rt; self.state(), wanted);
+        assert!(rt; self.state() == wanted, "another state");
     }
 
     pub fn take(&mut self, rt: &impl Abort, packet: &[u8]) -> Result<Taken, Refused> {
@@ -130,7 +147,7 @@ impl Reception {
         packet: &[u8],
         counts: (u32, u32, u32),
         state: State,
-    ) -> Result<(), Fail> {
+    ) -> Result<(), Refused> {
         let found = self.take(rt, packet);
         if found != Err(Refused::Memory) {
             same_outcome(rt, found, handed_kept_beyond(counts));
@@ -142,33 +159,53 @@ impl Reception {
         Ok(())
     }
 
-    pub fn expect_next(&self, rt: &impl Abort, wanted: u64) {
-        same_number(rt, self.receiver.next(), wanted);
-    }
-
-    pub fn expect_known(&self, rt: &impl Abort, wanted: u64) {
-        same_number(rt, self.receiver.known(), wanted);
-    }
-
-    pub fn expect_stored(&self, rt: &impl Abort, wanted: u32) {
-        same_number(rt, u64::from(self.receiver.stored()), u64::from(wanted));
-    }
-
     pub fn expect_numbers(&self, rt: &impl Abort, next: u64, known: u64, stored: u32) {
-        self.expect_next(rt, next);
-        self.expect_known(rt, known);
-        self.expect_stored(rt, stored);
+        same_number(rt, self.receiver.next(), next);
+        same_number(rt, self.receiver.known(), known);
+        same_number(rt, u64::from(self.receiver.stored()), u64::from(stored));
     }
 
-    pub fn expect_wanted(&self, rt: &impl Abort, wanted: Option<(u64, u16)>) {
-        let request = self
-            .receiver
-            .wanted()
-            .map(|request| (request.sequence, request.count));
-        assert_eq!(rt; request, wanted);
+    pub fn expect_ended(&self, rt: &impl Abort, end: Option<u64>, finished: bool) {
+        same_maybe(rt, self.receiver.ended(), end);
+        same_truth(rt, self.receiver.finished(), finished);
     }
 
-    pub fn expect_batch<'w, 'm>(&self, rt: &impl Abort, first: u64, messages: &'w [&'m [u8]]) {
-        expect_batch(rt, &self.batch, first, messages);
+    fn expect_step(&mut self, rt: &impl Abort, step: Step) {
+        match step {
+            Step::Taken(packet, counts) => self.expect_taken(rt, packet, counts),
+            Step::Refused(packet, refused) => self.expect_refused(rt, packet, refused),
+            Step::Numbers(next, known, stored) => self.expect_numbers(rt, next, known, stored),
+            Step::Wanted(request) => self.expect_wanted(rt, request),
+            Step::Batch(first, messages) => expect_batch(rt, &self.batch, first, messages),
+            Step::Ended(end, finished) => self.expect_ended(rt, end, finished),
+        }
     }
+
+    pub fn expect_steps(&mut self, rt: &impl Abort, steps: &[Step]) {
+        for step in steps {
+            self.expect_step(rt, *step);
+        }
+    }
+
+    fn expect_wanted(&self, rt: &impl Abort, wanted: Option<(u64, u16)>) {
+        let Some(request) = self.receiver.wanted() else {
+            assert!(rt; wanted.is_none(), "no request");
+            return;
+        };
+        let found = Some((request.sequence, request.count));
+        assert!(rt; found == wanted, "another request");
+    }
+}
+
+/// A receiver at this message with this window goes through the steps.
+pub fn expect_steps(
+    rt: &impl Abort,
+    alloc: Global,
+    next: u64,
+    window: u32,
+    steps: &[Step],
+) -> Result<(), Fail> {
+    let mut reception = Reception::new(alloc, next, window)?;
+    reception.expect_steps(rt, steps);
+    Ok(())
 }

@@ -1,23 +1,29 @@
 //! Each public call on its happy path, with the line that it writes.
 
+use crate::comparisons::same_bytes;
 use mold_receiver::Refused;
 use mold_refusals::{push_answer_refusal, push_append_refusal};
 use mold_session::{AnswerError, AppendError};
 use mold_text::{Word, push_refusal};
 use mold_wire::DecodeError;
+use std::alloc::AllocError;
 use std::test::Fail;
 
 #[test]
 fn refusals_are_words_behind_others(rt: HostRuntime) -> Result<(), Fail> {
     let mut out = Vec::new(rt.alloc());
-    let line = [Word::Text(b"refused"), Word::Text(b"line"), Word::Number(2)];
-    push_append_refusal(&mut out, &line, AppendError::TooLong { len: 43 })?;
-    let refused = [Word::Text(b"refused")];
-    push_answer_refusal(&mut out, &refused, AnswerError::Ahead { next: 6 })?;
-    let fault = DecodeError::Short { len: 1 };
-    push_refusal(&mut out, &[Word::Text(b"noise")], Refused::Malformed(fault))?;
-    push_refusal(&mut out, &[], Refused::Conflict { number: 3 })?;
+    push_refusals(&mut out)?;
     let text = b"refused line 2 TooLong 43\nrefused Ahead 6\nnoise Malformed Short 1\nConflict 3\n";
-    assert_eq!(rt; out.as_slice(), text.as_slice());
+    same_bytes(&rt, out.as_slice(), text);
     Ok(())
+}
+
+fn push_refusals(out: &mut Vec<u8>) -> Result<(), AllocError> {
+    let line = [Word::Text(b"refused"), Word::Text(b"line"), Word::Number(2)];
+    push_append_refusal(out, &line, AppendError::TooLong { len: 43 })?;
+    let refused = [Word::Text(b"refused")];
+    push_answer_refusal(out, &refused, AnswerError::Ahead { next: 6 })?;
+    let fault = DecodeError::Short { len: 1 };
+    push_refusal(out, &[Word::Text(b"noise")], Refused::Malformed(fault))?;
+    push_refusal(out, &[], Refused::Conflict { number: 3 })
 }

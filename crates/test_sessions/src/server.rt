@@ -19,10 +19,15 @@ const TWO_AND_THREE: &[u8] = b"SESSION001\0\0\0\0\0\0\0\x02\0\x02\
 // Five messages, the k-th of which is twenty bytes of the value k.
 fn journal_of_five(alloc: Global) -> Result<Journal, AppendError> {
     let mut journal = Journal::new(alloc, SESSION, 42);
+    append_five(&mut journal)?;
+    Ok(journal)
+}
+
+fn append_five(journal: &mut Journal) -> Result<(), AppendError> {
     for byte in 1..6u8 {
         journal.append(&[byte; 20])?;
     }
-    Ok(journal)
+    Ok(())
 }
 
 // A request for message 5, and 20 bytes behind it.
@@ -41,22 +46,26 @@ fn same_session(rt: &impl Abort, found: Session) {
     assert!(rt; found == SESSION);
 }
 
-fn same_refusal(rt: &impl Abort, found: AnswerError, wanted: AnswerError) {
-    assert_eq!(rt; found, wanted);
+fn same_refusal(rt: &impl Abort, found: Option<AnswerError>, wanted: AnswerError) {
+    assert!(rt; found == Some(wanted), "another refusal, or none");
+}
+
+// How many messages a packet has.
+fn count_of(body: &Body<'_>) -> u16 {
+    match body {
+        Body::Data(blocks) => blocks.len(),
+        Body::Heartbeat | Body::End => 0,
+    }
 }
 
 fn expect_data(rt: &impl Abort, bytes: &[u8], first: u64, count: u16) {
-    match decode(bytes) {
-        Ok(packet) => {
-            same_session(rt, packet.session);
-            same_number(rt, packet.sequence, first);
-            match packet.body {
-                Body::Data(blocks) => same_number(rt, u64::from(blocks.len()), u64::from(count)),
-                _ => assert!(rt; false, "no data packet"),
-            }
-        }
-        Err(_) => assert!(rt; false, "no packet"),
-    }
+    let Ok(packet) = decode(bytes) else {
+        assert!(rt; false, "no packet");
+        return;
+    };
+    same_session(rt, packet.session);
+    same_number(rt, packet.sequence, first);
+    same_number(rt, u64::from(count_of(&packet.body)), u64::from(count));
 }
 
 fn expect_wanted(rt: &impl Abort, bytes: &[u8], wanted: Option<(u64, u16)>) {
@@ -86,9 +95,13 @@ impl Service {
         self.server.plan(&self.journal, asked)
     }
 
-    fn expect_answer(&mut self, rt: &impl Abort, asked: &[u8], want: &[u8]) {
+    fn answer(&mut self, rt: &impl Abort, asked: &[u8]) -> Result<&[u8], AnswerError> {
         assert!(rt; self.journal.max_message() <= self.server.max_message());
-        match self.server.answer(&self.journal, asked) {
+        self.server.answer(&self.journal, asked)
+    }
+
+    fn expect_answer(&mut self, rt: &impl Abort, asked: &[u8], want: &[u8]) {
+        match self.answer(rt, asked) {
             Ok(bytes) => same_bytes(rt, bytes, want),
             Err(_) => assert!(rt; false, "refused"),
         }
@@ -96,8 +109,7 @@ impl Service {
 
     // The answer is a datagram of one message.
     fn expect_one(&mut self, rt: &impl Abort, asked: &[u8], len: u64, first: u64) {
-        assert!(rt; self.journal.max_message() <= self.server.max_message());
-        match self.server.answer(&self.journal, asked) {
+        match self.answer(rt, asked) {
             Ok(bytes) => {
                 same_number(rt, bytes.len() as u64, len);
                 expect_data(rt, bytes, first, 1);
@@ -107,18 +119,11 @@ impl Service {
     }
 
     fn expect_refused_answer(&mut self, rt: &impl Abort, asked: &[u8], want: AnswerError) {
-        assert!(rt; self.journal.max_message() <= self.server.max_message());
-        match self.server.answer(&self.journal, asked) {
-            Ok(_) => assert!(rt; false, "answered"),
-            Err(why) => same_refusal(rt, why, want),
-        }
+        same_refusal(rt, self.answer(rt, asked).err(), want);
     }
 
     fn expect_refused_plan(&mut self, rt: &impl Abort, asked: &[u8], want: AnswerError) {
-        match self.plan(rt, asked) {
-            Ok(_) => assert!(rt; false, "planned"),
-            Err(why) => same_refusal(rt, why, want),
-        }
+        same_refusal(rt, self.plan(rt, asked).err(), want);
     }
 
     // The bytes are refused by their length, by `answer` and by `plan`.
@@ -190,10 +195,8 @@ fn expect_no_server(
     burst: u16,
     want: ServerError,
 ) {
-    match Server::new(alloc, limit, max_message, burst) {
-        Ok(_) => assert!(rt; false, "made"),
-        Err(why) => assert_eq!(rt; why, want),
-    }
+    let refusal = Server::new(alloc, limit, max_message, burst).err();
+    assert!(rt; refusal == Some(want), "another refusal, or none");
 }
 
 fn expect_server(

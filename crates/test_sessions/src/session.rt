@@ -11,11 +11,11 @@ use std::test::Fail;
 const SESSION: Session = Session(*b"SESSION001");
 
 fn same_added(rt: &impl Abort, found: Result<u64, AppendError>, wanted: Result<u64, AppendError>) {
-    assert_eq!(rt; found, wanted);
+    assert!(rt; found == wanted, "another outcome");
 }
 
 fn same_closed(rt: &impl Abort, found: Result<(), Unsent>, wanted: Result<(), Unsent>) {
-    assert_eq!(rt; found, wanted);
+    assert!(rt; found == wanted, "another outcome");
 }
 
 fn expect_bytes(rt: &impl Abort, lent: Option<&[u8]>, want: &[u8]) {
@@ -68,7 +68,7 @@ fn append_again(
     journal: &mut Journal,
     message: &[u8],
     number: u64,
-) -> Result<(), Fail> {
+) -> Result<(), AppendError> {
     let answer = journal.append(message);
     if answer != Err(AppendError::Memory) {
         same_added(rt, answer, Ok(number));
@@ -83,12 +83,17 @@ fn append_again(
 #[test]
 fn a_refused_growth_appends_nothing(rt: HostRuntime) -> Result<(), Fail> {
     let mut journal = Journal::new(rt.alloc(), SESSION, 42);
-    append_again(&rt, &mut journal, b"AB", 1)?;
-    append_again(&rt, &mut journal, &[3; 42], 2)?;
-    append_again(&rt, &mut journal, b"", 3)?;
-    expect_bytes(&rt, journal.get(1), b"AB");
-    expect_bytes(&rt, journal.get(2), &[3; 42]);
-    expect_bytes(&rt, journal.get(3), b"");
+    append_three(&rt, &mut journal)?;
+    Ok(())
+}
+
+fn append_three(rt: &impl Abort, journal: &mut Journal) -> Result<(), AppendError> {
+    append_again(rt, journal, b"AB", 1)?;
+    append_again(rt, journal, &[3; 42], 2)?;
+    append_again(rt, journal, b"", 3)?;
+    expect_bytes(rt, journal.get(1), b"AB");
+    expect_bytes(rt, journal.get(2), &[3; 42]);
+    expect_bytes(rt, journal.get(3), b"");
     Ok(())
 }
 
@@ -119,10 +124,8 @@ fn a_refused_growth_of_a_thousand_appends(rt: HostRuntime) -> Result<(), Fail> {
 }
 
 fn expect_no_publisher(rt: &impl Abort, alloc: Global, limit: usize) {
-    match Publisher::new(alloc, SESSION, limit) {
-        Ok(_) => assert!(rt; false, "made"),
-        Err(why) => assert_eq!(rt; why, PublisherError::Limit),
-    }
+    let refusal = Publisher::new(alloc, SESSION, limit).err();
+    assert!(rt; refusal == Some(PublisherError::Limit), "limit {limit}");
 }
 
 fn expect_longest(rt: &impl Abort, alloc: Global, limit: usize, longest: u16) -> Result<(), Fail> {
@@ -167,9 +170,14 @@ fn expect_end(rt: &impl Abort, publisher: &mut Publisher) {
 /// A publisher with a limit of 64 bytes, which published messages of 20 bytes and of so many as `second`.
 fn with_two(alloc: Global, second: &[u8]) -> Result<Publisher, Fail> {
     let mut publisher = Publisher::new(alloc, SESSION, 64)?;
+    publish_two(&mut publisher, second)?;
+    Ok(publisher)
+}
+
+fn publish_two(publisher: &mut Publisher, second: &[u8]) -> Result<(), AppendError> {
     publisher.publish(&[1; 20])?;
     publisher.publish(second)?;
-    Ok(publisher)
+    Ok(())
 }
 
 /// `publisher-limit-64`: messages of 20 and 20 bytes go in one datagram of exactly 64.
@@ -215,7 +223,7 @@ fn publish_again(
     publisher: &mut Publisher,
     message: &[u8],
     number: u64,
-) -> Result<(), Fail> {
+) -> Result<(), AppendError> {
     let (next, unsent) = (publisher.journal().next(), publisher.unsent());
     let answer = publisher.publish(message);
     if answer != Err(AppendError::Memory) {
@@ -232,14 +240,19 @@ fn publish_again(
 #[test]
 fn a_refused_growth_publishes_nothing(rt: HostRuntime) -> Result<(), Fail> {
     let mut publisher = Publisher::new(rt.alloc(), SESSION, 64)?;
-    publish_again(&rt, &mut publisher, &[1; 20], 1)?;
-    publish_again(&rt, &mut publisher, &[2; 20], 2)?;
-    expect_bytes(&rt, publisher.datagram(), FULL);
-    publish_again(&rt, &mut publisher, &[3; 20], 3)?;
-    publish_again(&rt, &mut publisher, &[4; 21], 4)?;
-    same_number(&rt, publisher.unsent(), 2);
-    expect_datagram(&rt, &mut publisher, 42);
-    expect_datagram(&rt, &mut publisher, 43);
+    publish_four(&rt, &mut publisher)?;
+    Ok(())
+}
+
+fn publish_four(rt: &impl Abort, publisher: &mut Publisher) -> Result<(), AppendError> {
+    publish_again(rt, publisher, &[1; 20], 1)?;
+    publish_again(rt, publisher, &[2; 20], 2)?;
+    expect_bytes(rt, publisher.datagram(), FULL);
+    publish_again(rt, publisher, &[3; 20], 3)?;
+    publish_again(rt, publisher, &[4; 21], 4)?;
+    same_number(rt, publisher.unsent(), 2);
+    expect_datagram(rt, publisher, 42);
+    expect_datagram(rt, publisher, 43);
     Ok(())
 }
 
