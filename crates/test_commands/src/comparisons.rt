@@ -16,7 +16,7 @@ pub fn same_outcome(
     wanted: Result<u8, CommandFault>,
     at: u64,
 ) {
-    assert_eq!(rt; found, wanted, "at {at}");
+    assert!(rt; found == wanted, "another outcome at {at}");
 }
 
 /// The number is this.

@@ -2,8 +2,8 @@
 
 ghost use Rattle.std.specs.Prelude.{◌<◌};
 
-use crate::comparisons::{begins_with, same_bytes, same_outcome};
-use crate::running::want_of_memory;
+use crate::comparisons::{same_bytes, same_outcome};
+use crate::running::expect_whole_or_prefix;
 use mold_commands::dump_file;
 use mold_devices::{CommandFault, MemorySink, MemorySource};
 use std::alloc::Global;
@@ -156,26 +156,29 @@ fn dump(alloc: Global, file: &[u8], sink: &mut MemorySink) -> Result<u8, Command
     dump_file(alloc, &mut MemorySource::new(file), 1, ALL, sink)
 }
 
-// Dumps the file, and once more where memory was refused: a beginning was written then.
+// Dumps the file. If memory is refused, a prefix of the text is written.
+fn expect_once(
+    rt: &(impl Abort + AllocGlobal),
+    file: &[u8],
+    text: &[u8],
+    status: u8,
+) -> Result<u8, CommandFault> {
+    let mut sink = MemorySink::new(rt.alloc());
+    let outcome = dump(rt.alloc(), file, &mut sink);
+    expect_whole_or_prefix(rt, outcome, status, &sink, text);
+    outcome
+}
+
+// Dumps the file, once more if memory is refused.
 fn expect_again(
     rt: &(impl Abort + AllocGlobal),
     file: &[u8],
     text: &[u8],
     status: u8,
 ) -> Result<(), Fail> {
-    let mut sink = MemorySink::new(rt.alloc());
-    let outcome = dump(rt.alloc(), file, &mut sink);
-    if outcome.is_ok() {
-        same_outcome(rt, outcome, Ok(status), 1);
-        same_bytes(rt, sink.bytes(), text, 1);
-        return Ok(());
+    if expect_once(rt, file, text, status).is_err() {
+        expect_once(rt, file, text, status)?;
     }
-    same_outcome(rt, outcome, Err(want_of_memory(&sink)), 1);
-    begins_with(rt, text, sink.bytes(), 1);
-    let mut sink = MemorySink::new(rt.alloc());
-    let again = dump(rt.alloc(), file, &mut sink)?;
-    same_outcome(rt, Ok(again), Ok(status), 2);
-    same_bytes(rt, sink.bytes(), text, 2);
     Ok(())
 }
 

@@ -2,7 +2,7 @@
 
 ghost use Rattle.mold_commands.specs.Command.{IsStreamed};
 
-use crate::running::{expect_again, expect_done, expect_failed_read, expect_failed_write};
+use crate::running::{expect_again, expect_done, expect_failed_reads, expect_failed_writes};
 use mold_words::Order;
 use std::process::Abort;
 use std::test::Fail;
@@ -76,16 +76,12 @@ fn the_first_refused_line_is_told(rt: HostRuntime) {
 #[test]
 fn each_read_that_fails_leaves_nothing(rt: HostRuntime) {
     // Each of the 136 bytes is a read, and so is the end.
-    for call in 1..=137 {
-        expect_failed_read(&rt, &order(), TWO_MISSING, b"", call);
-    }
+    expect_failed_reads(&rt, &order(), TWO_MISSING, b"", 137);
 }
 
 #[test]
 fn each_write_that_fails_leaves_a_beginning(rt: HostRuntime) {
-    for call in 1..=53 {
-        expect_failed_write(&rt, &order(), TWO_MISSING, TWO_MISSING_TEXT, call);
-    }
+    expect_failed_writes(&rt, &order(), TWO_MISSING, TWO_MISSING_TEXT, 53);
 }
 
 #[test]

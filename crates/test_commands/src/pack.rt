@@ -4,7 +4,7 @@ ghost use Rattle.std.specs.Prelude.{IfOk};
 ghost use Rattle.mold_commands.specs.Command.{IsStreamed};
 
 use crate::running::{
-    expect_again, expect_done, expect_failed_read, expect_failed_write, expect_second_read_fails,
+    expect_again, expect_done, expect_failed_reads, expect_failed_writes, expect_second_read_fails,
 };
 use mold_words::{Order, PackOrder, read_words};
 use std::alloc::Global;
@@ -114,16 +114,12 @@ fn a_packet_is_printed_once_the_publisher_is_full(rt: HostRuntime) {
 #[test]
 fn each_read_that_fails_leaves_a_beginning_of_the_packets(rt: HostRuntime) {
     // Each of the 212 bytes is a read; the refused line ends the command before it reads on.
-    for call in 1..=212 {
-        expect_failed_read(&rt, &pack_64(), FOUR, PACKED_OF_FOUR, call);
-    }
+    expect_failed_reads(&rt, &pack_64(), FOUR, PACKED_OF_FOUR, 212);
 }
 
 #[test]
 fn each_write_that_fails_leaves_a_beginning_of_the_packets(rt: HostRuntime) {
-    for call in 1..=94 {
-        expect_failed_write(&rt, &pack_64(), b"4142\n\n", TWO_AND_END, call);
-    }
+    expect_failed_writes(&rt, &pack_64(), b"4142\n\n", TWO_AND_END, 94);
 }
 
 #[test]

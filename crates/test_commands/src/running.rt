@@ -45,8 +45,8 @@ pub fn expect_done(
     expect_at_most(rt, order, input, 1, text, status);
 }
 
-/// The read of this number, of one byte, fails, and what was written is a beginning of the text.
-pub fn expect_failed_read(
+// The read of this number, of one byte, fails, and what was written is a prefix of the text.
+fn expect_failed_read(
     rt: &(impl Abort + AllocGlobal),
     order: &Order,
     input: &[u8],
@@ -63,6 +63,21 @@ pub fn expect_failed_read(
     same_outcome(rt, outcome, Err(CommandFault::Read), call);
     begins_with(rt, text, sink.bytes(), call);
     same_number(rt, source.failures(), 1, call);
+}
+
+/// Each of the first `calls` reads fails in turn.
+pub fn expect_failed_reads(
+    rt: &(impl Abort + AllocGlobal),
+    order: &Order,
+    input: &[u8],
+    text: &[u8],
+    calls: u64,
+)
+    requires { IsStreamed order.now }
+{
+    for call in 1..=calls {
+        expect_failed_read(rt, order, input, text, call);
+    }
 }
 
 /// The second read fails, after so many bytes, and this was written.
@@ -85,8 +100,8 @@ pub fn expect_second_read_fails(
     same_bytes(rt, sink.bytes(), text, 2);
 }
 
-/// The write of this number, of one byte, fails, and what was written is a beginning of the text.
-pub fn expect_failed_write(
+// The write of this number, of one byte, fails, and what was written is a prefix of the text.
+fn expect_failed_write(
     rt: &(impl Abort + AllocGlobal),
     order: &Order,
     input: &[u8],
@@ -106,8 +121,22 @@ pub fn expect_failed_write(
     same_number(rt, sink.failures(), 1, call);
 }
 
-/// Does what the order says, and once more where memory was refused: a beginning was written then, and what failed
-/// was the sink, by a growth of its own, or the command.
+/// Each of the first `calls` writes fails in turn.
+pub fn expect_failed_writes(
+    rt: &(impl Abort + AllocGlobal),
+    order: &Order,
+    input: &[u8],
+    text: &[u8],
+    calls: u64,
+)
+    requires { IsStreamed order.now }
+{
+    for call in 1..=calls {
+        expect_failed_write(rt, order, input, text, call);
+    }
+}
+
+/// Does what the order says, once more if memory is refused.
 pub fn expect_again(
     rt: &(impl Abort + AllocGlobal),
     order: &Order,
@@ -117,24 +146,48 @@ pub fn expect_again(
 ) -> Result<(), Fail>
     requires { IsStreamed order.now }
 {
-    let mut sink = MemorySink::new(rt.alloc());
-    let outcome = run_command(rt.alloc(), order, &mut MemorySource::new(input), &mut sink);
-    if outcome.is_ok() {
-        same_outcome(rt, outcome, Ok(status), 1);
-        same_bytes(rt, sink.bytes(), text, 1);
-        return Ok(());
+    if expect_once(rt, order, input, text, status).is_err() {
+        expect_once(rt, order, input, text, status)?;
     }
-    same_outcome(rt, outcome, Err(want_of_memory(&sink)), 1);
-    begins_with(rt, text, sink.bytes(), 1);
-    let mut sink = MemorySink::new(rt.alloc());
-    let again = run_command(rt.alloc(), order, &mut MemorySource::new(input), &mut sink)?;
-    same_outcome(rt, Ok(again), Ok(status), 2);
-    same_bytes(rt, sink.bytes(), text, 2);
     Ok(())
 }
 
-/// The fault that a refused growth is: of the sink, where that failed.
-pub fn want_of_memory(sink: &MemorySink) -> CommandFault {
+// Does what the order says. If memory is refused, a prefix of the text is written.
+fn expect_once(
+    rt: &(impl Abort + AllocGlobal),
+    order: &Order,
+    input: &[u8],
+    text: &[u8],
+    status: u8,
+) -> Result<u8, CommandFault>
+    requires { IsStreamed order.now }
+{
+    let mut source = MemorySource::new(input);
+    let mut sink = MemorySink::new(rt.alloc());
+    let outcome = run_command(rt.alloc(), order, &mut source, &mut sink);
+    expect_whole_or_prefix(rt, outcome, status, &sink, text);
+    outcome
+}
+
+/// All of the text was written, or a prefix of it and memory was refused: to the sink, or to the command.
+pub fn expect_whole_or_prefix(
+    rt: &impl Abort,
+    outcome: Result<u8, CommandFault>,
+    status: u8,
+    sink: &MemorySink,
+    text: &[u8],
+) {
+    if outcome.is_ok() {
+        same_outcome(rt, outcome, Ok(status), 0);
+        same_bytes(rt, sink.bytes(), text, 0);
+    } else {
+        same_outcome(rt, outcome, Err(want_of_memory(sink)), 0);
+        begins_with(rt, text, sink.bytes(), 0);
+    }
+}
+
+// The fault that a refused growth is: of the sink, if that failed.
+fn want_of_memory(sink: &MemorySink) -> CommandFault {
     if sink.failures() > 0 {
         CommandFault::Write
     } else {

@@ -2,13 +2,13 @@
 
 use crate::comparisons::{same_number, same_outcome};
 use crate::running::{
-    expect_again, expect_at_most, expect_done, expect_failed_read, expect_failed_write,
+    expect_again, expect_at_most, expect_done, expect_failed_reads, expect_failed_writes,
     expect_second_read_fails,
 };
 use mold_commands::run_command;
 use mold_devices::{CommandFault, IntoWrite, MemorySink, MemorySource, Sink, Source};
 use mold_words::Order;
-use std::alloc::Global;
+use std::alloc::{AllocError, Global};
 use std::io;
 use std::io::Write;
 use std::process::Abort;
@@ -109,9 +109,13 @@ fn nothing_is_shown_of_nothing(rt: HostRuntime) {
 // A million digits as one line, and a packet behind it.
 fn long_line(alloc: Global) -> Result<Vec<u8>, Fail> {
     let mut input = vec![in alloc; b'0'; 1_000_000]?;
-    input.push(b'\n')?;
-    input.extend_from_slice(LEAST)?;
+    push_packet(&mut input)?;
     Ok(input)
+}
+
+fn push_packet(input: &mut Vec<u8>) -> Result<(), AllocError> {
+    input.push(b'\n')?;
+    input.extend_from_slice(LEAST)
 }
 
 #[test]
@@ -124,9 +128,7 @@ fn a_line_may_be_longer_than_any_read(rt: HostRuntime) -> Result<(), Fail> {
 
 #[test]
 fn each_read_that_fails_leaves_a_beginning(rt: HostRuntime) {
-    for call in 1..=54 {
-        expect_failed_read(&rt, &PACKETS, TWO, TWO_TEXT, call);
-    }
+    expect_failed_reads(&rt, &PACKETS, TWO, TWO_TEXT, 54);
 }
 
 #[test]
@@ -192,9 +194,7 @@ fn output_goes_out_in_large_pieces(rt: HostRuntime) -> Result<(), Fail> {
 
 #[test]
 fn each_write_that_fails_leaves_a_beginning(rt: HostRuntime) {
-    for call in 1..=49 {
-        expect_failed_write(&rt, &PACKETS, TWO, TWO_TEXT, call);
-    }
+    expect_failed_writes(&rt, &PACKETS, TWO, TWO_TEXT, 49);
 }
 
 #[test]

@@ -2,7 +2,7 @@
 
 ghost use Rattle.mold_commands.specs.Command.{IsStreamed};
 
-use crate::running::{expect_again, expect_done, expect_failed_read, expect_failed_write};
+use crate::running::{expect_again, expect_done, expect_failed_reads, expect_failed_writes};
 use mold_words::{Limits, Order, SimOrder};
 use std::test::Fail;
 
@@ -69,16 +69,12 @@ fn sim_two_receivers(rt: HostRuntime) {
 #[test]
 fn each_read_that_fails_leaves_a_beginning_of_the_script(rt: HostRuntime) {
     // Each of the 214 bytes is a read, and so is the end.
-    for call in 1..=215 {
-        expect_failed_read(&rt, &two_receivers(), SCRIPT, SCRIPT_TEXT, call);
-    }
+    expect_failed_reads(&rt, &two_receivers(), SCRIPT, SCRIPT_TEXT, 215);
 }
 
 #[test]
 fn each_write_that_fails_leaves_a_beginning_of_the_script(rt: HostRuntime) {
-    for call in 1..=292 {
-        expect_failed_write(&rt, &two_receivers(), SCRIPT, SCRIPT_TEXT, call);
-    }
+    expect_failed_writes(&rt, &two_receivers(), SCRIPT, SCRIPT_TEXT, 292);
 }
 
 #[test]

@@ -8,19 +8,19 @@ pub fn same_outcome(
     found: Result<u8, CommandFault>,
     wanted: Result<u8, CommandFault>,
 ) {
-    assert_eq!(rt; found, wanted);
+    same_outcome_at(rt, found, wanted, 0);
 }
 
 pub fn same_bytes(rt: &impl Abort, found: &[u8], wanted: &[u8]) {
-    assert_eq!(rt; found, wanted);
+    same_bytes_at(rt, found, wanted, 0);
 }
 
 pub fn same_size(rt: &impl Abort, found: usize, wanted: usize) {
-    assert_eq!(rt; found, wanted);
+    same_number_at(rt, found as u64, wanted as u64, 0);
 }
 
 pub fn same_number(rt: &impl Abort, found: u64, wanted: u64) {
-    assert_eq!(rt; found, wanted);
+    same_number_at(rt, found, wanted, 0);
 }
 
 pub fn same_outcome_at(
@@ -29,7 +29,7 @@ pub fn same_outcome_at(
     wanted: Result<u8, CommandFault>,
     at: u64,
 ) {
-    assert_eq!(rt; found, wanted, "at {at}");
+    assert!(rt; found == wanted, "another outcome at {at}");
 }
 
 pub fn same_bytes_at(rt: &impl Abort, found: &[u8], wanted: &[u8], at: u64) {

@@ -3,22 +3,32 @@
 use crate::comparisons::same_size;
 use mold_devices::{IntoWrite, MemorySink, Sink};
 use mold_text::Word;
-use mold_turns::Outgoing;
+use std::alloc::AllocError;
+use std::process::Abort;
 use std::test::Fail;
 
 #[test]
 fn text_is_written_from_65536_bytes_on(rt: HostRuntime) -> Result<(), Fail> {
     let mut sink = MemorySink::new(rt.alloc());
     let mut outgoing = Outgoing::new(rt.alloc());
-    let word = vec![in rt.alloc(); b'x'; 65534]?;
-    outgoing.push_line(&[Word::Text(word.as_slice())])?;
-    assert!(rt; outgoing.send_large(&mut sink).is_ok());
-    same_size(&rt, sink.bytes().len(), 0);
+    expect_written(&rt, &mut outgoing, &mut sink)?;
+    Ok(())
+}
+
+/// After 65,535 bytes nothing is written, after 65,536 all is.
+fn expect_written(
+    rt: &impl Abort,
+    outgoing: &mut Outgoing,
+    sink: &mut MemorySink,
+) -> Result<(), AllocError> {
+    outgoing.push_line(&[Word::Text(&[b'x'; 65534])])?;
+    assert!(rt; outgoing.send_large(sink).is_ok());
+    same_size(rt, sink.bytes().len(), 0);
     outgoing.push_line(&[])?;
-    assert!(rt; outgoing.send_large(&mut sink).is_ok());
-    same_size(&rt, sink.bytes().len(), 65536);
-    assert!(rt; outgoing.send(&mut sink).is_ok());
-    same_size(&rt, sink.bytes().len(), 65536);
+    assert!(rt; outgoing.send_large(sink).is_ok());
+    same_size(rt, sink.bytes().len(), 65536);
+    assert!(rt; outgoing.send(sink).is_ok());
+    same_size(rt, sink.bytes().len(), 65536);
     Ok(())
 }
 

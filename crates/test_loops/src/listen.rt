@@ -84,20 +84,47 @@ pub(crate) struct Listener {
 }
 
 impl Listener {
-    pub(crate) fn new(
-        alloc: Global,
-        a: MemoryPort,
-        b: MemoryPort,
-        requests: MemoryPort,
-    ) -> Result<Self, Fail> {
+    /// Nothing comes on its ports.
+    pub(crate) fn new(alloc: Global) -> Result<Self, Fail> {
+        let receiver = Receiver::new(alloc, SESSION, 1, 4)?;
         Ok(Listener {
             alloc,
-            a,
-            b,
-            requests,
-            arbiter: Arbiter::new(Receiver::new(alloc, SESSION, 1, 4)?),
+            a: MemoryPort::new(alloc, Vec::new(alloc)),
+            b: MemoryPort::new(alloc, Vec::new(alloc)),
+            requests: MemoryPort::new(alloc, Vec::new(alloc)),
+            arbiter: Arbiter::new(receiver),
             sink: MemorySink::new(alloc),
         })
+    }
+
+    /// These datagrams come on line A, with a failure before the one at this index.
+    pub(crate) fn give_a<'w, 'd>(
+        &mut self,
+        datagrams: &'w [&'d [u8]],
+        failure: Option<usize>,
+    ) -> Result<(), AllocError> {
+        self.a = port(self.alloc, datagrams, failure)?;
+        Ok(())
+    }
+
+    /// The same of line B.
+    pub(crate) fn give_b<'w, 'd>(
+        &mut self,
+        datagrams: &'w [&'d [u8]],
+        failure: Option<usize>,
+    ) -> Result<(), AllocError> {
+        self.b = port(self.alloc, datagrams, failure)?;
+        Ok(())
+    }
+
+    /// The same of the answers.
+    pub(crate) fn give_answers<'w, 'd>(
+        &mut self,
+        datagrams: &'w [&'d [u8]],
+        failure: Option<usize>,
+    ) -> Result<(), AllocError> {
+        self.requests = port(self.alloc, datagrams, failure)?;
+        Ok(())
     }
 
     pub(crate) fn listen(
@@ -172,14 +199,10 @@ fn on_line_a(
     answers: &[&[u8]],
     failure: Option<usize>,
 ) -> Result<Listener, Fail> {
-    let line = port(alloc, a, None)?;
-    let requests = port(alloc, answers, failure)?;
-    Listener::new(
-        alloc,
-        line,
-        MemoryPort::new(alloc, Vec::new(alloc)),
-        requests,
-    )
+    let mut listener = Listener::new(alloc)?;
+    listener.give_a(a, None)?;
+    listener.give_answers(answers, failure)?;
+    Ok(listener)
 }
 
 /// The listener of messages 1 and 2, a failure and an end on line A.
@@ -188,9 +211,10 @@ pub(crate) fn over_memory(
     a: Option<usize>,
     b: Option<usize>,
 ) -> Result<Listener, Fail> {
-    let line = port(alloc, &[DATA_1, DATA_2, FAILS, END_3], a)?;
-    let quiet = port(alloc, &[QUIET; 5], b)?;
-    Listener::new(alloc, line, quiet, MemoryPort::new(alloc, Vec::new(alloc)))
+    let mut listener = Listener::new(alloc)?;
+    listener.give_a(&[DATA_1, DATA_2, FAILS, END_3], a)?;
+    listener.give_b(&[QUIET; 5], b)?;
+    Ok(listener)
 }
 
 #[test]
@@ -344,9 +368,15 @@ fn no_turn_and_one(rt: HostRuntime) -> Result<(), Fail> {
         b"1 41\nopen next 2 known 2 failed 0\n",
     ];
     for (turns, text) in texts.iter().enumerate() {
-        let mut listener = over_memory(rt.alloc(), None, None)?;
-        listener.expect(&rt, 1, turns as u64, Ok(1), text);
+        expect_open(&rt, rt.alloc(), turns as u64, text)?;
     }
+    Ok(())
+}
+
+/// After these turns the session is not at its end.
+fn expect_open(rt: &impl Abort, alloc: Global, turns: u64, text: &[u8]) -> Result<(), Fail> {
+    let mut listener = over_memory(alloc, None, None)?;
+    listener.expect(rt, 1, turns, Ok(1), text);
     Ok(())
 }
 
@@ -354,11 +384,17 @@ fn no_turn_and_one(rt: HostRuntime) -> Result<(), Fail> {
 fn each_write_failing_in_turn(rt: HostRuntime) -> Result<(), Fail> {
     let text = b"1 41\n2 42\nfinished next 3 failed 1\n";
     for k in 1..=text.len() {
-        let mut listener = over_memory(rt.alloc(), None, None)?;
-        listener.sink.at_most(1);
-        listener.sink.fail_at(k as u64);
-        listener.expect(&rt, 1, 5, Err(CommandFault::Write), &text[..k - 1]);
+        expect_write_failed(&rt, rt.alloc(), k as u64, &text[..k - 1])?;
     }
+    Ok(())
+}
+
+/// The write of this number, of one byte, fails.
+fn expect_write_failed(rt: &impl Abort, alloc: Global, k: u64, text: &[u8]) -> Result<(), Fail> {
+    let mut listener = over_memory(alloc, None, None)?;
+    listener.sink.at_most(1);
+    listener.sink.fail_at(k);
+    listener.expect(rt, 1, 5, Err(CommandFault::Write), text);
     Ok(())
 }
 

@@ -1,7 +1,7 @@
 //! Listening with reports of the lines.
 
 use crate::comparisons::{same_bytes, same_outcome};
-use crate::listen::{DATA_1, DATA_2, DATA_3, END_4, FAILS, Listener, over_memory, port};
+use crate::listen::{DATA_1, DATA_2, DATA_3, END_4, FAILS, Listener, over_memory};
 use std::process::Abort;
 use std::test::Fail;
 
@@ -22,9 +22,6 @@ fn expect(
 #[test]
 fn lines_are_reported(rt: HostRuntime) -> Result<(), Fail> {
     // Line B loses message 3 and the end. Message 2 comes as an answer, behind one that is refused.
-    let a = port(rt.alloc(), &[DATA_1, DATA_3, FAILS, END_4], None)?;
-    let b = port(rt.alloc(), &[DATA_1, b"\0"], None)?;
-    let answers = port(rt.alloc(), &[b"\0", DATA_2], None)?;
     let text = b"1 41
 refused Malformed Short 1
 refused Malformed Short 1
@@ -34,7 +31,10 @@ line a datagrams 3 refused 0 front 4 lag 0
 line b datagrams 1 refused 1 front 2 lag 2
 finished next 4 failed 1
 ";
-    let mut listener = Listener::new(rt.alloc(), a, b, answers)?;
+    let mut listener = Listener::new(rt.alloc())?;
+    listener.give_a(&[DATA_1, DATA_3, FAILS, END_4], None)?;
+    listener.give_b(&[DATA_1, b"\0"], None)?;
+    listener.give_answers(&[b"\0", DATA_2], None)?;
     expect(&rt, &mut listener, 2, 5, 0, text);
     Ok(())
 }

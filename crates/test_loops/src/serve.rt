@@ -93,10 +93,15 @@ const TEXT: &[u8] = b"answered 2 2\nrefused Ahead 6\nanswered 1 refused 1 quiet 
 // Five messages, the k-th of which is twenty bytes of the value k.
 fn journal_of_five(alloc: Global) -> Result<Journal, AppendError> {
     let mut journal = Journal::new(alloc, SESSION, 42);
+    append_five(&mut journal)?;
+    Ok(journal)
+}
+
+fn append_five(journal: &mut Journal) -> Result<(), AppendError> {
     for message in &[[1; 20], [2; 20], [3; 20], [4; 20], [5; 20]] {
         journal.append(message)?;
     }
-    Ok(journal)
+    Ok(())
 }
 
 fn step(alloc: Global, given: Given) -> Result<Step, AllocError> {
@@ -129,13 +134,18 @@ struct Fixture {
 
 // Datagrams have at most 64 bytes, and so many at most answer a request.
 fn make_fixture(alloc: Global, burst: u16, given: &[Given]) -> Result<Fixture, Fail> {
+    let mut fixture = silent_fixture(alloc, burst)?;
+    fixture.port = MemoryPort::new(alloc, script(alloc, given)?);
+    Ok(fixture)
+}
+
+fn silent_fixture(alloc: Global, burst: u16) -> Result<Fixture, Fail> {
     let journal = journal_of_five(alloc)?;
     let server = Server::new(alloc, 64, 42, burst)?;
-    let steps = script(alloc, given)?;
     Ok(Fixture {
         journal,
         server,
-        port: MemoryPort::new(alloc, steps),
+        port: MemoryPort::new(alloc, Vec::new(alloc)),
         sink: MemorySink::new(alloc),
     })
 }
@@ -259,9 +269,18 @@ fn a_failed_send_leaves_the_others_of_its_burst(rt: HostRuntime) -> Result<(), F
     let second = b"answered 1 2\nanswered 5 1\nanswered 2 refused 0 quiet 0 failed 1\n";
     let third = b"answered 1 2\nanswered 3 2\nanswered 2 refused 0 quiet 0 failed 1\n";
     for (fails, text) in [(1, first), (2, second), (3, third)] {
-        let fixture = all_asked(&rt, 3, fails, text, 2)?;
-        same_number(&rt, fixture.port.failures(), 1);
+        expect_one_failure(&rt, fails, text)?;
     }
+    Ok(())
+}
+
+fn expect_one_failure(
+    rt: &(impl Abort + AllocGlobal),
+    fails: u64,
+    text: &[u8],
+) -> Result<(), Fail> {
+    let fixture = all_asked(rt, 3, fails, text, 2)?;
+    same_number(rt, fixture.port.failures(), 1);
     Ok(())
 }
 
@@ -278,9 +297,14 @@ fn expect_broken_off(rt: &(impl Abort + AllocGlobal), fixture: &mut Fixture, k: 
 #[test]
 fn after_a_failed_write_a_beginning_is_written(rt: HostRuntime) -> Result<(), Fail> {
     for k in 1..=TEXT.len() {
-        let mut fixture = make_fixture(rt.alloc(), 1, &EXAMPLE)?;
-        expect_broken_off(&rt, &mut fixture, k);
+        expect_write_failed(&rt, k)?;
     }
+    Ok(())
+}
+
+fn expect_write_failed(rt: &(impl Abort + AllocGlobal), k: usize) -> Result<(), Fail> {
+    let mut fixture = make_fixture(rt.alloc(), 1, &EXAMPLE)?;
+    expect_broken_off(rt, &mut fixture, k);
     Ok(())
 }
 

@@ -15,7 +15,7 @@ use mold_receiver::{Arbiter, Receiver};
 use mold_session::{Publisher, Server};
 use mold_wire::Session;
 use mold_wire::laws::packet_length_law;
-use std::alloc::Global;
+use std::alloc::{AllocError, Global};
 use std::process::Abort;
 use std::test::Fail;
 
@@ -93,20 +93,51 @@ struct Fixture {
     sink: MemorySink,
 }
 
+// A port at which nothing comes.
+fn silent(alloc: Global) -> MemoryPort {
+    MemoryPort::new(alloc, Vec::new(alloc))
+}
+
+fn silent_ports(alloc: Global) -> LoopPorts<MemoryPort> {
+    LoopPorts {
+        publisher: silent(alloc),
+        server: silent(alloc),
+        a: silent(alloc),
+        b: silent(alloc),
+        requests: silent(alloc),
+    }
+}
+
 // Line A gives these datagrams, line B all that is sent there, and the server and the answers what a request
 // of messages 3 and 4 brings.
-fn make_fixture(alloc: Global, a: &[&[u8]]) -> Result<Fixture, Fail> {
-    let ports = LoopPorts {
-        publisher: port(alloc, &[], None)?,
-        server: port(alloc, &[REQUEST, REQUEST], None)?,
-        a: port(alloc, a, None)?,
-        b: port(alloc, &[ONE_AND_TWO, FIVE, END], None)?,
-        requests: port(alloc, &[THREE_AND_FOUR], None)?,
-    };
+fn give(
+    alloc: Global,
+    ports: &mut LoopPorts<MemoryPort>,
+    a: &[&[u8]],
+) -> Result<(), AllocError> {
+    ports.server = port(alloc, &[REQUEST, REQUEST], None)?;
+    ports.a = port(alloc, a, None)?;
+    ports.b = port(alloc, &[ONE_AND_TWO, FIVE, END], None)?;
+    ports.requests = port(alloc, &[THREE_AND_FOUR], None)?;
+    Ok(())
+}
+
+fn silent_fixture(alloc: Global) -> Result<Fixture, Fail> {
+    let receiver = Receiver::new(alloc, SESSION, 1, 4)?;
     Ok(Fixture {
-        ports,
+        ports: silent_ports(alloc),
+        listener: Listener {
+            arbiter: Arbiter::new(receiver),
+            report: Report::new(alloc),
+        },
         sink: MemorySink::new(alloc),
     })
+}
+
+fn make_fixture(alloc: Global, a: &[&[u8]]) -> Result<Fixture, Fail> {
+    let mut fixture = silent_fixture(alloc)?;
+    give(alloc, &mut fixture.ports, a)?;
+    Ok(fixture)
 }
 
 // Publishes the lines with these drops, asks in at most so many rounds, and reports the lines or not.
@@ -234,23 +265,43 @@ fn after_a_failed_send_its_line_is_not_looked_at(rt: HostRuntime) -> Result<(), 
 
 #[test]
 fn a_request_that_fails_is_sent_again(rt: HostRuntime) -> Result<(), Fail> {
-    for (turns, status, text, left) in [(1, 1, TWO, 2), (2, 0, ALL_BUT_A_SEND, 1)] {
-        let mut fixture = make_fixture(rt.alloc(), &[ONE_AND_TWO, FIVE, END])?;
-        fixture.ports.requests.fail_send(1);
-        expect(&rt, &mut fixture, turns, status, text)?;
-        same_size(&rt, fixture.ports.server.left(), left);
-    }
+    expect_request_again(&rt, 1, 1, TWO, 2)?;
+    expect_request_again(&rt, 2, 0, ALL_BUT_A_SEND, 1)
+}
+
+// The first request fails. So many are left at the server.
+fn expect_request_again(
+    rt: &(impl Abort + AllocGlobal),
+    turns: u32,
+    status: u8,
+    text: &[u8],
+    left: usize,
+) -> Result<(), Fail> {
+    let mut fixture = make_fixture(rt.alloc(), &[ONE_AND_TWO, FIVE, END])?;
+    fixture.ports.requests.fail_send(1);
+    expect(rt, &mut fixture, turns, status, text)?;
+    same_size(rt, fixture.ports.server.left(), left);
     Ok(())
 }
 
 #[test]
 fn an_answer_that_fails_is_not_waited_for(rt: HostRuntime) -> Result<(), Fail> {
-    for (turns, status, text, left) in [(1, 1, TWO, 1), (2, 0, ALL_BUT_A_SEND, 0)] {
-        let mut fixture = make_fixture(rt.alloc(), &[ONE_AND_TWO, FIVE, END])?;
-        fixture.ports.server.fail_send(1);
-        expect(&rt, &mut fixture, turns, status, text)?;
-        same_size(&rt, fixture.ports.requests.left(), left);
-    }
+    expect_no_wait(&rt, 1, 1, TWO, 1)?;
+    expect_no_wait(&rt, 2, 0, ALL_BUT_A_SEND, 0)
+}
+
+// The first answer fails. So many answers are left.
+fn expect_no_wait(
+    rt: &(impl Abort + AllocGlobal),
+    turns: u32,
+    status: u8,
+    text: &[u8],
+    left: usize,
+) -> Result<(), Fail> {
+    let mut fixture = make_fixture(rt.alloc(), &[ONE_AND_TWO, FIVE, END])?;
+    fixture.ports.server.fail_send(1);
+    expect(rt, &mut fixture, turns, status, text)?;
+    same_size(rt, fixture.ports.requests.left(), left);
     Ok(())
 }
 

@@ -3,7 +3,7 @@
 
 use mold_check::{Entry, check_entries};
 use mold_devices::{CommandFault, MemorySink, Sink};
-use std::alloc::Global;
+use std::alloc::{AllocError, Global};
 use std::process::Abort;
 use std::test::Fail;
 
@@ -42,12 +42,15 @@ fn entries_of<'n, 'w>(
 ) -> Result<Vec<Entry>, Fail> {
     let mut made = Vec::new(alloc);
     for (name, bytes) in entries {
-        made.push(Entry {
-            name: String::from_str(alloc, name)?,
-            bytes: Vec::from_slice(alloc, bytes)?,
-        })?;
+        made.push(entry(alloc, name, bytes)?)?;
     }
     Ok(made)
+}
+
+fn entry(alloc: Global, name: &str, bytes: &[u8]) -> Result<Entry, AllocError> {
+    let bytes = Vec::from_slice(alloc, bytes)?;
+    let name = String::from_str(alloc, name)?;
+    Ok(Entry { name, bytes })
 }
 
 fn same_outcome(
@@ -55,7 +58,7 @@ fn same_outcome(
     found: Result<u8, CommandFault>,
     wanted: Result<u8, CommandFault>,
 ) {
-    assert_eq!(rt; found, wanted);
+    assert!(rt; found == wanted, "another outcome");
 }
 
 fn same_bytes(rt: &impl Abort, found: &[u8], wanted: &[u8]) {
@@ -266,18 +269,28 @@ fn want_of_memory(sink: &MemorySink) -> CommandFault {
     }
 }
 
-// Checks entries that are made, and answers whether memory was refused: what was written then is a beginning.
+// Checks entries that are made, and returns whether memory was refused: then a prefix of the text was written.
 fn is_refused(rt: &(impl Abort + AllocGlobal), entries: &[Entry], text: &[u8], status: u8) -> bool {
     let mut sink = MemorySink::new(rt.alloc());
     let answer = check_entries(rt.alloc(), entries, &mut sink);
-    assert!(rt; text.starts_with(sink.bytes()));
+    expect_whole_or_prefix(rt, answer, status, &sink, text);
+    answer.is_err()
+}
+
+fn expect_whole_or_prefix(
+    rt: &impl Abort,
+    answer: Result<u8, CommandFault>,
+    status: u8,
+    sink: &MemorySink,
+    text: &[u8],
+) {
     if answer.is_ok() {
         same_outcome(rt, answer, Ok(status));
         same_bytes(rt, sink.bytes(), text);
-        return false;
+    } else {
+        same_outcome(rt, answer, Err(want_of_memory(sink)));
+        assert!(rt; text.starts_with(sink.bytes()));
     }
-    same_outcome(rt, answer, Err(want_of_memory(&sink)));
-    true
 }
 
 // Makes the entries and checks them, once more where memory was refused.

@@ -37,10 +37,23 @@ fn expect_run(
     let mut sink = MemorySink::new(rt.alloc());
     sink.at_most(most);
     let outcome = run_lines(rt.alloc(), sim, &mut source, &mut sink);
-    assert!(rt; text.starts_with(sink.bytes()), "{most} bytes a call");
-    assert_eq!(rt; outcome?, status);
-    assert_eq!(rt; sink.bytes(), text);
+    begins_with(rt, text, sink.bytes(), most as u64);
+    same_number(rt, u64::from(outcome?), u64::from(status));
+    same_number(rt, sink.bytes().len() as u64, text.len() as u64);
     Ok(())
+}
+
+fn same_number(rt: &impl Abort, found: u64, wanted: u64) {
+    assert_eq!(rt; found, wanted);
+}
+
+// The text begins with these bytes. `at` is the call that fails, or the most bytes of a call.
+fn begins_with(rt: &impl Abort, text: &[u8], found: &[u8], at: u64) {
+    assert!(rt; text.starts_with(found), "at {at}");
+}
+
+fn same_fault(rt: &impl Abort, found: Result<u8, CommandFault>, wanted: CommandFault, at: u64) {
+    assert!(rt; found == Err(wanted), "another outcome at {at}");
 }
 
 fn expect_script(
@@ -58,6 +71,22 @@ fn expect_script(
 {
     let mut whole = sim(rt.alloc(), burst, receivers)?;
     expect_run(rt, &mut whole, 65536, input, text, status)?;
+    expect_script_by_bytes(rt, burst, receivers, input, text, status)
+}
+
+fn expect_script_by_bytes(
+    rt: &(impl Abort + AllocGlobal),
+    burst: u16,
+    receivers: usize,
+    input: &[u8],
+    text: &[u8],
+    status: u8,
+) -> Result<(), Fail>
+    requires some_burst { 1 ≤ burst }
+    requires burst { burst ≤ 64 }
+    requires some_receiver { 1 ≤ receivers }
+    requires receivers { receivers ≤ 8 }
+{
     let mut single = sim(rt.alloc(), burst, receivers)?;
     expect_run(rt, &mut single, 1, input, text, status)
 }
@@ -158,17 +187,18 @@ receiver 0 next 1 known 6 book 0 open
 
 #[test]
 fn refusals_of_publisher_and_server(rt: HostRuntime) -> Result<(), Fail> {
-    let mut input = Vec::from_slice(rt.alloc(), b"publish ")?;
-    for _ in 0..43 {
-        input.extend_from_slice(b"fF")?;
-    }
-    input.extend_from_slice(b"\nrequest 00\nrequest 53455353494f4e30303100000000000000020001\n")?;
+    // A message of 43 bytes.
+    let input = b"publish \
+fFfFfFfFfFfFfFfFfFfFfFfFfFfFfFfFfFfFfFfFfFfFfFfFfFfFfFfFfFfFfFfFfFfFfFfFfFfFfFfFfFfFfF
+request 00
+request 53455353494f4e30303100000000000000020001
+";
     let text = b"refused TooLong 43
 refused RequestLength 1
 refused Ahead 1
 receiver 0 next 1 known 1 book 0 open
 ";
-    expect_script(&rt, 1, 1, input.as_slice(), text, 2)
+    expect_script(&rt, 1, 1, input, text, 2)
 }
 
 #[test]
@@ -247,31 +277,39 @@ fn lines_of_another_form(rt: HostRuntime) -> Result<(), Fail> {
 fn each_read_that_fails_leaves_a_beginning(rt: HostRuntime) -> Result<(), Fail> {
     // Each byte is a read, and so is the end after them.
     for call in 1..=ONE_RECEIVER.len() as u64 + 1 {
-        let mut source = MemorySource::new(ONE_RECEIVER);
-        source.at_most(1);
-        source.fail_at(call);
-        let mut sink = MemorySink::new(rt.alloc());
         let mut command = sim(rt.alloc(), 1, 1)?;
-        let outcome = run_lines(rt.alloc(), &mut command, &mut source, &mut sink);
-        assert_eq!(rt; outcome, Err(CommandFault::Read), "read {call}");
-        assert!(rt; ONE_RECEIVER_TEXT.starts_with(sink.bytes()), "read {call}");
-        assert_eq!(rt; source.failures(), 1);
+        expect_failed_read(&rt, &mut command, call);
     }
     Ok(())
+}
+
+fn expect_failed_read(rt: &(impl Abort + AllocGlobal), sim: &mut Sim, call: u64) {
+    let mut source = MemorySource::new(ONE_RECEIVER);
+    source.at_most(1);
+    source.fail_at(call);
+    let mut sink = MemorySink::new(rt.alloc());
+    let outcome = run_lines(rt.alloc(), sim, &mut source, &mut sink);
+    same_fault(rt, outcome, CommandFault::Read, call);
+    begins_with(rt, ONE_RECEIVER_TEXT, sink.bytes(), call);
+    same_number(rt, source.failures(), 1);
 }
 
 #[test]
 fn each_write_that_fails_leaves_a_beginning(rt: HostRuntime) -> Result<(), Fail> {
     for call in 1..=ONE_RECEIVER_TEXT.len() as u64 {
-        let mut source = MemorySource::new(ONE_RECEIVER);
-        let mut sink = MemorySink::new(rt.alloc());
-        sink.at_most(1);
-        sink.fail_at(call);
         let mut command = sim(rt.alloc(), 1, 1)?;
-        let outcome = run_lines(rt.alloc(), &mut command, &mut source, &mut sink);
-        assert_eq!(rt; outcome, Err(CommandFault::Write), "write {call}");
-        assert!(rt; ONE_RECEIVER_TEXT.starts_with(sink.bytes()), "write {call}");
-        assert_eq!(rt; sink.bytes().len() as u64, call - 1);
+        expect_failed_write(&rt, &mut command, call);
     }
     Ok(())
+}
+
+fn expect_failed_write(rt: &(impl Abort + AllocGlobal), sim: &mut Sim, call: u64) {
+    let mut source = MemorySource::new(ONE_RECEIVER);
+    let mut sink = MemorySink::new(rt.alloc());
+    sink.at_most(1);
+    sink.fail_at(call);
+    let outcome = run_lines(rt.alloc(), sim, &mut source, &mut sink);
+    same_fault(rt, outcome, CommandFault::Write, call);
+    begins_with(rt, ONE_RECEIVER_TEXT, sink.bytes(), call);
+    same_number(rt, (sink.bytes().len() as u64).saturating_add(1), call);
 }

@@ -4,8 +4,8 @@
 
 use crate::world_checks::{
     expect, expect_all, expect_end, expect_receiver, expect_report, expect_sent, expect_session,
-    expect_two_standings, holds, message_of, run_again, run_whole, same_bytes, same_refusal,
-    same_size, world,
+    expect_two_standings, holds, message_of, run_again, run_whole, same_answer, same_bytes,
+    same_refusal, same_size, world,
 };
 use crate::world_events::{
     A, Answer, DELIVERED, FIVE, FOUR_AND_FIVE, FROM_TWO, LACKING, LACKING_ANSWERS, MESSAGES, OWN,
@@ -141,7 +141,7 @@ fn with_events(alloc: Global, events: &[Event<'_>]) -> Result<World, WorldError>
 
 fn expect_applied(rt: &impl Abort, world: &mut World, events: &[Event<'_>], answers: &[Answer]) {
     for (event, want) in events.iter().zip(answers) {
-        assert_eq!(rt; world.apply(event), *want);
+        same_answer(rt, world.apply(event), *want);
     }
 }
 

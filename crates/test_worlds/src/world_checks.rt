@@ -97,7 +97,12 @@ pub fn same_bytes(rt: &impl Abort, found: Option<&[u8]>, wanted: Option<&[u8]>) 
 
 /// Fails where a refusal is another.
 pub fn same_refusal(rt: &impl Abort, found: Option<WorldError>, wanted: WorldError) {
-    assert_eq!(rt; found, Some(wanted));
+    assert!(rt; found == Some(wanted), "another refusal, or none");
+}
+
+/// Fails where an event's answer is another.
+pub fn same_answer(rt: &impl Abort, found: Answer, wanted: Answer) {
+    assert!(rt; found == wanted, "another answer");
 }
 
 /// An event, once more where memory was refused: the world was then as before.
@@ -125,7 +130,8 @@ pub fn expect(
     event: &Event<'_>,
     want: Answer,
 ) -> Result<(), WorldError> {
-    assert_eq!(rt; apply_again(rt, world, event)?, want);
+    let answer = apply_again(rt, world, event)?;
+    same_answer(rt, answer, want);
     Ok(())
 }
 
@@ -248,12 +254,12 @@ pub fn run_again<'w, 'd>(
 
 /// The receiver stands so.
 pub fn expect_receiver(rt: &impl Abort, world: &World, r: usize, want: Standing) {
-    assert_eq!(rt; standing_of(world, r), Some(want));
+    assert!(rt; standing_of(world, r) == Some(want), "receiver {r}");
 }
 
 /// How many datagrams were taken on a line, how many were refused, and its front.
 pub fn expect_report(rt: &impl Abort, world: &World, r: usize, line: Line, want: (u64, u64, u64)) {
-    assert_eq!(rt; counts_of(world, r, line), Some(want));
+    assert!(rt; counts_of(world, r, line) == Some(want), "receiver {r}");
 }
 
 /// The book has the five messages from number 1 on.
