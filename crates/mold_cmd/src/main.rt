@@ -5,8 +5,9 @@ ghost use Rattle.mold_commands.specs.Command.{IsStreamed};
 
 use mold_commands::{check_folder, dump_file, run_command, run_upgrade};
 use mold_devices::{CommandFault, FromRead, IntoWrite, NewFile};
-use mold_sockets::{run_listen, run_loop, run_publish, run_serve};
-use mold_wiring::{ProgramFault, exit_code, flushed, tell_fault};
+use mold_loop::run_loop;
+use mold_sockets::{run_listen, run_publish, run_serve};
+use mold_wiring::{ProgramFault, exit_code, flushed, print_fault};
 use mold_words::{DumpOrder, Order, UpgradeOrder, UsageFault, read_words};
 use std::fs::File;
 use std::io::{ErrorKind, Write};
@@ -17,21 +18,21 @@ use std::{env, io};
 const NOT_UTF8: &str = "error: a word is not UTF-8\n";
 
 // Prints the text of help or of the version, or the text of a usage fault and the fault.
-fn tell_usage(rt: &(impl Print + Eprint), fault: UsageFault) -> ExitCode {
+fn print_usage(rt: &(impl Print + Eprint), fault: UsageFault) -> ExitCode {
     match fault {
         UsageFault::Help { text } | UsageFault::Version { text } => match rt.print(text.as_str()) {
             Ok(()) => ExitCode::SUCCESS,
-            Err(_) => tell_fault(rt, CommandFault::Write.word()),
+            Err(_) => print_fault(rt, CommandFault::Write.word()),
         },
         UsageFault::Usage { text } => {
             let _ = rt.eprint(text.as_str());
-            tell_fault(rt, "Usage")
+            print_fault(rt, "Usage")
         }
         UsageFault::Address { text } => {
             let _ = rt.eprint(text.as_str());
-            tell_fault(rt, "Address")
+            print_fault(rt, "Address")
         }
-        UsageFault::Memory => tell_fault(rt, CommandFault::Memory.word()),
+        UsageFault::Memory => print_fault(rt, CommandFault::Memory.word()),
     }
 }
 
@@ -69,7 +70,7 @@ fn run_check(rt: &HostRuntime, folder: &str) -> Result<u8, CommandFault> {
 }
 
 // Upgrades a journal's file. The new one is made when something is written to it.
-fn run_files(rt: &HostRuntime, order: &UpgradeOrder) -> Result<u8, CommandFault> {
+fn upgrade_files(rt: &HostRuntime, order: &UpgradeOrder) -> Result<u8, CommandFault> {
     let Ok(file) = File::open(rt, order.journal.as_str()) else {
         return Err(CommandFault::Read);
     };
@@ -108,7 +109,7 @@ fn run(rt: &HostRuntime, order: &Order) -> Result<u8, ProgramFault> {
         Order::Serve(order) => run_serve(rt, order),
         Order::Listen(order) => run_listen(rt, order),
         Order::Loop(order) => run_loop(rt, order),
-        Order::Upgrade(files) => Ok(run_files(rt, files)?),
+        Order::Upgrade(files) => Ok(upgrade_files(rt, files)?),
         Order::Dump(order) => Ok(run_dump(rt, order)?),
     }
 }
@@ -116,7 +117,7 @@ fn run(rt: &HostRuntime, order: &Order) -> Result<u8, ProgramFault> {
 fn main(rt: HostRuntime) -> ExitCode {
     let order = match read_order(&rt) {
         Ok(order) => order,
-        Err(fault) => return tell_usage(&rt, fault),
+        Err(fault) => return print_usage(&rt, fault),
     };
     exit_code(&rt, run(&rt, &order))
 }

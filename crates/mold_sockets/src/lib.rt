@@ -4,4 +4,4 @@
 mod options;
 mod sockets;
 
-pub use sockets::{run_listen, run_loop, run_publish, run_serve};
+pub use sockets::{run_listen, run_publish, run_serve};

@@ -5,37 +5,24 @@ ghost use Rattle.std.specs.Prelude.{◌≡◌, ◌-◌};
 use crate::options::{listen_options, publish_options, serve_turns};
 use mold_devices::{CommandFault, FromRead, IntoWrite, NewFile};
 use mold_listen::{ListenPorts, listen};
-use mold_loop::{LoopPeers, LoopPorts, loop_options, make_parts, session_loop};
 use mold_ports::UdpPort;
 use mold_send::{PublishDevices, publish};
 use mold_serve::serve_loop;
 use mold_session::{FileError, Journal};
 use mold_wiring::{
-    ProgramFault, flushed, load_journal, make_arbiter, make_publisher, make_server, socket_address,
-    tell_file_refused,
+    ProgramFault, flushed, load_journal, make_arbiter, make_publisher, make_server, open_port,
+    print_file_refusal, socket_address,
 };
-use mold_words::{Address, ListenOrder, LoopOrder, PublishOrder, ServeOrder};
+use mold_words::{Address, ListenOrder, PublishOrder, ServeOrder};
 use std::fs::File;
 use std::io::{Stdout, Write};
 use std::net::SocketAddr;
 
-/// A port that the system gives, on every address of the machine, and on this machine alone.
+/// A port that the system chooses, on every address of the machine.
 const ANY: Address = Address {
     host: [0; 4],
     port: 0,
 };
-
-const OWN: Address = Address {
-    host: [127, 0, 0, 1],
-    port: 0,
-};
-
-fn open_port(rt: &HostRuntime, address: Address) -> Result<UdpPort, ProgramFault> {
-    match UdpPort::bind(rt, socket_address(address)) {
-        Ok(port) => Ok(port),
-        Err(_) => Err(ProgramFault::Socket),
-    }
-}
 
 // Standard output as a sink, to which text is written at once where it is to be live.
 fn standard_output(rt: &HostRuntime, live: bool) -> IntoWrite<Stdout> {
@@ -49,7 +36,7 @@ fn standard_output(rt: &HostRuntime, live: bool) -> IntoWrite<Stdout> {
 // Tells on standard output why the file is no journal.
 fn tell_refused(rt: &HostRuntime, error: FileError) -> Result<u8, CommandFault> {
     let mut sink = IntoWrite::new(rt.stdout());
-    let outcome = tell_file_refused(rt.alloc(), error, &mut sink);
+    let outcome = print_file_refusal(rt.alloc(), error, &mut sink);
     flushed(outcome, sink.into_inner().flush())
 }
 
@@ -140,41 +127,5 @@ fn publish_on(
     let options = publish_options(order, a, b);
     let outcome = publish(rt.alloc(), port, options, &mut publisher, &mut devices);
     let PublishDevices { sink, .. } = devices;
-    flushed(outcome, sink.into_inner().flush())
-}
-
-// The five ports of a loop.
-fn open_loop_ports(rt: &HostRuntime) -> Result<LoopPorts<UdpPort>, ProgramFault> {
-    Ok(LoopPorts {
-        publisher: open_port(rt, OWN)?,
-        server: open_port(rt, OWN)?,
-        a: open_port(rt, OWN)?,
-        b: open_port(rt, OWN)?,
-        requests: open_port(rt, OWN)?,
-    })
-}
-
-/// Publishes, serves and listens in one process, over five ports of this machine that the system gives.
-pub fn run_loop(rt: &HostRuntime, order: &LoopOrder) -> Result<u8, ProgramFault> {
-    let mut ports = open_loop_ports(rt)?;
-    Ok(loop_on(rt, order, &mut ports)?)
-}
-
-// Runs the loop over the ports, from standard input to standard output.
-fn loop_on(
-    rt: &HostRuntime,
-    order: &LoopOrder,
-    ports: &mut LoopPorts<UdpPort>,
-) -> Result<u8, CommandFault> {
-    let peers = LoopPeers {
-        a: ports.a.address(),
-        b: ports.b.address(),
-        server: ports.server.address(),
-    };
-    let options = loop_options(order, peers);
-    let mut parts = make_parts(rt.alloc(), order)?;
-    let mut source = FromRead::new(rt.stdin());
-    let mut sink = IntoWrite::new(rt.stdout());
-    let outcome = session_loop(ports, &options, &mut parts, &mut source, &mut sink);
     flushed(outcome, sink.into_inner().flush())
 }

@@ -5,14 +5,16 @@ mod addresses;
 mod ending;
 mod limits;
 mod listening;
+mod opening;
 mod program_fault;
 mod publishing;
 mod serving;
 
 pub use addresses::socket_address;
-pub use ending::{exit_code, flushed, tell_fault};
+pub use ending::{exit_code, flushed, print_fault};
 pub use limits::longest_message;
 pub use listening::make_arbiter;
+pub use opening::open_port;
 pub use program_fault::ProgramFault;
 pub use publishing::make_publisher;
-pub use serving::{load_journal, make_server, tell_file_refused};
+pub use serving::{load_journal, make_server, print_file_refusal};

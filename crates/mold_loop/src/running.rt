@@ -1,0 +1,52 @@
+//! The loop over UDP ports of this machine, from standard input to standard output.
+
+use crate::loop_parts::{LoopPeers, LoopPorts};
+use crate::looping::session_loop;
+use crate::ordered::{loop_options, make_parts};
+use mold_devices::{CommandFault, FromRead, IntoWrite};
+use mold_ports::UdpPort;
+use mold_wiring::{ProgramFault, flushed, open_port};
+use mold_words::{Address, LoopOrder};
+use std::io::Write;
+
+/// A port that the system chooses, for this machine alone.
+const OWN: Address = Address {
+    host: [127, 0, 0, 1],
+    port: 0,
+};
+
+// The five ports of a loop.
+fn open_ports(rt: &HostRuntime) -> Result<LoopPorts<UdpPort>, ProgramFault> {
+    Ok(LoopPorts {
+        publisher: open_port(rt, OWN)?,
+        server: open_port(rt, OWN)?,
+        a: open_port(rt, OWN)?,
+        b: open_port(rt, OWN)?,
+        requests: open_port(rt, OWN)?,
+    })
+}
+
+/// Publishes, serves and listens in one process, over five ports of this machine that the system chooses.
+pub fn run_loop(rt: &HostRuntime, order: &LoopOrder) -> Result<u8, ProgramFault> {
+    let mut ports = open_ports(rt)?;
+    Ok(loop_on(rt, order, &mut ports)?)
+}
+
+// Runs the loop over the ports, from standard input to standard output.
+fn loop_on(
+    rt: &HostRuntime,
+    order: &LoopOrder,
+    ports: &mut LoopPorts<UdpPort>,
+) -> Result<u8, CommandFault> {
+    let peers = LoopPeers {
+        a: ports.a.address(),
+        b: ports.b.address(),
+        server: ports.server.address(),
+    };
+    let options = loop_options(order, peers);
+    let mut parts = make_parts(rt.alloc(), order)?;
+    let mut source = FromRead::new(rt.stdin());
+    let mut sink = IntoWrite::new(rt.stdout());
+    let outcome = session_loop(ports, &options, &mut parts, &mut source, &mut sink);
+    flushed(outcome, sink.into_inner().flush())
+}

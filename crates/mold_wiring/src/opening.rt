@@ -1,0 +1,21 @@
+//! The UDP ports of a command, at the addresses of its order.
+
+ghost use Rattle.std.specs.Prelude.{◌≡◌, IfErr, IfOk};
+ghost use Rattle.mold_ports.specs.declared.outlook.Outlook.TheVariants.{Quiet};
+ghost use Rattle.mold_wiring.specs.declared.program_fault.ProgramFault.TheVariants.{Socket};
+
+use crate::addresses::socket_address;
+use crate::program_fault::ProgramFault;
+use mold_ports::UdpPort;
+use mold_words::Address;
+
+/// Opens a UDP port at the address. `Socket` comes if the system refuses it.
+pub fn open_port(rt: &HostRuntime, address: Address) -> Result<UdpPort, ProgramFault>
+    ensures opened { IfOk result (λ port. port ≡ record { failures = 0; outlook = Quiet }) }
+    ensures refused { IfErr result (λ fault. fault ≡ Socket) }
+{
+    match UdpPort::bind(rt, socket_address(address)) {
+        Ok(port) => Ok(port),
+        Err(_) => Err(ProgramFault::Socket),
+    }
+}
