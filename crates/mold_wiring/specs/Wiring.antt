@@ -1,45 +1,26 @@
 -- What the commands over ports are made of, as their orders say.
-use Rattle.std.specs.Prelude.{ℕ, ◌-◌, List, [], false}
+use Rattle.std.specs.Prelude.{ℕ, ◌-◌, List}
 use Rattle.mold_receiver.specs.Arbiter.{Arbitration}
-use Rattle.mold_receiver.specs.View.{fresh}
-use Rattle.mold_session.specs.Publisher.{PublisherState}
-use Rattle.mold_session.specs.Server.{ServerState}
+use Rattle.mold_receiver.specs.Fresh.{fresh_arbitration}
+use Rattle.mold_session.specs.Publisher.{PublisherState, fresh_publisher}
+use Rattle.mold_session.specs.Server.{ServerState, fresh_server}
+use Rattle.mold_wire.specs.declared.limits.TheConstants.{MESSAGE_OVERHEAD}
 use Rattle.mold_words.specs.declared.listen_order.ListenOrder.{ListenOrder}
 use Rattle.mold_words.specs.declared.publish_order.PublishOrder.{PublishOrder}
 use Rattle.mold_words.specs.declared.serve_order.ServeOrder.{ServeOrder}
 
--- the publisher of a session that begins, whose packets have at most so many bytes
+-- the publisher of a session that begins, whose packets have at most `limit` bytes
 abbrev pub new_publisher : List ℕ → ℕ → PublisherState
-new_publisher session limit = record {
-  journal = record {
-    session = record { 0 = session };
-    max_message = limit - 22;
-    messages = [];
-    closed = false;
-  };
-  limit = limit;
-  sent = 0;
-}
+new_publisher session limit = fresh_publisher (record { 0 = session }) limit
 
--- a server whose packets have at most so many bytes, for the messages of a publisher whose packets have at most
--- so many, and how many packets answer a request
+-- a server whose packets have at most `server_limit` bytes, for the messages of a publisher whose packets have at most
+-- `limit`, and how many packets answer a request
 abbrev pub new_server : ℕ → ℕ → ℕ → ServerState
-new_server server_limit limit burst = record {
-  limit = server_limit;
-  max_message = limit - 22;
-  burst = burst;
-  answered = 0;
-}
+new_server server_limit limit burst = fresh_server server_limit (limit - MESSAGE_OVERHEAD) burst
 
--- an arbiter whose receiver begins with the message of this number, and has this window; nothing came on a line
+-- an arbiter whose receiver begins with message `next` and has this window
 abbrev pub new_arbiter : List ℕ → ℕ → ℕ → Arbitration
-new_arbiter session next window = record {
-  view = fresh (record { 0 = session }) next window;
-  reports = record {
-    a = record { datagrams = 0; refused = 0; front = next };
-    b = record { datagrams = 0; refused = 0; front = next };
-  };
-}
+new_arbiter session next window = fresh_arbitration (record { 0 = session }) next window
 
 -- what publishes an order's messages
 abbrev pub publisher_of : PublishOrder → PublisherState
