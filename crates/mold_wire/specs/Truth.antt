@@ -38,5 +38,5 @@ pub record IsTruePacket (packet : Packet) (published : List (List ℕ)) (closed 
   pub said : IsTrueBody packet.body packet.sequence published closed
 
 -- the bytes spell no packet of the session
-abbrev pub AreStrange : Session → List ℕ → Type 0
-AreStrange session bytes = (packet : Packet) → Spells packet bytes → packet.session ≡ session → ⊥
+abbrev pub AreForeign : Session → List ℕ → Type 0
+AreForeign session bytes = (packet : Packet) → Spells packet bytes → packet.session ≡ session → ⊥

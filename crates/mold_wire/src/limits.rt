@@ -1,4 +1,4 @@
-//! How long datagrams may be, how many messages one has, and how high numbers go.
+//! The limits of datagrams, messages, numbers, windows and bursts.
 
 use crate::block::LENGTH_BYTES;
 use crate::header::{END_OF_SESSION, HEADER_LENGTH};
@@ -18,3 +18,9 @@ pub const MAX_COUNT: u16 = END_OF_SESSION - 1;
 
 /// The greatest sequence number. A count of 64 bits that would pass it stays there.
 pub const MAX_NUMBER: u64 = u64::MAX;
+
+/// The greatest window of a receiver, in messages.
+pub const MAX_WINDOW: u32 = 65536;
+
+/// The most datagrams that a server sends for one request.
+pub const MAX_BURST: u16 = 64;
