@@ -4,7 +4,7 @@
 #[cfg(test)]
 mod tests;
 
-use mold_receiver::{Arbiter, Batch, Line, Receiver, Refused};
+use mold_receiver::{Arbiter, Batch, Line, Receiver, Refusal};
 use mold_wire::decode;
 use std::alloc::Global;
 
@@ -21,7 +21,7 @@ pub fn hear(
     line: Line,
     datagram: &[u8],
     batch: &mut Batch,
-) -> Result<Option<[u8; 20]>, Refused> {
+) -> Result<Option<[u8; 20]>, Refusal> {
     batch.clear();
     arbiter.take(line, datagram, batch)?;
     Ok(arbiter.receiver().wanted().map(|request| request.encode()))

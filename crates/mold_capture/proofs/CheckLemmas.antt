@@ -6,7 +6,7 @@ use Rattle.std.specs.Prelude.{None, Some}
 use Rattle.std.proofs.lemmas.Option.{none-some}
 use Rattle.mold_wire.specs.Packet.{Spells}
 use Rattle.mold_wire.specs.declared.packet.Packet.{Packet}
-use Rattle.mold_rule.specs.declared.refusal.Refusal.{Refusal as Reason}
+use Rattle.mold_rule.specs.declared.refusal.Refusal.{Refusal}
 use Rattle.mold_rule.specs.declared.refusal.Refusal.TheVariants.{Malformed, WrongSession, SequenceZero, PastLast}
 use Rattle.mold_rule.specs.declared.refusal.Refusal.TheVariants.{EndConflict, EndBelow, PastEnd, Conflict, Memory}
 use Rattle.mold_capture.specs.declared.verdict.Verdict.{Verdict}
@@ -27,7 +27,7 @@ front_more list i bytes within at =
     take_more list i [] within ∙ ap (λ (b : List ℕ). take i list ++ b ∷ []) at
 
 -- what holds where a datagram is refused for a reason
-pub refused_for : ReadsBack → RuleLaw → (list : List (List ℕ)) (i : ℕ) (bytes : List ℕ) (why : Reason) → i < length list →
+pub refused_for : ReadsBack → RuleLaw → (list : List (List ℕ)) (i : ℕ) (bytes : List ℕ) (why : Refusal) → i < length list →
     get_or list i [] ≡ bytes → Consistent (take i list) → reason (take i list) bytes ≡ Some why
     → (i < length list) × Consistent (take i list) × (Consistent (take (i + 1) list) → ⊥)
     × (reason (take i list) (get_or list i []) ≡ Some why)
@@ -41,7 +41,7 @@ refused_for reads rule list i bytes why within at consistent is = (
 )
 
 refused_at : ReadsBack → RuleLaw → (list : List (List ℕ)) (i : ℕ) (bytes : List ℕ) → i < length list → get_or list i [] ≡ bytes →
-    Consistent (take i list) → (why : Reason) → reason (take i list) bytes ≡ told why
+    Consistent (take i list) → (why : Refusal) → reason (take i list) bytes ≡ told why
     → (why ≡ Memory → BringsNew (seen_of (take i list)) bytes) → IsRefusedAt i why list
 refused_at reads rule list i bytes within at all Memory is new =
     (omega arith, all, λ below. subst (BringsNew (seen_of (take i list))) (sym at) (new refl))
@@ -59,7 +59,7 @@ pub record HasChecked (list : List (List ℕ)) (i : ℕ) (seen : Seen) : Type 0 
   pub consistent : Consistent (take i list)
   pub said : seen ≡ seen_of (take i list)
 
-pub checked_refused : ReadsBack → RuleLaw → (list : List (List ℕ)) (i : ℕ) (bytes : List ℕ) (seen : Seen) (why : Reason) →
+pub checked_refused : ReadsBack → RuleLaw → (list : List (List ℕ)) (i : ℕ) (bytes : List ℕ) (seen : Seen) (why : Refusal) →
     HasChecked list i seen → i < length list → refusal seen bytes ≡ told why
     → (why ≡ Memory → BringsNew seen bytes) → get_or list i [] ≡ bytes → IsRefusedAt i why list
 checked_refused reads rule list i bytes seen why checked within is new at =

@@ -9,7 +9,7 @@ use Rattle.mold_wire.specs.Packet.{messages_of, top_of}
 use Rattle.mold_wire.specs.Reading.{reading}
 use Rattle.mold_wire.specs.declared.packet.Packet.{Packet}
 use Rattle.mold_wire.specs.declared.session.Session.{Session}
-use Rattle.mold_rule.specs.declared.refusal.Refusal.{Refusal as Reason}
+use Rattle.mold_rule.specs.declared.refusal.Refusal.{Refusal}
 use Rattle.mold_rule.specs.declared.refusal.Refusal.TheVariants.{Malformed, WrongSession, SequenceZero, PastLast}
 use Rattle.mold_rule.specs.declared.refusal.Refusal.TheVariants.{EndConflict, EndBelow, PastEnd, Conflict, Memory}
 use Rattle.mold_rule.specs.Refusals.{conflict_at, refusal_of}
@@ -19,7 +19,7 @@ use Rattle.mold_capture.specs.Verdict.{IsWholeSeen, lacks, missing_in}
 use Rattle.mold_capture.proofs.GapLemmas.{none_lacking, lacking_none}
 
 -- another reason than memory tells itself
-told_other : (why : Reason) → (why ≡ Memory → ⊥) → told why ≡ Some why
+told_other : (why : Refusal) → (why ≡ Memory → ⊥) → told why ≡ Some why
 told_other Memory other = absurd (other refl)
 told_other (Malformed error) other = refl
 told_other WrongSession other = refl
@@ -82,7 +82,7 @@ ok_then (Ok x) P Q to holds = to x holds
 ok_then (Err e) P Q to holds = tt
 
 -- of a datagram that reads as the packet, what was said being given by its parts: its refusal by the header,
-pub read_early : (before seen : Seen) (bytes : List ℕ) (p : Packet) (why : Reason) → before ≡ seen
+pub read_early : (before seen : Seen) (bytes : List ℕ) (p : Packet) (why : Refusal) → before ≡ seen
     → reading bytes ≡ Ok p
     → ((other : Option ℕ) → refusal_of before.session before.known before.ended other p ≡ Some why)
     → (why ≡ Memory → ⊥) → refusal seen bytes ≡ told why

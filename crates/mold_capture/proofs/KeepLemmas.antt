@@ -11,7 +11,7 @@ use Rattle.std.proofs.lemmas.Bool.{cases_order, true≢false, cond-true, cond-fa
 use Rattle.std.proofs.lemmas.Option.{none-some}
 use Rattle.mold_wire.specs.Truth.{message_at}
 use Rattle.mold_capture.specs.declared.run.Run.{Run}
-use Rattle.mold_rule.specs.declared.refusal.Refusal.{Refusal as Reason}
+use Rattle.mold_rule.specs.declared.refusal.Refusal.{Refusal}
 use Rattle.mold_rule.specs.declared.refusal.Refusal.TheVariants.{Memory}
 use Rattle.mold_capture.specs.Refusal.{conflict, told}
 use Rattle.mold_rule.specs.Held.{differs}
@@ -157,12 +157,12 @@ free_conflict runs kept are n ms free =
     absurd (none-some other (sym (free_pairs runs kept are n (n + length ms) free q lies.0 lies.1) ∙ old)))
 
 -- memory alone is refused where nothing else is
-pub memory_told : (r : Result (Unit {0}) Reason) (o : Option Reason) → IfErr r (λ x. x ≡ Memory) → o ≡ None →
+pub memory_told : (r : Result (Unit {0}) Refusal) (o : Option Refusal) → IfErr r (λ x. x ≡ Memory) → o ≡ None →
     IfErr r (λ x. o ≡ told x)
 memory_told (Ok u) o memory none = tt
 memory_told (Err x) o memory none = none ∙ sym (ap told memory)
 
-pub always_memory : {T : Type 0} (r : Result T Reason) (P : Type 0) → P → IfErr r (λ x. x ≡ Memory → P)
+pub always_memory : {T : Type 0} (r : Result T Refusal) (P : Type 0) → P → IfErr r (λ x. x ≡ Memory → P)
 always_memory (Ok u) P holds = tt
 always_memory (Err x) P holds = λ memory. holds
 

@@ -21,7 +21,7 @@ use Rattle.mold_capture.specs.declared.verdict.Verdict.TheVariants.{Whole as IsW
 use Rattle.mold_capture.specs.Refusal.{reason}
 use Rattle.mold_capture.specs.Seen.{seen_of}
 use Rattle.mold_capture.specs.Verdict.{IsVerdictOn, IsWholeSeen, missing_in, ranges_of}
-use Rattle.mold_rule.specs.declared.refusal.Refusal.{Refusal as Reason}
+use Rattle.mold_rule.specs.declared.refusal.Refusal.{Refusal}
 use Rattle.mold_capture.proofs.CheckLemmas.{front_more, refused_for}
 use Rattle.mold_capture.proofs.CheckerLemmas.{none_whole, whole_none}
 use Rattle.mold_capture.proofs.ListLemmas.{ReadsBack}
@@ -45,7 +45,7 @@ not_both : (list : List (List ℕ)) (i j : ℕ) → i < j → (Consistent (take 
     Consistent (take j list) → ⊥
 not_both list i j below not consistent = not (shorter_consistent list (i + 1) j (omega arith) consistent)
 
-same_refusal : (list : List (List ℕ)) (i j : ℕ) (why other : Reason) → i ≡ j →
+same_refusal : (list : List (List ℕ)) (i j : ℕ) (why other : Refusal) → i ≡ j →
     reason (take i list) (get_or list i []) ≡ Some why → reason (take j list) (get_or list j []) ≡ Some other
     → refused i why ≡ refused j other
 same_refusal list i j why other same is so =
@@ -84,7 +84,7 @@ abbrev Goes : List (List ℕ) → ℕ → Type 0
 Goes list i = Consistent (take i list) ⊎ ((outcome : Outcome) × IsOutcome list outcome)
 
 goes_by : ReadsBack → RuleLaw → Spelled → (list : List (List ℕ)) (i : ℕ) → i < length list → IsBytes (get_or list i []) →
-    Consistent (take i list) → (o : Option Reason) → reason (take i list) (get_or list i []) ≡ o → Goes list (i + 1)
+    Consistent (take i list) → (o : Option Refusal) → reason (take i list) (get_or list i []) ≡ o → Goes list (i + 1)
 goes_by reads rule spelled list i within is_bytes consistent None is =
     let bytes = get_or list i [] in
     let found = read_or_refused (take i list) bytes is in
@@ -155,7 +155,7 @@ verdict_answers reads list (Incomplete missing end) is outcome told =
     one_outcome reads list (incomplete (ranges_of missing.items) end) outcome is told
 
 -- so does a refusal, unless memory was refused
-pub refused_answers : ReadsBack → (list : List (List ℕ)) (i : ℕ) (why : Reason) → IsRefusedAt i why list →
+pub refused_answers : ReadsBack → (list : List (List ℕ)) (i : ℕ) (why : Refusal) → IsRefusedAt i why list →
     (outcome : Outcome) → IsOutcome list outcome → (why ≡ Memory) ⊎ (refused i why ≡ outcome)
 refused_answers reads list i Memory is outcome told = inl refl
 refused_answers reads list i (Malformed e) is outcome told = inr (one_outcome reads list (refused i _) outcome is told)

@@ -1,6 +1,6 @@
 -- What refuses a list of datagrams.
 use Rattle.std.specs.Prelude.{◌≡◌, ℕ, ◌+◌, ◌≤◌, ◌<◌, List, [], take, length, slice_index_or, Some}
-use Rattle.mold_rule.specs.declared.refusal.Refusal.{Refusal as Reason}
+use Rattle.mold_rule.specs.declared.refusal.Refusal.{Refusal}
 use Rattle.mold_rule.specs.declared.refusal.Refusal.TheVariants.{Memory}
 use Rattle.mold_capture.specs.Consistent.{Consistent}
 use Rattle.mold_capture.specs.Refusal.{reason}
@@ -9,7 +9,7 @@ use Rattle.mold_capture.specs.Seen.{BringsNew, seen_of}
 -- the datagrams in front of the index are consistent, with the one there they aren't, and this is the reason
 -- why; where only memory was refused, the datagrams in front of the index are consistent, and the one there,
 -- if one is, brings a message
-abbrev pub IsRefusedAt : ℕ → Reason → List (List ℕ) → Type 0
+abbrev pub IsRefusedAt : ℕ → Refusal → List (List ℕ) → Type 0
 IsRefusedAt index Memory list =
     (index ≤ length list) × Consistent (take index list)
     × (index < length list → BringsNew (seen_of (take index list)) (slice_index_or list index []))

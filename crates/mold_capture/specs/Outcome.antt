@@ -6,7 +6,7 @@ use Rattle.mold_capture.specs.Consistent.{Consistent, Whole}
 use Rattle.mold_capture.specs.Refusal.{reason}
 use Rattle.mold_capture.specs.Seen.{seen_of}
 use Rattle.mold_capture.specs.Verdict.{missing_in, ranges_of}
-use Rattle.mold_rule.specs.declared.refusal.Refusal.{Refusal as Reason}
+use Rattle.mold_rule.specs.declared.refusal.Refusal.{Refusal}
 use Rattle.mold_rule.specs.declared.refusal.Refusal.TheVariants.{Memory}
 use Rattle.mold_capture.specs.declared.verdict.Verdict.{Verdict}
 use Rattle.mold_capture.specs.declared.verdict.Verdict.TheVariants.{Whole as IsWhole, Incomplete as IsIncomplete}
@@ -15,7 +15,7 @@ use Rattle.mold_capture.specs.declared.verdict.Verdict.TheVariants.{Whole as IsW
 pub data Outcome : Type 0 where
   whole : ℕ → Outcome
   incomplete : List Range → Option ℕ → Outcome
-  refused : ℕ → Reason → Outcome
+  refused : ℕ → Refusal → Outcome
 
 -- the outcome of datagrams: whole by some messages, of which the number is told; or consistent and whole by no
 -- messages, with what is missing; or those in front of the index are consistent, with the one there they
@@ -35,6 +35,6 @@ outcome_in (IsWhole messages) = whole messages
 outcome_in (IsIncomplete missing end) = incomplete (ranges_of missing.items) end
 
 -- the answer tells this outcome, unless memory was refused
-abbrev pub Answers : Outcome → Result Verdict (ℕ × Reason) → Type 0
+abbrev pub Answers : Outcome → Result Verdict (ℕ × Refusal) → Type 0
 Answers outcome answer = MatchResult answer (λ verdict. outcome_in verdict ≡ outcome)
     (λ r. (r.1 ≡ Memory) ⊎ (refused r.0 r.1 ≡ outcome))

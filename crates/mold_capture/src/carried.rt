@@ -17,7 +17,7 @@ use crate::missing::find_gaps;
 use crate::run::{Run, is_free};
 use crate::verdict::Range;
 use mold_messages::MessageList;
-use mold_rule::Refusal as Reason;
+use mold_rule::Refusal;
 use mold_rule::laws::ranges_walk_law;
 use mold_wire::Blocks;
 use std::alloc::{AllocError, Global};
@@ -62,7 +62,7 @@ impl Carried {
 
     /// Adds a packet's messages, the first of which has the number `first`. A message that is there already
     /// isn't stored again. After an error everything is as before. Memory is refused only where a message is new.
-    pub(crate) fn join(&mut self, first: u64, blocks: &Blocks<'_>) -> Result<(), Reason>
+    pub(crate) fn join(&mut self, first: u64, blocks: &Blocks<'_>) -> Result<(), Refusal>
         requires few { first + length blocks.now < 2 ^ 64 }
         ensures refused { IfErr result (λ reason. conflict_at (conflict self.old first blocks.now) ≡ told reason) }
         ensures taken { OnOk result (conflict self.old first blocks.now ≡ None) }
@@ -75,7 +75,7 @@ impl Carried {
             return add_all(&mut self.runs, &mut self.kept, first, blocks);
         }
         match compare(&self.runs, &self.kept, first, blocks) {
-            Err(number) => Err(Reason::Conflict { number }),
+            Err(number) => Err(Refusal::Conflict { number }),
             Ok(true) => Ok(()),
             Ok(false) => add_each(&mut self.runs, &mut self.kept, first, blocks),
         }

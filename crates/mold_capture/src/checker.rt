@@ -14,13 +14,13 @@ use crate::carried::Carried;
 use crate::memory::Memory;
 use crate::verdict::Verdict;
 use mold_rule::laws::refusal_law;
-use mold_rule::{Refusal as Reason, check_header};
+use mold_rule::{Refusal, check_header};
 use mold_wire::{Body, Packet, Session, decode};
 use std::alloc::Global;
 use std::marker::Model;
 
 // The end that was told with the packet: that of the first end packet.
-fn told_end(packet: &Packet<'_>, ended: Option<u64>) -> Option<u64>
+fn known_end(packet: &Packet<'_>, ended: Option<u64>) -> Option<u64>
     ensures { result ≡ option_or ended (end_in packet.now.body packet.now.sequence) }
 {
     match packet.body {
@@ -30,7 +30,7 @@ fn told_end(packet: &Packet<'_>, ended: Option<u64>) -> Option<u64>
 }
 
 // Adds a packet's messages to those that were carried.
-fn join_messages(carried: &mut Carried, packet: &Packet<'_>) -> Result<(), Reason>
+fn join_messages(carried: &mut Carried, packet: &Packet<'_>) -> Result<(), Refusal>
     requires { top_of packet.now < 2 ^ 64 }
     ensures refused { IfErr result (λ reason.
         conflict_at (conflict carried.old packet.now.sequence (messages_of packet.now.body)) ≡ told reason) }
@@ -89,7 +89,7 @@ impl Checker {
     /// accepted; after an error the checker is as before. The session is that of the first datagram accepted,
     /// and `known` is the greatest top accepted, at least 1. A message is compared with any message accepted
     /// before at the same number. Memory is refused only where no other reason applies and a message is new.
-    pub fn add(&mut self, bytes: &[u8]) -> Result<(), Reason>
+    pub fn add(&mut self, bytes: &[u8]) -> Result<(), Refusal>
         ensures refused { IfErr result (λ reason. refusal self.old bytes.now ≡ told reason) }
         ensures taken { OnOk result (refusal self.old bytes.now ≡ None) }
         ensures spelled { OnOk result ((packet : Packet) × Spells packet bytes.now) }
@@ -100,10 +100,10 @@ impl Checker {
         refusal_law();
         let packet = match decode(bytes) {
             Ok(packet) => packet,
-            Err(error) => return Err(Reason::Malformed(error)),
+            Err(error) => return Err(Refusal::Malformed(error)),
         };
         let top = check_header(&packet, self.session, self.known, self.ended)?;
-        let ended = told_end(&packet, self.ended);
+        let ended = known_end(&packet, self.ended);
         join_messages(&mut self.carried, &packet)?;
         self.session = self.session.or(Some(packet.session));
         self.known = self.known.max(top);

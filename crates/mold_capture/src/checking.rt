@@ -7,7 +7,7 @@ ghost use Rattle.mold_capture.specs.Verdict.{IsVerdictOn};
 
 use crate::checker::Checker;
 use crate::verdict::Verdict;
-use mold_rule::Refusal as Reason;
+use mold_rule::Refusal;
 use mold_rule::laws::refusal_law;
 use mold_wire::laws::reading_law;
 use std::alloc::Global;
@@ -15,7 +15,7 @@ use std::alloc::Global;
 /// Checks datagrams: whether they come from one whole session, and what is missing where they don't. Where
 /// one may not come after those before it, the answer is its index, counted from 0, and the first reason;
 /// the list's length and `Memory` where memory for the verdict is refused.
-pub fn check(alloc: Global, list: &[&[u8]]) -> Result<Verdict, (usize, Reason)>
+pub fn check(alloc: Global, list: &[&[u8]]) -> Result<Verdict, (usize, Refusal)>
     ensures verdict { IfOk result (λ verdict. IsVerdictOn verdict (map (λ bytes. bytes.now) list.now)) }
     ensures outcome { (outcome : Outcome) → IsOutcome (map (λ bytes. bytes.now) list.now) outcome →
         Answers outcome result }
@@ -31,6 +31,6 @@ pub fn check(alloc: Global, list: &[&[u8]]) -> Result<Verdict, (usize, Reason)>
     }
     match checker.verdict() {
         Ok(verdict) => Ok(verdict),
-        Err(_) => Err((list.len(), Reason::Memory)),
+        Err(_) => Err((list.len(), Refusal::Memory)),
     }
 }

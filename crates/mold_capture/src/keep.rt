@@ -7,7 +7,7 @@ ghost use Rattle.mold_rule.specs.declared.refusal.Refusal.TheVariants.{Memory};
 
 use crate::run::{Run, grown_run, put_run, run_at, take_back};
 use mold_messages::MessageList;
-use mold_rule::Refusal as Reason;
+use mold_rule::Refusal;
 use mold_wire::Blocks;
 use std::alloc::AllocError;
 use std::collections::BTreeMap;
@@ -35,7 +35,7 @@ pub(crate) fn add_all(
     kept: &mut MessageList,
     first: u64,
     blocks: &Blocks<'_>,
-) -> Result<(), Reason>
+) -> Result<(), Refusal>
     requires are { AreRuns runs.old (length kept.old.messages) }
     requires few { first + length blocks.now < 2 ^ 64 }
     requires free { AreFree runs.old first (first + length blocks.now) }
@@ -47,7 +47,7 @@ pub(crate) fn add_all(
     let start = kept.len();
     let count = u64::from(blocks.len());
     if let Err(_) = keep_all(kept, blocks) {
-        return Err(Reason::Memory);
+        return Err(Refusal::Memory);
     }
     // For the prover: `len` bounds the number of messages, as `put_run` needs it.
     let _len = kept.len();
@@ -55,7 +55,7 @@ pub(crate) fn add_all(
         Ok(()) => Ok(()),
         Err(_) => {
             kept.truncate(start);
-            Err(Reason::Memory)
+            Err(Refusal::Memory)
         }
     }
 }
@@ -129,7 +129,7 @@ pub(crate) fn add_each(
     kept: &mut MessageList,
     first: u64,
     blocks: &Blocks<'_>,
-) -> Result<(), Reason>
+) -> Result<(), Refusal>
     requires are { AreRuns runs.old (length kept.old.messages) }
     requires few { first + length blocks.now < 2 ^ 64 }
     ensures are { AreRuns runs.new (length kept.new.messages) }
@@ -143,7 +143,7 @@ pub(crate) fn add_each(
         if let Err(_) = add_new(runs, kept, since, number, message) {
             take_back(runs, since);
             kept.truncate(since);
-            return Err(Reason::Memory);
+            return Err(Refusal::Memory);
         }
         number += 1;
     }

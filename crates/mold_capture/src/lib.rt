@@ -16,5 +16,5 @@ mod verdict;
 pub use checker::Checker;
 pub use checking::check;
 pub use memory::Memory;
-pub use mold_rule::Refusal as Reason;
+pub use mold_rule::{Refusal, Refusal as Reason};
 pub use verdict::{Range, Verdict};

@@ -2,12 +2,12 @@
 use Rattle.std.proofs.Common.{◌≡◌, ℕ, ◌-◌, ◌<◌, List, [], ◌∷◌, ◌++◌, length, get_or, map, Bor, zero, suc, refl, sym, ap, subst, ◌∙◌, arith}
 use Rattle.std.specs.Prelude.{Option, Result, Ok, Err, IfOk}
 use Rattle.std.specs.Io.KnownBytes.{Appends}
-use Rattle.mold_devices.specs.Devices.{AppendsFront}
+use Rattle.mold_devices.specs.Devices.{AppendsPrefix}
 use Rattle.mold_devices.specs.declared.fault.CommandFault.{CommandFault}
 use Rattle.mold_capture.specs.Check.{IsRefusedAt}
 use Rattle.mold_capture.specs.Outcome.{Outcome, refused, IsOutcome, outcome_in}
 use Rattle.mold_capture.specs.Verdict.{IsVerdictOn}
-use Rattle.mold_rule.specs.declared.refusal.Refusal.{Refusal as Reason}
+use Rattle.mold_rule.specs.declared.refusal.Refusal.{Refusal}
 use Rattle.mold_rule.specs.declared.refusal.Refusal.TheVariants.{Malformed, WrongSession, SequenceZero, PastLast}
 use Rattle.mold_rule.specs.declared.refusal.Refusal.TheVariants.{EndConflict, EndBelow, PastEnd, Conflict, Memory}
 use Rattle.mold_capture.specs.declared.verdict.Verdict.{Verdict}
@@ -28,7 +28,7 @@ verdict_text names (IsWhole messages) = refl
 verdict_text names (Incomplete missing end) = refl
 
 -- so does a refusal, unless memory was refused
-pub refused_outcome : (list : List (List ℕ)) (index : ℕ) (why : Reason) → (why ≡ Memory → ⊥) → IsRefusedAt index why list →
+pub refused_outcome : (list : List (List ℕ)) (index : ℕ) (why : Refusal) → (why ≡ Memory → ⊥) → IsRefusedAt index why list →
     IsOutcome list (refused index why)
 refused_outcome list index (Malformed error) other is = is
 refused_outcome list index WrongSession other is = is
@@ -119,7 +119,7 @@ told_whole old new entries checked (Err e) text status is ends told = tt
 
 -- a beginning of the only report was written
 pub told_front : (old new : Option (List ℕ)) → OneOutcome → (entries : List Entry) (checked : Checked entries)
-    (text : List ℕ) → text ≡ report checked → AppendsFront old new text → NamesDiffer entries
-    → (x : Checked entries) → AppendsFront old new (report x)
+    (text : List ℕ) → text ≡ report checked → AppendsPrefix old new text → NamesDiffer entries
+    → (x : Checked entries) → AppendsPrefix old new (report x)
 told_front old new one entries checked text is front differ x =
-    subst (AppendsFront old new) (is ∙ one_report one entries differ checked x) front
+    subst (AppendsPrefix old new) (is ∙ one_report one entries differ checked x) front

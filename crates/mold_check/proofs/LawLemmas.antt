@@ -9,13 +9,13 @@ use Rattle.std.proofs.lemmas.List.Elements.{All-head, All-tail}
 use Rattle.std.proofs.lemmas.Option.{none-some, same_Some}
 use Rattle.mold_wire.specs.Block.{IsBytes}
 use Rattle.mold_rule.specs.Ranges as lacking
-use Rattle.mold_rule.specs.declared.refusal.Refusal.{Refusal as Reason}
+use Rattle.mold_rule.specs.declared.refusal.Refusal.{Refusal}
 use Rattle.mold_capture.specs.Consistent.{Consistent, Whole}
 use Rattle.mold_capture.specs.Outcome.{Outcome, whole, incomplete, refused, IsOutcome}
 use Rattle.mold_capture.specs.Refusal.{reason}
 use Rattle.mold_capture.specs.Seen.{Seen, after, seen_of}
 use Rattle.mold_capture.specs.Verdict.{IsWholeSeen, lacks, missing_in}
-use Rattle.mold_check.specs.CheckLines.{one_behind, outcome_at, outcome_from, outcome_of, outcome_or}
+use Rattle.mold_check.specs.CheckLines.{index_raised, outcome_at, outcome_from, outcome_of, outcome_or}
 use Rattle.mold_check.proofs.VerdictLemmas.{NoneLacks, is_whole, whole_at}
 
 -- what the laws of `mold_capture` and `mold_rule` state
@@ -84,7 +84,7 @@ behind_end count seen (Some (suc messages)) = by_count _
     by_count true = refl
     by_count false = refl
 
-behind_one : (count more : ℕ) (outcome : Outcome) → more ≡ count + 1 → behind more outcome ≡ behind count (one_behind outcome)
+behind_one : (count more : ℕ) (outcome : Outcome) → more ≡ count + 1 → behind more outcome ≡ behind count (index_raised outcome)
 behind_one count more (whole messages) is = refl
 behind_one count more (incomplete missing end) is = refl
 behind_one count more (refused index why) is =
@@ -95,7 +95,7 @@ front_taken front rest count is =
     take-append-le count front rest (omega arith) ∙ take_all count front (omega arith)
 
 -- the next datagram is refused
-refused_behind : CaptureLaws → (front rest : List (List ℕ)) (bytes : List ℕ) (why : Reason) → Consistent front →
+refused_behind : CaptureLaws → (front rest : List (List ℕ)) (bytes : List ℕ) (why : Refusal) → Consistent front →
     reason front bytes ≡ Some why → (count : ℕ) → count ≡ length front → IsOutcome (front ++ bytes ∷ rest) (refused count why)
 refused_behind laws front rest bytes why consistent is count at =
     let list = front ++ bytes ∷ rest in
@@ -115,14 +115,14 @@ refused_behind laws front rest bytes why consistent is count at =
     )
 
 -- the next datagram is refused, or those behind it go on
-next_behind : CaptureLaws → (front rest : List (List ℕ)) (bytes : List ℕ) (others : Outcome) (why : Option Reason) →
+next_behind : CaptureLaws → (front rest : List (List ℕ)) (bytes : List ℕ) (others : Outcome) (why : Option Refusal) →
     Consistent front → reason front bytes ≡ why
     → (why ≡ None → IsOutcome ((front ++ bytes ∷ []) ++ rest) (behind (length (front ++ bytes ∷ [])) others))
     → IsOutcome (front ++ bytes ∷ rest) (behind (length front) (outcome_or why others))
 next_behind laws front rest bytes others (Some why) consistent is goes =
     refused_behind laws front rest bytes why consistent is (length front + 0) (omega arith)
 next_behind laws front rest bytes others None consistent is goes =
-    subst (λ (l : List (List ℕ)). IsOutcome l (behind (length front) (one_behind others)))
+    subst (λ (l : List (List ℕ)). IsOutcome l (behind (length front) (index_raised others)))
     (append_assoc front (bytes ∷ []) rest)
     (subst (IsOutcome ((front ++ bytes ∷ []) ++ rest))
     (behind_one (length front) (length (front ++ bytes ∷ [])) others (length-append front (bytes ∷ [])))

@@ -11,28 +11,28 @@ use Rattle.mold_capture.specs.Refusal.{refusal}
 use Rattle.mold_capture.specs.Seen.{Seen, after}
 use Rattle.mold_capture.specs.Verdict.{IsVerdict, lacks, missing_in}
 use Rattle.mold_capture.specs.declared.verdict.Verdict.{Verdict}
-use Rattle.mold_devices.specs.Devices.{AppendsFront, one_more}
+use Rattle.mold_devices.specs.Devices.{AppendsPrefix, one_more}
 use Rattle.mold_devices.specs.declared.fault.CommandFault.{CommandFault}
 use Rattle.mold_devices.specs.Lines.{lines_of, GivesLine}
 use Rattle.mold_rule.specs.Ranges as lacking
-use Rattle.mold_rule.specs.declared.refusal.Refusal.{Refusal as Reason}
-use Rattle.mold_text.specs.Line.{behind_space, joined, line_of}
+use Rattle.mold_rule.specs.declared.refusal.Refusal.{Refusal}
+use Rattle.mold_text.specs.Line.{after_space, joined, line_of}
 use Rattle.mold_text.specs.Text.{refused_line}
-use Rattle.mold_check.specs.CheckLines.{outcome_at, outcome_from, outcome_or, one_behind, numbered, spelled_before}
+use Rattle.mold_check.specs.CheckLines.{outcome_at, outcome_from, outcome_or, index_raised, numbered, spelled_before}
 use Rattle.mold_check.specs.CheckLines.{datagrams_of, not_hex_or, not_hex, line_name, names_of, count_line}
-use Rattle.mold_check.specs.CheckLines.{lines_told, lines_status, check_text, check_status}
-use Rattle.mold_check.specs.Checking.{Judged, Checking, beginning, judged_by, judged_digits, judged_behind}
+use Rattle.mold_check.specs.CheckLines.{lines_report, lines_status, check_text, check_status}
+use Rattle.mold_check.specs.Checking.{Judged, Checking, beginning, judged_by, judged_digits, judged_after}
 use Rattle.mold_check.specs.Checking.{taken, all_taken, refused_line_text, judged_text, judged_status, checking_text, checking_status}
 use Rattle.mold_check.specs.Checking.{line_refusal_words}
 use Rattle.mold_check.specs.Report.{outcome_status, outcome_text}
-use Rattle.mold_check.specs.declared.line_check.LineRefusal.{LineRefusal}
+use Rattle.mold_check.specs.declared.line_check.CheckedLineRefusal.{CheckedLineRefusal}
 use Rattle.mold_check.specs.declared.line_check.RefusedLine.{RefusedLine}
 use Rattle.mold_check.proofs.VerdictLemmas.{NoneLacks, verdict_at}
 
 -- ---- what is told of lines, and the status
 
 abbrev told_of : List (List ℕ) → Outcome → Option ℕ → List ℕ × ℕ
-told_of names outcome line = (lines_told names outcome line, lines_status outcome line)
+told_of names outcome line = (lines_report names outcome line, lines_status outcome line)
 
 -- the same where some lines were judged before
 abbrev told_behind : Seen → Option RefusedLine → List (ℕ × List ℕ) → List ℕ × ℕ
@@ -44,7 +44,7 @@ told_next judged lines = told_behind judged.seen judged.refused lines
 
 -- a datagram in front that was accepted is not told
 told_one_behind : (name : List ℕ) (names : List (List ℕ)) (outcome : Outcome) (line : Option ℕ) →
-    told_of names outcome line ≡ told_of (name ∷ names) (one_behind outcome) line
+    told_of names outcome line ≡ told_of (name ∷ names) (index_raised outcome) line
 told_one_behind name names (whole messages) None = refl
 told_one_behind name names (whole messages) (Some number) = refl
 told_one_behind name names (incomplete missing end) None = refl
@@ -67,7 +67,7 @@ told_not_hex names seen (Some (suc messages)) number =
     by_count false = refl
 
 -- a line that spells a datagram
-told_bytes : (seen : Seen) (number : ℕ) (bytes : List ℕ) (lines : List (ℕ × List ℕ)) (why : Option Reason) →
+told_bytes : (seen : Seen) (number : ℕ) (bytes : List ℕ) (lines : List (ℕ × List ℕ)) (why : Option Refusal) →
     told_next (judged_by seen number bytes why) lines
     ≡ told_of (line_name number ∷ names_of lines) (outcome_or why (outcome_from (after seen bytes) (datagrams_of lines)))
     (not_hex lines)
@@ -92,7 +92,7 @@ told_digits seen number (Err error) lines =
     told_not_hex (line_name number ∷ names_of lines) seen seen.ended number
 
 told_line : (seen : Seen) (before : Option RefusedLine) (number : ℕ) (digits : List ℕ) (lines : List (ℕ × List ℕ)) →
-    told_next (judged_behind seen before number digits) lines ≡ told_behind seen before ((number, digits) ∷ lines)
+    told_next (judged_after seen before number digits) lines ≡ told_behind seen before ((number, digits) ∷ lines)
 unfolding names_of datagrams_of not_hex
 told_line seen (Some line) number digits lines = refl
 told_line seen None number digits lines = told_digits seen number (decode_of digits) lines
@@ -196,14 +196,14 @@ named_line : (number : ℕ) (words : List (List ℕ)) →
     line_of (codes "refused" ∷ codes "line" ∷ decimal number ∷ words) ≡ refused_line (line_name number ∷ words)
 unfolding joined
 named_line number words =
-    ap (λ (d : List ℕ). codes "refused" ++ (codes " line " ++ (d ++ flat_map behind_space words)) ++ codes "\n")
+    ap (λ (d : List ℕ). codes "refused" ++ (codes " line " ++ (d ++ flat_map after_space words)) ++ codes "\n")
     (sym (append-nil (decimal number)))
 
-pub refused_named : (line : RefusedLine) (why : LineRefusal) → line.why ≡ why →
+pub refused_named : (line : RefusedLine) (why : CheckedLineRefusal) → line.why ≡ why →
     line_of (codes "refused" ∷ codes "line" ∷ decimal line.number ∷ line_refusal_words why) ≡ refused_line_text line
 refused_named line why is =
     named_line line.number (line_refusal_words why)
-    ∙ ap (λ (w : LineRefusal). refused_line (line_name line.number ∷ line_refusal_words w)) (sym is)
+    ∙ ap (λ (w : CheckedLineRefusal). refused_line (line_name line.number ∷ line_refusal_words w)) (sym is)
 
 -- what is told of a check that refused nothing
 pub told_verdict : NoneLacks → (s : Checking) (v : Verdict) → s.judged.refused ≡ None → IsVerdict v s.judged.seen →
@@ -241,8 +241,8 @@ lines_whole old new (Some input) s (Ok status) taken told = (
 lines_whole old new known s (Err e) taken told = tt
 
 pub lines_front : (old new known : Option (List ℕ)) (s : Checking) →
-    IfSome known (λ input. s ≡ all_taken beginning (lines_of input)) → AppendsFront old new (checking_text s)
-    → IfSome known (λ input. AppendsFront old new (check_text input))
+    IfSome known (λ input. s ≡ all_taken beginning (lines_of input)) → AppendsPrefix old new (checking_text s)
+    → IfSome known (λ input. AppendsPrefix old new (check_text input))
 lines_front old new None s taken told = tt
 lines_front old new (Some input) s taken told =
-    subst (AppendsFront old new) (ap checking_text taken ∙ input_text input) told
+    subst (AppendsPrefix old new) (ap checking_text taken ∙ input_text input) told

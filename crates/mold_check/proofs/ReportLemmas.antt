@@ -3,7 +3,7 @@ use Rattle.std.proofs.Common.{◌≡◌, ℕ, List, [], ◌∷◌, ◌++◌, Opt
 use Rattle.std.specs.Io.KnownBytes.{Appends}
 use Rattle.std.proofs.KnownBytes.{Appends-nil, Appends-trans}
 use Rattle.std.specs.Prelude.{Result, Ok, Err, IsErr, IsErrAnd, IfErr}
-use Rattle.mold_devices.specs.Devices.{AppendsFront, Counts, one_more}
+use Rattle.mold_devices.specs.Devices.{AppendsPrefix, Counts, one_more}
 use Rattle.mold_devices.specs.declared.fault.CommandFault.{CommandFault}
 use Rattle.mold_devices.specs.declared.fault.CommandFault.TheVariants as fault
 use Rattle.mold_rule.specs.Ranges as lacking
@@ -13,11 +13,11 @@ use Rattle.mold_devices.specs.Faults.{CountsSink, CountsSinkFault}
 use Rattle.mold_check.specs.Report.{missing_line, missing_text}
 
 -- nothing was written
-pub front_none : (held : Option (List ℕ)) (text : List ℕ) → AppendsFront held held text
+pub front_none : (held : Option (List ℕ)) (text : List ℕ) → AppendsPrefix held held text
 front_none held text = record { front = []; rest = text; parts = refl; appended = Appends-nil held }
 
 pub front_more : (old new : Option (List ℕ)) (text more all : List ℕ) → all ≡ text ++ more →
-    AppendsFront old new text → AppendsFront old new all
+    AppendsPrefix old new text → AppendsPrefix old new all
 front_more old new text more all is p = record {
   front = p.front;
   rest = p.rest ++ more;
@@ -26,7 +26,7 @@ front_more old new text more all is p = record {
 }
 
 front_after : (old mid new : Option (List ℕ)) (text more : List ℕ) → Appends old mid text →
-    AppendsFront mid new more → AppendsFront old new (text ++ more)
+    AppendsPrefix mid new more → AppendsPrefix old new (text ++ more)
 front_after old mid new text more p q = record {
   front = text ++ q.front;
   rest = q.rest;
@@ -80,8 +80,8 @@ sent_out old mid now begun done text left has out none = record {
 
 -- a front of what stood there is written
 pub sent_front : (old mid now : Option (List ℕ)) (begun : List ℕ) (done all rest : List Range) (text : List ℕ) →
-    HasSent old mid begun done text → all ≡ done ++ rest → AppendsFront mid now text →
-    AppendsFront old now (begun ++ missing_text (ranges_of all))
+    HasSent old mid begun done text → all ≡ done ++ rest → AppendsPrefix mid now text →
+    AppendsPrefix old now (begun ++ missing_text (ranges_of all))
 sent_front old mid now begun done all rest text has is front =
     front_more old now (has.written ++ text) (missing_text (ranges_of rest)) (begun ++ missing_text (ranges_of all))
     (ap (λ (l : List Range). begun ++ missing_text (ranges_of l)) is

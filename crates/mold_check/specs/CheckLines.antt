@@ -10,7 +10,7 @@ use Rattle.mold_capture.specs.Verdict.{lacks, missing_in}
 use Rattle.mold_devices.specs.Devices.{one_more}
 use Rattle.mold_devices.specs.Lines.{lines_of}
 use Rattle.mold_rule.specs.Ranges as lacking
-use Rattle.mold_rule.specs.declared.refusal.Refusal.{Refusal as Reason}
+use Rattle.mold_rule.specs.declared.refusal.Refusal.{Refusal}
 use Rattle.mold_text.specs.Line.{joined, line_of}
 use Rattle.mold_text.specs.Text.{refused_line}
 use Rattle.mold_wire.specs.declared.limits.TheConstants.{MAX_NUMBER}
@@ -27,15 +27,15 @@ outcome_at seen (Some (suc messages)) =
     else incomplete (missing_in seen) (Some (suc messages))
 
 -- the same outcome, with one datagram more in front
-abbrev pub one_behind : Outcome → Outcome
-one_behind (whole messages) = whole messages
-one_behind (incomplete missing end) = incomplete missing end
-one_behind (refused index why) = refused (suc index) why
+abbrev pub index_raised : Outcome → Outcome
+index_raised (whole messages) = whole messages
+index_raised (incomplete missing end) = incomplete missing end
+index_raised (refused index why) = refused (suc index) why
 
 -- a datagram that is refused, or the outcome of those behind it
-abbrev pub outcome_or : Option Reason → Outcome → Outcome
+abbrev pub outcome_or : Option Refusal → Outcome → Outcome
 outcome_or (Some why) others = refused 0 why
-outcome_or None others = one_behind others
+outcome_or None others = index_raised others
 
 -- the outcome of datagrams behind others that have said this
 unfoldable pub outcome_from : Seen → List (List ℕ) → Outcome
@@ -87,11 +87,11 @@ count_line count = line_of (codes "datagrams" ∷ decimal (min count MAX_NUMBER)
 
 -- what is told of the lines with these names: the outcome of the datagrams in front of the first line that is no
 -- hexadecimal where it refuses one, and else that line, if there is one
-abbrev pub lines_told : List (List ℕ) → Outcome → Option ℕ → List ℕ
-lines_told names outcome None = outcome_text names outcome
-lines_told names (refused index why) (Some number) = outcome_text names (refused index why)
-lines_told names (whole messages) (Some number) = refused_line (line_name number ∷ codes "NotHex" ∷ [])
-lines_told names (incomplete missing end) (Some number) = refused_line (line_name number ∷ codes "NotHex" ∷ [])
+abbrev pub lines_report : List (List ℕ) → Outcome → Option ℕ → List ℕ
+lines_report names outcome None = outcome_text names outcome
+lines_report names (refused index why) (Some number) = outcome_text names (refused index why)
+lines_report names (whole messages) (Some number) = refused_line (line_name number ∷ codes "NotHex" ∷ [])
+lines_report names (incomplete missing end) (Some number) = refused_line (line_name number ∷ codes "NotHex" ∷ [])
 
 abbrev pub lines_status : Outcome → Option ℕ → ℕ
 lines_status outcome None = outcome_status outcome
@@ -101,7 +101,7 @@ lines_status outcome (Some number) = 2
 unfoldable pub check_text : List ℕ → List ℕ
 check_text input =
     let lines = numbered 1 (lines_of input) in
-    count_line (length lines) ++ lines_told (names_of lines) (outcome_of (datagrams_of lines)) (not_hex lines)
+    count_line (length lines) ++ lines_report (names_of lines) (outcome_of (datagrams_of lines)) (not_hex lines)
 
 -- the status: 0 whole, 1 not whole, 2 a line was refused
 unfoldable pub check_status : List ℕ → ℕ

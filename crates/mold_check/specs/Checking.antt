@@ -5,13 +5,13 @@ use Rattle.hex.specs.declared.error.FromHexError.{FromHexError}
 use Rattle.mold_capture.specs.Refusal.{refusal}
 use Rattle.mold_capture.specs.Seen.{Seen, after, seen_of}
 use Rattle.mold_devices.specs.Devices.{one_more}
-use Rattle.mold_rule.specs.declared.refusal.Refusal.{Refusal as Reason}
+use Rattle.mold_rule.specs.declared.refusal.Refusal.{Refusal}
 use Rattle.mold_text.specs.Text.{refusal_words, refused_line}
 use Rattle.mold_check.specs.CheckLines.{count_line, line_name, outcome_at}
 use Rattle.mold_check.specs.Report.{outcome_status, outcome_text}
 use Rattle.mold_check.specs.declared.line_check.LineCheck.{LineCheck}
-use Rattle.mold_check.specs.declared.line_check.LineRefusal.{LineRefusal}
-use Rattle.mold_check.specs.declared.line_check.LineRefusal.TheVariants.{NotHex, NotAccepted}
+use Rattle.mold_check.specs.declared.line_check.CheckedLineRefusal.{CheckedLineRefusal}
+use Rattle.mold_check.specs.declared.line_check.CheckedLineRefusal.TheVariants.{NotHex, NotAccepted}
 use Rattle.mold_check.specs.declared.line_check.RefusedLine.{RefusedLine}
 
 -- what the datagrams that were accepted have said, and the line that is refused, if one is
@@ -36,7 +36,7 @@ abbrev pub beginning : Checking
 beginning = record { next = 1; datagrams = 0; judged = record { seen = seen_of []; refused = None } }
 
 -- the next datagram is accepted, or refused for this reason
-abbrev pub judged_by : Seen → ℕ → List ℕ → Option Reason → Judged
+abbrev pub judged_by : Seen → ℕ → List ℕ → Option Refusal → Judged
 judged_by seen number bytes None = record { seen = after seen bytes; refused = None }
 judged_by seen number bytes (Some why) =
     record { seen = seen; refused = Some (record { number = number; why = NotAccepted why }) }
@@ -48,12 +48,12 @@ judged_digits seen number (Err _) =
     record { seen = seen; refused = Some (record { number = number; why = NotHex }) }
 
 -- behind a refusal nothing is judged
-abbrev pub judged_behind : Seen → Option RefusedLine → ℕ → List ℕ → Judged
-judged_behind seen (Some line) number digits = record { seen = seen; refused = Some line }
-judged_behind seen None number digits = judged_digits seen number (decode_of digits)
+abbrev pub judged_after : Seen → Option RefusedLine → ℕ → List ℕ → Judged
+judged_after seen (Some line) number digits = record { seen = seen; refused = Some line }
+judged_after seen None number digits = judged_digits seen number (decode_of digits)
 
 abbrev pub judged_next : Judged → ℕ → List ℕ → Judged
-judged_next judged number digits = judged_behind judged.seen judged.refused number digits
+judged_next judged number digits = judged_after judged.seen judged.refused number digits
 
 -- one line more
 unfoldable pub taken : Checking → List ℕ → Checking
@@ -70,7 +70,7 @@ all_taken s [] = s
 all_taken s (line ∷ lines) = all_taken (taken s line) lines
 
 -- the words of why a line is refused
-abbrev pub line_refusal_words : LineRefusal → List (List ℕ)
+abbrev pub line_refusal_words : CheckedLineRefusal → List (List ℕ)
 line_refusal_words NotHex = codes "NotHex" ∷ []
 line_refusal_words (NotAccepted why) = refusal_words why
 

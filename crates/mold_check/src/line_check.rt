@@ -6,11 +6,11 @@ ghost use Rattle.hex.specs.Hex.{decode_of};
 ghost use Rattle.mold_check.specs.CheckLines.{count_line};
 ghost use Rattle.mold_check.specs.Checking.{beginning, checking_of, checking_status, checking_text};
 ghost use Rattle.mold_check.specs.Checking.{judged_digits, refused_line_text, taken};
-ghost use Rattle.mold_devices.specs.Devices.{AppendsFront};
+ghost use Rattle.mold_devices.specs.Devices.{AppendsPrefix};
 ghost use Rattle.mold_devices.specs.Faults.{CountsSink};
 
-use crate::report::tell_verdict;
-use mold_capture::{Checker, Reason};
+use crate::report::print_verdict;
+use mold_capture::{Checker, Refusal};
 use mold_devices::{CommandFault, Sink, send};
 use mold_rule::laws::lacking_law;
 use mold_text::{Word, push_line, push_line_with, push_refusal};
@@ -18,18 +18,18 @@ use std::alloc::{AllocError, Global};
 
 /// Why a line is refused.
 #[derive(Clone, Copy, Debug, PartialEq, Eq)]
-pub(crate) enum LineRefusal {
+pub(crate) enum CheckedLineRefusal {
     /// It is no pairs of hexadecimal digits.
     NotHex,
     /// The datagram that its digits spell may not come after those before it.
-    NotAccepted(Reason),
+    NotAccepted(Refusal),
 }
 
 /// A line that is refused. The first line has number 1; a number stands at `u64::MAX` once it is there.
 #[derive(Clone, Copy, Debug, PartialEq, Eq)]
 pub(crate) struct RefusedLine {
     pub(crate) number: u64,
-    pub(crate) why: LineRefusal,
+    pub(crate) why: CheckedLineRefusal,
 }
 
 /// A check of lines, up to the first that is refused; those behind it are only counted. No line is kept, but for
@@ -76,20 +76,20 @@ impl LineCheck {
 
     /// Tells the outcome of the lines that were taken; it answers the status. After a fault a beginning of the
     /// text is written.
-    pub(crate) fn tell<K: Sink>(&self, alloc: Global, sink: &mut K) -> Result<u8, CommandFault>
+    pub(crate) fn print<K: Sink>(&self, alloc: Global, sink: &mut K) -> Result<u8, CommandFault>
         ensures whole { IfOk result (λ status. Appends (K.held sink.old) (K.held sink.new)
             (checking_text (checking_of self.now)) × (status ≡ checking_status (checking_of self.now))) }
-        ensures front { AppendsFront (K.held sink.old) (K.held sink.new) (checking_text (checking_of self.now)) }
+        ensures front { AppendsPrefix (K.held sink.old) (K.held sink.new) (checking_text (checking_of self.now)) }
         ensures failures { CountsSink (K.failed sink.old) (K.failed sink.new) result }
     {
         lacking_law();
         let mut text = Vec::new(alloc);
         push_count(&mut text, self.datagrams)?;
         if let Some(line) = self.refused {
-            return tell_refused_line(sink, &mut text, line);
+            return print_refused_line(sink, &mut text, line);
         }
         match self.checker.verdict() {
-            Ok(verdict) => tell_verdict(sink, &mut text, &verdict),
+            Ok(verdict) => print_verdict(sink, &mut text, &verdict),
             Err(_) => Err(CommandFault::Memory),
         }
     }
@@ -109,15 +109,15 @@ fn judge(
     if !mold_digits::decode(digits, bytes)? {
         return Ok(Some(RefusedLine {
             number,
-            why: LineRefusal::NotHex,
+            why: CheckedLineRefusal::NotHex,
         }));
     }
     match checker.add(bytes.as_slice()) {
         Ok(()) => Ok(None),
-        Err(Reason::Memory) => Err(AllocError),
+        Err(Refusal::Memory) => Err(AllocError),
         Err(why) => Ok(Some(RefusedLine {
             number,
-            why: LineRefusal::NotAccepted(why),
+            why: CheckedLineRefusal::NotAccepted(why),
         })),
     }
 }
@@ -137,20 +137,20 @@ fn push_refused_line(text: &mut Vec<u8>, line: RefusedLine) -> Result<(), AllocE
         Word::Number(line.number),
     ];
     match line.why {
-        LineRefusal::NotHex => push_line_with(text, &before, &[Word::Text(b"NotHex")]),
-        LineRefusal::NotAccepted(why) => push_refusal(text, &before, why),
+        CheckedLineRefusal::NotHex => push_line_with(text, &before, &[Word::Text(b"NotHex")]),
+        CheckedLineRefusal::NotAccepted(why) => push_refusal(text, &before, why),
     }
 }
 
 // Writes the text, and behind it why the line is refused; it answers the status.
-fn tell_refused_line<K: Sink>(
+fn print_refused_line<K: Sink>(
     sink: &mut K,
     text: &mut Vec<u8>,
     line: RefusedLine,
 ) -> Result<u8, CommandFault>
     ensures whole { IfOk result (λ status. Appends (K.held sink.old) (K.held sink.new)
         (text.old.items ++ refused_line_text line) × (status ≡ 2)) }
-    ensures front { AppendsFront (K.held sink.old) (K.held sink.new)
+    ensures front { AppendsPrefix (K.held sink.old) (K.held sink.new)
         (text.old.items ++ refused_line_text line) }
     ensures failures { CountsSink (K.failed sink.old) (K.failed sink.new) result }
 {

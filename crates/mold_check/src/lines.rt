@@ -4,7 +4,7 @@ ghost use Rattle.std.specs.Prelude.{◌≡◌, IfOk, IfSome};
 ghost use Rattle.std.specs.Io.KnownBytes.{Appends};
 ghost use Rattle.mold_check.specs.CheckLines.{check_status, check_text};
 ghost use Rattle.mold_check.specs.Checking.{all_taken, beginning, checking_of};
-ghost use Rattle.mold_devices.specs.Devices.{AppendsFront};
+ghost use Rattle.mold_devices.specs.Devices.{AppendsPrefix};
 ghost use Rattle.mold_devices.specs.Faults.{CountsCommand, CountsRead};
 ghost use Rattle.mold_devices.specs.Lines.{lines_of};
 
@@ -41,10 +41,10 @@ pub fn check_lines<S: Source, K: Sink>(
     ensures whole { IfOk result (λ status. IfSome (S.left source.old) (λ input.
         Appends (K.held sink.old) (K.held sink.new) (check_text input) × (status ≡ check_status input))) }
     ensures front { IfSome (S.left source.old) (λ input.
-        AppendsFront (K.held sink.old) (K.held sink.new) (check_text input)) }
+        AppendsPrefix (K.held sink.old) (K.held sink.new) (check_text input)) }
     ensures failures { CountsCommand (S.failed source.old) (S.failed source.new)
         (K.failed sink.old) (K.failed sink.new) result }
 {
     let check = read_lines(alloc, source)?;
-    check.tell(alloc, sink)
+    check.print(alloc, sink)
 }

@@ -7,7 +7,7 @@ ghost use Rattle.mold_capture.specs.Verdict.{ranges_of};
 ghost use Rattle.mold_check.specs.Entries.{NamesDiffer};
 ghost use Rattle.mold_check.specs.Report.{Checked, counts_line, incomplete_line, missing_line};
 ghost use Rattle.mold_check.specs.Report.{missing_text, outcome_status, outcome_text, report};
-ghost use Rattle.mold_devices.specs.Devices.{AppendsFront};
+ghost use Rattle.mold_devices.specs.Devices.{AppendsPrefix};
 ghost use Rattle.mold_devices.specs.Faults.{CountsSink};
 ghost use Rattle.mold_rule.specs.Ranges as lacking;
 ghost use Rattle.mold_text.specs.Text.{refusal_words, refused_line};
@@ -15,7 +15,7 @@ ghost use Rattle.mold_text.specs.Text.{refusal_words, refused_line};
 use crate::datagrams::{lend_bytes, sorted_datagrams};
 use crate::entry::Entry;
 use mold_capture::laws::outcome_law;
-use mold_capture::{Range, Reason, Verdict, check};
+use mold_capture::{Range, Refusal, Verdict, check};
 use mold_devices::{CommandFault, LARGE, Sink, send};
 use mold_text::{Word, push_line, push_refusal};
 use std::alloc::{AllocError, Global};
@@ -72,7 +72,7 @@ fn send_missing<K: Sink>(
 ) -> Result<(), CommandFault>
     ensures whole { OnOk result (Appends (K.held sink.old) (K.held sink.new)
         (text.old.items ++ missing_text (ranges_of missing.now))) }
-    ensures front { AppendsFront (K.held sink.old) (K.held sink.new)
+    ensures front { AppendsPrefix (K.held sink.old) (K.held sink.new)
         (text.old.items ++ missing_text (ranges_of missing.now)) }
     ensures failures { CountsSink (K.failed sink.old) (K.failed sink.new) result }
 {
@@ -86,10 +86,10 @@ fn send_missing<K: Sink>(
 }
 
 // Writes the text, and behind it that the session is whole; it answers the status.
-fn tell_whole<K: Sink>(sink: &mut K, text: &mut Vec<u8>, messages: u64) -> Result<u8, CommandFault>
+fn print_whole<K: Sink>(sink: &mut K, text: &mut Vec<u8>, messages: u64) -> Result<u8, CommandFault>
     ensures whole { IfOk result (λ status. Appends (K.held sink.old) (K.held sink.new)
         (text.old.items ++ outcome_text [] (whole messages)) × (status ≡ 0)) }
-    ensures front { AppendsFront (K.held sink.old) (K.held sink.new)
+    ensures front { AppendsPrefix (K.held sink.old) (K.held sink.new)
         (text.old.items ++ outcome_text [] (whole messages)) }
     ensures failures { CountsSink (K.failed sink.old) (K.failed sink.new) result }
 {
@@ -99,7 +99,7 @@ fn tell_whole<K: Sink>(sink: &mut K, text: &mut Vec<u8>, messages: u64) -> Resul
 }
 
 // Writes the text, and behind it what is missing; it answers the status.
-fn tell_incomplete<K: Sink>(
+fn print_incomplete<K: Sink>(
     sink: &mut K,
     text: &mut Vec<u8>,
     missing: &[Range],
@@ -107,7 +107,7 @@ fn tell_incomplete<K: Sink>(
 ) -> Result<u8, CommandFault>
     ensures whole { IfOk result (λ status. Appends (K.held sink.old) (K.held sink.new)
         (text.old.items ++ outcome_text [] (incomplete (ranges_of missing.now) end)) × (status ≡ 1)) }
-    ensures front { AppendsFront (K.held sink.old) (K.held sink.new)
+    ensures front { AppendsPrefix (K.held sink.old) (K.held sink.new)
         (text.old.items ++ outcome_text [] (incomplete (ranges_of missing.now) end)) }
     ensures failures { CountsSink (K.failed sink.old) (K.failed sink.new) result }
 {
@@ -117,7 +117,7 @@ fn tell_incomplete<K: Sink>(
 }
 
 /// Writes the text, and behind it what the verdict tells; it answers the status.
-pub(crate) fn tell_verdict<K: Sink>(
+pub(crate) fn print_verdict<K: Sink>(
     sink: &mut K,
     text: &mut Vec<u8>,
     verdict: &Verdict,
@@ -125,28 +125,28 @@ pub(crate) fn tell_verdict<K: Sink>(
     ensures whole { IfOk result (λ status. Appends (K.held sink.old) (K.held sink.new)
         (text.old.items ++ outcome_text [] (outcome_in verdict.now))
         × (status ≡ outcome_status (outcome_in verdict.now))) }
-    ensures front { AppendsFront (K.held sink.old) (K.held sink.new)
+    ensures front { AppendsPrefix (K.held sink.old) (K.held sink.new)
         (text.old.items ++ outcome_text [] (outcome_in verdict.now)) }
     ensures failures { CountsSink (K.failed sink.old) (K.failed sink.new) result }
 {
     match verdict {
-        Verdict::Whole { messages } => tell_whole(sink, text, *messages),
+        Verdict::Whole { messages } => print_whole(sink, text, *messages),
         Verdict::Incomplete { missing, end } => {
-            tell_incomplete(sink, text, missing.as_slice(), *end)
+            print_incomplete(sink, text, missing.as_slice(), *end)
         }
     }
 }
 
 // Writes the text, and behind it why the entry of this name is refused; it answers the status.
-fn tell_refusal<K: Sink>(
+fn print_refusal<K: Sink>(
     sink: &mut K,
     text: &mut Vec<u8>,
     name: &[u8],
-    reason: Reason,
+    reason: Refusal,
 ) -> Result<u8, CommandFault>
     ensures whole { IfOk result (λ status. Appends (K.held sink.old) (K.held sink.new)
         (text.old.items ++ refused_line (name.now ∷ refusal_words reason)) × (status ≡ 2)) }
-    ensures front { AppendsFront (K.held sink.old) (K.held sink.new)
+    ensures front { AppendsPrefix (K.held sink.old) (K.held sink.new)
         (text.old.items ++ refused_line (name.now ∷ refusal_words reason)) }
     ensures failures { CountsSink (K.failed sink.old) (K.failed sink.new) result }
 {
@@ -169,7 +169,7 @@ pub fn check_entries<K: Sink>(
         × (Appends (K.held sink.old) (K.held sink.new) (report checked)
         × (status ≡ outcome_status checked.outcome))) }
     ensures front { NamesDiffer entries.now → (checked : Checked entries.now) →
-        AppendsFront (K.held sink.old) (K.held sink.new) (report checked) }
+        AppendsPrefix (K.held sink.old) (K.held sink.new) (report checked) }
     ensures failures { CountsSink (K.failed sink.old) (K.failed sink.new) result }
 {
     outcome_law();
@@ -178,11 +178,11 @@ pub fn check_entries<K: Sink>(
     let mut text = Vec::new(alloc);
     push_counts(&mut text, order.len(), entries.len() - order.len())?;
     match check(alloc, datagrams.as_slice()) {
-        Ok(verdict) => tell_verdict(sink, &mut text, &verdict),
-        Err((_, Reason::Memory)) => Err(CommandFault::Memory),
+        Ok(verdict) => print_verdict(sink, &mut text, &verdict),
+        Err((_, Refusal::Memory)) => Err(CommandFault::Memory),
         Err((index, reason)) => {
             let name = order[index].name.as_str().as_bytes();
-            tell_refusal(sink, &mut text, name, reason)
+            print_refusal(sink, &mut text, name, reason)
         }
     }
 }

@@ -9,7 +9,7 @@ use Rattle.mold_devices.specs.declared.fault.CommandFault.TheVariants.{Read, Wri
 
 -- the report of some entries was written, and the status is that of their outcome; which ones a folder has is the
 -- system's word
-pub record TellsEntries (old new : Option (List ℕ)) (status : ℕ) : Type 0 where
+pub record PrintsEntries (old new : Option (List ℕ)) (status : ℕ) : Type 0 where
   pub entries : List Entry
   pub checked : Checked entries
   pub written : Appends old new (report checked)

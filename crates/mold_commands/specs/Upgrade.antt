@@ -2,7 +2,7 @@
 use Rattle.std.specs.Prelude.{◌≡◌, ℕ, Bool, true, false, List, [], ◌∷◌, codes, decimal, Option, None, Some, Result}
 use Rattle.std.specs.Prelude.{Ok, Err, IfOk, IfErr}
 use Rattle.std.specs.Io.KnownBytes.{Appends}
-use Rattle.mold_devices.specs.Devices.{AppendsFront, one_more}
+use Rattle.mold_devices.specs.Devices.{AppendsPrefix, one_more}
 use Rattle.mold_devices.specs.declared.fault.CommandFault.{CommandFault}
 use Rattle.mold_devices.specs.declared.fault.CommandFault.TheVariants as command
 use Rattle.mold_refusals.specs.Words.{file_fault_words}
@@ -52,24 +52,24 @@ pub record IsUpgradeOutcome {J : Type 0} (known : Option (List ℕ)) (read_befor
 
 -- how a command ends that tells an outcome in a sink: its line is written and its status answered; or the sink failed,
 -- and has taken a beginning of the line; or memory was wanting, and nothing is written
-abbrev pub TellsOutcome : {K : Type 0} → (K → Option (List ℕ)) → (K → ℕ) → K → K → Result Upgraded FileError →
+abbrev pub PrintsOutcome : {K : Type 0} → (K → Option (List ℕ)) → (K → ℕ) → K → K → Result Upgraded FileError →
     Result ℕ CommandFault → Type 0
-TellsOutcome held failed old new outcome (Ok status) =
+PrintsOutcome held failed old new outcome (Ok status) =
     (status ≡ upgrade_status outcome) × Appends (held old) (held new) (upgrade_text outcome)
     × (failed new ≡ failed old)
-TellsOutcome held failed old new outcome (Err command.Write) =
-    AppendsFront (held old) (held new) (upgrade_text outcome) × (failed new ≡ one_more (failed old))
-TellsOutcome held failed old new outcome (Err command.Memory) = new ≡ old
-TellsOutcome held failed old new outcome (Err command.Read) = ⊥
+PrintsOutcome held failed old new outcome (Err command.Write) =
+    AppendsPrefix (held old) (held new) (upgrade_text outcome) × (failed new ≡ one_more (failed old))
+PrintsOutcome held failed old new outcome (Err command.Memory) = new ≡ old
+PrintsOutcome held failed old new outcome (Err command.Read) = ⊥
 
 -- the fault of an upgrade is answered and nothing told; without one its outcome is told
 abbrev pub EndsWith : {K : Type 0} → (K → Option (List ℕ)) → (K → ℕ) → K → K → Result Upgraded FileError →
     Option CommandFault → Result ℕ CommandFault → Type 0
 EndsWith held failed old new outcome (Some fault) result = (result ≡ Err fault) × (new ≡ old)
-EndsWith held failed old new outcome None result = TellsOutcome held failed old new outcome result
+EndsWith held failed old new outcome None result = PrintsOutcome held failed old new outcome result
 
 -- the same by the outcome alone
-abbrev pub TellsUpgrade : {K : Type 0} → (K → Option (List ℕ)) → (K → ℕ) → K → K → Result Upgraded FileError →
+abbrev pub PrintsUpgrade : {K : Type 0} → (K → Option (List ℕ)) → (K → ℕ) → K → K → Result Upgraded FileError →
     Result ℕ CommandFault → Type 0
-TellsUpgrade held failed old new outcome result =
+PrintsUpgrade held failed old new outcome result =
     EndsWith held failed old new outcome (fault_of outcome) result

@@ -3,7 +3,7 @@
 ghost use Rattle.std.specs.Prelude.{◌≡◌, IfOk, IfSome};
 ghost use Rattle.std.specs.Io.KnownBytes.{Appends};
 ghost use Rattle.mold_commands.specs.Command.{IsStreamed, sim_start, text, status};
-ghost use Rattle.mold_devices.specs.Devices.{AppendsFront};
+ghost use Rattle.mold_devices.specs.Devices.{AppendsPrefix};
 ghost use Rattle.mold_devices.specs.Faults.{CountsCommand};
 ghost use Rattle.mold_session.specs.Publisher.{fresh_publisher};
 
@@ -29,7 +29,7 @@ pub fn run_command<S: Source, K: Sink>(
         Appends (K.held sink.old) (K.held sink.new) (text order.now input)
         × (answer ≡ status order.now input))) }
     ensures front { IfSome (S.left source.old) (λ input.
-        AppendsFront (K.held sink.old) (K.held sink.new) (text order.now input)) }
+        AppendsPrefix (K.held sink.old) (K.held sink.new) (text order.now input)) }
     ensures failures { CountsCommand (S.failed source.old) (S.failed source.new)
         (K.failed sink.old) (K.failed sink.new) result }
 {

@@ -1,7 +1,7 @@
 //! `mold check`: the entries of a folder.
 
 ghost use Rattle.std.specs.Prelude.{◌≡◌, IfErr, IfOk};
-ghost use Rattle.mold_commands.specs.Folder.{CountsFolder, TellsEntries};
+ghost use Rattle.mold_commands.specs.Folder.{CountsFolder, PrintsEntries};
 
 use mold_check::{Entry, check_entries, names_datagram};
 use mold_devices::{CommandFault, Sink};
@@ -41,7 +41,7 @@ pub fn check_folder<R: Files + AllocGlobal + Clone + Drop, K: Sink>(
     folder: &str,
     sink: &mut K,
 ) -> Result<u8, CommandFault>
-    ensures told { IfOk result (TellsEntries (K.held sink.old) (K.held sink.new)) }
+    ensures told { IfOk result (PrintsEntries (K.held sink.old) (K.held sink.new)) }
     ensures unread { IfErr result (λ fault. fault ≡ CommandFault.Read → sink.new ≡ sink.old) }
     ensures failures { CountsFolder (K.failed sink.old) (K.failed sink.new) result }
 {

@@ -1,7 +1,7 @@
 //! `mold upgrade`: a journal's file written again, in the version that is written today.
 
 ghost use Rattle.std.specs.Prelude.{◌≡◌, ◌++◌, IfOk, Ok, OnOk, Result};
-ghost use Rattle.mold_commands.specs.Upgrade.{IsUpgradeOutcome, TellsOutcome, TellsUpgrade, fault_of, upgrade_status};
+ghost use Rattle.mold_commands.specs.Upgrade.{IsUpgradeOutcome, PrintsOutcome, PrintsUpgrade, fault_of, upgrade_status};
 ghost use Rattle.mold_commands.specs.Upgrade.{upgrade_text};
 ghost use Rattle.mold_session.specs.declared.error.FileError.{FileError};
 ghost use Rattle.mold_session.specs.declared.upgrading.Upgraded.{Upgraded};
@@ -49,12 +49,12 @@ fn push_outcome(out: &mut Vec<u8>, outcome: Result<Upgraded, FileError>) -> Resu
 }
 
 // Tells the outcome, and answers its status.
-fn tell<K: Sink>(
+fn print_upgraded<K: Sink>(
     alloc: Global,
     outcome: Result<Upgraded, FileError>,
     sink: &mut K,
 ) -> Result<u8, CommandFault>
-    ensures { TellsOutcome K.held K.failed sink.old sink.new outcome result }
+    ensures { PrintsOutcome K.held K.failed sink.old sink.new outcome result }
 {
     let mut text = Vec::new(alloc);
     let Ok(status) = push_outcome(&mut text, outcome) else {
@@ -92,11 +92,11 @@ pub fn run_upgrade<S: Source, J: Sink, K: Sink>(
     ensures told { (outcome : Result Upgraded FileError)
         × IsUpgradeOutcome (S.left source.old) (S.failed source.old) (S.failed source.new)
         J.held J.failed journal.old journal.new close outcome
-        × TellsUpgrade K.held K.failed sink.old sink.new outcome result }
+        × PrintsUpgrade K.held K.failed sink.old sink.new outcome result }
 {
     let outcome = upgrade(alloc, source, journal, close);
     match device_fault(outcome) {
         Some(fault) => Err(fault),
-        None => tell(alloc, outcome, sink),
+        None => print_upgraded(alloc, outcome, sink),
     }
 }

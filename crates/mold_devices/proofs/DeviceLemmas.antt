@@ -2,11 +2,11 @@
 use Rattle.std.proofs.Common.{ℕ, List, ◌++◌, Option, sym, ap, ◌∙◌, append_assoc}
 use Rattle.std.specs.Io.KnownBytes.{Appends}
 use Rattle.std.proofs.KnownBytes.{Appends-trans}
-use Rattle.mold_devices.specs.Devices.{AppendsFront}
+use Rattle.mold_devices.specs.Devices.{AppendsPrefix}
 
 -- a front of a text is a front of the text and more
-pub front_more : (old new : Option (List ℕ)) (text more : List ℕ) → AppendsFront old new text →
-    AppendsFront old new (text ++ more)
+pub front_more : (old new : Option (List ℕ)) (text more : List ℕ) → AppendsPrefix old new text →
+    AppendsPrefix old new (text ++ more)
 front_more old new text more p =
     record {
       front = p.front;
@@ -17,7 +17,7 @@ front_more old new text more p =
 
 -- a whole text and then a front of the rest are a front of both
 pub front_after : (old mid new : Option (List ℕ)) (text more : List ℕ) → Appends old mid text →
-    AppendsFront mid new more → AppendsFront old new (text ++ more)
+    AppendsPrefix mid new more → AppendsPrefix old new (text ++ more)
 front_after old mid new text more p q = record {
   front = text ++ q.front;
   rest = q.rest;

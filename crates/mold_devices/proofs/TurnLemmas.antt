@@ -4,7 +4,7 @@ use Rattle.std.proofs.Common.{append_assoc, append-nil}
 use Rattle.std.specs.Prelude.{IfSome}
 use Rattle.std.specs.Io.KnownBytes.{Appends}
 use Rattle.std.proofs.KnownBytes.{Appends-trans}
-use Rattle.mold_devices.specs.Devices.{AppendsFront}
+use Rattle.mold_devices.specs.Devices.{AppendsPrefix}
 use Rattle.mold_devices.specs.Turns.{Printing, Goes, GoesOver, IsTurn}
 use Rattle.mold_devices.specs.declared.turn.Turn.{Turn}
 use Rattle.mold_devices.specs.declared.turn.Turn.TheVariants.{More, Done}
@@ -105,23 +105,23 @@ told_sent {start} {now} held text told sent empty = record {
 }
 
 front_tells : (start now : Moment) (known left held : Option (List ℕ)) →
-    Tells start now known left → AppendsFront now.held held now.text →
-    IfSome known (λ input. AppendsFront start.held held (start.prints.text input))
+    Tells start now known left → AppendsPrefix now.held held now.text →
+    IfSome known (λ input. AppendsPrefix start.held held (start.prints.text input))
 front_tells start now None left held told sent = tt
 front_tells start now (Some input) None held told sent = absurd told
 front_tells start now (Some input) (Some xs) held told sent =
     let more = now.prints.text xs in
-    subst (λ (t : List ℕ). AppendsFront start.held held t) (sym told.parts)
+    subst (λ (t : List ℕ). AppendsPrefix start.held held t) (sym told.parts)
     (front_after start.held now.held held told.written (now.text ++ more) told.sent
     (front_more now.held held now.text more sent))
 
 -- a front of the text is written
 pub told_front : {start now : Moment} {held : Option (List ℕ)} {text : List ℕ} → Told start now → text ≡ now.text →
-    AppendsFront now.held held text →
-    IfSome start.left (λ input. AppendsFront start.held held (start.prints.text input))
+    AppendsPrefix now.held held text →
+    IfSome start.left (λ input. AppendsPrefix start.held held (start.prints.text input))
 told_front {start} {now} {held} {text} told same sent =
     front_tells start now start.left now.left held told.tells
-    (subst (λ (t : List ℕ). AppendsFront now.held held t) same sent)
+    (subst (λ (t : List ℕ). AppendsPrefix now.held held t) same sent)
 
 -- the text that a turn found is there again once what it added is cut off
 pub restored : (found added cut : List ℕ) (len : ℕ) → cut ≡ take len added → len ≡ length found →

@@ -3,6 +3,7 @@
 #![tactic(auto)]
 
 mod device_fault;
+mod failure_plan;
 mod fault;
 mod from_read;
 mod into_write;
@@ -13,7 +14,6 @@ mod memory_source;
 mod new_file;
 mod output;
 mod piece;
-mod plan;
 mod sink;
 mod slice_source;
 mod source;

@@ -2,7 +2,7 @@
 
 ghost use Rattle.std.specs.Prelude.{◌≡◌, ◌<◌, length, take, IfOk, IfSome, OnErr};
 ghost use Rattle.std.specs.Io.KnownBytes.{Appends, prepend_known};
-ghost use Rattle.mold_devices.specs.Devices.{AppendsFront};
+ghost use Rattle.mold_devices.specs.Devices.{AppendsPrefix};
 ghost use Rattle.mold_devices.specs.Faults.{CountsRead, CountsCommand};
 ghost use Rattle.mold_devices.specs.Lines.{work_left};
 ghost use Rattle.mold_devices.specs.Turns.{IsTurn, Printing};
@@ -51,7 +51,7 @@ pub fn run_lines<C: LineCommand, S: Source, K: Sink>(
         Appends (K.held sink.old) (K.held sink.new) ((C.prints command.old).text input)
         × (status ≡ (C.prints command.old).status input))) }
     ensures front { IfSome (S.left source.old) (λ input.
-        AppendsFront (K.held sink.old) (K.held sink.new) ((C.prints command.old).text input)) }
+        AppendsPrefix (K.held sink.old) (K.held sink.new) ((C.prints command.old).text input)) }
     ensures failures { CountsCommand (S.failed source.old) (S.failed source.new)
         (K.failed sink.old) (K.failed sink.new) result }
 {

@@ -5,7 +5,7 @@ ghost use Rattle.std.specs.Prelude.{MatchResult, false};
 ghost use Rattle.mold_devices.specs.Devices.{Counts};
 
 use crate::device_fault::DeviceFault;
-use crate::plan::Plan;
+use crate::failure_plan::FailurePlan;
 use crate::sink::Sink;
 use std::alloc::Global;
 use std::marker::Model;
@@ -14,7 +14,7 @@ use std::marker::Model;
 #[derive(Debug, Drop)]
 pub struct MemorySink {
     held: Vec<u8>,
-    plan: Plan,
+    plan: FailurePlan,
 }
 
 impl Model for MemorySink {
@@ -39,7 +39,7 @@ impl MemorySink {
     {
         MemorySink {
             held: Vec::new(alloc),
-            plan: Plan::new(),
+            plan: FailurePlan::new(),
         }
     }
 

@@ -7,7 +7,7 @@ ghost use Rattle.std.specs.Io.KnownBytes.{ReadConsumes};
 ghost use Rattle.mold_devices.specs.Devices.{Counts};
 
 use crate::device_fault::DeviceFault;
-use crate::plan::Plan;
+use crate::failure_plan::FailurePlan;
 use crate::source::Source;
 use std::marker::Model;
 
@@ -15,7 +15,7 @@ use std::marker::Model;
 #[derive(Debug, Drop)]
 pub struct MemorySource<'a> {
     left: &'a [u8],
-    plan: Plan,
+    plan: FailurePlan,
 }
 
 impl<'a> Model for MemorySource<'a> {
@@ -37,7 +37,7 @@ impl<'a> MemorySource<'a> {
     {
         MemorySource {
             left: bytes,
-            plan: Plan::new(),
+            plan: FailurePlan::new(),
         }
     }
 

@@ -2,7 +2,7 @@
 
 ghost use Rattle.std.specs.Prelude.{◌≡◌, [], OnErr, OnOk, IfErr};
 ghost use Rattle.std.specs.Io.KnownBytes.{Appends};
-ghost use Rattle.mold_devices.specs.Devices.{AppendsFront, Counts};
+ghost use Rattle.mold_devices.specs.Devices.{AppendsPrefix, Counts};
 
 use crate::fault::CommandFault;
 use crate::sink::{Sink, write_all};
@@ -15,7 +15,7 @@ pub fn send<K: Sink>(sink: &mut K, text: &mut Vec<u8>) -> Result<(), CommandFaul
     ensures whole { OnOk result (Appends (K.held sink.old) (K.held sink.new) text.old.items) }
     ensures empty { OnOk result (text.new.items ≡ []) }
     ensures kept { OnErr result (text.new.items ≡ text.old.items) }
-    ensures front { AppendsFront (K.held sink.old) (K.held sink.new) text.old.items }
+    ensures front { AppendsPrefix (K.held sink.old) (K.held sink.new) text.old.items }
     ensures fault { IfErr result (λ fault. fault ≡ CommandFault.Write) }
     ensures failures { Counts (K.failed sink.old) (K.failed sink.new) result }
 {

@@ -3,7 +3,7 @@
 ghost use Rattle.std.specs.Prelude.{◌≡◌, ◌<◌, ℕ, Bool, List, Option, length, IfOk, IsOk, OnOk};
 ghost use Rattle.std.specs.Io.{WritesAtMost};
 ghost use Rattle.std.specs.Io.KnownBytes.{Appends, WriteAppends};
-ghost use Rattle.mold_devices.specs.Devices.{AppendsFront, Counts};
+ghost use Rattle.mold_devices.specs.Devices.{AppendsPrefix, Counts};
 
 use crate::device_fault::DeviceFault;
 
@@ -38,7 +38,7 @@ pub trait Sink {
 /// Writes all of `bytes`, in as many calls as the sink needs, and stops at the first fault.
 pub fn write_all<S: Sink>(sink: &mut S, bytes: &[u8]) -> Result<(), DeviceFault>
     ensures whole { OnOk result (Appends (S.held sink.old) (S.held sink.new) bytes.now) }
-    ensures front { AppendsFront (S.held sink.old) (S.held sink.new) bytes.now }
+    ensures front { AppendsPrefix (S.held sink.old) (S.held sink.new) bytes.now }
     ensures failures { Counts (S.failed sink.old) (S.failed sink.new) result }
     ensures nothing { length bytes.now ≡ 0 → IsOk result × (sink.new ≡ sink.old) }
 {

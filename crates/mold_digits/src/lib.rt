@@ -12,5 +12,5 @@ mod writing;
 pub use decoding::decode;
 pub use number::read_number;
 pub use writing::{
-    MOST_DIGITS, MOST_LONG_DIGITS, write_bytes, write_long_number, write_number, write_text,
+    MAX_DIGITS, MAX_LONG_DIGITS, write_bytes, write_long_number, write_number, write_text,
 };

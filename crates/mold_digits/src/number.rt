@@ -3,12 +3,12 @@
 ghost use Rattle.std.specs.Prelude.{◌≡◌};
 ghost use Rattle.mold_digits.specs.Numbers.{decimal_of, is_sized};
 
-use crate::writing::MOST_DIGITS;
+use crate::writing::MAX_DIGITS;
 
 fn is_sized(word: &[u8]) -> bool
     ensures { result ≡ is_sized word.now }
 {
-    !word.is_empty() && word.len() <= MOST_DIGITS
+    !word.is_empty() && word.len() <= MAX_DIGITS
 }
 
 /// The number that the word spells: 1 to 20 decimal digits, leading zeros among them, and at most

@@ -9,10 +9,10 @@ use crate::encoding::encode_into;
 use itoa::Buffer;
 
 /// The most decimal digits of a number of 64 bits, and of a number that is read.
-pub const MOST_DIGITS: usize = 20;
+pub const MAX_DIGITS: usize = 20;
 
 /// The most decimal digits of a number of 128 bits.
-pub const MOST_LONG_DIGITS: usize = 39;
+pub const MAX_LONG_DIGITS: usize = 39;
 
 fn digit(value: u64) -> u8
     requires { value < 10 }

@@ -1,6 +1,6 @@
-pub mod HeardSayingLemmas
-pub mod HeardTakingLemmas
-pub mod HeardTurnLemmas
+pub mod PrintedLineLemmas
+pub mod TakingLemmas
+pub mod ReceivedTurnLemmas
 pub mod LinesPrintedLemmas
 pub mod LinesTextLemmas
 pub mod OpeningLemmas

@@ -10,10 +10,10 @@ use Rattle.hex.proofs.HexLemmas.{decode_of-even, decode_of-ok}
 use Rattle.hex.specs.Hex.{decode_of, decode_pairs, digit_or_error, encode_lower, encode_with, hex_digit_value, lower_digits}
 use Rattle.hex.specs.Hex.{pair_value, value_at, ◌>>=◌}
 use Rattle.hex.specs.declared.error.FromHexError.{FromHexError}
-use Rattle.mold_feed.specs.Heard.{Saying, Handed, Refuses, handed_of, lines_text, lower_digit, messages_text, sayings_text, shown}
+use Rattle.mold_feed.specs.Received.{PrintedLine, Handed, Refuses, handed_of, lines_text, lower_digit, messages_text, printed_lines_text, shown}
 use Rattle.mold_listen.specs.Text.{handed_line, handed_text}
 use Rattle.mold_receiver.specs.Store.{Message, numbered}
-use Rattle.mold_rule.specs.declared.refusal.Refusal.{Refusal as Refused}
+use Rattle.mold_rule.specs.declared.refusal.Refusal.{Refusal}
 use Rattle.mold_session.specs.Answer.{between}
 use Rattle.mold_text.specs.Line.{line_of, message_digits}
 
@@ -157,35 +157,35 @@ same_parts : {X : Type 0} (x y : X) (xs ys : List X) → x ∷ xs ≡ y ∷ ys �
 same_parts x y xs ys same = (cc, cc)
 
 -- the messages among some sayings are printed one behind the other
-pub messages_said : (sayings : List Saying) (number : ℕ) (messages : List Message) →
-    handed_of sayings ≡ numbered number messages → messages_text sayings ≡ handed_text number messages
+pub messages_said : (printed_lines : List PrintedLine) (number : ℕ) (messages : List Message) →
+    handed_of printed_lines ≡ numbered number messages → messages_text printed_lines ≡ handed_text number messages
 unfolding handed_text
 messages_said [] number [] handed = refl
 messages_said [] number (message ∷ messages) handed = let no : ⊥ = cc in absurd no
-messages_said (Handed place said ∷ sayings) number [] handed = let no : ⊥ = cc in absurd no
-messages_said (Handed place said ∷ sayings) number (message ∷ messages) handed =
-    let parts = same_parts (place, said) (number, message) (handed_of sayings) (numbered (suc number) messages) handed in
+messages_said (Handed place said ∷ printed_lines) number [] handed = let no : ⊥ = cc in absurd no
+messages_said (Handed place said ∷ printed_lines) number (message ∷ messages) handed =
+    let parts = same_parts (place, said) (number, message) (handed_of printed_lines) (numbered (suc number) messages) handed in
     let at : place ≡ number = ap (λ (pair : ℕ × Message). pair.0) parts.0 in
     let same : said ≡ message = ap (λ (pair : ℕ × Message). pair.1) parts.0 in
     let after : suc number ≡ number + 1 = omega arith in
-    ap (λ (n : ℕ). handed_line n said ++ messages_text sayings) at
-    ∙ ap (λ (m : Message). handed_line number m ++ messages_text sayings) same
+    ap (λ (n : ℕ). handed_line n said ++ messages_text printed_lines) at
+    ∙ ap (λ (m : Message). handed_line number m ++ messages_text printed_lines) same
     ∙ ap (λ (text : List ℕ). handed_line number message ++ text)
-    (messages_said sayings (suc number) messages parts.1 ∙ ap (λ (n : ℕ). handed_text n messages) after)
-messages_said (Refuses bytes why ∷ sayings) number messages handed = messages_said sayings number messages handed
+    (messages_said printed_lines (suc number) messages parts.1 ∙ ap (λ (n : ℕ). handed_text n messages) after)
+messages_said (Refuses bytes why ∷ printed_lines) number messages handed = messages_said printed_lines number messages handed
 
 -- sayings none of which is a refusal are messages alone
-pub all_messages : (Q : Saying → Type 0) → ((bytes : List ℕ) (why : Refused) → Q (Refuses bytes why) → ⊥) →
-    (sayings : List Saying) → AllByRecursion Q sayings → sayings_text sayings ≡ messages_text sayings
+pub all_messages : (Q : PrintedLine → Type 0) → ((bytes : List ℕ) (why : Refusal) → Q (Refuses bytes why) → ⊥) →
+    (printed_lines : List PrintedLine) → AllByRecursion Q printed_lines → printed_lines_text printed_lines ≡ messages_text printed_lines
 all_messages Q none [] each = refl
-all_messages Q none (Handed number message ∷ sayings) each =
-    ap (λ (text : List ℕ). handed_line number message ++ text) (all_messages Q none sayings each.1)
-all_messages Q none (Refuses bytes why ∷ sayings) each = absurd (none bytes why each.0)
+all_messages Q none (Handed number message ∷ printed_lines) each =
+    ap (λ (text : List ℕ). handed_line number message ++ text) (all_messages Q none printed_lines each.1)
+all_messages Q none (Refuses bytes why ∷ printed_lines) each = absurd (none bytes why each.0)
 
 -- the messages among the sayings of a listener are the lines
-pub lines_said : (lines : List (List ℕ)) (messages : List Message) (sayings : List Saying) (first next : ℕ) →
-    AreSpelled lines messages → handed_of sayings ≡ numbered first (between messages first next) →
-    messages_text sayings ≡ lines_text first (between lines first next)
-lines_said lines messages sayings first next spelled handed =
-    messages_said sayings first (between messages first next) handed
+pub lines_said : (lines : List (List ℕ)) (messages : List Message) (printed_lines : List PrintedLine) (first next : ℕ) →
+    AreSpelled lines messages → handed_of printed_lines ≡ numbered first (between messages first next) →
+    messages_text printed_lines ≡ lines_text first (between lines first next)
+lines_said lines messages printed_lines first next spelled handed =
+    messages_said printed_lines first (between messages first next) handed
     ∙ text_between lines messages first next spelled

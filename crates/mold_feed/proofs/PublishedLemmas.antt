@@ -18,10 +18,10 @@ use Rattle.mold_session.specs.Answer.{IsPlan, PlanState, planned}
 use Rattle.mold_session.specs.Datagrams.{packing}
 use Rattle.mold_session.specs.Journal.{IsJournal, IsWithin, JournalState, append_refusal, appended}
 use Rattle.mold_session.specs.Publisher.{MayPublish, PublisherState}
-use Rattle.mold_session.specs.Truthful.{MayAnswer, TellsTruth}
+use Rattle.mold_session.specs.Truthful.{MayAnswer, IsTrueDatagram}
 use Rattle.mold_session.specs.declared.error.AppendError.{AppendError}
 use Rattle.mold_publish.specs.Publishing.{PublishedLines, line_outcome, lines_published, published_from, unless_refused}
-use Rattle.mold_publish.specs.Sending.{all_but_last, end_packet, packets_behind}
+use Rattle.mold_publish.specs.Sending.{all_but_last, end_packet, packets_after}
 use Rattle.mold_publish.specs.declared.line_refusal.LineRefusal.{LineRefusal}
 use Rattle.mold_publish.specs.declared.line_refusal.LineRefusal.TheVariants.{NotHex, NotTaken}
 use Rattle.mold_publish.proofs.DatagramLemmas.{grown}
@@ -39,7 +39,7 @@ pub record PublishedLaws : Type 0 where
   pub told : (journal : JournalState) (limit : ℕ) (plan : PlanState) (place : ℕ) (packet : Packet) →
       MayAnswer journal limit → IsPlan plan → plan.to ≤ length journal.messages + 1 →
       plan.session ≡ journal.session → slice_get (planned journal.messages limit plan) place ≡ Some packet →
-      TellsTruth journal (spelling_of packet)
+      IsTrueDatagram journal (spelling_of packet)
 
 -- ---- the lines
 
@@ -270,23 +270,23 @@ whole_plan limit journal = record {
   session = journal.session;
   from = 1;
   to = length journal.messages + 1;
-  left = length (packets_behind limit 0 journal);
+  left = length (packets_after limit 0 journal);
 }
 
 all_planned : (limit : ℕ) (journal : JournalState) →
-    planned journal.messages limit (whole_plan limit journal) ≡ packets_behind limit 0 journal
+    planned journal.messages limit (whole_plan limit journal) ≡ packets_after limit 0 journal
 unfolding whole_plan
 all_planned limit journal =
-    let packets = packets_behind limit 0 journal in
+    let packets = packets_after limit 0 journal in
     ap (λ (messages : List (List ℕ)). take (length packets) (packing limit journal.session 1 messages))
     (take_all (length journal.messages + 1 - 1) journal.messages (omega arith))
     ∙ take_all (length packets) packets (omega arith)
 
 data_true : (laws : PublishedLaws) (limit : ℕ) (journal : JournalState) → MayAnswer journal limit →
-    AllByRecursion (TellsTruth journal) (map spelling_of (packets_behind limit 0 journal))
+    AllByRecursion (IsTrueDatagram journal) (map spelling_of (packets_after limit 0 journal))
 unfolding whole_plan
 data_true laws limit journal may =
-    each_told (TellsTruth journal) (packets_behind limit 0 journal)
+    each_told (IsTrueDatagram journal) (packets_after limit 0 journal)
     (λ place packet found.
     laws.told journal limit (whole_plan limit journal) place packet may (omega arith, omega arith) (omega arith) refl
     (ap (λ (packets : List Packet). slice_get packets place) (all_planned limit journal) ∙ found))
@@ -306,7 +306,7 @@ each_replicated Good (suc count) x one = (one, each_replicated Good count x one)
 
 -- heartbeats and end packets
 beat_true : (limit : ℕ) (journal : JournalState) → MayAnswer journal limit →
-    TellsTruth journal (spelling_of (beat_packet journal))
+    IsTrueDatagram journal (spelling_of (beat_packet journal))
 beat_true limit journal may = record {
   packet = beat_packet journal;
   spelled = record {
@@ -318,7 +318,7 @@ beat_true limit journal may = record {
 }
 
 end_true : (limit : ℕ) (journal : JournalState) → MayAnswer journal limit → journal.closed ≡ true →
-    TellsTruth journal (spelling_of (end_packet journal))
+    IsTrueDatagram journal (spelling_of (end_packet journal))
 end_true limit journal may closed = record {
   packet = end_packet journal;
   spelled = record {
@@ -331,24 +331,24 @@ end_true limit journal may closed = record {
 
 -- all datagrams, as a line is refused or none is
 all_true : (laws : PublishedLaws) (limit beats ends : ℕ) (refused : Option LineRefusal) (journal : JournalState) →
-    MayAnswer journal limit → AllByRecursion (TellsTruth (closed_unless refused journal))
+    MayAnswer journal limit → AllByRecursion (IsTrueDatagram (closed_unless refused journal))
     (all_datagrams limit beats ends (record { journal = journal; refused = refused }))
 all_true laws limit beats ends None journal may =
     let left : JournalState = record journal { closed = true } in
     let shut : MayAnswer left limit = left_may None journal limit may in
-    each_append (TellsTruth left) (map spelling_of (packets_behind limit 0 left)) (close_datagrams beats ends left)
+    each_append (IsTrueDatagram left) (map spelling_of (packets_after limit 0 left)) (close_datagrams beats ends left)
     (data_true laws limit left shut)
-    (each_append (TellsTruth left) (replicate beats (spelling_of (beat_packet left)))
+    (each_append (IsTrueDatagram left) (replicate beats (spelling_of (beat_packet left)))
     (replicate ends (spelling_of (end_packet left)))
-    (each_replicated (TellsTruth left) beats (spelling_of (beat_packet left)) (beat_true limit left shut))
-    (each_replicated (TellsTruth left) ends (spelling_of (end_packet left)) (end_true limit left shut refl)))
+    (each_replicated (IsTrueDatagram left) beats (spelling_of (beat_packet left)) (beat_true limit left shut))
+    (each_replicated (IsTrueDatagram left) ends (spelling_of (end_packet left)) (end_true limit left shut refl)))
 all_true laws limit beats ends (Some why) journal may =
-    each_append (TellsTruth journal) (map spelling_of (all_but_last (packets_behind limit 0 journal))) []
-    (without_last (TellsTruth journal) (packets_behind limit 0 journal) (data_true laws limit journal may)) tt
+    each_append (IsTrueDatagram journal) (map spelling_of (all_but_last (packets_after limit 0 journal))) []
+    (without_last (IsTrueDatagram journal) (packets_after limit 0 journal) (data_true laws limit journal may)) tt
 
 -- all that are offered
 pub offered_true : (laws : PublishedLaws) (beats ends limit : ℕ) (journal : JournalState) (lines : List (List ℕ)) →
-    IsOpening journal limit → AllByRecursion (TellsTruth (left_journal (lines_published journal lines)))
+    IsOpening journal limit → AllByRecursion (IsTrueDatagram (left_journal (lines_published journal lines)))
     (all_datagrams limit beats ends (lines_published journal lines))
 offered_true laws beats ends limit journal lines is =
     let published = lines_published journal lines in
@@ -376,11 +376,11 @@ pub published_true : {P : Type 0} (laws : PublishedLaws) (a b : P) (beats ends l
     (text_old text_new file_old file_new : Option (List ℕ)) → IsOpening journal limit →
     PublishRun a b beats ends limit (lines_published journal lines) result before after text_old text_new file_old
     file_new →
-    AllSent (TellsTruth (left_journal (lines_published journal lines))) before.sent →
-    AllSent (TellsTruth (left_journal (lines_published journal lines))) after.sent
+    AllSent (IsTrueDatagram (left_journal (lines_published journal lines))) before.sent →
+    AllSent (IsTrueDatagram (left_journal (lines_published journal lines))) after.sent
 published_true laws a b beats ends limit journal lines result before after text_old text_new file_old file_new is run had =
     let published = lines_published journal lines in
-    let Good : List ℕ → Type 0 = TellsTruth (left_journal published) in
+    let Good : List ℕ → Type 0 = IsTrueDatagram (left_journal published) in
     let datagrams = all_datagrams limit beats ends published in
     sent_front Good after.sent run.end.port.sent run.sent_front
     (sends_true Good (both a b datagrams) (publication_of before nothing_out) run.end run.sends had

@@ -11,7 +11,7 @@ use Rattle.mold_ports.specs.Ports.{Receipt, Datagram, Quiet, Failure, cut, next_
 use Rattle.mold_session.specs.Answer.{IsPlan, PlanState, answer, plan_for, planned}
 use Rattle.mold_session.specs.Journal.{JournalState}
 use Rattle.mold_session.specs.Server.{IsAnswerable, asking}
-use Rattle.mold_session.specs.Truthful.{MayAnswer, TellsTruth}
+use Rattle.mold_session.specs.Truthful.{MayAnswer, IsTrueDatagram}
 use Rattle.mold_session.specs.declared.error.AnswerError.{AnswerError}
 use Rattle.mold_wire.specs.Packet.{spelling_of}
 use Rattle.mold_wire.specs.declared.packet.Packet.{Packet}
@@ -32,7 +32,7 @@ pub record ServingLaws : Type 0 where
   pub told : (journal : JournalState) (limit : ℕ) (plan : PlanState) (place : ℕ) (packet : Packet) →
       MayAnswer journal limit → IsPlan plan → plan.to ≤ length journal.messages + 1 →
       plan.session ≡ journal.session → slice_get (planned journal.messages limit plan) place ≡ Some packet →
-      TellsTruth journal (spelling_of packet)
+      IsTrueDatagram journal (spelling_of packet)
 
 -- ---- packets that are offered
 
@@ -83,44 +83,44 @@ replied_sends_only Good to fails (Err why) responder only so = so
 
 module _ (laws : ServingLaws) (service : Service) (may : MayAnswer service.journal service.limit) where
   answer_tells : (request : Request) → IsAnswerable service.journal request →
-      AllSpelled (TellsTruth service.journal)
+      AllSpelled (IsTrueDatagram service.journal)
       (answer service.journal.messages service.journal.session service.limit request.sequence request.count
       service.burst)
   answer_tells request is =
       let plan = plan_for service.journal service.burst request in
-      subst (AllSpelled (TellsTruth service.journal))
+      subst (AllSpelled (IsTrueDatagram service.journal))
       (laws.answer_is service.journal service.limit service.burst request is)
-      (each_at (λ packet. TellsTruth service.journal (spelling_of packet))
+      (each_at (λ packet. IsTrueDatagram service.journal (spelling_of packet))
       (planned service.journal.messages service.limit plan)
       (λ place packet found.
       laws.told service.journal service.limit plan place packet may (laws.plan service.journal service.burst request is)
       (laws.within service.journal service.burst request) refl found))
 
   reply_tells_to : (bytes : List ℕ) (asked : Result Request AnswerError) → asking service.journal bytes ≡ asked →
-      RepliesOnly (TellsTruth service.journal) (reply_to service asked)
+      RepliesOnly (IsTrueDatagram service.journal) (reply_to service asked)
   reply_tells_to bytes (Ok request) asks = answer_tells request (laws.answerable service.journal request bytes asks)
   reply_tells_to bytes (Err why) asks = tt
 
   met_tells : {P : Type 0} (fails : List Bool) (receipt : Receipt P) (responder : ResponderState P) →
-      AllSent (TellsTruth service.journal) responder.port.sent →
-      AllSent (TellsTruth service.journal) (met service fails receipt responder).port.sent
+      AllSent (IsTrueDatagram service.journal) responder.port.sent →
+      AllSent (IsTrueDatagram service.journal) (met service fails receipt responder).port.sent
   met_tells fails (Datagram from bytes) responder so =
-      replied_sends_only (TellsTruth service.journal) from fails (reply service bytes) responder
+      replied_sends_only (IsTrueDatagram service.journal) from fails (reply service bytes) responder
       (reply_tells_to bytes (asking service.journal bytes) refl) so
   met_tells fails Quiet responder so = so
   met_tells fails Failure responder so = so
 
   turn_tells : {P : Type 0} (fails : List Bool) (responder : ResponderState P) →
-      AllSent (TellsTruth service.journal) responder.port.sent →
-      AllSent (TellsTruth service.journal) (serve_turn service fails responder).port.sent
+      AllSent (IsTrueDatagram service.journal) responder.port.sent →
+      AllSent (IsTrueDatagram service.journal) (serve_turn service fails responder).port.sent
   unfolding serve_turn
   turn_tells fails responder so =
       met_tells fails (cut MAX_LIMIT (next_of responder.port))
       (record { port = received responder.port; tally = responder.tally; requests = responder.requests }) so
 
   pub run_tells : {P : Type 0} (choices : List (List Bool)) (start : ResponderState P) →
-      AllSent (TellsTruth service.journal) start.port.sent →
-      AllSent (TellsTruth service.journal) (run (serving service) choices start).port.sent
+      AllSent (IsTrueDatagram service.journal) start.port.sent →
+      AllSent (IsTrueDatagram service.journal) (run (serving service) choices start).port.sent
   unfolding run
   run_tells [] start so = so
   run_tells (fails ∷ more) start so = run_tells more (serve_turn service fails start) (turn_tells fails start so)

@@ -6,17 +6,17 @@ use Rattle.std.specs.Io.KnownBytes.{Appends}
 use Rattle.std.specs.List.{AllByRecursion}
 use Rattle.std.proofs.lemmas.Bool.{false_from_ne_true, false≢true}
 use Rattle.std.proofs.lemmas.Result.{IfOk-weaker}
-use Rattle.mold_devices.specs.Devices.{AppendsFront}
+use Rattle.mold_devices.specs.Devices.{AppendsPrefix}
 use Rattle.mold_devices.specs.declared.fault.CommandFault.{CommandFault}
-use Rattle.mold_feed.specs.Heard.{Gives, GivesOnly, HasFinished, HasListened, Hears, HearsOnly, IsFed, IsHarmless, IsStrange, PrintsAmong}
-use Rattle.mold_feed.specs.Heard.{PrintsLines, PrintsOpen, lines_text, closing_lines, closing_status}
+use Rattle.mold_feed.specs.Received.{Gives, GivesOnly, HasFinished, HasListened, CanReceive, ReceivesOnly, IsFed, IsHarmless, IsForeign, PrintsAmong}
+use Rattle.mold_feed.specs.Received.{PrintsLines, PrintsOpen, lines_text, closing_lines, closing_status}
 use Rattle.mold_listen.specs.Listening.{ListenerState, beginning, is_finished, listened_lines, listening, status}
 use Rattle.mold_send.specs.PublishLoop.{PublishRun, closed_unless}
 use Rattle.mold_turns.specs.Runs.{Ran, run}
 use Rattle.mold_feed.specs.Sent.{AllSent, HasLines, HasLinesBefore, IsCopy, IsOpening, IsPublished, IsSent, IsServed}
 use Rattle.mold_serve.specs.Serving.{ResponderState, Service, serving}
 use Rattle.mold_listen.specs.Text.{handed_text}
-use Rattle.mold_feed.proofs.HeardSayingLemmas.{between_front}
+use Rattle.mold_feed.proofs.PrintedLineLemmas.{between_front}
 use Rattle.mold_feed.proofs.LinesPrintedLemmas.{HasCome, has_come, listened_among, prints_lines}
 use Rattle.mold_feed.proofs.LinesTextLemmas.{text_between}
 use Rattle.mold_feed.proofs.OpeningLemmas.{OpeningLaws, begins_at, begins_honest, begins_in, left_by, left_messages, left_session}
@@ -30,7 +30,7 @@ use Rattle.mold_receiver.specs.Store.{Message}
 use Rattle.mold_receiver.specs.View.{fresh}
 use Rattle.mold_session.specs.Answer.{between}
 use Rattle.mold_session.specs.Journal.{JournalState}
-use Rattle.mold_session.specs.Truthful.{MayAnswer, TellsTruth}
+use Rattle.mold_session.specs.Truthful.{MayAnswer, IsTrueDatagram}
 use Rattle.mold_wire.specs.Truth.{IsTruePacket}
 use Rattle.mold_wire.specs.declared.session.Session.{Session}
 
@@ -41,31 +41,31 @@ pub record FeedLaws (P : Type 0) : Type 0 where
       (result : Result ℕ CommandFault) (before after : Port P)
       (text_old text_new file_old file_new : Option (List ℕ)) → IsOpening journal limit →
       PublishRun a b beats ends limit (lines_published journal lines) result before after text_old text_new file_old
-      file_new → AllSent (TellsTruth (left_by journal lines)) before.sent →
-      AllSent (TellsTruth (left_by journal lines)) after.sent
+      file_new → AllSent (IsTrueDatagram (left_by journal lines)) before.sent →
+      AllSent (IsTrueDatagram (left_by journal lines)) after.sent
   pub before : (limit : ℕ) (journal : JournalState) (lines : List (List ℕ)) (why : LineRefusal) →
       IsOpening journal limit → (lines_published journal lines).refused ≡ Some why →
       HasLinesBefore lines why (lines_published journal lines).journal
   pub served : (service : Service) (choices : List (List Bool)) (start : ResponderState P) →
-      MayAnswer service.journal service.limit → AllSent (TellsTruth service.journal) start.port.sent →
-      AllSent (TellsTruth service.journal) (run (serving service) choices start).port.sent
-  pub heard : (journal : JournalState) (server : P) (burst : ℕ) (choices : List Bool) (start : ListenerState P) →
-      IsHonest start.hearing.arbitration.view journal.messages journal.closed →
-      start.hearing.arbitration.view.session ≡ journal.session → HearsOnly (IsHarmless journal) start →
-      HasListened journal (Hears start) start.hearing.arbitration.view.next start.hearing.outgoing.text
-      (run (listening server burst) choices start).hearing
+      MayAnswer service.journal service.limit → AllSent (IsTrueDatagram service.journal) start.port.sent →
+      AllSent (IsTrueDatagram service.journal) (run (serving service) choices start).port.sent
+  pub received : (journal : JournalState) (server : P) (burst : ℕ) (choices : List Bool) (start : ListenerState P) →
+      IsHonest start.progress.arbitration.view journal.messages journal.closed →
+      start.progress.arbitration.view.session ≡ journal.session → ReceivesOnly (IsHarmless journal) start →
+      HasListened journal (CanReceive start) start.progress.arbitration.view.next start.progress.outgoing.text
+      (run (listening server burst) choices start).progress
   pub plain : (journal : JournalState) (server : P) (burst : ℕ) (choices : List Bool) (start : ListenerState P) →
-      IsHonest start.hearing.arbitration.view journal.messages journal.closed →
-      start.hearing.arbitration.view.session ≡ journal.session → HearsOnly (TellsTruth journal) start →
-      (run (listening server burst) choices start).hearing.outgoing.text
-      ≡ start.hearing.outgoing.text ++ handed_text start.hearing.arbitration.view.next
-      (between journal.messages start.hearing.arbitration.view.next
-      (run (listening server burst) choices start).hearing.arbitration.view.next)
+      IsHonest start.progress.arbitration.view journal.messages journal.closed →
+      start.progress.arbitration.view.session ≡ journal.session → ReceivesOnly (IsTrueDatagram journal) start →
+      (run (listening server burst) choices start).progress.outgoing.text
+      ≡ start.progress.outgoing.text ++ handed_text start.progress.arbitration.view.next
+      (between journal.messages start.progress.arbitration.view.next
+      (run (listening server burst) choices start).progress.arbitration.view.next)
   pub finished : (journal : JournalState) (server : P) (burst : ℕ) (choices : List Bool) (start : ListenerState P) →
-      IsHonest start.hearing.arbitration.view journal.messages journal.closed →
-      start.hearing.arbitration.view.session ≡ journal.session → HearsOnly (IsHarmless journal) start →
-      is_finished (run (listening server burst) choices start).hearing ≡ true →
-      HasFinished journal (run (listening server burst) choices start).hearing
+      IsHonest start.progress.arbitration.view journal.messages journal.closed →
+      start.progress.arbitration.view.session ≡ journal.session → ReceivesOnly (IsHarmless journal) start →
+      is_finished (run (listening server burst) choices start).progress ≡ true →
+      HasFinished journal (run (listening server burst) choices start).progress
 
 -- ---- what was sent is true
 
@@ -74,15 +74,15 @@ pub none_sent : {P : Type 0} (Good : List ℕ → Type 0) (sent : List (P × Lis
 none_sent {P} Good sent none = subst (λ (s : List (P × List ℕ)). AllSent Good s) (sym none) tt
 
 -- what is true of a copy is true of the journal
-copy_tells : (journal copy : JournalState) (bytes : List ℕ) → IsCopy journal copy → TellsTruth copy bytes →
-    TellsTruth journal bytes
-copy_tells journal copy bytes is tells = record {
-  packet = tells.packet;
-  spelled = tells.spelled;
-  session = tells.session ∙ is.session;
+copy_tells : (journal copy : JournalState) (bytes : List ℕ) → IsCopy journal copy → IsTrueDatagram copy bytes →
+    IsTrueDatagram journal bytes
+copy_tells journal copy bytes is modeled = record {
+  packet = modeled.packet;
+  spelled = modeled.spelled;
+  session = modeled.session ∙ is.session;
   so =
-      subst (λ (ms : List (List ℕ)). IsTruePacket tells.packet ms journal.closed) is.messages
-      (subst (λ (c : Bool). IsTruePacket tells.packet copy.messages c) is.closed tells.so);
+      subst (λ (ms : List (List ℕ)). IsTruePacket modeled.packet ms journal.closed) is.messages
+      (subst (λ (c : Bool). IsTruePacket modeled.packet copy.messages c) is.closed modeled.so);
 }
 
 -- ---- what comes
@@ -103,7 +103,7 @@ pub port_weaker : {P : Type 0} (Good Other : List ℕ → Type 0) → ((bytes : 
 port_weaker Good Other weaker port gives = each_weaker (Gives Good) (Gives Other) (gives_weaker Good Other weaker) port.comes gives
 
 hears_weaker : {P : Type 0} (Good Other : List ℕ → Type 0) → ((bytes : List ℕ) → Good bytes → Other bytes) →
-    (s : ListenerState P) → HearsOnly Good s → HearsOnly Other s
+    (s : ListenerState P) → ReceivesOnly Good s → ReceivesOnly Other s
 hears_weaker Good Other weaker s hears = record {
   a = port_weaker Good Other weaker s.a hears.a;
   b = port_weaker Good Other weaker s.b hears.b;
@@ -112,30 +112,30 @@ hears_weaker Good Other weaker s hears = record {
 
 module _ {P : Type 0} (laws : FeedLaws P) (limit : ℕ) (journal : JournalState) (lines : List (List ℕ))
     (opening : IsOpening journal limit) where
-  published_tells : (bytes : List ℕ) → IsPublished P journal limit lines bytes → TellsTruth (left_by journal lines) bytes
+  published_tells : (bytes : List ℕ) → IsPublished P journal limit lines bytes → IsTrueDatagram (left_by journal lines) bytes
   published_tells bytes is =
-      let Good = TellsTruth (left_by journal lines) in
+      let Good = IsTrueDatagram (left_by journal lines) in
       sent_one Good is.after.sent is.to bytes
       (laws.published is.a is.b is.beats is.ends limit journal lines is.result is.before is.after is.text_old is.text_new
       is.file_old is.file_new opening is.publishing (none_sent Good is.before.sent is.nothing))
       is.sent
 
-  served_tells : (bytes : List ℕ) → IsServed P (left_by journal lines) bytes → TellsTruth (left_by journal lines) bytes
+  served_tells : (bytes : List ℕ) → IsServed P (left_by journal lines) bytes → IsTrueDatagram (left_by journal lines) bytes
   served_tells bytes is =
-      let Good = TellsTruth is.service.journal in
+      let Good = IsTrueDatagram is.service.journal in
       copy_tells (left_by journal lines) is.service.journal bytes is.copy
       (sent_one Good (run (serving is.service) is.choices is.start).port.sent is.to bytes
       (laws.served is.service is.choices is.start is.answers (none_sent Good is.start.port.sent is.nothing))
       is.sent)
 
-  sent_tells : (bytes : List ℕ) → IsSent P journal limit lines bytes → TellsTruth (left_by journal lines) bytes
+  sent_tells : (bytes : List ℕ) → IsSent P journal limit lines bytes → IsTrueDatagram (left_by journal lines) bytes
   sent_tells bytes (inl is) = published_tells bytes is
   sent_tells bytes (inr is) = served_tells bytes is
 
   fed_harmless : (bytes : List ℕ) → IsFed P journal limit lines bytes → IsHarmless (left_by journal lines) bytes
   fed_harmless bytes (inl is) = inl (sent_tells bytes is)
   fed_harmless bytes (inr strange) =
-      inr (subst (λ (s : Session). IsStrange s bytes) (sym (left_session journal lines)) strange)
+      inr (subst (λ (s : Session). IsForeign s bytes) (sym (left_session journal lines)) strange)
 
   -- ---- what a listener of the session prints
 
@@ -161,32 +161,32 @@ module _ {P : Type 0} (laws : FeedLaws P) (limit : ℕ) (journal : JournalState)
       ending = run (listening server burst) ran.choices start
 
       abbrev next : ℕ
-      next = ending.hearing.arbitration.view.next
+      next = ending.progress.arbitration.view.next
 
-      has_heard : HearsOnly (IsHarmless (left_by journal lines)) start →
-          HasListened (left_by journal lines) (Hears start) first [] ending.hearing
+      has_heard : ReceivesOnly (IsHarmless (left_by journal lines)) start →
+          HasListened (left_by journal lines) (CanReceive start) first [] ending.progress
       has_heard hears =
-          subst (λ (n : ℕ). HasListened (left_by journal lines) (Hears start) n [] ending.hearing) at_first
-          (laws.heard (left_by journal lines) server burst ran.choices start honest in_session hears)
+          subst (λ (n : ℕ). HasListened (left_by journal lines) (CanReceive start) n [] ending.progress) at_first
+          (laws.received (left_by journal lines) server burst ran.choices start honest in_session hears)
 
-      has_finished : HearsOnly (IsHarmless (left_by journal lines)) start → is_finished ending.hearing ≡ true →
-          HasFinished (left_by journal lines) ending.hearing
+      has_finished : ReceivesOnly (IsHarmless (left_by journal lines)) start → is_finished ending.progress ≡ true →
+          HasFinished (left_by journal lines) ending.progress
       has_finished hears =
           laws.finished (left_by journal lines) server burst ran.choices start honest in_session hears
 
       -- nothing but what was sent of the session
-      all_true : HearsOnly (IsSent P journal limit lines) start → HearsOnly (TellsTruth (left_by journal lines)) start
+      all_true : ReceivesOnly (IsSent P journal limit lines) start → ReceivesOnly (IsTrueDatagram (left_by journal lines)) start
       all_true sent =
-          hears_weaker (IsSent P journal limit lines) (TellsTruth (left_by journal lines)) sent_tells start sent
+          hears_weaker (IsSent P journal limit lines) (IsTrueDatagram (left_by journal lines)) sent_tells start sent
 
-      all_harmless : HearsOnly (TellsTruth (left_by journal lines)) start →
-          HearsOnly (IsHarmless (left_by journal lines)) start
+      all_harmless : ReceivesOnly (IsTrueDatagram (left_by journal lines)) start →
+          ReceivesOnly (IsHarmless (left_by journal lines)) start
       all_harmless hears =
-          hears_weaker (TellsTruth (left_by journal lines)) (IsHarmless (left_by journal lines))
-          (λ bytes tells. inl tells) start hears
+          hears_weaker (IsTrueDatagram (left_by journal lines)) (IsHarmless (left_by journal lines))
+          (λ bytes modeled. inl modeled) start hears
 
-      text_heard : HearsOnly (TellsTruth (left_by journal lines)) start →
-          ending.hearing.outgoing.text ≡ handed_text first (between (left_by journal lines).messages first next)
+      text_heard : ReceivesOnly (IsTrueDatagram (left_by journal lines)) start →
+          ending.progress.outgoing.text ≡ handed_text first (between (left_by journal lines).messages first next)
       text_heard hears =
           laws.plain (left_by journal lines) server burst ran.choices start honest in_session hears
           ∙ ap (λ (n : ℕ). handed_text n (between (left_by journal lines).messages n next)) at_first
@@ -197,20 +197,20 @@ module _ {P : Type 0} (laws : FeedLaws P) (limit : ℕ) (journal : JournalState)
         has_lines : HasLines lines (left_by journal lines)
         has_lines = laws.opening.lines limit journal lines opening unrefused
 
-        comes_to : HearsOnly (IsHarmless (left_by journal lines)) start → HasCome reporting lines first ending result old new
+        comes_to : ReceivesOnly (IsHarmless (left_by journal lines)) start → HasCome reporting lines first ending result old new
         comes_to hears =
-            has_come (left_by journal lines) (Hears start) has_lines.spelled (has_heard hears) (has_finished hears)
+            has_come (left_by journal lines) (CanReceive start) has_lines.spelled (has_heard hears) (has_finished hears)
             ran.whole ran.front
 
-        pub session_prints_among : HearsOnly (IsFed P journal limit lines) start →
-            PrintsAmong reporting journal.session (Hears start) lines first result old new
+        pub session_prints_among : ReceivesOnly (IsFed P journal limit lines) start →
+            PrintsAmong reporting journal.session (CanReceive start) lines first result old new
         session_prints_among fed =
             let hears = hears_weaker (IsFed P journal limit lines) (IsHarmless (left_by journal lines)) fed_harmless start
             fed in
-            subst (λ (s : Session). PrintsAmong reporting s (Hears start) lines first result old new) (left_session journal lines)
-            (listened_among (left_by journal lines) (Hears start) has_lines.spelled (has_heard hears) (comes_to hears))
+            subst (λ (s : Session). PrintsAmong reporting s (CanReceive start) lines first result old new) (left_session journal lines)
+            (listened_among (left_by journal lines) (CanReceive start) has_lines.spelled (has_heard hears) (comes_to hears))
 
-        pub session_prints_lines : HearsOnly (IsSent P journal limit lines) start →
+        pub session_prints_lines : ReceivesOnly (IsSent P journal limit lines) start →
             PrintsLines reporting lines first result old new
         session_prints_lines sent =
             let hears = all_true sent in
@@ -234,26 +234,26 @@ module _ {P : Type 0} (laws : FeedLaws P) (limit : ℕ) (journal : JournalState)
             ap (λ (r : Option LineRefusal). (closed_unless r (lines_published journal lines).journal).closed) refused
             ∙ before.unclosed
 
-        unfinished : HearsOnly (IsHarmless (left_by journal lines)) start → is_finished ending.hearing ≡ false
+        unfinished : ReceivesOnly (IsHarmless (left_by journal lines)) start → is_finished ending.progress ≡ false
         unfinished hears =
-            false_from_ne_true (is_finished ending.hearing)
+            false_from_ne_true (is_finished ending.progress)
             (λ finished. false≢true (sym unclosed ∙ (has_finished hears finished).closed))
 
-        known_to : HearsOnly (IsHarmless (left_by journal lines)) start →
-            ending.hearing.arbitration.view.known ≤ count + 1
+        known_to : ReceivesOnly (IsHarmless (left_by journal lines)) start →
+            ending.progress.arbitration.view.known ≤ count + 1
         known_to hears =
             let many = ap (λ (messages : List Message). length messages) same in
             let most = (has_heard hears).honest.known in
             omega (arith, many, most)
 
-        ahead : HearsOnly (IsHarmless (left_by journal lines)) start → next ≤ ending.hearing.arbitration.view.known
+        ahead : ReceivesOnly (IsHarmless (left_by journal lines)) start → next ≤ ending.progress.arbitration.view.known
         ahead hears = (has_heard hears).honest.well_formed.ahead
 
-        up_to : HearsOnly (IsHarmless (left_by journal lines)) start → next ≤ count + 1
+        up_to : ReceivesOnly (IsHarmless (left_by journal lines)) start → next ≤ count + 1
         up_to hears = omega (arith, ahead hears, known_to hears)
 
-        lines_printed : HearsOnly (TellsTruth (left_by journal lines)) start →
-            ending.hearing.outgoing.text ≡ lines_text first (between lines first next)
+        lines_printed : ReceivesOnly (IsTrueDatagram (left_by journal lines)) start →
+            ending.progress.outgoing.text ≡ lines_text first (between lines first next)
         lines_printed hears =
             text_heard hears
             ∙ ap (λ (messages : List Message). handed_text first (between messages first next)) same
@@ -261,32 +261,32 @@ module _ {P : Type 0} (laws : FeedLaws P) (limit : ℕ) (journal : JournalState)
             ∙ ap (lines_text first)
             (between_front lines count first next least (has_heard (all_harmless hears)).from (up_to (all_harmless hears)))
 
-        all_printed : HearsOnly (TellsTruth (left_by journal lines)) start →
-            ending.hearing.outgoing.text ++ listened_lines reporting ending
+        all_printed : ReceivesOnly (IsTrueDatagram (left_by journal lines)) start →
+            ending.progress.outgoing.text ++ listened_lines reporting ending
             ≡ lines_text first (between lines first next)
-            ++ closing_lines reporting ending.hearing.arbitration.reports false next
-            ending.hearing.arbitration.view.known ending.hearing.outgoing.failures
+            ++ closing_lines reporting ending.progress.arbitration.reports false next
+            ending.progress.arbitration.view.known ending.progress.outgoing.failures
         all_printed hears =
             ap (λ (text : List ℕ). text ++ listened_lines reporting ending) (lines_printed hears)
             ∙ ap (λ (finished : Bool). lines_text first (between lines first next)
-            ++ closing_lines reporting ending.hearing.arbitration.reports finished next
-            ending.hearing.arbitration.view.known ending.hearing.outgoing.failures)
+            ++ closing_lines reporting ending.progress.arbitration.reports finished next
+            ending.progress.arbitration.view.known ending.progress.outgoing.failures)
             (unfinished (all_harmless hears))
 
-        pub session_prints_open : HearsOnly (IsSent P journal limit lines) start →
+        pub session_prints_open : ReceivesOnly (IsSent P journal limit lines) start →
             PrintsOpen reporting lines (count + 1) first result old new
         session_prints_open sent =
             let hears = all_true sent in
             let harmless = all_harmless hears in
             record {
               next = next;
-              known = ending.hearing.arbitration.view.known;
-              failures = ending.hearing.outgoing.failures;
-              reports = ending.hearing.arbitration.reports;
+              known = ending.progress.arbitration.view.known;
+              failures = ending.progress.outgoing.failures;
+              reports = ending.progress.arbitration.reports;
               from = (has_heard harmless).from;
               to = up_to harmless;
               ahead = ahead harmless;
-              heard = known_to harmless;
+              received = known_to harmless;
               text =
                   IfOk-weaker result _ _
                   (λ answer written. (
@@ -294,5 +294,5 @@ module _ {P : Type 0} (laws : FeedLaws P) (limit : ℕ) (journal : JournalState)
                     subst (λ (text : List ℕ). Appends old new text) (all_printed hears) written.0,
                   ))
                   ran.whole;
-              front = subst (λ (text : List ℕ). AppendsFront old new text) (all_printed hears) ran.front;
+              front = subst (λ (text : List ℕ). AppendsPrefix old new text) (all_printed hears) ran.front;
             }

@@ -4,8 +4,9 @@
 ghost use Rattle.std.specs.Prelude.{◌≡◌, ◌+◌, ◌++◌, ◌≤◌, Bool, List, [], None, Option, Result, Some, length, true, ℕ};
 ghost use Rattle.std.specs.List.{AllByRecursion};
 ghost use Rattle.mold_devices.specs.declared.fault.CommandFault.{CommandFault};
-ghost use Rattle.mold_feed.specs.Heard.{HasFinished, HasListened, Hears, HearsOnly, IsFed, IsHarmless, PrintsAmong};
-ghost use Rattle.mold_feed.specs.Heard.{PrintsLines, PrintsOpen};
+ghost use Rattle.mold_feed.specs.Received.{CanReceive, HasFinished, HasListened, IsFed, IsHarmless, PrintsAmong};
+ghost use Rattle.mold_feed.specs.Received.{ReceivesOnly};
+ghost use Rattle.mold_feed.specs.Received.{PrintsLines, PrintsOpen};
 ghost use Rattle.mold_listen.specs.Listening.{Agrees, ListenerState, beginning, is_finished, listened_lines, listening};
 ghost use Rattle.mold_listen.specs.Listening.{status};
 ghost use Rattle.mold_send.specs.PublishLoop.{PublishRun, all_datagrams, left_journal};
@@ -21,7 +22,7 @@ ghost use Rattle.mold_receiver.specs.Honest.{IsHonest};
 ghost use Rattle.mold_receiver.specs.View.{fresh};
 ghost use Rattle.mold_session.specs.Answer.{between};
 ghost use Rattle.mold_session.specs.Journal.{JournalState};
-ghost use Rattle.mold_session.specs.Truthful.{MayAnswer, TellsTruth};
+ghost use Rattle.mold_session.specs.Truthful.{MayAnswer, IsTrueDatagram};
 ghost use Rattle.mold_wire.specs.Packer.{IsLimit};
 
 use mold_ports::Datagrams;
@@ -35,15 +36,15 @@ use mold_wire::laws::reading_law;
 /// it. A server may answer from it whose datagrams have room for its longest message.
 pub fn published_law<D: Datagrams>()
     ensures offered { (beats ends limit : ℕ) (journal : JournalState) (lines : List (List ℕ)) →
-        IsOpening journal limit → AllByRecursion (TellsTruth (left_journal (lines_published journal lines)))
+        IsOpening journal limit → AllByRecursion (IsTrueDatagram (left_journal (lines_published journal lines)))
         (all_datagrams limit beats ends (lines_published journal lines)) }
     ensures sent { (a b : D.Peer) (beats ends limit : ℕ) (journal : JournalState) (lines : List (List ℕ))
         (result : Result ℕ CommandFault) (before after : Port D.Peer)
         (text_old text_new file_old file_new : Option (List ℕ)) → IsOpening journal limit →
         PublishRun a b beats ends limit (lines_published journal lines) result before after
         text_old text_new file_old file_new →
-        AllSent (TellsTruth (left_journal (lines_published journal lines))) before.sent →
-        AllSent (TellsTruth (left_journal (lines_published journal lines))) after.sent }
+        AllSent (IsTrueDatagram (left_journal (lines_published journal lines))) before.sent →
+        AllSent (IsTrueDatagram (left_journal (lines_published journal lines))) after.sent }
     ensures lines { (limit : ℕ) (journal : JournalState) (lines : List (List ℕ)) → IsOpening journal limit →
         (lines_published journal lines).refused ≡ None → HasLines lines (left_journal (lines_published journal lines)) }
     ensures before { (limit : ℕ) (journal : JournalState) (lines : List (List ℕ)) (why : LineRefusal) →
@@ -61,8 +62,8 @@ pub fn published_law<D: Datagrams>()
 /// is a beginning of it; so is all that a port has sent that sent nothing else.
 pub fn served_law<D: Datagrams>()
     ensures { (service : Service) (choices : List (List Bool)) (start : ResponderState D.Peer) →
-        MayAnswer service.journal service.limit → AllSent (TellsTruth service.journal) start.port.sent →
-        AllSent (TellsTruth service.journal) (run (serving service) choices start).port.sent }
+        MayAnswer service.journal service.limit → AllSent (IsTrueDatagram service.journal) start.port.sent →
+        AllSent (IsTrueDatagram service.journal) (run (serving service) choices start).port.sent }
 {
     answered_law();
     sending_law();
@@ -74,23 +75,23 @@ pub fn served_law<D: Datagrams>()
 /// session; where all that came was true, it prints nothing else. Finished means that all to the session's end was
 /// printed.
 pub fn listened_law<D: Datagrams>()
-    ensures heard { (journal : JournalState) (server : D.Peer) (burst : ℕ) (choices : List Bool)
-        (start : ListenerState D.Peer) → IsHonest start.hearing.arbitration.view journal.messages journal.closed →
-        start.hearing.arbitration.view.session ≡ journal.session → HearsOnly (IsHarmless journal) start →
-        HasListened journal (Hears start) start.hearing.arbitration.view.next start.hearing.outgoing.text
-        (run (listening server burst) choices start).hearing }
+    ensures received { (journal : JournalState) (server : D.Peer) (burst : ℕ) (choices : List Bool)
+        (start : ListenerState D.Peer) → IsHonest start.progress.arbitration.view journal.messages journal.closed →
+        start.progress.arbitration.view.session ≡ journal.session → ReceivesOnly (IsHarmless journal) start →
+        HasListened journal (CanReceive start) start.progress.arbitration.view.next start.progress.outgoing.text
+        (run (listening server burst) choices start).progress }
     ensures plain { (journal : JournalState) (server : D.Peer) (burst : ℕ) (choices : List Bool)
-        (start : ListenerState D.Peer) → IsHonest start.hearing.arbitration.view journal.messages journal.closed →
-        start.hearing.arbitration.view.session ≡ journal.session → HearsOnly (TellsTruth journal) start →
-        (run (listening server burst) choices start).hearing.outgoing.text
-        ≡ start.hearing.outgoing.text ++ handed_text start.hearing.arbitration.view.next
-        (between journal.messages start.hearing.arbitration.view.next
-        (run (listening server burst) choices start).hearing.arbitration.view.next) }
+        (start : ListenerState D.Peer) → IsHonest start.progress.arbitration.view journal.messages journal.closed →
+        start.progress.arbitration.view.session ≡ journal.session → ReceivesOnly (IsTrueDatagram journal) start →
+        (run (listening server burst) choices start).progress.outgoing.text
+        ≡ start.progress.outgoing.text ++ handed_text start.progress.arbitration.view.next
+        (between journal.messages start.progress.arbitration.view.next
+        (run (listening server burst) choices start).progress.arbitration.view.next) }
     ensures finished { (journal : JournalState) (server : D.Peer) (burst : ℕ) (choices : List Bool)
-        (start : ListenerState D.Peer) → IsHonest start.hearing.arbitration.view journal.messages journal.closed →
-        start.hearing.arbitration.view.session ≡ journal.session → HearsOnly (IsHarmless journal) start →
-        is_finished (run (listening server burst) choices start).hearing ≡ true →
-        HasFinished journal (run (listening server burst) choices start).hearing }
+        (start : ListenerState D.Peer) → IsHonest start.progress.arbitration.view journal.messages journal.closed →
+        start.progress.arbitration.view.session ≡ journal.session → ReceivesOnly (IsHarmless journal) start →
+        is_finished (run (listening server burst) choices start).progress ≡ true →
+        HasFinished journal (run (listening server burst) choices start).progress }
 {
     honest_take_law();
     taken_law();
@@ -111,7 +112,7 @@ pub fn session_law<D: Datagrams>()
         (old new : Option (List ℕ)) (sent : List (D.Peer × List ℕ)) → IsOpening journal limit →
         (lines_published journal lines).refused ≡ None →
         1 ≤ first → first ≤ length lines + 1 → arbitration.view ≡ fresh journal.session first window →
-        HearsOnly (IsSent D.Peer journal limit lines) (beginning a b requests arbitration) →
+        ReceivesOnly (IsSent D.Peer journal limit lines) (beginning a b requests arbitration) →
         Ran (listening server burst) turns (beginning a b requests arbitration) (listened_lines reporting) status
         (Agrees a_left b_left requests_left left) result old new sent →
         PrintsLines reporting lines first result old new }
@@ -121,10 +122,11 @@ pub fn session_law<D: Datagrams>()
         (old new : Option (List ℕ)) (sent : List (D.Peer × List ℕ)) → IsOpening journal limit →
         (lines_published journal lines).refused ≡ None →
         1 ≤ first → first ≤ length lines + 1 → arbitration.view ≡ fresh journal.session first window →
-        HearsOnly (IsFed D.Peer journal limit lines) (beginning a b requests arbitration) →
+        ReceivesOnly (IsFed D.Peer journal limit lines) (beginning a b requests arbitration) →
         Ran (listening server burst) turns (beginning a b requests arbitration) (listened_lines reporting) status
         (Agrees a_left b_left requests_left left) result old new sent →
-        PrintsAmong reporting journal.session (Hears (beginning a b requests arbitration)) lines first result old new }
+        PrintsAmong reporting journal.session (CanReceive (beginning a b requests arbitration))
+        lines first result old new }
     ensures refused { (reporting : Bool) (limit first window turns burst : ℕ) (journal : JournalState)
         (lines : List (List ℕ)) (why : LineRefusal) (server : D.Peer) (a b requests : Port D.Peer)
         (arbitration : Arbitration) (a_left b_left requests_left : Port D.Peer) (left : Arbitration)
@@ -132,7 +134,7 @@ pub fn session_law<D: Datagrams>()
         IsOpening journal limit → (lines_published journal lines).refused ≡ Some why →
         1 ≤ first → first ≤ length (lines_published journal lines).journal.messages + 1 →
         arbitration.view ≡ fresh journal.session first window →
-        HearsOnly (IsSent D.Peer journal limit lines) (beginning a b requests arbitration) →
+        ReceivesOnly (IsSent D.Peer journal limit lines) (beginning a b requests arbitration) →
         Ran (listening server burst) turns (beginning a b requests arbitration) (listened_lines reporting) status
         (Agrees a_left b_left requests_left left) result old new sent →
         PrintsOpen reporting lines (length (lines_published journal lines).journal.messages + 1) first result old new }

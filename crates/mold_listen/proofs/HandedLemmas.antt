@@ -29,13 +29,13 @@ handed_step : (number first : ℕ) (ms : List Message) (message : Message) → f
     ≡ handed_line number message ++ handed_text (number + 1) (drop (number + 1 - first) ms)
 unfolding handed_text
 handed_step number first ms message low is =
-    let place : ℕ = number - first in
-    let here = get_or_from_slice_get ms place message [] (sym is) in
+    let buffer : ℕ = number - first in
+    let here = get_or_from_slice_get ms buffer message [] (sym is) in
     ap (handed_text number)
-    (drop_more ms place [] (slice_get_within ms place message (sym is))
-    ∙ ap (λ (m : Message). m ∷ drop (place + 1) ms) here)
+    (drop_more ms buffer [] (slice_get_within ms buffer message (sym is))
+    ∙ ap (λ (m : Message). m ∷ drop (buffer + 1) ms) here)
     ∙ ap (λ (k : ℕ). handed_line number message ++ handed_text (number + 1) (drop k ms))
-    (let e : place + 1 ≡ number + 1 - first = omega arith in e)
+    (let e : buffer + 1 ≡ number + 1 - first = omega arith in e)
 
 -- with its line written, the lines left are one fewer
 pub handed_more : (number first : ℕ) (ms : List Message) (message : Message) (old new whole : List ℕ) →

@@ -12,7 +12,7 @@ use Rattle.mold_receiver.specs.declared.line.Line.{Line}
 use Rattle.mold_receiver.specs.declared.taken.Taken.{Taken}
 use Rattle.mold_listen.specs.Text.{handed_text, taking_text}
 use Rattle.mold_ports.specs.Ports.{Port, Receipt, Datagram, Quiet, Failure, cut, next_of, offered, received}
-use Rattle.mold_listen.specs.Listening.{Asking, Hearing, HasAsked, asked, asking, hearing, hear, hear_answers, heard, is_datagram}
+use Rattle.mold_listen.specs.Listening.{Asking, Progress, HasAsked, asked, asking, progress, with_next_receipt, receive_responses, with_receipt, is_datagram}
 use Rattle.mold_listen.specs.Listening.{receives, taken}
 use Rattle.mold_turns.specs.Outgoing.{OutgoingState, with_more}
 use Rattle.mold_wire.specs.declared.limits.TheConstants.{MAX_LIMIT}
@@ -31,7 +31,7 @@ pub taken_ok : (line : Option Line) (bytes : List ℕ) (old new : Arbitration) (
     (outgoing out : OutgoingState) → before ≡ record { first = 0; messages = [] } →
     HasArbitrated line old bytes before new after t →
     out ≡ with_more (handed_text after.first after.messages) outgoing →
-    hearing new out ≡ taken line bytes (hearing old outgoing)
+    progress new out ≡ taken line bytes (progress old outgoing)
 taken_ok line bytes old new before after t outgoing out empty has written =
     let batch : after ≡ followed_by (record { first = 0; messages = [] }) old.view.next has.reception.handed =
     has.batch ∙ ap (λ (b : Handed). followed_by b old.view.next has.reception.handed) empty in
@@ -39,17 +39,17 @@ taken_ok line bytes old new before after t outgoing out empty has written =
     ap (λ (b : Handed). handed_text b.first b.messages) batch
     ∙ batch_text old.view.next has.reception.handed
     ∙ ap (taking_text old.view.next) (sym has.received) in
-    ap (λ (a : Arbitration). hearing a out) has.arbitration
-    ∙ ap (hearing (arbitrates line bytes old)) (written ∙ ap (λ (l : List ℕ). with_more l outgoing) lines)
+    ap (λ (a : Arbitration). progress a out) has.arbitration
+    ∙ ap (progress (arbitrates line bytes old)) (written ∙ ap (λ (l : List ℕ). with_more l outgoing) lines)
 
 -- ---- one receive
 
 -- what a receive gave is what the port gives next, cut
-pub heard_next : {P : Type 0} (line : Option Line) (port : Port P) (e : Hearing) (n : ℕ) (receipt : Receipt P) →
-    n ≡ MAX_LIMIT → receipt ≡ cut n (next_of port) → heard line receipt e ≡ hear line port e
-unfolding hear
+pub heard_next : {P : Type 0} (line : Option Line) (port : Port P) (e : Progress) (n : ℕ) (receipt : Receipt P) →
+    n ≡ MAX_LIMIT → receipt ≡ cut n (next_of port) → with_receipt line receipt e ≡ with_next_receipt line port e
+unfolding with_next_receipt
 heard_next {P} line port e n receipt long is =
-    ap (λ (r : Receipt P). heard line r e) (is ∙ ap (λ (k : ℕ). cut k (next_of port)) long)
+    ap (λ (r : Receipt P). with_receipt line r e) (is ∙ ap (λ (k : ℕ). cut k (next_of port)) long)
 
 cut_is : {P : Type 0} (n : ℕ) (receipt : Receipt P) → is_datagram (cut n receipt) ≡ is_datagram receipt
 cut_is n (Datagram from bytes) = refl
@@ -64,60 +64,60 @@ datagram_next n port receipt is = ap is_datagram is ∙ cut_is n (next_of port)
 
 -- one receive more, for an answer
 abbrev pub stepped : {P : Type 0} → Asking P → Asking P
-stepped s = record { port = received s.port; hearing = hear None s.port s.hearing }
+stepped s = record { port = received s.port; progress = with_next_receipt None s.port s.progress }
 
-more_heard : {P : Type 0} (n : ℕ) (comes : List (Receipt P)) (sent : List (P × List ℕ)) (failures : ℕ) (e : Hearing) →
-    let s : Asking P = record { port = record { comes = comes; sent = sent; failures = failures }; hearing = e } in
+more_heard : {P : Type 0} (n : ℕ) (comes : List (Receipt P)) (sent : List (P × List ℕ)) (failures : ℕ) (e : Progress) →
+    let s : Asking P = record { port = record { comes = comes; sent = sent; failures = failures }; progress = e } in
     is_datagram (next_of s.port) ≡ true →
-    hear_answers (receives n (stepped s).port.comes) (stepped s) ≡ hear_answers (receives (suc n) comes) s
-unfolding receives hear_answers
+    receive_responses (receives n (stepped s).port.comes) (stepped s) ≡ receive_responses (receives (suc n) comes) s
+unfolding receives receive_responses
 more_heard n [] sent failures e came = let no : ⊥ = cc in absurd no
 more_heard n (Datagram from bytes ∷ comes) sent failures e came = refl
 more_heard n (Quiet ∷ comes) sent failures e came = let no : ⊥ = cc in absurd no
 more_heard n (Failure ∷ comes) sent failures e came = let no : ⊥ = cc in absurd no
 
-last_heard : {P : Type 0} (n : ℕ) (comes : List (Receipt P)) (sent : List (P × List ℕ)) (failures : ℕ) (e : Hearing) →
-    let s : Asking P = record { port = record { comes = comes; sent = sent; failures = failures }; hearing = e } in
-    is_datagram (next_of s.port) ≡ false → stepped s ≡ hear_answers (receives (suc n) comes) s
-unfolding receives hear_answers
+last_heard : {P : Type 0} (n : ℕ) (comes : List (Receipt P)) (sent : List (P × List ℕ)) (failures : ℕ) (e : Progress) →
+    let s : Asking P = record { port = record { comes = comes; sent = sent; failures = failures }; progress = e } in
+    is_datagram (next_of s.port) ≡ false → stepped s ≡ receive_responses (receives (suc n) comes) s
+unfolding receives receive_responses
 last_heard n [] sent failures e came = refl
 last_heard n (Datagram from bytes ∷ comes) sent failures e came = let no : ⊥ = cc in absurd no
 last_heard n (Quiet ∷ comes) sent failures e came = refl
 last_heard n (Failure ∷ comes) sent failures e came = refl
 
-pub none_heard : {P : Type 0} (left : ℕ) (s : Asking P) → left ≡ 0 → s ≡ hear_answers (receives left s.port.comes) s
-unfolding receives hear_answers
-none_heard left s none = ap (λ (n : ℕ). hear_answers (receives n s.port.comes) s) (sym none)
+pub none_heard : {P : Type 0} (left : ℕ) (s : Asking P) → left ≡ 0 → s ≡ receive_responses (receives left s.port.comes) s
+unfolding receives receive_responses
+none_heard left s none = ap (λ (n : ℕ). receive_responses (receives n s.port.comes) s) (sym none)
 
 -- an answer came: what is heard of those left is what is heard of all
 pub answer_heard : {P : Type 0} (left n : ℕ) (s after whole : Asking P) → left ≡ suc n →
     is_datagram (next_of s.port) ≡ true → after ≡ stepped s →
-    hear_answers (receives left s.port.comes) s ≡ whole → hear_answers (receives n after.port.comes) after ≡ whole
+    receive_responses (receives left s.port.comes) s ≡ whole → receive_responses (receives n after.port.comes) after ≡ whole
 answer_heard {P} left n s after whole more came is printed =
-    ap (λ (a : Asking P). hear_answers (receives n a.port.comes) a) is
-    ∙ more_heard n s.port.comes s.port.sent s.port.failures s.hearing came
-    ∙ ap (λ (k : ℕ). hear_answers (receives k s.port.comes) s) (sym more)
+    ap (λ (a : Asking P). receive_responses (receives n a.port.comes) a) is
+    ∙ more_heard n s.port.comes s.port.sent s.port.failures s.progress came
+    ∙ ap (λ (k : ℕ). receive_responses (receives k s.port.comes) s) (sym more)
     ∙ printed
 
 -- none came: that is all
-pub answers_heard : {P : Type 0} (left n : ℕ) (s after whole : Asking P) → left ≡ suc n →
+pub after_responses : {P : Type 0} (left n : ℕ) (s after whole : Asking P) → left ≡ suc n →
     is_datagram (next_of s.port) ≡ false → after ≡ stepped s →
-    hear_answers (receives left s.port.comes) s ≡ whole → after ≡ whole
-answers_heard {P} left n s after whole more came is printed =
+    receive_responses (receives left s.port.comes) s ≡ whole → after ≡ whole
+after_responses {P} left n s after whole more came is printed =
     is
-    ∙ last_heard n s.port.comes s.port.sent s.port.failures s.hearing came
-    ∙ ap (λ (k : ℕ). hear_answers (receives k s.port.comes) s) (sym more)
+    ∙ last_heard n s.port.comes s.port.sent s.port.failures s.progress came
+    ∙ ap (λ (k : ℕ). receive_responses (receives k s.port.comes) s) (sym more)
     ∙ printed
 
 pub asking_is : {P : Type 0} (port : Port P) (arbitration : Arbitration) (outgoing : OutgoingState) (s : Asking P) →
-    port ≡ s.port → hearing arbitration outgoing ≡ s.hearing → asking port arbitration outgoing ≡ s
+    port ≡ s.port → progress arbitration outgoing ≡ s.progress → asking port arbitration outgoing ≡ s
 asking_is {P} port arbitration outgoing s is_port is_hearing =
     ap (λ (p : Port P). asking p arbitration outgoing) is_port
-    ∙ ap {B = Asking P} (λ (e : Hearing). record { port = s.port; hearing = e }) is_hearing
+    ∙ ap {B = Asking P} (λ (e : Progress). record { port = s.port; progress = e }) is_hearing
 
 -- hearing sends nothing
-pub hearing_sends : {P : Type 0} (count : ℕ) (s : Asking P) → (hear_answers count s).port.sent ≡ s.port.sent
-unfolding hear_answers
+pub hearing_sends : {P : Type 0} (count : ℕ) (s : Asking P) → (receive_responses count s).port.sent ≡ s.port.sent
+unfolding receive_responses
 hearing_sends zero s = refl
 hearing_sends (suc count) s = hearing_sends count (stepped s)
 
@@ -126,10 +126,10 @@ pub has_asked : {P T E : Type 0} (request : Request) (wish : Option Request) (se
     (result : Result T E) (before after : Asking P) (mid : Port P) (failed : Bool) (bytes : List ℕ) →
     wish ≡ Some request → mid ≡ offered failed server bytes before.port → failed ≡ false →
     bytes ≡ request_spelling request → after.port.sent ≡ mid.sent →
-    OnOk result (after ≡ hear_answers (receives burst mid.comes) (record { port = mid; hearing = before.hearing })) →
+    OnOk result (after ≡ receive_responses (receives burst mid.comes) (record { port = mid; progress = before.progress })) →
     HasAsked wish server burst result before after
-has_asked {P} request wish server burst result before after mid failed bytes is_wish offers succeeds spelled sent heard =
-    let to : Port P → Asking P = λ p. hear_answers (receives burst p.comes) (record { port = p; hearing = before.hearing }) in
+has_asked {P} request wish server burst result before after mid failed bytes is_wish offers succeeds spelled sent with_receipt =
+    let to : Port P → Asking P = λ p. receive_responses (receives burst p.comes) (record { port = p; progress = before.progress }) in
     let port : Port P = offered false server (request_spelling request) before.port in
     let is_mid : mid ≡ port =
     offers ∙ ap (λ (b : Bool). offered b server bytes before.port) succeeds
@@ -138,9 +138,9 @@ has_asked {P} request wish server burst result before after mid failed bytes is_
     ap (λ (w : Option Request). asked w server burst false before) (sym is_wish) in
     record {
       fails = false;
-      whole = on_ok_weaker result (λ is. is ∙ ap to is_mid ∙ done) heard;
+      whole = on_ok_weaker result (λ is. is ∙ ap to is_mid ∙ done) with_receipt;
       sent =
           sent ∙ ap (λ (p : Port P). p.sent) is_mid
-          ∙ sym (hearing_sends (receives burst port.comes) (record { port = port; hearing = before.hearing }))
+          ∙ sym (hearing_sends (receives burst port.comes) (record { port = port; progress = before.progress }))
           ∙ ap (λ (s : Asking P). s.port.sent) done;
     }

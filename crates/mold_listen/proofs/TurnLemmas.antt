@@ -16,42 +16,42 @@ use Rattle.mold_turns.proofs.RunLemmas.{IsLoop, begins_more, begins_trans, begin
 use Rattle.mold_wire.specs.Request.{request_spelling}
 use Rattle.mold_wire.specs.declared.request.Request.{Request}
 use Rattle.mold_listen.specs.Text.{finished_line, open_line, taking_text}
-use Rattle.mold_listen.specs.Listening.{Asking, Hearing, HasAsked, HasTurned, ListenerState, asked, hearing, hearing_line, hearing_status}
+use Rattle.mold_listen.specs.Listening.{Asking, Progress, HasAsked, HasTurned, ListenerState, asked, progress, last_line, listener_status}
 use Rattle.mold_turns.specs.Outgoing.{OutgoingState, with_front, with_more}
-use Rattle.mold_listen.specs.Listening.{Agrees, IsSame, ends_at, hear, hear_answers, heard, is_finished, listened_lines}
-use Rattle.mold_listen.specs.Listening.{lines_heard, listening, listener, put_before, receives, status, turn, turn_asked}
+use Rattle.mold_listen.specs.Listening.{Agrees, IsSame, ends_at, with_next_receipt, receive_responses, with_receipt, is_finished, listened_lines}
+use Rattle.mold_listen.specs.Listening.{after_lines, listening, listener, put_before, receives, status, turn, turn_asked}
 use Rattle.mold_listen.proofs.ListenLemmas.{hearing_sends, stepped}
 use Rattle.mold_turns.proofs.OutgoingLemmas.{front_twice, more_after, written_front}
 use Rattle.mold_wire.specs.declared.limits.TheConstants.{MAX_LIMIT}
 
 -- ---- text in front
 
-abbrev pub hearing_before : List ℕ → Hearing → Hearing
+abbrev pub hearing_before : List ℕ → Progress → Progress
 hearing_before front e = record { arbitration = e.arbitration; outgoing = with_front front e.outgoing }
 
 abbrev pub asking_before : {P : Type 0} → List ℕ → Asking P → Asking P
-asking_before front s = record { port = s.port; hearing = hearing_before front s.hearing }
+asking_before front s = record { port = s.port; progress = hearing_before front s.progress }
 
-heard_before : {P : Type 0} (front : List ℕ) (line : Option Line) (receipt : Receipt P) (e : Hearing) →
-    heard line receipt (hearing_before front e) ≡ hearing_before front (heard line receipt e)
+heard_before : {P : Type 0} (front : List ℕ) (line : Option Line) (receipt : Receipt P) (e : Progress) →
+    with_receipt line receipt (hearing_before front e) ≡ hearing_before front (with_receipt line receipt e)
 heard_before front line (Datagram from bytes) e =
-    ap (hearing (heard line (Datagram from bytes) e).arbitration)
+    ap (progress (with_receipt line (Datagram from bytes) e).arbitration)
     (more_after front (taking_text e.arbitration.view.next (receive e.arbitration.view bytes)) e.outgoing)
 heard_before front line Quiet e = refl
 heard_before front line Failure e = refl
 
-pub hear_before : {P : Type 0} (front : List ℕ) (line : Option Line) (port : Port P) (e : Hearing) →
-    hear line port (hearing_before front e) ≡ hearing_before front (hear line port e)
-unfolding hear
+pub hear_before : {P : Type 0} (front : List ℕ) (line : Option Line) (port : Port P) (e : Progress) →
+    with_next_receipt line port (hearing_before front e) ≡ hearing_before front (with_next_receipt line port e)
+unfolding with_next_receipt
 hear_before front line port e = heard_before front line (cut MAX_LIMIT (next_of port)) e
 
 pub answers_before : {P : Type 0} (front : List ℕ) (count : ℕ) (s : Asking P) →
-    hear_answers count (asking_before front s) ≡ asking_before front (hear_answers count s)
-unfolding hear_answers
+    receive_responses count (asking_before front s) ≡ asking_before front (receive_responses count s)
+unfolding receive_responses
 answers_before front zero s = refl
 answers_before {P} front (suc count) s =
-    ap {B = Asking P} (λ (e : Hearing). hear_answers count (record { port = received s.port; hearing = e }))
-    (hear_before front None s.port s.hearing)
+    ap {B = Asking P} (λ (e : Progress). receive_responses count (record { port = received s.port; progress = e }))
+    (hear_before front None s.port s.progress)
     ∙ answers_before front count (stepped s)
 
 asked_before : {P : Type 0} (front : List ℕ) (wish : Option Request) (server : P) (burst : ℕ) (fails : Bool)
@@ -61,51 +61,51 @@ asked_before front None server burst fails s = refl
 asked_before front (Some request) server burst true s = refl
 asked_before front (Some request) server burst false s =
     answers_before front (receives burst s.port.comes)
-    (record { port = offered false server (request_spelling request) s.port; hearing = s.hearing })
+    (record { port = offered false server (request_spelling request) s.port; progress = s.progress })
 
 lines_before : {P : Type 0} (front : List ℕ) (s : ListenerState P) →
-    lines_heard (put_before front s) ≡ hearing_before front (lines_heard s)
+    after_lines (put_before front s) ≡ hearing_before front (after_lines s)
 lines_before front s =
-    ap (hear (Some B) s.b) (hear_before front (Some A) s.a s.hearing)
-    ∙ hear_before front (Some B) s.b (hear (Some A) s.a s.hearing)
+    ap (with_next_receipt (Some B) s.b) (hear_before front (Some A) s.a s.progress)
+    ∙ hear_before front (Some B) s.b (with_next_receipt (Some A) s.a s.progress)
 
 turn_before : {P : Type 0} (server : P) (burst : ℕ) (front : List ℕ) (fails : Bool) (s : ListenerState P) →
     turn server burst fails (put_before front s) ≡ put_before front (turn server burst fails s)
 unfolding turn
 turn_before {P} server burst front fails s =
-    let heard : Hearing = lines_heard s in
-    let to : Asking P → ListenerState P = λ q. record { a = received s.a; b = received s.b; requests = q.port; hearing = q.hearing } in
-    ap (λ (e : Hearing). to (asked (wanted e.arbitration.view) server burst fails (record { port = s.requests; hearing = e })))
+    let with_receipt : Progress = after_lines s in
+    let to : Asking P → ListenerState P = λ q. record { a = received s.a; b = received s.b; requests = q.port; progress = q.progress } in
+    ap (λ (e : Progress). to (asked (wanted e.arbitration.view) server burst fails (record { port = s.requests; progress = e })))
     (lines_before front s)
-    ∙ ap to (asked_before front (wanted heard.arbitration.view) server burst fails
-    (record { port = s.requests; hearing = heard }))
+    ∙ ap to (asked_before front (wanted with_receipt.arbitration.view) server burst fails
+    (record { port = s.requests; progress = with_receipt }))
 
 -- ---- a turn only prints and sends more
 
-heard_prints : {P : Type 0} (line : Option Line) (receipt : Receipt P) (e : Hearing) →
-    Begins e.outgoing.text (heard line receipt e).outgoing.text
+heard_prints : {P : Type 0} (line : Option Line) (receipt : Receipt P) (e : Progress) →
+    Begins e.outgoing.text (with_receipt line receipt e).outgoing.text
 heard_prints line (Datagram from bytes) e =
     begins_more e.outgoing.text (taking_text e.arbitration.view.next (receive e.arbitration.view bytes))
 heard_prints line Quiet e = begins_whole e.outgoing.text
 heard_prints line Failure e = begins_whole e.outgoing.text
 
-pub hear_prints : {P : Type 0} (line : Option Line) (port : Port P) (e : Hearing) →
-    Begins e.outgoing.text (hear line port e).outgoing.text
-unfolding hear
+pub hear_prints : {P : Type 0} (line : Option Line) (port : Port P) (e : Progress) →
+    Begins e.outgoing.text (with_next_receipt line port e).outgoing.text
+unfolding with_next_receipt
 hear_prints line port e = heard_prints line (cut MAX_LIMIT (next_of port)) e
 
-pub answers_print : {P : Type 0} (count : ℕ) (s : Asking P) → Begins s.hearing.outgoing.text (hear_answers count s).hearing.outgoing.text
-unfolding hear_answers
-answers_print zero s = begins_whole s.hearing.outgoing.text
-answers_print (suc count) s = begins_trans (hear_prints None s.port s.hearing) (answers_print count (stepped s))
+pub answers_print : {P : Type 0} (count : ℕ) (s : Asking P) → Begins s.progress.outgoing.text (receive_responses count s).progress.outgoing.text
+unfolding receive_responses
+answers_print zero s = begins_whole s.progress.outgoing.text
+answers_print (suc count) s = begins_trans (hear_prints None s.port s.progress) (answers_print count (stepped s))
 
 asked_prints : {P : Type 0} (wish : Option Request) (server : P) (burst : ℕ) (fails : Bool) (s : Asking P) →
-    Begins s.hearing.outgoing.text (asked wish server burst fails s).hearing.outgoing.text
-asked_prints None server burst fails s = begins_whole s.hearing.outgoing.text
-asked_prints (Some request) server burst true s = begins_whole s.hearing.outgoing.text
+    Begins s.progress.outgoing.text (asked wish server burst fails s).progress.outgoing.text
+asked_prints None server burst fails s = begins_whole s.progress.outgoing.text
+asked_prints (Some request) server burst true s = begins_whole s.progress.outgoing.text
 asked_prints (Some request) server burst false s =
     answers_print (receives burst s.port.comes)
-    (record { port = offered false server (request_spelling request) s.port; hearing = s.hearing })
+    (record { port = offered false server (request_spelling request) s.port; progress = s.progress })
 
 asked_sends : {P : Type 0} (wish : Option Request) (server : P) (burst : ℕ) (fails : Bool) (s : Asking P) →
     Begins s.port.sent (asked wish server burst fails s).port.sent
@@ -114,30 +114,30 @@ asked_sends (Some request) server burst true s = begins_whole s.port.sent
 asked_sends {P} (Some request) server burst false s =
     let port : Port P = offered false server (request_spelling request) s.port in
     subst (λ (l : List (P × List ℕ)). Begins s.port.sent l)
-    (sym (hearing_sends (receives burst s.port.comes) (record { port = port; hearing = s.hearing })))
+    (sym (hearing_sends (receives burst s.port.comes) (record { port = port; progress = s.progress })))
     (begins_more s.port.sent ((server, request_spelling request) ∷ []))
 
 turn_prints : {P : Type 0} (server : P) (burst : ℕ) (fails : Bool) (s : ListenerState P) →
-    Begins s.hearing.outgoing.text (turn server burst fails s).hearing.outgoing.text
+    Begins s.progress.outgoing.text (turn server burst fails s).progress.outgoing.text
 unfolding turn
 turn_prints server burst fails s =
     begins_trans
-    (begins_trans (hear_prints (Some A) s.a s.hearing) (hear_prints (Some B) s.b (hear (Some A) s.a s.hearing)))
-    (asked_prints (wanted (lines_heard s).arbitration.view) server burst fails
-    (record { port = s.requests; hearing = lines_heard s }))
+    (begins_trans (hear_prints (Some A) s.a s.progress) (hear_prints (Some B) s.b (with_next_receipt (Some A) s.a s.progress)))
+    (asked_prints (wanted (after_lines s).arbitration.view) server burst fails
+    (record { port = s.requests; progress = after_lines s }))
 
 turn_sends : {P : Type 0} (server : P) (burst : ℕ) (fails : Bool) (s : ListenerState P) →
     Begins s.requests.sent (turn server burst fails s).requests.sent
 unfolding turn
 turn_sends server burst fails s =
-    asked_sends (wanted (lines_heard s).arbitration.view) server burst fails
-    (record { port = s.requests; hearing = lines_heard s })
+    asked_sends (wanted (after_lines s).arbitration.view) server burst fails
+    (record { port = s.requests; progress = after_lines s })
 
 pub is_loop : {P : Type 0} (server : P) (burst : ℕ) → IsLoop (listening server burst) put_before
 is_loop {P} server burst = record {
   none = λ s. refl;
   twice = λ front back s.
-      ap (listener s.a s.b s.requests s.hearing.arbitration) (front_twice front back s.hearing.outgoing);
+      ap (listener s.a s.b s.requests s.progress.arbitration) (front_twice front back s.progress.outgoing);
   turn = turn_before server burst;
   over = λ front s. refl;
   text = λ front s. refl;
@@ -160,25 +160,25 @@ turned_cut {P} server burst result before after failed same = record {
 }
 
 listener_is : {P : Type 0} (s : ListenerState P) (a b : Port P) (q : Asking P) → s.a ≡ a → s.b ≡ b →
-    record { port = s.requests; hearing = s.hearing } ≡ q → s ≡ record { a = a; b = b; requests = q.port; hearing = q.hearing }
+    record { port = s.requests; progress = s.progress } ≡ q → s ≡ record { a = a; b = b; requests = q.port; progress = q.progress }
 listener_is {P} s a b q is_a is_b is_q =
-    ap {B = ListenerState P} (λ (p : Port P). record { a = p; b = s.b; requests = s.requests; hearing = s.hearing }) is_a
-    ∙ ap {B = ListenerState P} (λ (p : Port P). record { a = a; b = p; requests = s.requests; hearing = s.hearing }) is_b
-    ∙ ap {B = ListenerState P} (λ (r : Asking P). record { a = a; b = b; requests = r.port; hearing = r.hearing }) is_q
+    ap {B = ListenerState P} (λ (p : Port P). record { a = p; b = s.b; requests = s.requests; progress = s.progress }) is_a
+    ∙ ap {B = ListenerState P} (λ (p : Port P). record { a = a; b = p; requests = s.requests; progress = s.progress }) is_b
+    ∙ ap {B = ListenerState P} (λ (r : Asking P). record { a = a; b = b; requests = r.port; progress = r.progress }) is_q
 
 -- both lines were heard, and then the asking was done
 pub has_turned : {P T E : Type 0} (server : P) (burst : ℕ) (result : Result T E) (before after : ListenerState P)
-    (mid : Hearing) → mid ≡ lines_heard before → after.a ≡ received before.a → after.b ≡ received before.b →
-    HasAsked (wanted mid.arbitration.view) server burst result (record { port = before.requests; hearing = mid })
-    (record { port = after.requests; hearing = after.hearing }) →
+    (mid : Progress) → mid ≡ after_lines before → after.a ≡ received before.a → after.b ≡ received before.b →
+    HasAsked (wanted mid.arbitration.view) server burst result (record { port = before.requests; progress = mid })
+    (record { port = after.requests; progress = after.progress }) →
     HasTurned server burst result before after
 unfolding turn
 has_turned {P} server burst result before after mid is_mid is_a is_b has =
-    let now : HasAsked (wanted (lines_heard before).arbitration.view) server burst result
-    (record { port = before.requests; hearing = lines_heard before })
-    (record { port = after.requests; hearing = after.hearing }) =
-    subst (λ (e : Hearing). HasAsked (wanted e.arbitration.view) server burst result
-    (record { port = before.requests; hearing = e }) (record { port = after.requests; hearing = after.hearing })) is_mid has in
+    let now : HasAsked (wanted (after_lines before).arbitration.view) server burst result
+    (record { port = before.requests; progress = after_lines before })
+    (record { port = after.requests; progress = after.progress }) =
+    subst (λ (e : Progress). HasAsked (wanted e.arbitration.view) server burst result
+    (record { port = before.requests; progress = e }) (record { port = after.requests; progress = after.progress })) is_mid has in
     record {
       fails = now.fails;
       whole =
@@ -194,7 +194,7 @@ has_turned {P} server burst result before after mid is_mid is_a is_b has =
 
 -- it works on the same
 pub same_at_first : {D : Type 0} (feed : FeedListener D) → IsSame feed feed
-same_at_first feed = record { a = refl; b = refl; requests = refl; arbiter = refl; report = refl }
+same_at_first feed = record { a = refl; b = refl; requests = refl; arbiter = refl; printer = refl }
 
 pub same_twice : {D : Type 0} {one two three : FeedListener D} → IsSame one two → IsSame two three → IsSame one three
 same_twice first second = record {
@@ -202,19 +202,19 @@ same_twice first second = record {
   b = second.b ∙ first.b;
   requests = second.requests ∙ first.requests;
   arbiter = second.arbiter ∙ first.arbiter;
-  report = second.report ∙ first.report;
+  printer = second.printer ∙ first.printer;
 }
 
 pub finished_is : (b : Bool) (v w : View) → IsTrue b ↔ (v.ended ≡ Some v.next) → v ≡ w → ends_at w.ended w.next ≡ b
-finished_is b v w report same =
-    ap (λ (u : View). ends_at u.ended u.next) (sym same) ∙ tells_end b v.ended v.next report
+finished_is b v w printer same =
+    ap (λ (u : View). ends_at u.ended u.next) (sym same) ∙ tells_end b v.ended v.next printer
   where
     tells_end : (b : Bool) (ended : Option ℕ) (next : ℕ) → IsTrue b ↔ (ended ≡ Some next) → ends_at ended next ≡ b
-    tells_end true None next report = let none = report.0 refl in let no : ⊥ = cc in absurd no
-    tells_end false None next report = refl
-    tells_end true (Some end) next report = eq-eqb end next (let some = report.0 refl in let e : end ≡ next = cc in e)
-    tells_end false (Some end) next report =
-        ne_eqb end next (λ same. let yes = report.1 (ap Some same) in let no : ⊥ = cc in no)
+    tells_end true None next printer = let none = printer.0 refl in let no : ⊥ = cc in absurd no
+    tells_end false None next printer = refl
+    tells_end true (Some end) next printer = eq-eqb end next (let some = printer.0 refl in let e : end ≡ next = cc in e)
+    tells_end false (Some end) next printer =
+        ne_eqb end next (λ same. let yes = printer.1 (ap Some same) in let no : ⊥ = cc in no)
 
 -- text was written that stood in front
 pub moved_same : {P : Type 0} (a b requests : Port P) (arbitration : Arbitration) (old new : OutgoingState) (front : List ℕ) →
@@ -225,25 +225,25 @@ moved_same a b requests arbitration old new front parts failures =
 
 -- ---- the last line
 
-pub finished_status : (e : Hearing) → is_finished e ≡ true → 0 ≡ hearing_status e
+pub finished_status : (e : Progress) → is_finished e ≡ true → 0 ≡ listener_status e
 finished_status e over = ap (λ (b : Bool). if b then 0 else 1) (sym over)
 
-pub open_status : (e : Hearing) → is_finished e ≡ false → 1 ≡ hearing_status e
+pub open_status : (e : Progress) → is_finished e ≡ false → 1 ≡ listener_status e
 open_status e over = ap (λ (b : Bool). if b then 0 else 1) (sym over)
 
-pub finished_last : (a : Arbitration) (old new : OutgoingState) (v : View) (next : ℕ) → is_finished (hearing a old) ≡ true →
+pub finished_last : (a : Arbitration) (old new : OutgoingState) (v : View) (next : ℕ) → is_finished (progress a old) ≡ true →
     v ≡ a.view → next ≡ v.next → new ≡ with_more (finished_line next old.failures) old →
-    new ≡ with_more (hearing_line (hearing a old)) old
+    new ≡ with_more (last_line (progress a old)) old
 finished_last a old new v next over same is_next is =
-    let e : Hearing = hearing a old in
+    let e : Progress = progress a old in
     is
     ∙ ap (λ (n : ℕ). with_more (finished_line n old.failures) old) (is_next ∙ ap (λ (u : View). u.next) same)
     ∙ ap (λ (b : Bool). with_more (if b then finished_line a.view.next old.failures
     else open_line a.view.next a.view.known old.failures) old) (sym over)
 
-pub open_last : (a : Arbitration) (old new : OutgoingState) (v : View) (next known : ℕ) → is_finished (hearing a old) ≡ false →
+pub open_last : (a : Arbitration) (old new : OutgoingState) (v : View) (next known : ℕ) → is_finished (progress a old) ≡ false →
     v ≡ a.view → next ≡ v.next → known ≡ v.known → new ≡ with_more (open_line next known old.failures) old →
-    new ≡ with_more (hearing_line (hearing a old)) old
+    new ≡ with_more (last_line (progress a old)) old
 open_last a old new v next known over same is_next is_known is =
     is
     ∙ ap (λ (n : ℕ). with_more (open_line n known old.failures) old) (is_next ∙ ap (λ (u : View). u.next) same)

@@ -17,33 +17,33 @@ use Rattle.mold_listen.specs.Text.{finished_line, open_line, reports_text, takin
 use Rattle.mold_wire.specs.declared.limits.TheConstants.{MAX_LIMIT}
 
 -- an arbiter, and what goes out of what it took
-pub record Hearing : Type 0 where
+pub record Progress : Type 0 where
   pub arbitration : Arbitration
   pub outgoing : OutgoingState
 
-abbrev pub hearing : Arbitration → OutgoingState → Hearing
-hearing arbitration outgoing = record { arbitration = arbitration; outgoing = outgoing }
+abbrev pub progress : Arbitration → OutgoingState → Progress
+progress arbitration outgoing = record { arbitration = arbitration; outgoing = outgoing }
 
 -- a datagram came, on a line or as an answer: the arbiter takes it, and what it hands on or its refusal is printed
-abbrev pub taken : Option Line → List ℕ → Hearing → Hearing
+abbrev pub taken : Option Line → List ℕ → Progress → Progress
 taken line bytes e = record {
   arbitration = arbitrates line bytes e.arbitration;
   outgoing = with_more (taking_text e.arbitration.view.next (receive e.arbitration.view bytes)) e.outgoing;
 }
 
 -- a send or a receive failed
-abbrev pub missed : Hearing → Hearing
+abbrev pub missed : Progress → Progress
 missed e = record { arbitration = e.arbitration; outgoing = failed_once e.outgoing }
 
 -- what a receive gave
-abbrev pub heard : {P : Type 0} → Option Line → Receipt P → Hearing → Hearing
-heard line (Datagram from bytes) e = taken line bytes e
-heard line Quiet e = e
-heard line Failure e = missed e
+abbrev pub with_receipt : {P : Type 0} → Option Line → Receipt P → Progress → Progress
+with_receipt line (Datagram from bytes) e = taken line bytes e
+with_receipt line Quiet e = e
+with_receipt line Failure e = missed e
 
 -- what a port gives next, cut
-unfoldable pub hear : {P : Type 0} → Option Line → Port P → Hearing → Hearing
-hear line port e = heard line (cut MAX_LIMIT (next_of port)) e
+unfoldable pub with_next_receipt : {P : Type 0} → Option Line → Port P → Progress → Progress
+with_next_receipt line port e = with_receipt line (cut MAX_LIMIT (next_of port)) e
 
 -- a receive gives a datagram
 abbrev pub is_datagram : {P : Type 0} → Receipt P → Bool
@@ -62,25 +62,26 @@ receives (suc most) (Failure ∷ comes) = 1
 -- the port that requests are sent from, and what was heard
 pub record Asking (P : Type 0) : Type 0 where
   pub port : Port P
-  pub hearing : Hearing
+  pub progress : Progress
 
 abbrev pub asking : {P : Type 0} → Port P → Arbitration → OutgoingState → Asking P
-asking port arbitration outgoing = record { port = port; hearing = hearing arbitration outgoing }
+asking port arbitration outgoing = record { port = port; progress = progress arbitration outgoing }
 
 -- what so many receives give, as answers
-unfoldable pub hear_answers : {P : Type 0} → ℕ → Asking P → Asking P
-hear_answers zero s = s
-hear_answers (suc more) s = hear_answers more (record { port = received s.port; hearing = hear None s.port s.hearing })
+unfoldable pub receive_responses : {P : Type 0} → ℕ → Asking P → Asking P
+receive_responses zero s = s
+receive_responses (suc more) s =
+    receive_responses more (record { port = received s.port; progress = with_next_receipt None s.port s.progress })
 
 -- where something is wanted, the request is sent to the server. Where that doesn't fail, at most so many receives
 -- are made, up to the first that gives no datagram.
 abbrev pub asked : {P : Type 0} → Option Request → P → ℕ → Bool → Asking P → Asking P
 asked None server burst fails s = s
 asked (Some request) server burst true s =
-    record { port = offered true server (request_spelling request) s.port; hearing = missed s.hearing }
+    record { port = offered true server (request_spelling request) s.port; progress = missed s.progress }
 asked (Some request) server burst false s =
-    hear_answers (receives burst s.port.comes)
-    (record { port = offered false server (request_spelling request) s.port; hearing = s.hearing })
+    receive_responses (receives burst s.port.comes)
+    (record { port = offered false server (request_spelling request) s.port; progress = s.progress })
 
 -- the asking was done, in which the send failed or didn't; where it ended in a fault, what was to be sent was sent
 pub record HasAsked {P T E : Type 0} (request : Option Request) (server : P) (burst : ℕ) (result : Result T E)
@@ -94,19 +95,19 @@ pub record ListenerState (P : Type 0) : Type 0 where
   pub a : Port P
   pub b : Port P
   pub requests : Port P
-  pub hearing : Hearing
+  pub progress : Progress
 
 abbrev pub listener : {P : Type 0} → Port P → Port P → Port P → Arbitration → OutgoingState → ListenerState P
 listener a b requests arbitration outgoing =
-    record { a = a; b = b; requests = requests; hearing = hearing arbitration outgoing }
+    record { a = a; b = b; requests = requests; progress = progress arbitration outgoing }
 
 -- how far a listener is, and the part of it that asks; `port` says how a port stands
 abbrev pub state : {D P : Type 0} → (D → Port P) → FeedListener D → ListenerState P
 state port feed =
-    listener (port feed.a.now) (port feed.b.now) (port feed.requests.now) feed.arbiter.now feed.report.now.outgoing
+    listener (port feed.a.now) (port feed.b.now) (port feed.requests.now) feed.arbiter.now feed.printer.now.outgoing
 
 abbrev pub asking_state : {D P : Type 0} → (D → Port P) → FeedListener D → Asking P
-asking_state port feed = asking (port feed.requests.now) feed.arbiter.now feed.report.now.outgoing
+asking_state port feed = asking (port feed.requests.now) feed.arbiter.now feed.printer.now.outgoing
 
 -- it still works on the same ports, arbiter and report
 pub record IsSame {D : Type 0} (old new : FeedListener D) : Type 0 where
@@ -114,17 +115,17 @@ pub record IsSame {D : Type 0} (old new : FeedListener D) : Type 0 where
   pub b : new.b.ghost_name ≡ old.b.ghost_name
   pub requests : new.requests.ghost_name ≡ old.requests.ghost_name
   pub arbiter : new.arbiter.ghost_name ≡ old.arbiter.ghost_name
-  pub report : new.report.ghost_name ≡ old.report.ghost_name
+  pub printer : new.printer.ghost_name ≡ old.printer.ghost_name
 
 -- one receive on each line
-abbrev pub lines_heard : {P : Type 0} → ListenerState P → Hearing
-lines_heard s = hear (Some B) s.b (hear (Some A) s.a s.hearing)
+abbrev pub after_lines : {P : Type 0} → ListenerState P → Progress
+after_lines s = with_next_receipt (Some B) s.b (with_next_receipt (Some A) s.a s.progress)
 
 -- and then the asking
 abbrev pub turn_asked : {P : Type 0} → P → ℕ → Bool → ListenerState P → Asking P
 turn_asked server burst fails s =
-    asked (wanted (lines_heard s).arbitration.view) server burst fails
-    (record { port = s.requests; hearing = lines_heard s })
+    asked (wanted (after_lines s).arbitration.view) server burst fails
+    (record { port = s.requests; progress = after_lines s })
 
 -- a turn, in which the send fails or doesn't
 unfoldable pub turn : {P : Type 0} → P → ℕ → Bool → ListenerState P → ListenerState P
@@ -132,7 +133,7 @@ turn server burst fails s = record {
   a = received s.a;
   b = received s.b;
   requests = (turn_asked server burst fails s).port;
-  hearing = (turn_asked server burst fails s).hearing;
+  progress = (turn_asked server burst fails s).progress;
 }
 
 -- a turn was made, in which the send failed or didn't; where it ended in a fault, a beginning of what was to be
@@ -148,47 +149,47 @@ abbrev pub ends_at : Option ℕ → ℕ → Bool
 ends_at None next = false
 ends_at (Some end) next = end == next
 
-abbrev pub is_finished : Hearing → Bool
+abbrev pub is_finished : Progress → Bool
 is_finished e = ends_at e.arbitration.view.ended e.arbitration.view.next
 
 -- listening goes by such turns, until it is finished
 abbrev pub listening : {P : Type 0} → P → ℕ → Loop Bool (ListenerState P) (P × List ℕ)
 listening server burst = record {
   turn = turn server burst;
-  over = λ s. is_finished s.hearing;
-  text = λ s. s.hearing.outgoing.text;
+  over = λ s. is_finished s.progress;
+  text = λ s. s.progress.outgoing.text;
   sent = λ s. s.requests.sent;
 }
 
 -- text in front of what is to be printed
 abbrev pub put_before : {P : Type 0} → List ℕ → ListenerState P → ListenerState P
 put_before front s =
-    listener s.a s.b s.requests s.hearing.arbitration (with_front front s.hearing.outgoing)
+    listener s.a s.b s.requests s.progress.arbitration (with_front front s.progress.outgoing)
 
 -- before the first turn nothing is to be printed, and nothing failed
 abbrev pub beginning : {P : Type 0} → Port P → Port P → Port P → Arbitration → ListenerState P
 beginning a b requests arbitration = listener a b requests arbitration nothing_out
 
 -- the last line
-abbrev pub hearing_line : Hearing → List ℕ
-hearing_line e =
+abbrev pub last_line : Progress → List ℕ
+last_line e =
     if is_finished e
     then finished_line e.arbitration.view.next e.outgoing.failures
     else open_line e.arbitration.view.next e.arbitration.view.known e.outgoing.failures
 
-abbrev pub hearing_status : Hearing → ℕ
-hearing_status e = if is_finished e then 0 else 1
+abbrev pub listener_status : Progress → ℕ
+listener_status e = if is_finished e then 0 else 1
 
 -- and in front of it the reports of the lines, where they are asked for
-abbrev pub hearing_lines : Bool → Hearing → List ℕ
-hearing_lines reporting e =
-    reports_text reporting e.arbitration.reports e.arbitration.view.known ++ hearing_line e
+abbrev pub last_lines : Bool → Progress → List ℕ
+last_lines reporting e =
+    reports_text reporting e.arbitration.reports e.arbitration.view.known ++ last_line e
 
 abbrev pub listened_lines : {P : Type 0} → Bool → ListenerState P → List ℕ
-listened_lines reporting s = hearing_lines reporting s.hearing
+listened_lines reporting s = last_lines reporting s.progress
 
 abbrev pub status : {P : Type 0} → ListenerState P → ℕ
-status s = hearing_status s.hearing
+status s = listener_status s.progress
 
 -- the ports and the arbiter stand as at the end
 pub record Agrees {P : Type 0} (a b requests : Port P) (arbitration : Arbitration) (end : ListenerState P) :
@@ -196,4 +197,4 @@ pub record Agrees {P : Type 0} (a b requests : Port P) (arbitration : Arbitratio
   pub a_left : a ≡ end.a
   pub b_left : b ≡ end.b
   pub requests_left : requests ≡ end.requests
-  pub arbiter_left : arbitration ≡ end.hearing.arbitration
+  pub arbiter_left : arbitration ≡ end.progress.arbitration

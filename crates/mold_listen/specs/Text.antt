@@ -8,7 +8,7 @@ use Rattle.mold_receiver.specs.declared.line.Line.{Line}
 use Rattle.mold_receiver.specs.declared.line.Line.TheVariants.{A, B}
 use Rattle.mold_receiver.specs.declared.line.LineReport.{LineReport}
 use Rattle.mold_receiver.specs.declared.line.LineReports.{LineReports}
-use Rattle.mold_rule.specs.declared.refusal.Refusal.{Refusal as Refused}
+use Rattle.mold_rule.specs.declared.refusal.Refusal.{Refusal}
 
 -- the line of a message that is handed on: its number and its bytes
 abbrev pub handed_line : ℕ → Message → List ℕ
@@ -21,7 +21,7 @@ handed_text number (message ∷ messages) = handed_line number message ++ handed
 
 -- what is printed for a datagram, by what the receiving rule makes of it: the messages that it lets hand on,
 -- from `next` on, or why it is refused
-abbrev pub taking_text : ℕ → Result Reception Refused → List ℕ
+abbrev pub taking_text : ℕ → Result Reception Refusal → List ℕ
 taking_text next (Ok reception) = handed_text next reception.handed
 taking_text next (Err refused) = refused_line (refusal_words refused)
 

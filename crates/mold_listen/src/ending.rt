@@ -1,7 +1,7 @@
 //! What a listener prints at its end.
 
 ghost use Rattle.std.specs.Prelude.{◌≡◌, IfOk, OnOk};
-ghost use Rattle.mold_listen.specs.Listening.{hearing, hearing_lines, hearing_status};
+ghost use Rattle.mold_listen.specs.Listening.{progress, last_lines, listener_status};
 ghost use Rattle.mold_turns.specs.Outgoing.{with_more};
 ghost use Rattle.mold_listen.specs.Text.{line_name, report_line, reports_text};
 ghost use Rattle.mold_receiver.specs.Arbiter.{report_on};
@@ -66,9 +66,9 @@ pub fn push_end(
     reporting: bool,
     outgoing: &mut Outgoing,
 ) -> Result<u8, AllocError>
-    ensures status { IfOk result (λ status. status ≡ hearing_status (hearing arbiter.now outgoing.old)) }
+    ensures status { IfOk result (λ status. status ≡ listener_status (progress arbiter.now outgoing.old)) }
     ensures lines { OnOk result (outgoing.new ≡ with_more
-        (hearing_lines reporting (hearing arbiter.now outgoing.old)) outgoing.old) }
+        (last_lines reporting (progress arbiter.now outgoing.old)) outgoing.old) }
 {
     push_reports(arbiter, reporting, outgoing)?;
     push_last(arbiter, outgoing)

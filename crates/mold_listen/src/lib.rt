@@ -4,15 +4,15 @@
 mod ending;
 mod feed_listener;
 mod handed;
-mod hearing;
 mod listen_options;
 mod listen_ports;
 mod listening;
-mod report;
+mod printer;
+mod receiving;
 
 pub use ending::push_end;
-pub use hearing::hear_port;
 pub use listen_options::ListenOptions;
 pub use listen_ports::ListenPorts;
 pub use listening::{listen, listen_loop, push_last};
-pub use report::Report;
+pub use printer::Printer;
+pub use receiving::receive_on;

@@ -2,7 +2,7 @@
 
 ghost use Rattle.std.specs.Prelude.{◌≡◌, true, IfOk, OnOk};
 ghost use Rattle.mold_devices.specs.Faults.{CountsSink};
-ghost use Rattle.mold_listen.specs.Listening.{Agrees, beginning, hearing, hearing_line, hearing_status};
+ghost use Rattle.mold_listen.specs.Listening.{Agrees, beginning, progress, last_line, listener_status};
 ghost use Rattle.mold_listen.specs.Listening.{listened_lines, listening, status};
 ghost use Rattle.mold_turns.specs.Outgoing.{with_more};
 ghost use Rattle.mold_turns.specs.Runs.{Ran};
@@ -11,7 +11,7 @@ ghost use Rattle.mold_listen.specs.Text.{finished_line, open_line};
 use crate::feed_listener::FeedListener;
 use crate::listen_options::ListenOptions;
 use crate::listen_ports::ListenPorts;
-use crate::report::Report;
+use crate::printer::Printer;
 use mold_devices::{CommandFault, Sink};
 use mold_ports::Datagrams;
 use mold_receiver::Arbiter;
@@ -54,9 +54,9 @@ fn push_open(outgoing: &mut Outgoing, next: u64, known: u64) -> Result<(), Alloc
 /// message, what is known beside it where the session is open, and how often a port failed. Answers the
 /// status: 0 finished, 1 open.
 pub fn push_last(arbiter: &Arbiter, outgoing: &mut Outgoing) -> Result<u8, AllocError>
-    ensures status { IfOk result (λ status. status ≡ hearing_status (hearing arbiter.now outgoing.old)) }
+    ensures status { IfOk result (λ status. status ≡ listener_status (progress arbiter.now outgoing.old)) }
     ensures line { OnOk result
-        (outgoing.new ≡ with_more (hearing_line (hearing arbiter.now outgoing.old)) outgoing.old) }
+        (outgoing.new ≡ with_more (last_line (progress arbiter.now outgoing.old)) outgoing.old) }
 {
     let receiver = arbiter.receiver();
     if receiver.finished() {
@@ -86,20 +86,20 @@ pub fn listen_loop<D: Datagrams, K: Sink>(
     reporting: bool,
     sink: &mut K,
 ) -> Result<u8, CommandFault>
-    ensures run { D.tells ≡ true → Ran (listening server burst) turns
+    ensures run { D.modeled ≡ true → Ran (listening server burst) turns
         (beginning (D.port a.old) (D.port b.old) (D.port requests.old) arbiter.old)
         (listened_lines reporting) status (Agrees (D.port a.new) (D.port b.new) (D.port requests.new) arbiter.new)
         result (K.held sink.old) (K.held sink.new) (D.port requests.new).sent }
     ensures sink { CountsSink (K.failed sink.old) (K.failed sink.new) result }
 {
-    let mut place = vec![in alloc; 0; MAX_LIMIT]?;
-    let mut report = Report::new(alloc);
+    let mut buffer = vec![in alloc; 0; MAX_LIMIT]?;
+    let mut printer = Printer::new(alloc);
     let mut listener = FeedListener {
         a,
         b,
         requests,
         arbiter,
-        report: &mut report,
+        printer: &mut printer,
     };
     let options = ListenOptions {
         server,
@@ -107,7 +107,7 @@ pub fn listen_loop<D: Datagrams, K: Sink>(
         turns,
         reporting,
     };
-    listener.listen(options, place.as_mut_slice(), sink)
+    listener.listen(options, buffer.as_mut_slice(), sink)
 }
 
 /// Listens as `listen_loop` does, on these ports and with these options.
@@ -118,7 +118,7 @@ pub fn listen<D: Datagrams + Drop, K: Sink>(
     arbiter: &mut Arbiter,
     sink: &mut K,
 ) -> Result<u8, CommandFault>
-    ensures run { D.tells ≡ true → Ran (listening options.server options.burst) options.turns
+    ensures run { D.modeled ≡ true → Ran (listening options.server options.burst) options.turns
         (beginning (D.port ports.old.a) (D.port ports.old.b) (D.port ports.old.requests) arbiter.old)
         (listened_lines options.reporting) status
         (Agrees (D.port ports.new.a) (D.port ports.new.b) (D.port ports.new.requests) arbiter.new)

@@ -6,7 +6,7 @@ use Rattle.std.proofs.lemmas.Result.{on_ok_weaker}
 use Rattle.std.proofs.KnownBytes.{Appends-nil, Appends-trans}
 use Rattle.std.specs.Prelude.{OnOk, if◌then◌else◌}
 use Rattle.std.specs.Io.KnownBytes.{Appends}
-use Rattle.mold_devices.specs.Devices.{AppendsFront}
+use Rattle.mold_devices.specs.Devices.{AppendsPrefix}
 use Rattle.mold_ports.specs.Ports.{Port}
 use Rattle.mold_receiver.specs.Arbiter.{Arbitration}
 use Rattle.mold_receiver.specs.declared.line.Line.{Line}
@@ -18,9 +18,9 @@ use Rattle.mold_send.proofs.SendingLemmas.{lent_none}
 use Rattle.mold_turns.proofs.RunLemmas.{IsLoop, begins_behind, begins_more, begins_trans, begins_whole, grows_in}
 use Rattle.mold_listen.proofs.TurnLemmas.{hear_before, hear_prints, hearing_before}
 use Rattle.mold_turns.specs.Outgoing.{OutgoingState}
-use Rattle.mold_listen.specs.Listening.{Hearing}
+use Rattle.mold_listen.specs.Listening.{Progress}
 use Rattle.mold_loop.specs.Looping.{ComesOfBoth, HasPassed, LineState, Outcome, LeftOut, Failed, Sent}
-use Rattle.mold_loop.specs.Looping.{Pass, goes_out, heard_if, heard_on, is_sent, line_state, offered_by, passed, passing, port_after}
+use Rattle.mold_loop.specs.Looping.{Pass, goes_out, after_line_if, after_routes, is_sent, line_state, offered_by, passed, passing, port_after}
 use Rattle.mold_loop.specs.Looping.{received_if, outgoing_after, routed_by, sent_by, text_front}
 use Rattle.mold_loop.specs.Passing.{routed, routes_of}
 use Rattle.mold_send.specs.PublishLoop.{spelled_some}
@@ -37,23 +37,23 @@ routes_are one other same_a same_b =
 
 -- it was offered on its lines, and heard where it was sent
 pub has_passed : {P T E : Type 0} (a b : P) (routes sent : Routes) (datagram : List ℕ) (result : Result T E)
-    (before after : LineState P) (port : Port P) (report : OutgoingState) →
-    ComesOfBoth routes sent a b datagram before.publisher port before.hearing.outgoing report →
+    (before after : LineState P) (port : Port P) (printer : OutgoingState) →
+    ComesOfBoth routes sent a b datagram before.publisher port before.progress.outgoing printer →
     after.publisher ≡ port →
-    OnOk result (after ≡ heard_on sent (line_state port before.a before.b before.hearing.arbitration report)) →
+    OnOk result (after ≡ after_routes sent (line_state port before.a before.b before.progress.arbitration printer)) →
     HasPassed a b ((routes, datagram) ∷ []) result before after
 unfolding run passed
-has_passed {P} a b routes sent datagram result before after port report comes same heard =
+has_passed {P} a b routes sent datagram result before after port printer comes same with_receipt =
     let one : Pass = record { datagram = datagram; a = comes.on_a.outcome; b = comes.on_b.outcome } in
-    let mid : LineState P = line_state port before.a before.b before.hearing.arbitration report in
+    let mid : LineState P = line_state port before.a before.b before.progress.arbitration printer in
     let is_port : port ≡ (offered_by a b one before).publisher =
     comes.on_b.port ∙ ap (λ (p : Port P). port_after comes.on_b.outcome b datagram p) comes.on_a.port in
-    let is_report : report ≡ outgoing_after comes.on_b.outcome (outgoing_after comes.on_a.outcome before.hearing.outgoing) =
+    let is_report : printer ≡ outgoing_after comes.on_b.outcome (outgoing_after comes.on_a.outcome before.progress.outgoing) =
     comes.on_b.outgoing ∙ ap (λ (r : OutgoingState). outgoing_after comes.on_b.outcome r) comes.on_a.outgoing in
     let is_mid : mid ≡ offered_by a b one before =
-    ap (λ (p : Port P). line_state p before.a before.b before.hearing.arbitration report) is_port
+    ap (λ (p : Port P). line_state p before.a before.b before.progress.arbitration printer) is_port
     ∙ ap (λ (r : OutgoingState). line_state (offered_by a b one before).publisher before.a before.b
-    before.hearing.arbitration r) is_report in
+    before.progress.arbitration r) is_report in
     record {
       passes = one ∷ [];
       are =
@@ -63,9 +63,9 @@ has_passed {P} a b routes sent datagram result before after port report comes sa
       whole =
           on_ok_weaker result
           (λ is. is
-          ∙ ap (λ (r : Routes). heard_on r mid) (routes_are sent (sent_by one) comes.on_a.sent_as comes.on_b.sent_as)
-          ∙ ap (heard_on (sent_by one)) is_mid)
-          heard;
+          ∙ ap (λ (r : Routes). after_routes r mid) (routes_are sent (sent_by one) comes.on_a.sent_as comes.on_b.sent_as)
+          ∙ ap (after_routes (sent_by one)) is_mid)
+          with_receipt;
       offered = same ∙ is_port;
     }
 
@@ -95,28 +95,28 @@ offered_before : {P : Type 0} (front : List ℕ) (a b : P) (pass : Pass) (s : Li
     offered_by a b pass (text_front front s) ≡ text_front front (offered_by a b pass s)
 offered_before {P} front a b pass s =
     let of : OutgoingState → LineState P =
-    λ r. line_state (offered_by a b pass s).publisher s.a s.b s.hearing.arbitration r in
-    ap (λ (r : OutgoingState). of (outgoing_after pass.b r)) (outgoing_before front pass.a s.hearing.outgoing)
-    ∙ ap of (outgoing_before front pass.b (outgoing_after pass.a s.hearing.outgoing))
+    λ r. line_state (offered_by a b pass s).publisher s.a s.b s.progress.arbitration r in
+    ap (λ (r : OutgoingState). of (outgoing_after pass.b r)) (outgoing_before front pass.a s.progress.outgoing)
+    ∙ ap of (outgoing_before front pass.b (outgoing_after pass.a s.progress.outgoing))
 
-heard_if_before : {P : Type 0} (front : List ℕ) (on : Bool) (line : Line) (port : Port P) (e : Hearing) →
-    heard_if on line port (hearing_before front e) ≡ hearing_before front (heard_if on line port e)
+heard_if_before : {P : Type 0} (front : List ℕ) (on : Bool) (line : Line) (port : Port P) (e : Progress) →
+    after_line_if on line port (hearing_before front e) ≡ hearing_before front (after_line_if on line port e)
 heard_if_before front false line port e = refl
 heard_if_before front true line port e = hear_before front (Some line) port e
 
 heard_on_before : {P : Type 0} (front : List ℕ) (lines : Routes) (s : LineState P) →
-    heard_on lines (text_front front s) ≡ text_front front (heard_on lines s)
+    after_routes lines (text_front front s) ≡ text_front front (after_routes lines s)
 heard_on_before {P} front lines s =
-    let of : Hearing → LineState P =
-    λ e. record { publisher = s.publisher; a = received_if lines.a s.a; b = received_if lines.b s.b; hearing = e } in
-    ap (λ (e : Hearing). of (heard_if lines.b B s.b e)) (heard_if_before front lines.a A s.a s.hearing)
-    ∙ ap of (heard_if_before front lines.b B s.b (heard_if lines.a A s.a s.hearing))
+    let of : Progress → LineState P =
+    λ e. record { publisher = s.publisher; a = received_if lines.a s.a; b = received_if lines.b s.b; progress = e } in
+    ap (λ (e : Progress). of (after_line_if lines.b B s.b e)) (heard_if_before front lines.a A s.a s.progress)
+    ∙ ap of (heard_if_before front lines.b B s.b (after_line_if lines.a A s.a s.progress))
 
 passed_before : {P : Type 0} (a b : P) (front : List ℕ) (pass : Pass) (s : LineState P) →
     passed a b pass (text_front front s) ≡ text_front front (passed a b pass s)
 unfolding passed
 passed_before a b front pass s =
-    ap (heard_on (sent_by pass)) (offered_before front a b pass s)
+    ap (after_routes (sent_by pass)) (offered_before front a b pass s)
     ∙ heard_on_before front (sent_by pass) (offered_by a b pass s)
 
 outgoing_prints : (o : Outcome) (r : OutgoingState) → (outgoing_after o r).text ≡ r.text
@@ -124,21 +124,21 @@ outgoing_prints LeftOut r = refl
 outgoing_prints Failed r = refl
 outgoing_prints Sent r = refl
 
-heard_if_prints : {P : Type 0} (on : Bool) (line : Line) (port : Port P) (e : Hearing) →
-    Begins e.outgoing.text (heard_if on line port e).outgoing.text
+heard_if_prints : {P : Type 0} (on : Bool) (line : Line) (port : Port P) (e : Progress) →
+    Begins e.outgoing.text (after_line_if on line port e).outgoing.text
 heard_if_prints false line port e = begins_whole e.outgoing.text
 heard_if_prints true line port e = hear_prints (Some line) port e
 
 passed_prints : {P : Type 0} (a b : P) (pass : Pass) (s : LineState P) →
-    Begins s.hearing.outgoing.text (passed a b pass s).hearing.outgoing.text
+    Begins s.progress.outgoing.text (passed a b pass s).progress.outgoing.text
 unfolding passed
 passed_prints {P} a b pass s =
     let mid : LineState P = offered_by a b pass s in
-    let heard : Hearing = heard_if (is_sent pass.a) A mid.a mid.hearing in
-    subst (λ (t : List ℕ). Begins t (heard_on (sent_by pass) mid).hearing.outgoing.text)
-    (outgoing_prints pass.b (outgoing_after pass.a s.hearing.outgoing) ∙ outgoing_prints pass.a s.hearing.outgoing)
-    (begins_trans (heard_if_prints (is_sent pass.a) A mid.a mid.hearing)
-    (heard_if_prints (is_sent pass.b) B mid.b heard))
+    let with_receipt : Progress = after_line_if (is_sent pass.a) A mid.a mid.progress in
+    subst (λ (t : List ℕ). Begins t (after_routes (sent_by pass) mid).progress.outgoing.text)
+    (outgoing_prints pass.b (outgoing_after pass.a s.progress.outgoing) ∙ outgoing_prints pass.a s.progress.outgoing)
+    (begins_trans (heard_if_prints (is_sent pass.a) A mid.a mid.progress)
+    (heard_if_prints (is_sent pass.b) B mid.b with_receipt))
 
 port_sends : {P : Type 0} (o : Outcome) (to : P) (datagram : List ℕ) (port : Port P) →
     Begins port.sent (port_after o to datagram port).sent
@@ -157,8 +157,8 @@ pub passes_are : {P : Type 0} (a b : P) → IsLoop (passing a b) text_front
 passes_are {P} a b = record {
   none = λ s. refl;
   twice = λ front back s.
-      ap {B = LineState P} (λ (t : List ℕ). line_state s.publisher s.a s.b s.hearing.arbitration
-      (record { text = t; failures = s.hearing.outgoing.failures })) (sym (append_assoc front back s.hearing.outgoing.text));
+      ap {B = LineState P} (λ (t : List ℕ). line_state s.publisher s.a s.b s.progress.arbitration
+      (record { text = t; failures = s.progress.outgoing.failures })) (sym (append_assoc front back s.progress.outgoing.text));
   turn = passed_before a b;
   over = λ front s. refl;
   text = λ front s. refl;
@@ -225,7 +225,7 @@ pub record HeardFront {P : Type 0} (a b : P) (datagrams : List (Routes × List �
   pub are : map routed_by passes ≡ datagrams
   pub written : List ℕ
   pub appended : Appends old new written
-  pub text : Begins written (run (passing a b) passes before).hearing.outgoing.text
+  pub text : Begins written (run (passing a b) passes before).progress.outgoing.text
   pub offered : after.publisher ≡ (run (passing a b) passes before).publisher
 
 pub heard_none : {P : Type 0} (a b : P) (s : LineState P) (held : Option (List ℕ)) → Heard a b [] s s held held
@@ -251,70 +251,70 @@ more_run a b xs ys written before now whole =
 pub heard_more : {P T E : Type 0} (a b : P) {xs ys : List (Routes × List ℕ)} {before now after : LineState P}
     {old new : Option (List ℕ)} (value : T) → Heard a b xs before now old new →
     HasPassed {T = T} {E = E} a b ys (Ok value) now after → Heard a b (xs ++ ys) before after old new
-heard_more {P} a b {xs} {ys} {before} {now} value heard has = record {
-  passes = heard.passes ++ has.passes;
-  are = both_are heard.passes has.passes xs ys heard.are has.are;
-  written = heard.written;
-  appended = heard.appended;
+heard_more {P} a b {xs} {ys} {before} {now} value with_receipt has = record {
+  passes = with_receipt.passes ++ has.passes;
+  are = both_are with_receipt.passes has.passes xs ys with_receipt.are has.are;
+  written = with_receipt.written;
+  appended = with_receipt.appended;
   whole =
-      more_run a b heard.passes has.passes heard.written before now heard.whole
-      ∙ ap (text_front heard.written) (sym has.whole);
+      more_run a b with_receipt.passes has.passes with_receipt.written before now with_receipt.whole
+      ∙ ap (text_front with_receipt.written) (sym has.whole);
 }
 
 -- some text was written
 pub heard_moved : {P : Type 0} (a b : P) {xs : List (Routes × List ℕ)} {before now : LineState P}
     {old mid new : Option (List ℕ)} {left : List ℕ} (after : LineState P) → Heard a b xs before now old mid →
-    (moves : Moves mid new now.hearing.outgoing.text left) → now ≡ text_front moves.front after →
+    (moves : Moves mid new now.progress.outgoing.text left) → now ≡ text_front moves.front after →
     Heard a b xs before after old new
-heard_moved {P} a b {xs} {before} {now} {old} {mid} {new} after heard moves same = record {
-  passes = heard.passes;
-  are = heard.are;
-  written = heard.written ++ moves.front;
-  appended = Appends-trans old mid new heard.written moves.front heard.appended moves.appended;
+heard_moved {P} a b {xs} {before} {now} {old} {mid} {new} after with_receipt moves same = record {
+  passes = with_receipt.passes;
+  are = with_receipt.are;
+  written = with_receipt.written ++ moves.front;
+  appended = Appends-trans old mid new with_receipt.written moves.front with_receipt.appended moves.appended;
   whole =
-      heard.whole ∙ ap (text_front heard.written) same
-      ∙ (passes_are a b).twice heard.written moves.front after;
+      with_receipt.whole ∙ ap (text_front with_receipt.written) same
+      ∙ (passes_are a b).twice with_receipt.written moves.front after;
 }
 
 -- a fault came while these were passed
 pub heard_failed : {P T E : Type 0} (a b : P) {xs ys : List (Routes × List ℕ)} {before now after : LineState P}
     {old new : Option (List ℕ)} (result : Result T E) → Heard a b xs before now old new →
     HasPassed a b ys result now after → HeardFront a b (xs ++ ys) before after old new
-heard_failed {P} a b {xs} {ys} {before} {now} {after} result heard has =
-    let end : run (passing a b) (heard.passes ++ has.passes) before
-    ≡ text_front heard.written (run (passing a b) has.passes now) =
-    more_run a b heard.passes has.passes heard.written before now heard.whole in
+heard_failed {P} a b {xs} {ys} {before} {now} {after} result with_receipt has =
+    let end : run (passing a b) (with_receipt.passes ++ has.passes) before
+    ≡ text_front with_receipt.written (run (passing a b) has.passes now) =
+    more_run a b with_receipt.passes has.passes with_receipt.written before now with_receipt.whole in
     record {
-      passes = heard.passes ++ has.passes;
-      are = both_are heard.passes has.passes xs ys heard.are has.are;
-      written = heard.written;
-      appended = heard.appended;
+      passes = with_receipt.passes ++ has.passes;
+      are = both_are with_receipt.passes has.passes xs ys with_receipt.are has.are;
+      written = with_receipt.written;
+      appended = with_receipt.appended;
       text =
-          subst (λ (s : LineState P). Begins heard.written s.hearing.outgoing.text) (sym end)
-          (begins_more heard.written (run (passing a b) has.passes now).hearing.outgoing.text);
+          subst (λ (s : LineState P). Begins with_receipt.written s.progress.outgoing.text) (sym end)
+          (begins_more with_receipt.written (run (passing a b) has.passes now).progress.outgoing.text);
       offered = has.offered ∙ ap (λ (s : LineState P). s.publisher) (sym end);
     }
 
 -- a write failed behind them
 pub heard_cut : {P : Type 0} (a b : P) {xs : List (Routes × List ℕ)} {before now : LineState P}
     {old mid new : Option (List ℕ)} (after : LineState P) → after.publisher ≡ now.publisher →
-    Heard a b xs before now old mid → AppendsFront mid new now.hearing.outgoing.text →
+    Heard a b xs before now old mid → AppendsPrefix mid new now.progress.outgoing.text →
     HeardFront a b xs before after old new
-heard_cut {P} a b {xs} {before} {now} {old} {mid} {new} after same heard cut = record {
-  passes = heard.passes;
-  are = heard.are;
-  written = heard.written ++ cut.front;
-  appended = Appends-trans old mid new heard.written cut.front heard.appended cut.appended;
+heard_cut {P} a b {xs} {before} {now} {old} {mid} {new} after same with_receipt cut = record {
+  passes = with_receipt.passes;
+  are = with_receipt.are;
+  written = with_receipt.written ++ cut.front;
+  appended = Appends-trans old mid new with_receipt.written cut.front with_receipt.appended cut.appended;
   text =
-      subst (λ (s : LineState P). Begins (heard.written ++ cut.front) s.hearing.outgoing.text) (sym heard.whole)
-      (begins_behind heard.written (record { rest = cut.rest; parts = cut.parts }));
-  offered = same ∙ ap (λ (s : LineState P). s.publisher) (sym heard.whole);
+      subst (λ (s : LineState P). Begins (with_receipt.written ++ cut.front) s.progress.outgoing.text) (sym with_receipt.whole)
+      (begins_behind with_receipt.written (record { rest = cut.rest; parts = cut.parts }));
+  offered = same ∙ ap (λ (s : LineState P). s.publisher) (sym with_receipt.whole);
 }
 
 pub heard_still : {P : Type 0} (a b : P) {xs : List (Routes × List ℕ)} {before now : LineState P}
     {old new : Option (List ℕ)} → Heard a b xs before now old new → HeardFront a b xs before now old new
-heard_still a b {xs} {before} {now} {old} {new} heard =
-    heard_cut a b now refl heard (record { front = []; rest = _; parts = refl; appended = Appends-nil new })
+heard_still a b {xs} {before} {now} {old} {new} with_receipt =
+    heard_cut a b now refl with_receipt (record { front = []; rest = _; parts = refl; appended = Appends-nil new })
 
 -- text was written that stood in front
 pub lines_moved : {P : Type 0} (publisher a b : Port P) (arbitration : Arbitration) (old new : OutgoingState) (front : List ℕ) →

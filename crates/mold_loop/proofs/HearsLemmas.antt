@@ -4,7 +4,7 @@ use Rattle.std.proofs.Common.{Option, None, Some, Result, Ok, ap, refl, sym, sub
 use Rattle.std.specs.Prelude.{IfSome, IsErr}
 use Rattle.std.specs.Io.KnownBytes.{prepend_known}
 use Rattle.std.proofs.KnownBytes.{prepend_known-nil}
-use Rattle.mold_devices.specs.Devices.{AppendsFront}
+use Rattle.mold_devices.specs.Devices.{AppendsPrefix}
 use Rattle.mold_publish.proofs.DatagramLemmas.{PackingLaws}
 use Rattle.mold_publish.specs.Publishing.{Fills}
 use Rattle.mold_publish.specs.declared.filling.Filled.TheVariants.{Full, End, Refused}
@@ -14,7 +14,7 @@ use Rattle.mold_loop.proofs.HeardLemmas.{Heard, HeardFront, heard_cut, heard_fai
 use Rattle.mold_loop.proofs.HeardLemmas.{routed_more}
 use Rattle.mold_send.proofs.SendingLemmas.{LeftToSend, any_known, begun, begun_all, left_end, left_full, left_refused, left_same}
 use Rattle.mold_turns.proofs.RunLemmas.{begins_more, none_answered, none_ok}
-use Rattle.mold_loop.specs.Looping.{BeginsData, HasPassed, HearsLines, IsData, LineState, text_front}
+use Rattle.mold_loop.specs.Looping.{BeginsData, HasPassed, ReceivesLines, IsData, LineState, text_front}
 use Rattle.mold_loop.specs.Passing.{routed}
 use Rattle.mold_send.specs.PublishLoop.{spelled_some}
 use Rattle.mold_turns.specs.Runs.{Begins, Moves}
@@ -27,7 +27,7 @@ pub record HeardSoFar {P : Type 0} (drops : Drops) (a b : P) (start now : Publis
   pub front : List (List ℕ)
   pub counted : count ≡ length front
   pub behind : LeftToSend start now known left front
-  pub heard : Heard a b (routed drops 1 front) before after old new
+  pub received : Heard a b (routed drops 1 front) before after old new
 
 -- before the first line
 pub so_far_begun : {P : Type 0} (drops : Drops) (a b : P) (start : PublisherState) (known : Option (List ℕ))
@@ -36,7 +36,7 @@ pub so_far_begun : {P : Type 0} (drops : Drops) (a b : P) (start : PublisherStat
 so_far_begun drops a b start known rest s held empty =
     subst (λ (l : Option (List ℕ)). HeardSoFar drops a b start start known l s s held held 0)
     (sym (ap (λ (xs : List ℕ). prepend_known xs known) empty ∙ prepend_known-nil known))
-    (record { front = []; counted = refl; behind = left_same start known; heard = heard_none a b s held })
+    (record { front = []; counted = refl; behind = left_same start known; received = heard_none a b s held })
 
 routed_next : (drops : Drops) (front ys : List (List ℕ)) (count : ℕ) → count ≡ length front →
     routed drops 1 front ++ routed drops (count + 1) ys ≡ routed drops 1 (front ++ ys)
@@ -60,23 +60,23 @@ so_far_full {P} laws drops a b start before now after known left behind first he
       counted =
           omega (arith, more, so_far.counted, length-append so_far.front (spelled_some (next_datagram now)));
       behind = left_full laws start before now known left behind so_far.front so_far.behind filled;
-      heard =
+      received =
           subst (λ (l : List (Routes × List ℕ)). Heard a b l first there old new)
           (routed_next drops so_far.front (spelled_some (next_datagram now)) count so_far.counted)
-          (heard_more a b value so_far.heard has);
+          (heard_more a b value so_far.received has);
     })
 
 -- some text was written
 pub so_far_moved : {P : Type 0} (drops : Drops) (a b : P) (start now : PublisherState) (known left : Option (List ℕ))
     (first here : LineState P) (old mid new : Option (List ℕ)) (count : ℕ) (rest : List ℕ) (there : LineState P) →
     HeardSoFar drops a b start now known left first here old mid count →
-    (moves : Moves mid new here.hearing.outgoing.text rest) → here ≡ text_front moves.front there →
+    (moves : Moves mid new here.progress.outgoing.text rest) → here ≡ text_front moves.front there →
     HeardSoFar drops a b start now known left first there old new count
 so_far_moved drops a b start now known left first here old mid new count rest there so_far moves same = record {
   front = so_far.front;
   counted = so_far.counted;
   behind = so_far.behind;
-  heard = heard_moved a b there so_far.heard moves same;
+  received = heard_moved a b there so_far.received moves same;
 }
 
 -- a fault: what was passed is a beginning
@@ -84,16 +84,16 @@ hears_cut : {P E : Type 0} (drops : Drops) (a b : P) (start last : PublisherStat
     (front : List (List ℕ)) (result : Result (Option LineRefusal) E) (first here : LineState P)
     (old new : Option (List ℕ)) → HeardFront a b (routed drops 1 front) first here old new →
     IfSome known (BeginsData start front) → IsErr result →
-    HearsLines drops a b start last known result first here old new
-hears_cut drops a b start last known front result first here old new heard begins failed = record {
+    ReceivesLines drops a b start last known result first here old new
+hears_cut drops a b start last known front result first here old new with_receipt begins failed = record {
   front = front;
-  passes = heard.passes;
-  are = heard.are;
-  written = heard.written;
-  appended = heard.appended;
+  passes = with_receipt.passes;
+  are = with_receipt.are;
+  written = with_receipt.written;
+  appended = with_receipt.appended;
   whole = none_ok result _ failed;
-  text = heard.text;
-  offered = heard.offered;
+  text = with_receipt.text;
+  offered = with_receipt.offered;
   begins = begins;
   all = none_answered result _ failed;
 }
@@ -101,7 +101,7 @@ hears_cut drops a b start last known front result first here old new heard begin
 -- before anything was passed
 pub hears_none : {P E : Type 0} (drops : Drops) (a b : P) (start last : PublisherState) (known : Option (List ℕ))
     (result : Result (Option LineRefusal) E) (s : LineState P) (held : Option (List ℕ)) → IsErr result →
-    HearsLines drops a b start last known result s s held held
+    ReceivesLines drops a b start last known result s s held held
 hears_none drops a b start last known result s held failed =
     hears_cut drops a b start last known [] result s s held held (heard_still a b (heard_none a b s held))
     (any_known known _ (λ input. record { rest = _; parts = refl })) failed
@@ -110,9 +110,9 @@ hears_none drops a b start last known result s held failed =
 pub hears_still : {P E : Type 0} (drops : Drops) (a b : P) (start now last : PublisherState)
     (known left : Option (List ℕ)) (result : Result (Option LineRefusal) E) (first here : LineState P)
     (old new : Option (List ℕ)) (count : ℕ) → HeardSoFar drops a b start now known left first here old new count →
-    IsErr result → HearsLines drops a b start last known result first here old new
+    IsErr result → ReceivesLines drops a b start last known result first here old new
 hears_still drops a b start now last known left result first here old new count so_far failed =
-    hears_cut drops a b start last known so_far.front result first here old new (heard_still a b so_far.heard)
+    hears_cut drops a b start last known so_far.front result first here old new (heard_still a b so_far.received)
     (begun start now known left so_far.front so_far.behind) failed
 
 -- while one was passed
@@ -122,12 +122,12 @@ hears_more : {P T E F : Type 0} (drops : Drops) (a b : P) (start now last : Publ
     (so_far : HeardSoFar drops a b start now known left first here old new count) →
     HasPassed a b (routed drops (count + 1) ys) passing_result here there →
     IfSome known (BeginsData start (so_far.front ++ ys)) → IsErr result →
-    HearsLines drops a b start last known result first there old new
+    ReceivesLines drops a b start last known result first there old new
 hears_more drops a b start now last known left first here there old new count ys passing_result result so_far has begins failed =
     hears_cut drops a b start last known (so_far.front ++ ys) result first there old new
     (subst (λ (l : List (Routes × List ℕ)). HeardFront a b l first there old new)
     (routed_next drops so_far.front ys count so_far.counted)
-    (heard_failed a b passing_result so_far.heard has))
+    (heard_failed a b passing_result so_far.received has))
     begins failed
 
 pub hears_full : {P T E F : Type 0} → PackingLaws → (drops : Drops) (a b : P) (start before now last : PublisherState)
@@ -135,7 +135,7 @@ pub hears_full : {P T E F : Type 0} → PackingLaws → (drops : Drops) (a b : P
     (passing_result : Result T F) (result : Result (Option LineRefusal) E) →
     HeardSoFar drops a b start before known left first here old new count → Fills before now left behind Full →
     HasPassed a b (routed drops (count + 1) (spelled_some (next_datagram now))) passing_result here there →
-    IsErr result → HearsLines drops a b start last known result first there old new
+    IsErr result → ReceivesLines drops a b start last known result first there old new
 hears_full laws drops a b start before now last known left behind first here there old new count passing_result result so_far filled has failed =
     let front = so_far.front ++ spelled_some (next_datagram now) in
     hears_more drops a b start before last known left first here there old new count (spelled_some (next_datagram now))
@@ -148,11 +148,11 @@ hears_full laws drops a b start before now last known left behind first here the
 pub hears_unwritten : {P E : Type 0} (drops : Drops) (a b : P) (start now last : PublisherState)
     (known left : Option (List ℕ)) (result : Result (Option LineRefusal) E) (first here there : LineState P)
     (old mid new : Option (List ℕ)) (count : ℕ) → HeardSoFar drops a b start now known left first here old mid count →
-    there.publisher ≡ here.publisher → AppendsFront mid new here.hearing.outgoing.text → IsErr result →
-    HearsLines drops a b start last known result first there old new
+    there.publisher ≡ here.publisher → AppendsPrefix mid new here.progress.outgoing.text → IsErr result →
+    ReceivesLines drops a b start last known result first there old new
 hears_unwritten drops a b start now last known left result first here there old mid new count so_far same cut failed =
     hears_cut drops a b start last known so_far.front result first there old new
-    (heard_cut a b there same so_far.heard cut)
+    (heard_cut a b there same so_far.received cut)
     (begun start now known left so_far.front so_far.behind) failed
 
 -- while the last one was passed
@@ -161,7 +161,7 @@ pub hears_last : {P T E F : Type 0} → PackingLaws → (drops : Drops) (a b : P
     (passing_result : Result T F) (result : Result (Option LineRefusal) E) →
     HeardSoFar drops a b start before known left first here old new count → Fills before now left behind End →
     HasPassed a b (routed drops (count + 1) (spelled_some (next_datagram now))) passing_result here there →
-    IsErr result → HearsLines drops a b start last known result first there old new
+    IsErr result → ReceivesLines drops a b start last known result first there old new
 hears_last laws drops a b start before now last known left behind first here there old new count passing_result result so_far filled has failed =
     let front = so_far.front ++ spelled_some (next_datagram now) in
     hears_more drops a b start before last known left first here there old new count (spelled_some (next_datagram now))
@@ -175,18 +175,18 @@ hears_all : {P E : Type 0} (drops : Drops) (a b : P) (start now : PublisherState
     (front : List (List ℕ)) (refused : Option LineRefusal) (first here : LineState P) (old new : Option (List ℕ)) →
     Heard a b (routed drops 1 front) first here old new →
     IfSome known (IsData start front now.journal refused) →
-    HearsLines {E = E} drops a b start now known (Ok refused) first here old new
-hears_all {P} drops a b start now known front refused first here old new heard all = record {
+    ReceivesLines {E = E} drops a b start now known (Ok refused) first here old new
+hears_all {P} drops a b start now known front refused first here old new with_receipt all = record {
   front = front;
-  passes = heard.passes;
-  are = heard.are;
-  written = heard.written;
-  appended = heard.appended;
-  whole = heard.whole;
+  passes = with_receipt.passes;
+  are = with_receipt.are;
+  written = with_receipt.written;
+  appended = with_receipt.appended;
+  whole = with_receipt.whole;
   text =
-      subst (λ (s : LineState P). Begins heard.written s.hearing.outgoing.text) (sym heard.whole)
-      (begins_more heard.written here.hearing.outgoing.text);
-  offered = ap (λ (s : LineState P). s.publisher) (sym heard.whole);
+      subst (λ (s : LineState P). Begins with_receipt.written s.progress.outgoing.text) (sym with_receipt.whole)
+      (begins_more with_receipt.written here.progress.outgoing.text);
+  offered = ap (λ (s : LineState P). s.publisher) (sym with_receipt.whole);
   begins = begun_all start now.journal refused known front all;
   all = all;
 }
@@ -197,14 +197,14 @@ pub hears_end : {P T E F : Type 0} → PackingLaws → (drops : Drops) (a b : P)
     Fills before now left behind End →
     HasPassed {T = T} {E = F} a b (routed drops (count + 1) (spelled_some (next_datagram now))) (Ok value) here there →
     after ≡ after_datagram now →
-    HearsLines {E = E} drops a b start after known (Ok None) first there old new
+    ReceivesLines {E = E} drops a b start after known (Ok None) first there old new
 hears_end {P} {T} {E} laws drops a b start before now after known left behind first here there old new count value so_far filled has sent =
     let front = so_far.front ++ spelled_some (next_datagram now) in
-    subst (λ (p : PublisherState). HearsLines {E = E} drops a b start p known (Ok None) first there old new) (sym sent)
+    subst (λ (p : PublisherState). ReceivesLines {E = E} drops a b start p known (Ok None) first there old new) (sym sent)
     (hears_all drops a b start (after_datagram now) known front None first there old new
     (subst (λ (l : List (Routes × List ℕ)). Heard a b l first there old new)
     (routed_next drops so_far.front (spelled_some (next_datagram now)) count so_far.counted)
-    (heard_more a b value so_far.heard has))
+    (heard_more a b value so_far.received has))
     (left_end laws start before now known left behind so_far.front so_far.behind filled))
 
 -- a line is refused
@@ -212,7 +212,7 @@ pub hears_refused : {P E : Type 0} → PackingLaws → (drops : Drops) (a b : P)
     (known left behind : Option (List ℕ)) (why : LineRefusal) (first here : LineState P) (old new : Option (List ℕ))
     (count : ℕ) → HeardSoFar drops a b start before known left first here old new count →
     Fills before now left behind (Refused why) →
-    HearsLines {E = E} drops a b start now known (Ok (Some why)) first here old new
+    ReceivesLines {E = E} drops a b start now known (Ok (Some why)) first here old new
 hears_refused laws drops a b start before now known left behind why first here old new count so_far filled =
-    hears_all drops a b start now known so_far.front (Some why) first here old new so_far.heard
+    hears_all drops a b start now known so_far.front (Some why) first here old new so_far.received
     (left_refused laws start before now known left behind why so_far.front so_far.behind filled)

@@ -27,23 +27,23 @@ use Rattle.mold_loop.specs.declared.loop_parts.Routes.{Routes}
 -- ---- what is left alone
 
 pub same_at_first : {D A : Type 0} (feed : LocalFeed D A) → IsSame feed feed
-same_at_first feed = record { ports = refl; options = refl; place = refl; listener = refl }
+same_at_first feed = record { ports = refl; options = refl; buffer = refl; listener = refl }
 
 pub same_twice : {D A : Type 0} {one two three : LocalFeed D A} → IsSame one two → IsSame two three → IsSame one three
 same_twice first second = record {
   ports = second.ports ∙ first.ports;
   options = second.options ∙ first.options;
-  place = second.place ∙ first.place;
+  buffer = second.buffer ∙ first.buffer;
   listener = second.listener ∙ first.listener;
 }
 
-pub passes_at_first : {D A P : Type 0} (tells : Bool) (port : D → Port P) (feed : LocalFeed D A) →
-    OnlyPasses tells port feed feed
-passes_at_first tells port feed =
+pub passes_at_first : {D A P : Type 0} (modeled : Bool) (port : D → Port P) (feed : LocalFeed D A) →
+    OnlyPasses modeled port feed feed
+passes_at_first modeled port feed =
     record { same = same_at_first feed; server = refl; requests = refl; a = λ t. refl; b = λ t. refl }
 
-pub passes_twice : {D A P : Type 0} {tells : Bool} {port : D → Port P} {one two three : LocalFeed D A} →
-    OnlyPasses tells port one two → OnlyPasses tells port two three → OnlyPasses tells port one three
+pub passes_twice : {D A P : Type 0} {modeled : Bool} {port : D → Port P} {one two three : LocalFeed D A} →
+    OnlyPasses modeled port one two → OnlyPasses modeled port two three → OnlyPasses modeled port one three
 passes_twice first second = record {
   same = same_twice first.same second.same;
   server = second.server ∙ first.server;
@@ -125,8 +125,8 @@ ends_requests {D} {A} same = ap (λ (p : LoopPorts D A). p.requests) same
 pub ends_arbiter : {end left : Listener} → end ≡ left → end.arbiter ≡ left.arbiter
 ends_arbiter same = ap (λ (l : Listener). l.arbiter) same
 
-pub ends_outgoing : {end left : Listener} → end ≡ left → end.report.outgoing ≡ left.report.outgoing
-ends_outgoing same = ap (λ (l : Listener). l.report.outgoing) same
+pub ends_outgoing : {end left : Listener} → end ≡ left → end.printer.outgoing ≡ left.printer.outgoing
+ends_outgoing same = ap (λ (l : Listener). l.printer.outgoing) same
 
 -- a port of a line sent nothing
 pub sent_so : {D P : Type 0} (port : D → Port P) (before left end : D) → end ≡ left →
@@ -136,7 +136,7 @@ sent_so {D} port before left end is sent = subst (λ (d : D). (port d).sent ≡ 
 -- the lines, and the rounds, stand as they were left
 pub lines_so : {D A P : Type 0} (port : D → Port P) (ports : LoopPorts D A) (listener : Listener) (publisher a b : D)
     (arbitration : Arbitration) (outgoing : OutgoingState) → publisher ≡ ports.publisher → a ≡ ports.a →
-    b ≡ ports.b → arbitration ≡ listener.arbiter → outgoing ≡ listener.report.outgoing →
+    b ≡ ports.b → arbitration ≡ listener.arbiter → outgoing ≡ listener.printer.outgoing →
     line_state (port publisher) (port a) (port b) arbitration outgoing ≡ lines_at port ports listener
 lines_so {D} {A} {P} port ports listener publisher a b arbitration outgoing is_publisher is_a is_b is_arbiter is_outgoing =
     let of : D → D → D → Arbitration → OutgoingState → LineState P = λ p q r w o. line_state (port p) (port q) (port r) w o in
@@ -148,7 +148,7 @@ lines_so {D} {A} {P} port ports listener publisher a b arbitration outgoing is_p
 
 pub rounds_so : {D A P : Type 0} (port : D → Port P) (ports : LoopPorts D A) (last : ServerState) (listener : Listener)
     (server requests : D) (arbitration : Arbitration) (outgoing : OutgoingState) → server ≡ ports.server →
-    requests ≡ ports.requests → arbitration ≡ listener.arbiter → outgoing ≡ listener.report.outgoing →
+    requests ≡ ports.requests → arbitration ≡ listener.arbiter → outgoing ≡ listener.printer.outgoing →
     repair_state (port server) (port requests) last arbitration outgoing ≡ rounds_at port ports last listener
 rounds_so {D} {A} {P} port ports last listener server requests arbitration outgoing is_server is_requests is_arbiter is_outgoing =
     let of : D → D → Arbitration → OutgoingState → RepairState P = λ p q w o. repair_state (port p) (port q) last w o in

@@ -5,7 +5,7 @@ use Rattle.std.proofs.Math.ListN.{length-replicate}
 use Rattle.std.proofs.KnownBytes.{Appends-nil}
 use Rattle.std.specs.Prelude.{IfSome, IfOk, IsErr, OnOk}
 use Rattle.std.specs.Io.KnownBytes.{Appends}
-use Rattle.mold_devices.specs.Devices.{AppendsFront}
+use Rattle.mold_devices.specs.Devices.{AppendsPrefix}
 use Rattle.mold_devices.specs.Lines.{lines_of}
 use Rattle.mold_ports.specs.Ports.{Port}
 use Rattle.mold_publish.specs.Publishing.{PublishedLines, lines_published, refused_text}
@@ -18,11 +18,11 @@ use Rattle.mold_loop.proofs.HeardLemmas.{Heard, heard_more, heard_failed, routed
 use Rattle.mold_send.proofs.SendingLemmas.{any_known}
 use Rattle.mold_turns.proofs.RunLemmas.{begins_more, begins_none, begins_trans, begins_whole}
 use Rattle.mold_turns.specs.Outgoing.{OutgoingState, written_out}
-use Rattle.mold_listen.specs.Listening.{hearing, hearing_lines, hearing_status}
-use Rattle.mold_loop.specs.Looping.{HasPassed, HearsLines, IsData, LineState, LoopRun}
-use Rattle.mold_loop.specs.Looping.{with_heard}
+use Rattle.mold_listen.specs.Listening.{progress, last_lines, listener_status}
+use Rattle.mold_loop.specs.Looping.{HasPassed, ReceivesLines, IsData, LineState, LoopRun}
+use Rattle.mold_loop.specs.Looping.{with_progress}
 use Rattle.mold_loop.specs.Passing.{all_routed, routed, routed_end}
-use Rattle.mold_send.specs.PublishLoop.{closed_unless, data_behind, left_journal}
+use Rattle.mold_send.specs.PublishLoop.{closed_unless, data_after, left_journal}
 use Rattle.mold_loop.specs.Repairing.{RepairState, answers_sent, repairing, text_before}
 use Rattle.mold_turns.specs.Runs.{Begins, RestsOfTwo, run}
 use Rattle.mold_serve.specs.Serving.{service_of}
@@ -35,7 +35,7 @@ run_from : {P E : Type 0} {reporting : Bool} (drops : Drops) (a b to : P) (turns
     (lines : LineState P) (rounds : RepairState P) (known : Option (List ℕ)) (journal : JournalState)
     (refused : Option LineRefusal) (front : List (List ℕ)) (result : Result ℕ E) (old new : Option (List ℕ))
     (lines_left : LineState P) (rounds_left : RepairState P) → IfSome known (IsData start front journal refused) →
-    (data_behind start.limit start.sent (record { journal = journal; refused = refused }) ≡ front →
+    (data_after start.limit start.sent (record { journal = journal; refused = refused }) ≡ front →
     LoopRun reporting drops a b to turns start.limit start.sent (record { journal = journal; refused = refused }) server lines
     rounds result old new lines_left rounds_left) →
     IfSome known (λ input. LoopRun reporting drops a b to turns start.limit start.sent
@@ -46,10 +46,10 @@ run_from {P} {E} {reporting} drops a b to turns start server lines rounds (Some 
     (λ (p : PublishedLines). LoopRun reporting drops a b to turns start.limit start.sent p server lines rounds result old new
     lines_left rounds_left)
     (sym all.1)
-    (ran (ap (λ (p : PublishedLines). data_behind start.limit start.sent p) (sym all.1) ∙ all.0))
+    (ran (ap (λ (p : PublishedLines). data_after start.limit start.sent p) (sym all.1) ∙ all.0))
 
 begins_routed : (drops : Drops) (limit sent : ℕ) (published : PublishedLines) (front : List (List ℕ)) →
-    Begins front (data_behind limit sent published) →
+    Begins front (data_after limit sent published) →
     Begins (routed drops 1 front) (all_routed drops limit sent published)
 begins_routed drops limit sent published front begins =
     let rest : List (Routes × List ℕ) = routed drops (1 + length front) begins.rest in
@@ -59,7 +59,7 @@ begins_routed drops limit sent published front begins =
       parts =
           ap (λ (ds : List (List ℕ)). routed drops 1 ds) begins.parts ∙ routed_more drops 1 front begins.rest;
     })
-    (begins_more (routed drops 1 (data_behind limit sent published)) (routed_end published.journal published.refused))
+    (begins_more (routed drops 1 (data_after limit sent published)) (routed_end published.journal published.refused))
 
 -- before anything was passed
 pub loop_unbegun : {P E : Type 0} (reporting : Bool) (drops : Drops) (a b to : P) (turns : ℕ) (start : PublisherState) (server : ServerState)
@@ -78,7 +78,7 @@ loop_unbegun reporting drops a b to turns start server lines rounds known result
       are = refl;
       written = [];
       appended = Appends-nil held;
-      text = begins_none lines.hearing.outgoing.text;
+      text = begins_none lines.progress.outgoing.text;
       offered = refl;
     })
     (record { rest = _; parts = refl }) failed refl refl)
@@ -88,7 +88,7 @@ pub loop_unheard : {P E F : Type 0} (reporting : Bool) (drops : Drops) (a b to :
     (server : ServerState) (lines : LineState P) (rounds : RepairState P) (known : Option (List ℕ))
     (found : Result (Option LineRefusal) F) (result : Result ℕ E) (old new : Option (List ℕ)) (lines_left : LineState P)
     (rounds_left : RepairState P) → IsErr result → rounds_left.server ≡ rounds.server →
-    rounds_left.requests ≡ rounds.requests → HearsLines drops a b start last known found lines lines_left old new →
+    rounds_left.requests ≡ rounds.requests → ReceivesLines drops a b start last known found lines lines_left old new →
     IfSome known (λ input. LoopRun reporting drops a b to turns start.limit start.sent
     (lines_published start.journal (lines_of input)) server lines rounds result old new lines_left rounds_left)
 loop_unheard reporting drops a b to turns start last server lines rounds None found result old new lines_left rounds_left failed kept same hears = tt
@@ -107,7 +107,7 @@ loop_unheard reporting drops a b to turns start last server lines rounds (Some i
 
 heard_of : {P E : Type 0} (drops : Drops) (a b : P) (start now : PublisherState) (known : Option (List ℕ))
     (refused : Option LineRefusal) (first here : LineState P) (old new : Option (List ℕ)) →
-    (hears : HearsLines {E = E} drops a b start now known (Ok refused) first here old new) →
+    (hears : ReceivesLines {E = E} drops a b start now known (Ok refused) first here old new) →
     Heard a b (routed drops 1 hears.front) first here old new
 heard_of drops a b start now known refused first here old new hears = record {
   passes = hears.passes;
@@ -122,35 +122,35 @@ pub loop_stopped : {P E F : Type 0} (reporting : Bool) (drops : Drops) (a b to :
     (server : ServerState) (lines : LineState P) (rounds : RepairState P) (known : Option (List ℕ))
     (why : LineRefusal) (number : ℕ) (result : Result ℕ E) (old mid new : Option (List ℕ)) (here lines_left : LineState P)
     (rounds_left : RepairState P) →
-    HearsLines {E = F} drops a b start now known (Ok (Some why)) lines here old mid →
+    ReceivesLines {E = F} drops a b start now known (Ok (Some why)) lines here old mid →
     number ≡ length now.journal.messages + 1 →
-    AppendsFront mid new (here.hearing.outgoing.text ++ refused_text number why) →
-    IfOk result (λ status. Appends mid new (here.hearing.outgoing.text ++ refused_text number why) × (status ≡ 2)) →
-    LoopStands lines_left here rounds_left (with_heard here.hearing rounds) →
-    OnOk result (rounds_left.hearing.outgoing ≡ written_out here.hearing.outgoing) →
+    AppendsPrefix mid new (here.progress.outgoing.text ++ refused_text number why) →
+    IfOk result (λ status. Appends mid new (here.progress.outgoing.text ++ refused_text number why) × (status ≡ 2)) →
+    LoopStands lines_left here rounds_left (with_progress here.progress rounds) →
+    OnOk result (rounds_left.progress.outgoing ≡ written_out here.progress.outgoing) →
     IfSome known (λ input. LoopRun reporting drops a b to turns start.limit start.sent
     (lines_published start.journal (lines_of input)) server lines rounds result old new lines_left rounds_left)
 loop_stopped {P} reporting drops a b to turns start now server lines rounds known why number result old mid new here left asked
     hears numbered cut done agrees out =
     let published : PublishedLines = record { journal = now.journal; refused = Some why } in
-    let text : List ℕ = here.hearing.outgoing.text in
+    let text : List ℕ = here.progress.outgoing.text in
     let choice : Bool × List Bool = (false, []) in
     run_from drops a b to turns start server lines rounds known now.journal (Some why) hears.front result old new
     left asked hears.all
     (λ whole.
     run_end drops a b to turns start.limit start.sent published server lines rounds result here left
-    (with_heard here.hearing rounds) asked old mid mid new (replicate turns choice) []
+    (with_progress here.progress rounds) asked old mid mid new (replicate turns choice) []
     (subst (λ (l : List (Routes × List ℕ)). Heard a b l lines here old mid)
     (ap (λ (ds : List (List ℕ)). routed drops 1 ds) (sym whole) ∙ sym (append-nil _))
     (heard_of drops a b start now known (Some why) lines here old mid hears))
     (length-replicate turns choice) (Appends-nil mid) refl
-    (subst (λ (n : ℕ). AppendsFront mid new (text ++ refused_text n why)) numbered cut)
+    (subst (λ (n : ℕ). AppendsPrefix mid new (text ++ refused_text n why)) numbered cut)
     (subst (λ (n : ℕ). IfOk result (λ status. Appends mid new (text ++ refused_text n why) × (status ≡ 2))) numbered done)
     agrees out)
 
 -- the data were passed, and then the end
 all_are : (drops : Drops) (start : PublisherState) (journal : JournalState) (front : List (List ℕ)) →
-    data_behind start.limit start.sent (record { journal = journal; refused = None }) ≡ front →
+    data_after start.limit start.sent (record { journal = journal; refused = None }) ≡ front →
     all_routed drops start.limit start.sent (record { journal = journal; refused = None })
     ≡ routed drops 1 front ++ routed_end journal None
 all_are drops start journal front whole =
@@ -161,7 +161,7 @@ pub loop_unended : {P T E F G : Type 0} (reporting : Bool) (drops : Drops) (a b 
     (server : ServerState) (lines : LineState P) (rounds : RepairState P) (known : Option (List ℕ))
     (ended : Result T G) (result : Result ℕ E) (old new : Option (List ℕ)) (here lines_left : LineState P)
     (rounds_left : RepairState P) →
-    HearsLines {E = F} drops a b start now known (Ok None) lines here old new →
+    ReceivesLines {E = F} drops a b start now known (Ok None) lines here old new →
     HasPassed a b (routed_end now.journal None) ended here lines_left → IsErr result →
     rounds_left.server ≡ rounds.server → rounds_left.requests ≡ rounds.requests →
     IfSome known (λ input. LoopRun reporting drops a b to turns start.limit start.sent
@@ -180,19 +180,19 @@ loop_unended {P} reporting drops a b to turns start now server lines rounds know
 
 -- the rounds of requests begin with what was heard of the end
 pub rests_from : {P T E : Type 0} (to : P) (server : ServerState) (turns : ℕ) (journal other : JournalState)
-    (port requests : Port P) (arbitration : Arbitration) (report : OutgoingState)
+    (port requests : Port P) (arbitration : Arbitration) (printer : OutgoingState)
     (rounds : RepairState P) (result : Result T E) (old new : Option (List ℕ)) (now : RepairState P) →
     journal ≡ other → port ≡ rounds.server → requests ≡ rounds.requests → server.answered ≡ rounds.answered →
     RestsOfTwo (repairing to (service_of journal server)) answers_sent text_before turns
-    (record { server = port; requests = requests; answered = server.answered; hearing = hearing arbitration report })
+    (record { server = port; requests = requests; answered = server.answered; progress = progress arbitration printer })
     result old new now →
     RestsOfTwo (repairing to (service_of other server)) answers_sent text_before turns
-    (with_heard (hearing arbitration report) rounds) result old new now
-rests_from {P} to server turns journal other port requests arbitration report rounds result old new now same ports asked answered rests =
+    (with_progress (progress arbitration printer) rounds) result old new now
+rests_from {P} to server turns journal other port requests arbitration printer rounds result old new now same ports asked answered rests =
     let of : Port P → Port P → ℕ → RepairState P =
-    λ p q n. record { server = p; requests = q; answered = n; hearing = hearing arbitration report } in
+    λ p q n. record { server = p; requests = q; answered = n; progress = progress arbitration printer } in
     subst (λ (j : JournalState). RestsOfTwo (repairing to (service_of j server)) answers_sent text_before turns
-    (with_heard (hearing arbitration report) rounds) result old new now) same
+    (with_progress (progress arbitration printer) rounds) result old new now) same
     (subst (λ (s : RepairState P). RestsOfTwo (repairing to (service_of journal server)) answers_sent text_before turns s
     result old new now)
     (ap (λ (p : Port P). of p requests server.answered) ports
@@ -202,9 +202,9 @@ rests_from {P} to server turns journal other port requests arbitration report ro
 
 heard_all : {P T F G : Type 0} (drops : Drops) (a b : P) (start now : PublisherState) (known : Option (List ℕ))
     (lines here there : LineState P) (old new : Option (List ℕ)) (value : T) →
-    (hears : HearsLines {E = F} drops a b start now known (Ok None) lines here old new) →
+    (hears : ReceivesLines {E = F} drops a b start now known (Ok None) lines here old new) →
     HasPassed {T = T} {E = G} a b (routed_end now.journal None) (Ok value) here there →
-    data_behind start.limit start.sent (record { journal = now.journal; refused = None }) ≡ hears.front →
+    data_after start.limit start.sent (record { journal = now.journal; refused = None }) ≡ hears.front →
     Heard a b (all_routed drops start.limit start.sent (record { journal = now.journal; refused = None })) lines there old
     new
 heard_all {P} drops a b start now known lines here there old new value hears has whole =
@@ -217,10 +217,10 @@ pub loop_unrepaired : {P T U E F G H : Type 0} (reporting : Bool) (drops : Drops
     (server : ServerState) (lines : LineState P) (rounds : RepairState P) (known : Option (List ℕ)) (value : T)
     (asked : Result U H) (result : Result ℕ E) (old mid new : Option (List ℕ)) (here there lines_left : LineState P)
     (rounds_left : RepairState P) →
-    HearsLines {E = F} drops a b start now known (Ok None) lines here old mid →
+    ReceivesLines {E = F} drops a b start now known (Ok None) lines here old mid →
     HasPassed {T = T} {E = G} a b (routed_end now.journal None) (Ok value) here there →
     RestsOfTwo (repairing to (service_of (record now.journal { closed = true }) server)) answers_sent text_before turns
-    (with_heard there.hearing rounds) asked mid new rounds_left →
+    (with_progress there.progress rounds) asked mid new rounds_left →
     IsErr result → lines_left.publisher ≡ there.publisher →
     IfSome known (λ input. LoopRun reporting drops a b to turns start.limit start.sent
     (lines_published start.journal (lines_of input)) server lines rounds result old new lines_left rounds_left)
@@ -238,15 +238,15 @@ pub loop_done : {P T U E F G H : Type 0} (reporting : Bool) (drops : Drops) (a b
     (server : ServerState) (lines : LineState P) (rounds : RepairState P) (known : Option (List ℕ)) (value : T)
     (done : U) (result : Result ℕ E) (old mid second new : Option (List ℕ)) (here there lines_left : LineState P)
     (behind rounds_left : RepairState P) →
-    HearsLines {E = F} drops a b start now known (Ok None) lines here old mid →
+    ReceivesLines {E = F} drops a b start now known (Ok None) lines here old mid →
     HasPassed {T = T} {E = G} a b (routed_end now.journal None) (Ok value) here there →
     RestsOfTwo {E = H} (repairing to (service_of (record now.journal { closed = true }) server)) answers_sent text_before
-    turns (with_heard there.hearing rounds) (Ok done) mid second behind →
-    AppendsFront second new (behind.hearing.outgoing.text ++ hearing_lines reporting behind.hearing) →
-    IfOk result (λ status. Appends second new (behind.hearing.outgoing.text ++ hearing_lines reporting behind.hearing)
-    × (status ≡ hearing_status behind.hearing)) →
+    turns (with_progress there.progress rounds) (Ok done) mid second behind →
+    AppendsPrefix second new (behind.progress.outgoing.text ++ last_lines reporting behind.progress) →
+    IfOk result (λ status. Appends second new (behind.progress.outgoing.text ++ last_lines reporting behind.progress)
+    × (status ≡ listener_status behind.progress)) →
     LoopStands lines_left there rounds_left behind →
-    OnOk result (rounds_left.hearing.outgoing ≡ written_out behind.hearing.outgoing) →
+    OnOk result (rounds_left.progress.outgoing ≡ written_out behind.progress.outgoing) →
     IfSome known (λ input. LoopRun reporting drops a b to turns start.limit start.sent
     (lines_published start.journal (lines_of input)) server lines rounds result old new lines_left rounds_left)
 loop_done reporting drops a b to turns start now server lines rounds known v done result old mid next new here there left made
@@ -262,7 +262,7 @@ loop_done reporting drops a b to turns start now server lines rounds known v don
 -- the journal that is left
 pub journal_left : {P E : Type 0} (drops : Drops) (a b : P) (start now : PublisherState) (known : Option (List ℕ))
     (refused : Option LineRefusal) (lines here : LineState P) (old new : Option (List ℕ)) (journal : JournalState) →
-    HearsLines {E = E} drops a b start now known (Ok refused) lines here old new →
+    ReceivesLines {E = E} drops a b start now known (Ok refused) lines here old new →
     journal ≡ closed_unless refused now.journal →
     IfSome known (λ input. journal ≡ left_journal (lines_published start.journal (lines_of input)))
 journal_left drops a b start now None refused lines here old new journal hears is = tt

@@ -7,7 +7,7 @@ use Rattle.std.proofs.lemmas.Result.{on_ok_weaker}
 use Rattle.std.proofs.KnownBytes.{Appends-trans}
 use Rattle.std.specs.Prelude.{IfOk, IsErr, OnOk}
 use Rattle.std.specs.Io.KnownBytes.{Appends}
-use Rattle.mold_devices.specs.Devices.{AppendsFront}
+use Rattle.mold_devices.specs.Devices.{AppendsPrefix}
 use Rattle.mold_ports.specs.Ports.{Port}
 use Rattle.mold_publish.specs.Publishing.{PublishedLines}
 use Rattle.mold_publish.specs.declared.line_refusal.LineRefusal.{LineRefusal}
@@ -17,10 +17,10 @@ use Rattle.mold_loop.proofs.HeardLemmas.{Heard, HeardFront, lines_grow, passes_a
 use Rattle.mold_loop.proofs.RepairLemmas.{round_answers, rounds_are}
 use Rattle.mold_turns.proofs.RunLemmas.{begins_behind, begins_more, begins_trans, begins_whole, grows_in, none_answered, none_ok}
 use Rattle.mold_listen.proofs.TurnLemmas.{hearing_before}
-use Rattle.mold_listen.specs.Listening.{Hearing}
+use Rattle.mold_listen.specs.Listening.{Progress}
 use Rattle.mold_loop.specs.Looping.{LineState, LoopRun, Outcome, LeftOut, Sent, Pass}
-use Rattle.mold_loop.specs.Looping.{goes_out, lines_behind, loop_lines, loop_status, loop_text, passing}
-use Rattle.mold_loop.specs.Looping.{rounds_behind, rounds_made, routed_by, text_front, with_heard}
+use Rattle.mold_loop.specs.Looping.{goes_out, lines_after, loop_lines, loop_status, loop_text, passing}
+use Rattle.mold_loop.specs.Looping.{rounds_after, rounds_made, routed_by, text_front, with_progress}
 use Rattle.mold_turns.specs.Outgoing.{written_out}
 use Rattle.mold_loop.specs.Passing.{all_routed}
 use Rattle.mold_send.specs.PublishLoop.{left_journal}
@@ -68,10 +68,10 @@ rounds_front (Some why) to service choices front s = refl
 
 rounds_print : {P : Type 0} (refused : Option LineRefusal) (to : P) (service : Service)
     (choices : List (Bool × List Bool)) (s : RepairState P) →
-    Begins s.hearing.outgoing.text (rounds_made refused to service choices s).hearing.outgoing.text
+    Begins s.progress.outgoing.text (rounds_made refused to service choices s).progress.outgoing.text
 rounds_print None to service choices s =
     grows_in (repairing to service) (repairing to service).text (rounds_are to service).prints choices s
-rounds_print (Some why) to service choices s = begins_whole s.hearing.outgoing.text
+rounds_print (Some why) to service choices s = begins_whole s.progress.outgoing.text
 
 rounds_send : {P : Type 0} (refused : Option LineRefusal) (to : P) (service : Service)
     (choices : List (Bool × List Bool)) (s : RepairState P) →
@@ -87,12 +87,12 @@ rounds_answer None to service choices s =
     grows_in (repairing to service) answers_sent (round_answers to service) choices s
 rounds_answer (Some why) to service choices s = begins_whole s.server.sent
 
-line_front : (reporting : Bool) (journal : JournalState) (refused : Option LineRefusal) (front : List ℕ) (e : Hearing) →
+line_front : (reporting : Bool) (journal : JournalState) (refused : Option LineRefusal) (front : List ℕ) (e : Progress) →
     loop_lines reporting journal refused (hearing_before front e) ≡ loop_lines reporting journal refused e
 line_front reporting journal None front e = refl
 line_front reporting journal (Some why) front e = refl
 
-status_front : (refused : Option LineRefusal) (front : List ℕ) (e : Hearing) →
+status_front : (refused : Option LineRefusal) (front : List ℕ) (e : Progress) →
     loop_status refused (hearing_before front e) ≡ loop_status refused e
 status_front None front e = refl
 status_front (Some why) front e = refl
@@ -102,18 +102,18 @@ status_front (Some why) front e = refl
 -- what the run ends with stands behind all that was written
 end_is : {P : Type 0} (a b to : P) (published : PublishedLines) (server : ServerState) (passes : List Pass)
     (choices : List (Bool × List Bool)) (lines mid : LineState P) (rounds now : RepairState P) (front back : List ℕ) →
-    lines_behind a b passes lines ≡ text_front front mid →
-    rounds_behind to published server choices mid.hearing rounds ≡ text_before back now →
-    rounds_behind to published server choices (lines_behind a b passes lines).hearing rounds
+    lines_after a b passes lines ≡ text_front front mid →
+    rounds_after to published server choices mid.progress rounds ≡ text_before back now →
+    rounds_after to published server choices (lines_after a b passes lines).progress rounds
     ≡ text_before (front ++ back) now
 end_is {P} a b to published server passes choices lines mid rounds now front back is made =
     let service : Service = service_of (left_journal published) server in
-    ap (λ (s : LineState P). rounds_behind to published server choices s.hearing rounds) is
-    ∙ rounds_front published.refused to service choices front (with_heard mid.hearing rounds)
+    ap (λ (s : LineState P). rounds_after to published server choices s.progress rounds) is
+    ∙ rounds_front published.refused to service choices front (with_progress mid.progress rounds)
     ∙ ap (text_before front) made
     ∙ (rounds_are to service).twice front back now
 
-text_is : (reporting : Bool) (published : PublishedLines) (front : List ℕ) (e : Hearing) →
+text_is : (reporting : Bool) (published : PublishedLines) (front : List ℕ) (e : Progress) →
     loop_text reporting published (hearing_before front e) ≡ front ++ loop_text reporting published e
 text_is reporting published front e =
     ap (λ (l : List ℕ). (front ++ e.outgoing.text) ++ l) (line_front reporting published.journal published.refused front e)
@@ -137,7 +137,7 @@ pub record LoopStands {P : Type 0} (lines line_end : LineState P) (rounds round_
   pub server_left : rounds.server ≡ round_end.server
   pub requests_left : rounds.requests ≡ round_end.requests
   pub answered_left : rounds.answered ≡ round_end.answered
-  pub arbiter_left : rounds.hearing.arbitration ≡ round_end.hearing.arbitration
+  pub arbiter_left : rounds.progress.arbitration ≡ round_end.progress.arbitration
 
 module _ {P : Type 0} {reporting : Bool} (drops : Drops) (a b to : P) (turns limit sent : ℕ)
     (published : PublishedLines) (server : ServerState) (lines : LineState P) (rounds : RepairState P) where
@@ -147,85 +147,85 @@ module _ {P : Type 0} {reporting : Bool} (drops : Drops) (a b to : P) (turns lim
       Begins xs (all_routed drops limit sent published) → IsErr result →
       rounds_left.server ≡ rounds.server → rounds_left.requests ≡ rounds.requests →
       LoopRun reporting drops a b to turns limit sent published server lines rounds result old new lines_left rounds_left
-  run_cut result {xs} lines_left rounds_left old new heard begins failed kept same =
+  run_cut result {xs} lines_left rounds_left old new with_receipt begins failed kept same =
       let rest : List Pass = all_sent begins.rest in
-      let passes : List Pass = heard.passes ++ rest in
+      let passes : List Pass = with_receipt.passes ++ rest in
       let choice : Bool × List Bool = (false, []) in
       let choices : List (Bool × List Bool) = replicate turns choice in
       let service : Service = service_of (left_journal published) server in
-      let heard_there : Hearing = (lines_behind a b passes lines).hearing in
-      let end : RepairState P = rounds_behind to published server choices heard_there rounds in
-      let text : Begins heard.written (loop_text reporting published end.hearing) =
-      begins_trans heard.text
+      let heard_there : Progress = (lines_after a b passes lines).progress in
+      let end : RepairState P = rounds_after to published server choices heard_there rounds in
+      let text : Begins with_receipt.written (loop_text reporting published end.progress) =
+      begins_trans with_receipt.text
       (begins_trans
-      (lines_grow a b (passing a b).text (passes_are a b).prints heard.passes rest lines)
-      (begins_trans (rounds_print published.refused to service choices (with_heard heard_there rounds))
-      (begins_more end.hearing.outgoing.text (loop_lines reporting published.journal published.refused end.hearing)))) in
+      (lines_grow a b (passing a b).text (passes_are a b).prints with_receipt.passes rest lines)
+      (begins_trans (rounds_print published.refused to service choices (with_progress heard_there rounds))
+      (begins_more end.progress.outgoing.text (loop_lines reporting published.journal published.refused end.progress)))) in
       record {
         passes = passes;
         are =
-            map-append routed_by heard.passes rest
-            ∙ ap (λ (l : List (Routes × List ℕ)). l ++ map routed_by rest) heard.are
+            map-append routed_by with_receipt.passes rest
+            ∙ ap (λ (l : List (Routes × List ℕ)). l ++ map routed_by rest) with_receipt.are
             ∙ ap (λ (l : List (Routes × List ℕ)). xs ++ l) (all_sent_are begins.rest)
             ∙ sym begins.parts;
         choices = choices;
         counted = length-replicate turns choice;
         whole = none_answered result _ failed;
         left = none_ok result _ failed;
-        front = record { front = heard.written; rest = text.rest; parts = text.parts; appended = heard.appended };
-        offers = record { front = heard.passes; begins = begins_more heard.passes rest; port = heard.offered };
+        front = record { front = with_receipt.written; rest = text.rest; parts = text.parts; appended = with_receipt.appended };
+        offers = record { front = with_receipt.passes; begins = begins_more with_receipt.passes rest; port = with_receipt.offered };
         requests =
             subst (λ (p : Port P). Begins p.sent end.requests.sent) (sym same)
-            (rounds_send published.refused to service choices (with_heard heard_there rounds));
+            (rounds_send published.refused to service choices (with_progress heard_there rounds));
         answers =
             subst (λ (p : Port P). Begins p.sent end.server.sent) (sym kept)
-            (rounds_answer published.refused to service choices (with_heard heard_there rounds));
+            (rounds_answer published.refused to service choices (with_progress heard_there rounds));
       }
 
   -- all was passed and requested: what is left to write was written, or a beginning of it
   pub run_end : {E : Type 0} (result : Result ℕ E) (mid lines_left : LineState P) (now rounds_left : RepairState P)
       (old first second new : Option (List ℕ)) (choices : List (Bool × List Bool)) (written : List ℕ) →
       Heard a b (all_routed drops limit sent published) lines mid old first → length choices ≡ turns →
-      Appends first second written → rounds_behind to published server choices mid.hearing rounds ≡ text_before written now →
-      AppendsFront second new (loop_text reporting published now.hearing) →
-      IfOk result (λ status. Appends second new (loop_text reporting published now.hearing)
-      × (status ≡ loop_status published.refused now.hearing)) →
+      Appends first second written → rounds_after to published server choices mid.progress rounds ≡ text_before written now →
+      AppendsPrefix second new (loop_text reporting published now.progress) →
+      IfOk result (λ status. Appends second new (loop_text reporting published now.progress)
+      × (status ≡ loop_status published.refused now.progress)) →
       LoopStands lines_left mid rounds_left now →
-      OnOk result (rounds_left.hearing.outgoing ≡ written_out now.hearing.outgoing) →
+      OnOk result (rounds_left.progress.outgoing ≡ written_out now.progress.outgoing) →
       LoopRun reporting drops a b to turns limit sent published server lines rounds result old new lines_left rounds_left
-  run_end result mid lines_left now rounds_left old first second new choices written heard counted appended made cut done agrees out =
-      let before : List ℕ = heard.written ++ written in
+  run_end result mid lines_left now rounds_left old first second new choices written with_receipt counted appended made cut done agrees out =
+      let before : List ℕ = with_receipt.written ++ written in
       let end : RepairState P =
-      rounds_behind to published server choices (lines_behind a b heard.passes lines).hearing rounds in
+      rounds_after to published server choices (lines_after a b with_receipt.passes lines).progress rounds in
       let is : end ≡ text_before before now =
-      end_is a b to published server heard.passes choices lines mid rounds now heard.written written heard.whole made in
+      end_is a b to published server with_receipt.passes choices lines mid rounds now with_receipt.written written with_receipt.whole made in
       let start : Appends old second before =
-      Appends-trans old first second heard.written written heard.appended appended in
-      let text : loop_text reporting published end.hearing ≡ before ++ loop_text reporting published now.hearing =
-      ap (λ (s : RepairState P). loop_text reporting published s.hearing) is ∙ text_is reporting published before now.hearing in
-      let status : loop_status published.refused end.hearing ≡ loop_status published.refused now.hearing =
-      ap (λ (s : RepairState P). loop_status published.refused s.hearing) is
-      ∙ status_front published.refused before now.hearing in
+      Appends-trans old first second with_receipt.written written with_receipt.appended appended in
+      let text : loop_text reporting published end.progress ≡ before ++ loop_text reporting published now.progress =
+      ap (λ (s : RepairState P). loop_text reporting published s.progress) is ∙ text_is reporting published before now.progress in
+      let status : loop_status published.refused end.progress ≡ loop_status published.refused now.progress =
+      ap (λ (s : RepairState P). loop_status published.refused s.progress) is
+      ∙ status_front published.refused before now.progress in
       record {
-        passes = heard.passes;
-        are = heard.are;
+        passes = with_receipt.passes;
+        are = with_receipt.are;
         choices = choices;
         counted = counted;
         whole =
-            behind_ok result old second new before (loop_text reporting published now.hearing) (loop_text reporting published end.hearing)
-            (loop_status published.refused now.hearing) (loop_status published.refused end.hearing) start text status
+            behind_ok result old second new before (loop_text reporting published now.progress) (loop_text reporting published end.progress)
+            (loop_status published.refused now.progress) (loop_status published.refused end.progress) start text status
             done;
         left =
             on_ok_weaker result
             (λ nothing. record {
-              publisher_left = agrees.publisher_left ∙ ap (λ (s : LineState P). s.publisher) (sym heard.whole);
-              a_left = agrees.a_left ∙ ap (λ (s : LineState P). s.a) (sym heard.whole);
-              b_left = agrees.b_left ∙ ap (λ (s : LineState P). s.b) (sym heard.whole);
+              publisher_left = agrees.publisher_left ∙ ap (λ (s : LineState P). s.publisher) (sym with_receipt.whole);
+              a_left = agrees.a_left ∙ ap (λ (s : LineState P). s.a) (sym with_receipt.whole);
+              b_left = agrees.b_left ∙ ap (λ (s : LineState P). s.b) (sym with_receipt.whole);
               server_left = agrees.server_left ∙ ap (λ (s : RepairState P). s.server) (sym is);
               requests_left = agrees.requests_left ∙ ap (λ (s : RepairState P). s.requests) (sym is);
               answered_left = agrees.answered_left ∙ ap (λ (s : RepairState P). s.answered) (sym is);
-              arbiter_left = agrees.arbiter_left ∙ ap (λ (s : RepairState P). s.hearing.arbitration) (sym is);
-              outgoing_left = nothing ∙ ap (λ (s : RepairState P). written_out s.hearing.outgoing) (sym is);
+              arbiter_left = agrees.arbiter_left ∙ ap (λ (s : RepairState P). s.progress.arbitration) (sym is);
+              outgoing_left = nothing ∙ ap (λ (s : RepairState P). written_out s.progress.outgoing) (sym is);
             })
             out;
         front = record {
@@ -236,9 +236,9 @@ module _ {P : Type 0} {reporting : Bool} (drops : Drops) (a b to : P) (turns lim
           appended = Appends-trans old second new before cut.front start cut.appended;
         };
         offers = record {
-          front = heard.passes;
-          begins = begins_whole heard.passes;
-          port = agrees.publisher_left ∙ ap (λ (s : LineState P). s.publisher) (sym heard.whole);
+          front = with_receipt.passes;
+          begins = begins_whole with_receipt.passes;
+          port = agrees.publisher_left ∙ ap (λ (s : LineState P). s.publisher) (sym with_receipt.whole);
         };
         requests =
             subst (λ (p : Port P). Begins rounds_left.requests.sent p.sent)
@@ -256,43 +256,43 @@ pub run_unrepaired : {P T E F : Type 0} {reporting : Bool} (drops : Drops) (a b 
     (mid lines_left : LineState P) (now : RepairState P) (old first new : Option (List ℕ)) →
     Heard a b (all_routed drops limit sent (record { journal = journal; refused = None })) lines mid old first →
     RestsOfTwo (repairing to (service_of (left_journal (record { journal = journal; refused = None })) server)) answers_sent
-    text_before turns (with_heard mid.hearing rounds) asked first new now →
+    text_before turns (with_progress mid.progress rounds) asked first new now →
     IsErr result → lines_left.publisher ≡ mid.publisher →
     LoopRun reporting drops a b to turns limit sent (record { journal = journal; refused = None }) server lines rounds result old
     new lines_left now
 run_unrepaired {P} {T} {E} {F} {reporting} drops a b to turns limit sent journal server lines rounds asked result mid lines_left now
-    old first new heard two failed same =
+    old first new with_receipt two failed same =
     let published : PublishedLines = record { journal = journal; refused = None } in
     let service : Service = service_of (left_journal published) server in
     let rests = two.rests in
     let end : RepairState P =
-    rounds_behind to published server rests.choices (lines_behind a b heard.passes lines).hearing rounds in
-    let made : RepairState P = run (repairing to service) rests.choices (with_heard mid.hearing rounds) in
-    let is : end ≡ text_before heard.written made =
-    ap (λ (s : LineState P). rounds_behind to published server rests.choices s.hearing rounds) heard.whole
-    ∙ rounds_front None to service rests.choices heard.written (with_heard mid.hearing rounds) in
-    let text : Begins (heard.written ++ rests.written) (loop_text reporting published end.hearing) =
+    rounds_after to published server rests.choices (lines_after a b with_receipt.passes lines).progress rounds in
+    let made : RepairState P = run (repairing to service) rests.choices (with_progress mid.progress rounds) in
+    let is : end ≡ text_before with_receipt.written made =
+    ap (λ (s : LineState P). rounds_after to published server rests.choices s.progress rounds) with_receipt.whole
+    ∙ rounds_front None to service rests.choices with_receipt.written (with_progress mid.progress rounds) in
+    let text : Begins (with_receipt.written ++ rests.written) (loop_text reporting published end.progress) =
     begins_trans
-    (subst (λ (s : RepairState P). Begins (heard.written ++ rests.written) s.hearing.outgoing.text) (sym is)
-    (begins_behind heard.written rests.front))
-    (begins_more end.hearing.outgoing.text (loop_lines reporting journal None end.hearing)) in
+    (subst (λ (s : RepairState P). Begins (with_receipt.written ++ rests.written) s.progress.outgoing.text) (sym is)
+    (begins_behind with_receipt.written rests.front))
+    (begins_more end.progress.outgoing.text (loop_lines reporting journal None end.progress)) in
     record {
-      passes = heard.passes;
-      are = heard.are;
+      passes = with_receipt.passes;
+      are = with_receipt.are;
       choices = rests.choices;
       counted = rests.counted;
       whole = none_answered result _ failed;
       left = none_ok result _ failed;
       front = record {
-        front = heard.written ++ rests.written;
+        front = with_receipt.written ++ rests.written;
         rest = text.rest;
         parts = text.parts;
-        appended = Appends-trans old first new heard.written rests.written heard.appended rests.appended;
+        appended = Appends-trans old first new with_receipt.written rests.written with_receipt.appended rests.appended;
       };
       offers = record {
-        front = heard.passes;
-        begins = begins_whole heard.passes;
-        port = same ∙ ap (λ (s : LineState P). s.publisher) (sym heard.whole);
+        front = with_receipt.passes;
+        begins = begins_whole with_receipt.passes;
+        port = same ∙ ap (λ (s : LineState P). s.publisher) (sym with_receipt.whole);
       };
       requests =
           subst (λ (s : RepairState P). Begins now.requests.sent s.requests.sent) (sym is) rests.sent;

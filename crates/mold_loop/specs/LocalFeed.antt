@@ -21,27 +21,27 @@ rounds port server feed = rounds_at port feed.ports.now server feed.listener.now
 -- the part of it that takes answers
 abbrev pub asking_state : {D A P : Type 0} → (D → Port P) → LocalFeed D A → Asking P
 asking_state port feed =
-    asking (port feed.ports.now.requests) feed.listener.now.arbiter feed.listener.now.report.outgoing
+    asking (port feed.ports.now.requests) feed.listener.now.arbiter feed.listener.now.printer.outgoing
 
 -- its place is as long as the longest datagram
-abbrev pub HasPlace : {D A : Type 0} → LocalFeed D A → Type 0
-HasPlace feed = length feed.place.now ≡ MAX_LIMIT
+abbrev pub HasBuffer : {D A : Type 0} → LocalFeed D A → Type 0
+HasBuffer feed = length feed.buffer.now ≡ MAX_LIMIT
 
 -- it still works on the same ports and listener, with the same options, and its place is as long
 pub record IsSame {D A : Type 0} (old new : LocalFeed D A) : Type 0 where
   pub ports : new.ports.ghost_name ≡ old.ports.ghost_name
   pub options : new.options ≡ old.options
-  pub place : length new.place.now ≡ length old.place.now
+  pub buffer : length new.buffer.now ≡ length old.buffer.now
   pub listener : new.listener.ghost_name ≡ old.listener.ghost_name
 
 -- What passing leaves alone: what it works on, and the ports of server and requests. Where ports tell what they sent,
 -- those of the lines sent nothing.
-pub record OnlyPasses {D A P : Type 0} (tells : Bool) (port : D → Port P) (old new : LocalFeed D A) : Type 0 where
+pub record OnlyPasses {D A P : Type 0} (modeled : Bool) (port : D → Port P) (old new : LocalFeed D A) : Type 0 where
   pub same : IsSame old new
   pub server : new.ports.now.server ≡ old.ports.now.server
   pub requests : new.ports.now.requests ≡ old.ports.now.requests
-  pub a : tells ≡ true → (port new.ports.now.a).sent ≡ (port old.ports.now.a).sent
-  pub b : tells ≡ true → (port new.ports.now.b).sent ≡ (port old.ports.now.b).sent
+  pub a : modeled ≡ true → (port new.ports.now.a).sent ≡ (port old.ports.now.a).sent
+  pub b : modeled ≡ true → (port new.ports.now.b).sent ≡ (port old.ports.now.b).sent
 
 -- what repairing leaves alone: what it works on, and the ports of the publisher and the lines
 pub record OnlyRepairs {D A : Type 0} (old new : LocalFeed D A) : Type 0 where

@@ -3,7 +3,7 @@
 use Rattle.std.specs.Prelude.{◌≡◌, ℕ, ◌+◌, Bool, true, false, List, ◌++◌, length, map}
 use Rattle.std.specs.Prelude.{Option, None, Some, Result, IfOk, IfSome, OnOk}
 use Rattle.std.specs.Io.KnownBytes.{Appends}
-use Rattle.mold_devices.specs.Devices.{AppendsFront}
+use Rattle.mold_devices.specs.Devices.{AppendsPrefix}
 use Rattle.mold_devices.specs.Lines.{lines_of}
 use Rattle.mold_ports.specs.Ports.{Port, offered, received}
 use Rattle.mold_publish.specs.Publishing.{PublishedLines, lines_published, refused_text}
@@ -14,10 +14,10 @@ use Rattle.mold_receiver.specs.declared.line.Line.TheVariants.{A, B}
 use Rattle.mold_session.specs.Journal.{JournalState}
 use Rattle.mold_session.specs.Publisher.{PublisherState}
 use Rattle.mold_session.specs.Server.{ServerState}
-use Rattle.mold_listen.specs.Listening.{Hearing, hear, hearing, hearing_lines, hearing_status}
+use Rattle.mold_listen.specs.Listening.{Progress, with_next_receipt, progress, last_lines, listener_status}
 use Rattle.mold_turns.specs.Outgoing.{OutgoingState, failed_once, with_front, written_out}
 use Rattle.mold_loop.specs.Passing.{all_routed, routed}
-use Rattle.mold_send.specs.PublishLoop.{data_behind, left_journal}
+use Rattle.mold_send.specs.PublishLoop.{data_after, left_journal}
 use Rattle.mold_loop.specs.Repairing.{RepairState, repairing}
 use Rattle.mold_turns.specs.Runs.{Begins, Loop, run}
 use Rattle.mold_serve.specs.Serving.{Service, service_of}
@@ -92,58 +92,58 @@ pub record LineState (P : Type 0) : Type 0 where
   pub publisher : Port P
   pub a : Port P
   pub b : Port P
-  pub hearing : Hearing
+  pub progress : Progress
 
 abbrev pub line_state : {P : Type 0} → Port P → Port P → Port P → Arbitration → OutgoingState → LineState P
 line_state publisher a b arbitration outgoing =
-    record { publisher = publisher; a = a; b = b; hearing = hearing arbitration outgoing }
+    record { publisher = publisher; a = a; b = b; progress = progress arbitration outgoing }
 
 -- how far the lines of a loop with these ports and this listener are; `port` says how a port stands
 abbrev pub lines_at : {D A P : Type 0} → (D → Port P) → LoopPorts D A → Listener → LineState P
 lines_at port ports listener =
-    line_state (port ports.publisher) (port ports.a) (port ports.b) listener.arbiter listener.report.outgoing
+    line_state (port ports.publisher) (port ports.a) (port ports.b) listener.arbiter listener.printer.outgoing
 
 -- the datagram is offered, to A and then to B
 abbrev pub offered_by : {P : Type 0} → P → P → Pass → LineState P → LineState P
 offered_by a b pass s =
     line_state (port_after pass.b b pass.datagram (port_after pass.a a pass.datagram s.publisher)) s.a s.b
-    s.hearing.arbitration (outgoing_after pass.b (outgoing_after pass.a s.hearing.outgoing))
+    s.progress.arbitration (outgoing_after pass.b (outgoing_after pass.a s.progress.outgoing))
 
 -- a receive on a line, if one is made
 abbrev pub received_if : {P : Type 0} → Bool → Port P → Port P
 received_if false port = port
 received_if true port = received port
 
-abbrev pub heard_if : {P : Type 0} → Bool → Line → Port P → Hearing → Hearing
-heard_if false line port e = e
-heard_if true line port e = hear (Some line) port e
+abbrev pub after_line_if : {P : Type 0} → Bool → Line → Port P → Progress → Progress
+after_line_if false line port e = e
+after_line_if true line port e = with_next_receipt (Some line) port e
 
 -- one receive on each of these lines, on A and then on B
-abbrev pub heard_on : {P : Type 0} → Routes → LineState P → LineState P
-heard_on lines s = record {
+abbrev pub after_routes : {P : Type 0} → Routes → LineState P → LineState P
+after_routes lines s = record {
   publisher = s.publisher;
   a = received_if lines.a s.a;
   b = received_if lines.b s.b;
-  hearing = heard_if lines.b B s.b (heard_if lines.a A s.a s.hearing);
+  progress = after_line_if lines.b B s.b (after_line_if lines.a A s.a s.progress);
 }
 
 -- a datagram is offered, and then heard on the lines that it was sent on
 unfoldable pub passed : {P : Type 0} → P → P → Pass → LineState P → LineState P
-passed a b pass s = heard_on (sent_by pass) (offered_by a b pass s)
+passed a b pass s = after_routes (sent_by pass) (offered_by a b pass s)
 
 -- the loop over datagrams
 abbrev pub passing : {P : Type 0} → P → P → Loop Pass (LineState P) (P × List ℕ)
 passing a b = record {
   turn = passed a b;
   over = λ s. false;
-  text = λ s. s.hearing.outgoing.text;
+  text = λ s. s.progress.outgoing.text;
   sent = λ s. s.publisher.sent;
 }
 
 -- with a text in front of what is to be printed
 abbrev pub text_front : {P : Type 0} → List ℕ → LineState P → LineState P
-text_front front s = line_state s.publisher s.a s.b s.hearing.arbitration
-    (with_front front s.hearing.outgoing)
+text_front front s = line_state s.publisher s.a s.b s.progress.arbitration
+    (with_front front s.progress.outgoing)
 
 -- these datagrams were passed; or after a fault the publisher's port is as behind them
 pub record HasPassed {P T E : Type 0} (a b : P) (datagrams : List (Routes × List ℕ)) (result : Result T E)
@@ -156,18 +156,18 @@ pub record HasPassed {P T E : Type 0} (a b : P) (datagrams : List (Routes × Lis
 -- a beginning of the data of lines that a publisher publishes
 abbrev pub BeginsData : PublisherState → List (List ℕ) → List ℕ → Type 0
 BeginsData start front input =
-    Begins front (data_behind start.limit start.sent (lines_published start.journal (lines_of input)))
+    Begins front (data_after start.limit start.sent (lines_published start.journal (lines_of input)))
 
 -- all of it, the journal, and why the line behind its messages is refused
 abbrev pub IsData : PublisherState → List (List ℕ) → JournalState → Option LineRefusal → List ℕ → Type 0
 IsData start front journal refused input =
-    (data_behind start.limit start.sent (lines_published start.journal (lines_of input)) ≡ front)
+    (data_after start.limit start.sent (lines_published start.journal (lines_of input)) ≡ front)
     × (lines_published start.journal (lines_of input) ≡ record { journal = journal; refused = refused })
 
 -- The lines of the input were published, and their data passed: of what is known of the input, `front` is what was
 -- passed. At an answer that is all the data; what was written of the text stands in front of what is left to print.
 -- After a fault what was passed and written are beginnings. The publisher's port stands as behind what was passed.
-pub record HearsLines {P E : Type 0} (drops : Drops) (a b : P) (start now : PublisherState) (known : Option (List ℕ))
+pub record ReceivesLines {P E : Type 0} (drops : Drops) (a b : P) (start now : PublisherState) (known : Option (List ℕ))
     (result : Result (Option LineRefusal) E) (before after : LineState P) (old new : Option (List ℕ)) : Type 0 where
   pub front : List (List ℕ)
   pub passes : List Pass
@@ -175,14 +175,14 @@ pub record HearsLines {P E : Type 0} (drops : Drops) (a b : P) (start now : Publ
   pub written : List ℕ
   pub appended : Appends old new written
   pub whole : OnOk result (run (passing a b) passes before ≡ text_front written after)
-  pub text : Begins written (run (passing a b) passes before).hearing.outgoing.text
+  pub text : Begins written (run (passing a b) passes before).progress.outgoing.text
   pub offered : after.publisher ≡ (run (passing a b) passes before).publisher
   pub begins : IfSome known (BeginsData start front)
   pub all : IfOk result (λ refused. IfSome known (IsData start front now.journal refused))
 
 -- the rounds begin with what was heard before them
-abbrev pub with_heard : {P : Type 0} → Hearing → RepairState P → RepairState P
-with_heard e s = record { server = s.server; requests = s.requests; answered = s.answered; hearing = e }
+abbrev pub with_progress : {P : Type 0} → Progress → RepairState P → RepairState P
+with_progress e s = record { server = s.server; requests = s.requests; answered = s.answered; progress = e }
 
 -- the rounds are made, but where a line is refused
 abbrev pub rounds_made : {P : Type 0} → Option LineRefusal → P → Service → List (Bool × List Bool) → RepairState P →
@@ -191,16 +191,16 @@ rounds_made None to service choices s = run (repairing to service) choices s
 rounds_made (Some why) to service choices s = s
 
 -- the last lines and the status: a listener's, or where a line is refused the line of that, without reports
-abbrev pub loop_lines : Bool → JournalState → Option LineRefusal → Hearing → List ℕ
-loop_lines reporting journal None e = hearing_lines reporting e
+abbrev pub loop_lines : Bool → JournalState → Option LineRefusal → Progress → List ℕ
+loop_lines reporting journal None e = last_lines reporting e
 loop_lines reporting journal (Some why) e = refused_text (length journal.messages + 1) why
 
-abbrev pub loop_status : Option LineRefusal → Hearing → ℕ
-loop_status None e = hearing_status e
+abbrev pub loop_status : Option LineRefusal → Progress → ℕ
+loop_status None e = listener_status e
 loop_status (Some why) e = 2
 
 -- what a loop prints of what it heard
-abbrev pub loop_text : Bool → PublishedLines → Hearing → List ℕ
+abbrev pub loop_text : Bool → PublishedLines → Progress → List ℕ
 loop_text reporting published e = e.outgoing.text ++ loop_lines reporting published.journal published.refused e
 
 -- the ports, the arbiter and the failures stand as at the end of the passes and of the rounds, and nothing is left to
@@ -212,30 +212,31 @@ pub record LoopAgrees {P : Type 0} (lines line_end : LineState P) (rounds round_
   pub server_left : rounds.server ≡ round_end.server
   pub requests_left : rounds.requests ≡ round_end.requests
   pub answered_left : rounds.answered ≡ round_end.answered
-  pub arbiter_left : rounds.hearing.arbitration ≡ round_end.hearing.arbitration
-  pub outgoing_left : rounds.hearing.outgoing ≡ written_out round_end.hearing.outgoing
+  pub arbiter_left : rounds.progress.arbitration ≡ round_end.progress.arbitration
+  pub outgoing_left : rounds.progress.outgoing ≡ written_out round_end.progress.outgoing
 
 -- what the datagrams that are passed make of the lines
-abbrev pub lines_behind : {P : Type 0} → P → P → List Pass → LineState P → LineState P
-lines_behind a b passes lines = run (passing a b) passes lines
+abbrev pub lines_after : {P : Type 0} → P → P → List Pass → LineState P → LineState P
+lines_after a b passes lines = run (passing a b) passes lines
 
 -- what the rounds make, where this was heard before them
-abbrev pub rounds_behind : {P : Type 0} → P → PublishedLines → ServerState → List (Bool × List Bool) → Hearing →
+abbrev pub rounds_after : {P : Type 0} → P → PublishedLines → ServerState → List (Bool × List Bool) → Progress →
     RepairState P → RepairState P
-rounds_behind to published server choices heard rounds =
-    rounds_made published.refused to (service_of (left_journal published) server) choices (with_heard heard rounds)
+rounds_after to published server choices with_receipt rounds =
+    rounds_made published.refused to (service_of (left_journal published) server) choices
+    (with_progress with_receipt rounds)
 
 -- and so what all of it comes to
 abbrev pub loop_end : {P : Type 0} → P → P → P → PublishedLines → ServerState → List Pass → List (Bool × List Bool) →
     LineState P → RepairState P → RepairState P
 loop_end a b to published server passes choices lines rounds =
-    rounds_behind to published server choices (lines_behind a b passes lines).hearing rounds
+    rounds_after to published server choices (lines_after a b passes lines).progress rounds
 
 -- a port stands as the publisher's behind the first of some passes
-pub record StandsBehind {P : Type 0} (a b : P) (passes : List Pass) (lines : LineState P) (left : Port P) : Type 0 where
+pub record IsPortAfter {P : Type 0} (a b : P) (passes : List Pass) (lines : LineState P) (left : Port P) : Type 0 where
   pub front : List Pass
   pub begins : Begins front passes
-  pub port : left ≡ (lines_behind a b front lines).publisher
+  pub port : left ≡ (lines_after a b front lines).publisher
 
 -- What a loop in one process leaves, whose publisher published these lines. All its datagrams are passed, and then
 -- rounds are made. At an answer the text of what was heard and the last lines are written, the answer is their status,
@@ -251,14 +252,14 @@ pub record LoopRun {P E : Type 0} (reporting : Bool) (drops : Drops) (a b to : P
   pub counted : length choices ≡ turns
   pub whole : IfOk result (λ status.
       Appends old new (loop_text reporting published
-      (loop_end a b to published server passes choices lines rounds).hearing)
+      (loop_end a b to published server passes choices lines rounds).progress)
       × (status ≡ loop_status published.refused
-      (loop_end a b to published server passes choices lines rounds).hearing))
-  pub left : OnOk result (LoopAgrees lines_left (lines_behind a b passes lines) rounds_left
+      (loop_end a b to published server passes choices lines rounds).progress))
+  pub left : OnOk result (LoopAgrees lines_left (lines_after a b passes lines) rounds_left
       (loop_end a b to published server passes choices lines rounds))
-  pub front : AppendsFront old new
-      (loop_text reporting published (loop_end a b to published server passes choices lines rounds).hearing)
-  pub offers : StandsBehind a b passes lines lines_left.publisher
+  pub front : AppendsPrefix old new
+      (loop_text reporting published (loop_end a b to published server passes choices lines rounds).progress)
+  pub offers : IsPortAfter a b passes lines lines_left.publisher
   pub requests : Begins rounds_left.requests.sent
       (loop_end a b to published server passes choices lines rounds).requests.sent
   pub answers : Begins rounds_left.server.sent

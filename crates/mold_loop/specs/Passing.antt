@@ -2,7 +2,7 @@
 use Rattle.std.specs.Prelude.{◌≡◌, ℕ, ◌+◌, ◌%◌, ◌==◌, ◌||◌, not, Bool, true, false, List, [], ◌∷◌, ◌++◌}
 use Rattle.std.specs.Prelude.{Option, None, Some, Result, OnOk}
 use Rattle.mold_ports.specs.Ports.{Port, offered}
-use Rattle.mold_send.specs.PublishLoop.{data_behind}
+use Rattle.mold_send.specs.PublishLoop.{data_after}
 use Rattle.mold_publish.specs.Publishing.{PublishedLines}
 use Rattle.mold_publish.specs.Sending.{end_packet}
 use Rattle.mold_publish.specs.declared.line_refusal.LineRefusal.{LineRefusal}
@@ -39,7 +39,7 @@ routed_end journal (Some why) = []
 -- is refused, and the end
 abbrev pub all_routed : Drops → ℕ → ℕ → PublishedLines → List (Routes × List ℕ)
 all_routed drops limit sent published =
-    routed drops 1 (data_behind limit sent published) ++ routed_end published.journal published.refused
+    routed drops 1 (data_after limit sent published) ++ routed_end published.journal published.refused
 
 -- a datagram to the address of a line that it goes on
 abbrev pub send_if : {P : Type 0} → Bool → P → List ℕ → List (P × List ℕ)

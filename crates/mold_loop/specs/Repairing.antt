@@ -7,7 +7,7 @@ use Rattle.mold_receiver.specs.Wanted.{wanted}
 use Rattle.mold_session.specs.Server.{ServerState}
 use Rattle.mold_wire.specs.Request.{request_spelling}
 use Rattle.mold_wire.specs.declared.request.Request.{Request}
-use Rattle.mold_listen.specs.Listening.{Asking, Hearing, hear_answers, hearing, missed}
+use Rattle.mold_listen.specs.Listening.{Asking, Progress, receive_responses, progress, missed}
 use Rattle.mold_turns.specs.Outgoing.{OutgoingState, failed_often, with_front}
 use Rattle.mold_turns.specs.Runs.{Begins, Loop}
 use Rattle.mold_serve.specs.Serving.{ResponderState, Service, serve_turn}
@@ -20,46 +20,46 @@ pub record RepairState (P : Type 0) : Type 0 where
   pub server : Port P
   pub requests : Port P
   pub answered : ℕ
-  pub hearing : Hearing
+  pub progress : Progress
 
 abbrev pub repair_state : {P : Type 0} → Port P → Port P → ServerState → Arbitration → OutgoingState → RepairState P
 repair_state port requests server arbitration outgoing = record {
   server = port;
   requests = requests;
   answered = server.answered;
-  hearing = hearing arbitration outgoing;
+  progress = progress arbitration outgoing;
 }
 
 -- how far the rounds of a loop with these ports, this server and this listener are; `port` says how a port stands
 abbrev pub rounds_at : {D A P : Type 0} → (D → Port P) → LoopPorts D A → ServerState → Listener → RepairState P
 rounds_at port ports server listener =
-    repair_state (port ports.server) (port ports.requests) server listener.arbiter listener.report.outgoing
+    repair_state (port ports.server) (port ports.requests) server listener.arbiter listener.printer.outgoing
 
 -- so many sends and receives failed more
-abbrev pub missed_more : ℕ → Hearing → Hearing
-missed_more count e = hearing e.arbitration (failed_often count e.outgoing)
+abbrev pub missed_more : ℕ → Progress → Progress
+missed_more count e = progress e.arbitration (failed_often count e.outgoing)
 
 -- a turn of the server, with a tally of its own
 abbrev pub served : {P : Type 0} → Service → List Bool → RepairState P → ResponderState P
 served service fails s = serve_turn service fails (record { port = s.server; tally = no_tally; requests = s.answered })
 
 -- after it what failed is counted, and as many receives are made for answers as it sent
-abbrev pub answers_heard : {P : Type 0} → ResponderState P → RepairState P → Asking P
-answers_heard responder s =
-    hear_answers responder.tally.answered
-    (record { port = s.requests; hearing = missed_more responder.tally.outgoing.failures s.hearing })
+abbrev pub after_responses : {P : Type 0} → ResponderState P → RepairState P → Asking P
+after_responses responder s =
+    receive_responses responder.tally.answered
+    (record { port = s.requests; progress = missed_more responder.tally.outgoing.failures s.progress })
 
 abbrev pub after_answers : {P : Type 0} → ResponderState P → Asking P → RepairState P
-after_answers responder heard = record {
+after_answers responder with_receipt = record {
   server = responder.port;
-  requests = heard.port;
+  requests = with_receipt.port;
   answered = responder.requests;
-  hearing = heard.hearing;
+  progress = with_receipt.progress;
 }
 
 abbrev pub repaired : {P : Type 0} → Service → List Bool → RepairState P → RepairState P
 repaired service fails s =
-    after_answers (served service fails s) (answers_heard (served service fails s) s)
+    after_answers (served service fails s) (after_responses (served service fails s) s)
 
 -- a request that is wanted is sent to the server: that fails, or the server makes a turn. Of its answers it is said
 -- in their order which sends fail.
@@ -69,7 +69,7 @@ requested (Some request) to service (true, fails) s = record {
   server = s.server;
   requests = offered true to (request_spelling request) s.requests;
   answered = s.answered;
-  hearing = missed s.hearing;
+  progress = missed s.progress;
 }
 requested (Some request) to service (false, fails) s =
     repaired service fails
@@ -77,19 +77,19 @@ requested (Some request) to service (false, fails) s =
       server = s.server;
       requests = offered false to (request_spelling request) s.requests;
       answered = s.answered;
-      hearing = s.hearing;
+      progress = s.progress;
     })
 
 -- a round: what is wanted is requested. Nothing changes where nothing is.
 unfoldable pub round : {P : Type 0} → P → Service → Bool × List Bool → RepairState P → RepairState P
-round to service choice s = requested (wanted s.hearing.arbitration.view) to service choice s
+round to service choice s = requested (wanted s.progress.arbitration.view) to service choice s
 
 -- the loop over rounds, which are as many as it is given
 abbrev pub repairing : {P : Type 0} → P → Service → Loop (Bool × List Bool) (RepairState P) (P × List ℕ)
 repairing to service = record {
   turn = round to service;
   over = λ s. false;
-  text = λ s. s.hearing.outgoing.text;
+  text = λ s. s.progress.outgoing.text;
   sent = λ s. s.requests.sent;
 }
 
@@ -103,7 +103,7 @@ text_before front s = record {
   server = s.server;
   requests = s.requests;
   answered = s.answered;
-  hearing = hearing s.hearing.arbitration (with_front front s.hearing.outgoing);
+  progress = progress s.progress.arbitration (with_front front s.progress.outgoing);
 }
 
 -- a state was reached; or after a fault the same requests were sent, and a beginning of the answers

@@ -3,10 +3,10 @@
 ghost use Rattle.std.specs.Prelude.{◌≡◌, ◌+◌, ◌≤◌, [], ◌∷◌, true, None, Some, Bool, List, length, IfOk, IfSome, OnOk};
 ghost use Rattle.mold_devices.specs.Faults.{CountsCommand, CountsSink};
 ghost use Rattle.mold_devices.specs.Lines.{lines_of};
-ghost use Rattle.mold_listen.specs.Listening.{hear_answers};
-ghost use Rattle.mold_loop.specs.LocalFeed.{HasPlace, IsSame, OnlyPasses, OnlyRepairs, Passes, asking_state, lines};
+ghost use Rattle.mold_listen.specs.Listening.{receive_responses};
+ghost use Rattle.mold_loop.specs.LocalFeed.{HasBuffer, IsSame, OnlyPasses, OnlyRepairs, Passes, asking_state, lines};
 ghost use Rattle.mold_loop.specs.LocalFeed.{rounds};
-ghost use Rattle.mold_loop.specs.Looping.{HearsLines, LoopRun, heard_on};
+ghost use Rattle.mold_loop.specs.Looping.{ReceivesLines, LoopRun, after_routes};
 ghost use Rattle.mold_loop.specs.Passing.{routed, routed_end};
 ghost use Rattle.mold_send.specs.PublishLoop.{left_journal, spelled_some};
 ghost use Rattle.mold_loop.specs.Repairing.{HasRepaired, answers_sent, repaired, repairing, requested, text_before};
@@ -15,10 +15,10 @@ ghost use Rattle.mold_serve.specs.Serving.{service_of};
 ghost use Rattle.mold_publish.specs.Publishing.{HasRoom, lines_published};
 ghost use Rattle.mold_session.specs.Publisher.{after_datagram, closed, next_datagram};
 
-use crate::hearing::hear_once;
 use crate::loop_parts::{Listener, LoopOptions, LoopPorts, Routes};
 use crate::looping::{print_last, print_refused};
 use crate::passing::{routes_of, send_on};
+use crate::receiving::receive_once;
 use mold_devices::{CommandFault, Lines, Sink, Source};
 use mold_ports::Datagrams;
 use mold_publish::{Filled, LineRefusal, fill};
@@ -38,54 +38,54 @@ use std::alloc::{AllocError, Global};
 pub(crate) struct LocalFeed<'a, 'p, D: Datagrams + Drop> {
     pub(crate) ports: &'a mut LoopPorts<D>,
     pub(crate) options: &'p LoopOptions<D::Peer>,
-    pub(crate) place: &'a mut [u8],
+    pub(crate) buffer: &'a mut [u8],
     pub(crate) listener: &'a mut Listener,
     pub(crate) alloc: Global,
 }
 
 impl<'a, 'p, D: Datagrams + Drop> LocalFeed<'a, 'p, D> {
     // Takes what comes on the lines that a datagram was sent on.
-    fn hear_on(&mut self, routes: Routes) -> Result<(), AllocError>
-        requires { HasPlace self.old }
-        ensures heard { D.tells ≡ true →
-            OnOk result (lines D.port self.new ≡ heard_on routes (lines D.port self.old)) }
+    fn receive_on_lines(&mut self, routes: Routes) -> Result<(), AllocError>
+        requires { HasBuffer self.old }
+        ensures received { D.modeled ≡ true →
+            OnOk result (lines D.port self.new ≡ after_routes routes (lines D.port self.old)) }
         ensures publisher { self.new.ports.now.publisher ≡ self.old.ports.now.publisher }
-        ensures only { OnlyPasses D.tells D.port self.old self.new }
+        ensures only { OnlyPasses D.modeled D.port self.old self.new }
     {
         if routes.a {
             let a = &mut self.ports.a;
-            hear_once(a, Origin::Line(Line::A), self.place, self.listener)?;
+            receive_once(a, Origin::Line(Line::A), self.buffer, self.listener)?;
         }
         if routes.b {
             let b = &mut self.ports.b;
-            hear_once(b, Origin::Line(Line::B), self.place, self.listener)?;
+            receive_once(b, Origin::Line(Line::B), self.buffer, self.listener)?;
         }
         Ok(())
     }
 
     // Sends a datagram on the lines that it goes on, and takes what comes there.
     fn pass(&mut self, routes: Routes, datagram: &[u8]) -> Result<(), AllocError>
-        requires { HasPlace self.old }
-        ensures passed { D.tells ≡ true → Passes D.port ((routes, datagram.now) ∷ []) result self.old self.new }
-        ensures only { OnlyPasses D.tells D.port self.old self.new }
+        requires { HasBuffer self.old }
+        ensures passed { D.modeled ≡ true → Passes D.port ((routes, datagram.now) ∷ []) result self.old self.new }
+        ensures only { OnlyPasses D.modeled D.port self.old self.new }
     {
         let port = &mut self.ports.publisher;
         let options = self.options;
         let sent = send_on(port, &options.peers, routes, datagram, self.listener);
-        self.hear_on(sent)
+        self.receive_on_lines(sent)
     }
 
     // Sends the publisher's next datagram on the lines that it goes on, and takes what comes there. `number` counts
     // the datagrams.
     fn pass_next(&mut self, publisher: &mut Publisher, number: &mut u64) -> Result<(), AllocError>
-        requires place { HasPlace self.old }
+        requires buffer { HasBuffer self.old }
         requires few { number.old ≤ publisher.old.sent }
         ensures counted { number.new ≡ number.old + length (spelled_some (next_datagram publisher.old)) }
         ensures sent { publisher.new ≡ after_datagram publisher.old }
-        ensures passed { D.tells ≡ true → Passes D.port
+        ensures passed { D.modeled ≡ true → Passes D.port
             (routed self.old.options.now.drops (number.old + 1) (spelled_some (next_datagram publisher.old)))
             result self.old self.new }
-        ensures only { OnlyPasses D.tells D.port self.old self.new }
+        ensures only { OnlyPasses D.modeled D.port self.old self.new }
     {
         publisher_holds(publisher);
         let Some(datagram) = publisher.datagram() else {
@@ -105,12 +105,12 @@ impl<'a, 'p, D: Datagrams + Drop> LocalFeed<'a, 'p, D> {
         sink: &mut K,
     ) -> Result<Option<LineRefusal>, CommandFault>
         requires room { HasRoom publisher.old }
-        requires place { HasPlace self.old }
-        ensures heard { D.tells ≡ true → HearsLines self.old.options.now.drops
+        requires buffer { HasBuffer self.old }
+        ensures received { D.modeled ≡ true → ReceivesLines self.old.options.now.drops
             self.old.options.now.peers.a self.old.options.now.peers.b
             publisher.old publisher.new (S.left source.old) result (lines D.port self.old) (lines D.port self.new)
             (K.held sink.old) (K.held sink.new) }
-        ensures only { OnlyPasses D.tells D.port self.old self.new }
+        ensures only { OnlyPasses D.modeled D.port self.old self.new }
         ensures all { IfOk result (λ refused. refused ≡ None →
             publisher.new.sent ≡ length publisher.new.journal.messages) }
         ensures limit { OnOk result (publisher.new.limit ≡ publisher.old.limit) }
@@ -131,19 +131,19 @@ impl<'a, 'p, D: Datagrams + Drop> LocalFeed<'a, 'p, D> {
                 }
                 Filled::Refused { why } => return Ok(Some(why)),
             }
-            self.listener.report.outgoing.send_large(sink)?;
+            self.listener.printer.outgoing.send_large(sink)?;
         }
     }
 
     // Closes the session, of which every message was sent, and sends its end packet on both lines.
     fn pass_end(&mut self, publisher: &mut Publisher) -> Result<(), AllocError>
-        requires place { HasPlace self.old }
+        requires buffer { HasBuffer self.old }
         requires sent { publisher.old.sent ≡ length publisher.old.journal.messages }
         ensures limit { publisher.new.limit ≡ publisher.old.limit }
         ensures closed { publisher.new ≡ closed publisher.old }
-        ensures passed { D.tells ≡ true →
+        ensures passed { D.modeled ≡ true →
             Passes D.port (routed_end publisher.old.journal None) result self.old self.new }
-        ensures only { OnlyPasses D.tells D.port self.old self.new }
+        ensures only { OnlyPasses D.modeled D.port self.old self.new }
     {
         let _ = publisher.close();
         match publisher.end() {
@@ -157,26 +157,27 @@ impl<'a, 'p, D: Datagrams + Drop> LocalFeed<'a, 'p, D> {
 
     // Makes so many receives for answers to a request.
     fn take_answers(&mut self, count: u64) -> Result<(), AllocError>
-        requires { HasPlace self.old }
-        ensures sent { D.tells ≡ true →
+        requires { HasBuffer self.old }
+        ensures sent { D.modeled ≡ true →
             (D.port self.new.ports.now.requests).sent ≡ (D.port self.old.ports.now.requests).sent }
-        ensures heard { D.tells ≡ true → OnOk result
-            (asking_state D.port self.new ≡ hear_answers count (asking_state D.port self.old)) }
+        ensures received { D.modeled ≡ true → OnOk result
+            (asking_state D.port self.new ≡ receive_responses count (asking_state D.port self.old)) }
         ensures server { self.new.ports.now.server ≡ self.old.ports.now.server }
         ensures only { OnlyRepairs self.old self.new }
     {
         for _answer in 0..count {
             let requests = &mut self.ports.requests;
-            hear_once(requests, Origin::Response, self.place, self.listener)?;
+            receive_once(requests, Origin::Response, self.buffer, self.listener)?;
         }
         Ok(())
     }
 
     // Lets the server take a turn, in which it answers a request that came to it, and takes the answers.
     fn repair(&mut self, server: &mut Server, journal: &Journal) -> Result<(), AllocError>
-        requires place { HasPlace self.old }
+        requires buffer { HasBuffer self.old }
         requires longest { journal.now.max_message ≤ server.old.max_message }
-        ensures repaired { D.tells ≡ true → (fails : List Bool) × HasRepaired result (rounds D.port server.new self.new)
+        ensures repaired { D.modeled ≡ true → (fails : List Bool) ×
+            HasRepaired result (rounds D.port server.new self.new)
             (repaired (service_of journal.now server.old) fails (rounds D.port server.old self.old)) }
         ensures server { server.new ≡ record server.old { answered = server.new.answered } }
         ensures only { OnlyRepairs self.old self.new }
@@ -188,10 +189,10 @@ impl<'a, 'p, D: Datagrams + Drop> LocalFeed<'a, 'p, D> {
             journal,
             tally: &mut tally,
         };
-        responder.take_turn(self.place)?;
+        responder.take_turn(self.buffer)?;
         let answered = responder.tally.answered;
         let failures = responder.tally.outgoing.failures();
-        self.listener.report.outgoing.count_failures(failures);
+        self.listener.printer.outgoing.count_failures(failures);
         self.take_answers(answered)
     }
 
@@ -202,9 +203,9 @@ impl<'a, 'p, D: Datagrams + Drop> LocalFeed<'a, 'p, D> {
         journal: &Journal,
         request: &Request,
     ) -> Result<(), AllocError>
-        requires place { HasPlace self.old }
+        requires buffer { HasBuffer self.old }
         requires longest { journal.now.max_message ≤ server.old.max_message }
-        ensures requested { D.tells ≡ true → (choice : Bool × List Bool) × HasRepaired result
+        ensures requested { D.modeled ≡ true → (choice : Bool × List Bool) × HasRepaired result
             (rounds D.port server.new self.new)
             (requested (Some request.now) self.old.options.now.peers.server (service_of journal.now server.old) choice
             (rounds D.port server.old self.old)) }
@@ -213,7 +214,7 @@ impl<'a, 'p, D: Datagrams + Drop> LocalFeed<'a, 'p, D> {
     {
         let to = self.options.peers.server;
         if self.ports.requests.send(to, &request.encode()).is_err() {
-            self.listener.report.outgoing.count_failure();
+            self.listener.printer.outgoing.count_failure();
             return Ok(());
         }
         self.repair(server, journal)
@@ -227,9 +228,9 @@ impl<'a, 'p, D: Datagrams + Drop> LocalFeed<'a, 'p, D> {
         journal: &Journal,
         sink: &mut K,
     ) -> Result<(), CommandFault>
-        requires place { HasPlace self.old }
+        requires buffer { HasBuffer self.old }
         requires longest { journal.now.max_message ≤ server.old.max_message }
-        ensures rests { D.tells ≡ true → RestsOfTwo
+        ensures rests { D.modeled ≡ true → RestsOfTwo
             (repairing self.old.options.now.peers.server (service_of journal.now server.old)) answers_sent text_before
             self.old.options.now.turns
             (rounds D.port server.old self.old) result (K.held sink.old) (K.held sink.new)
@@ -243,7 +244,7 @@ impl<'a, 'p, D: Datagrams + Drop> LocalFeed<'a, 'p, D> {
                 return Ok(());
             };
             self.round(server, journal, &request)?;
-            self.listener.report.outgoing.send_large(sink)?;
+            self.listener.printer.outgoing.send_large(sink)?;
         }
         Ok(())
     }
@@ -257,19 +258,19 @@ impl<'a, 'p, D: Datagrams + Drop> LocalFeed<'a, 'p, D> {
         source: &mut S,
         sink: &mut K,
     ) -> Result<u8, CommandFault>
-        requires place { HasPlace self.old }
+        requires buffer { HasBuffer self.old }
         requires room { HasRoom publisher.old }
         requires longest { publisher.old.journal.max_message ≤ server.old.max_message }
-        ensures run { D.tells ≡ true → IfSome (S.left source.old) (λ input.
+        ensures run { D.modeled ≡ true → IfSome (S.left source.old) (λ input.
             LoopRun self.old.options.now.reporting self.old.options.now.drops
             self.old.options.now.peers.a self.old.options.now.peers.b self.old.options.now.peers.server
             self.old.options.now.turns publisher.old.limit publisher.old.sent
             (lines_published publisher.old.journal (lines_of input))
             server.old (lines D.port self.old) (rounds D.port server.old self.old) result
             (K.held sink.old) (K.held sink.new) (lines D.port self.new) (rounds D.port server.new self.new)) }
-        ensures a { D.tells ≡ true → (D.port self.new.ports.now.a).sent ≡ (D.port self.old.ports.now.a).sent }
-        ensures b { D.tells ≡ true → (D.port self.new.ports.now.b).sent ≡ (D.port self.old.ports.now.b).sent }
-        ensures journal { D.tells ≡ true → OnOk result (IfSome (S.left source.old) (λ input.
+        ensures a { D.modeled ≡ true → (D.port self.new.ports.now.a).sent ≡ (D.port self.old.ports.now.a).sent }
+        ensures b { D.modeled ≡ true → (D.port self.new.ports.now.b).sent ≡ (D.port self.old.ports.now.b).sent }
+        ensures journal { D.modeled ≡ true → OnOk result (IfSome (S.left source.old) (λ input.
             publisher.new.journal ≡ left_journal (lines_published publisher.old.journal (lines_of input)))) }
         ensures limit { OnOk result (publisher.new.limit ≡ publisher.old.limit) }
         ensures server { server.new ≡ record server.old { answered = server.new.answered } }
@@ -282,7 +283,7 @@ impl<'a, 'p, D: Datagrams + Drop> LocalFeed<'a, 'p, D> {
         let refused = self.pass_lines(publisher, source, sink)?;
         if let Some(why) = refused {
             let number = publisher.journal().next();
-            return print_refused(&mut self.listener.report.outgoing, number, why, sink);
+            return print_refused(&mut self.listener.printer.outgoing, number, why, sink);
         }
         self.pass_end(publisher)?;
         publisher_holds(publisher);

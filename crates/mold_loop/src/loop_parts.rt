@@ -1,6 +1,6 @@
 //! What a loop in one process runs over, and with.
 
-use mold_listen::Report;
+use mold_listen::Printer;
 use mold_ports::Datagrams;
 use mold_receiver::Arbiter;
 use mold_session::{Publisher, Server};
@@ -55,7 +55,7 @@ pub struct Routes {
 #[derive(Drop)]
 pub struct Listener {
     pub arbiter: Arbiter,
-    pub report: Report,
+    pub printer: Printer,
 }
 
 /// What a loop is made of beside its ports: a publisher, its server, a listener, and where memory comes from.

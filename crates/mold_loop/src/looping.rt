@@ -2,10 +2,10 @@
 
 ghost use Rattle.std.specs.Prelude.{◌≡◌, ◌≤◌, ◌++◌, true, IfOk, IfSome, OnOk};
 ghost use Rattle.std.specs.Io.KnownBytes.{Appends};
-ghost use Rattle.mold_devices.specs.Devices.{AppendsFront};
+ghost use Rattle.mold_devices.specs.Devices.{AppendsPrefix};
 ghost use Rattle.mold_devices.specs.Faults.{CountsCommand, CountsSink};
 ghost use Rattle.mold_devices.specs.Lines.{lines_of};
-ghost use Rattle.mold_listen.specs.Listening.{hearing, hearing_lines, hearing_status};
+ghost use Rattle.mold_listen.specs.Listening.{progress, last_lines, listener_status};
 ghost use Rattle.mold_loop.specs.Looping.{LoopRun, lines_at};
 ghost use Rattle.mold_turns.specs.Outgoing.{written_out};
 ghost use Rattle.mold_loop.specs.Passing.{LoopSends};
@@ -32,7 +32,7 @@ pub(crate) fn print_refused<K: Sink>(
 ) -> Result<u8, CommandFault>
     ensures whole { IfOk result (λ status.
         Appends (K.held sink.old) (K.held sink.new) (outgoing.old.text ++ refused_text number why) × (status ≡ 2)) }
-    ensures front { AppendsFront (K.held sink.old) (K.held sink.new) (outgoing.old.text ++ refused_text number why) }
+    ensures front { AppendsPrefix (K.held sink.old) (K.held sink.new) (outgoing.old.text ++ refused_text number why) }
     ensures left { OnOk result (outgoing.new ≡ written_out outgoing.old) }
     ensures sink { CountsSink (K.failed sink.old) (K.failed sink.new) result }
 {
@@ -49,19 +49,19 @@ pub(crate) fn print_last<K: Sink>(
     sink: &mut K,
 ) -> Result<u8, CommandFault>
     ensures whole { IfOk result (λ status. Appends (K.held sink.old) (K.held sink.new)
-        (listener.old.report.outgoing.text
-        ++ hearing_lines reporting (hearing listener.old.arbiter listener.old.report.outgoing))
-        × (status ≡ hearing_status (hearing listener.old.arbiter listener.old.report.outgoing))) }
-    ensures front { AppendsFront (K.held sink.old) (K.held sink.new)
-        (listener.old.report.outgoing.text
-        ++ hearing_lines reporting (hearing listener.old.arbiter listener.old.report.outgoing)) }
-    ensures left { OnOk result (listener.new.report.outgoing ≡ written_out listener.old.report.outgoing) }
+        (listener.old.printer.outgoing.text
+        ++ last_lines reporting (progress listener.old.arbiter listener.old.printer.outgoing))
+        × (status ≡ listener_status (progress listener.old.arbiter listener.old.printer.outgoing))) }
+    ensures front { AppendsPrefix (K.held sink.old) (K.held sink.new)
+        (listener.old.printer.outgoing.text
+        ++ last_lines reporting (progress listener.old.arbiter listener.old.printer.outgoing)) }
+    ensures left { OnOk result (listener.new.printer.outgoing ≡ written_out listener.old.printer.outgoing) }
     ensures arbiter { listener.new.arbiter ≡ listener.old.arbiter }
     ensures sink { CountsSink (K.failed sink.old) (K.failed sink.new) result }
 {
-    let Listener { arbiter, report } = listener;
-    let status = push_end(arbiter, reporting, &mut report.outgoing)?;
-    report.outgoing.send(sink)?;
+    let Listener { arbiter, printer } = listener;
+    let status = push_end(arbiter, reporting, &mut printer.outgoing)?;
+    printer.outgoing.send(sink)?;
     Ok(status)
 }
 
@@ -86,12 +86,12 @@ pub fn session_loop<D: Datagrams + Drop, S: Source, K: Sink>(
 ) -> Result<u8, CommandFault>
     requires room { HasRoom parts.old.publisher }
     requires longest { parts.old.publisher.journal.max_message ≤ parts.old.server.max_message }
-    ensures sends { D.tells ≡ true → IfSome (S.left source.old) (λ input.
+    ensures sends { D.modeled ≡ true → IfSome (S.left source.old) (λ input.
         LoopSends options.now.drops options.now.peers.a options.now.peers.b
         parts.old.publisher.limit parts.old.publisher.sent
         (lines_published parts.old.publisher.journal (lines_of input)) result
         (D.port ports.old.publisher) (D.port ports.new.publisher)) }
-    ensures run { D.tells ≡ true → IfSome (S.left source.old) (λ input.
+    ensures run { D.modeled ≡ true → IfSome (S.left source.old) (λ input.
         LoopRun options.now.reporting options.now.drops options.now.peers.a options.now.peers.b
         options.now.peers.server options.now.turns parts.old.publisher.limit parts.old.publisher.sent
         (lines_published parts.old.publisher.journal (lines_of input)) parts.old.server
@@ -99,9 +99,9 @@ pub fn session_loop<D: Datagrams + Drop, S: Source, K: Sink>(
         result (K.held sink.old) (K.held sink.new)
         (lines_at D.port ports.new parts.new.listener)
         (rounds_at D.port ports.new parts.new.server parts.new.listener)) }
-    ensures a { D.tells ≡ true → (D.port ports.new.a).sent ≡ (D.port ports.old.a).sent }
-    ensures b { D.tells ≡ true → (D.port ports.new.b).sent ≡ (D.port ports.old.b).sent }
-    ensures journal { D.tells ≡ true → OnOk result (IfSome (S.left source.old) (λ input.
+    ensures a { D.modeled ≡ true → (D.port ports.new.a).sent ≡ (D.port ports.old.a).sent }
+    ensures b { D.modeled ≡ true → (D.port ports.new.b).sent ≡ (D.port ports.old.b).sent }
+    ensures journal { D.modeled ≡ true → OnOk result (IfSome (S.left source.old) (λ input.
         parts.new.publisher.journal ≡ left_journal (lines_published parts.old.publisher.journal (lines_of input)))) }
     ensures limit { OnOk result (parts.new.publisher.limit ≡ parts.old.publisher.limit) }
     ensures server { parts.new.server ≡ record parts.old.server { answered = parts.new.server.answered } }
@@ -109,7 +109,7 @@ pub fn session_loop<D: Datagrams + Drop, S: Source, K: Sink>(
         result }
 {
     let alloc = parts.alloc;
-    let mut place = vec![in alloc; 0; MAX_LIMIT]?;
+    let mut buffer = vec![in alloc; 0; MAX_LIMIT]?;
     let LoopParts {
         publisher,
         server,
@@ -119,7 +119,7 @@ pub fn session_loop<D: Datagrams + Drop, S: Source, K: Sink>(
     let mut feed = LocalFeed {
         ports,
         options,
-        place: place.as_mut_slice(),
+        buffer: buffer.as_mut_slice(),
         listener,
         alloc,
     };

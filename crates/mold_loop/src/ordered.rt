@@ -6,7 +6,7 @@ ghost use Rattle.mold_publish.specs.Publishing.{HasRoom};
 ghost use Rattle.mold_turns.specs.Outgoing.{nothing_out};
 
 use crate::loop_parts::{Drops, Listener, LoopOptions, LoopParts, LoopPeers};
-use mold_listen::Report;
+use mold_listen::Printer;
 use mold_receiver::{Arbiter, Receiver};
 use mold_session::{Publisher, Server};
 use mold_wire::Session;
@@ -45,12 +45,12 @@ fn make_server(alloc: Global, order: &LoopOrder) -> Result<Server, AllocError>
 // range: so only memory can be wanting.
 fn make_listener(alloc: Global, order: &LoopOrder) -> Result<Listener, AllocError>
     ensures arbiter { IfOk result (λ listener. listener.arbiter ≡ loop_arbiter_of order.now) }
-    ensures report { IfOk result (λ listener. listener.report.outgoing ≡ nothing_out) }
+    ensures printer { IfOk result (λ listener. listener.printer.outgoing ≡ nothing_out) }
 {
     match Receiver::new(alloc, Session(order.session), 1, order.window) {
         Ok(receiver) => Ok(Listener {
             arbiter: Arbiter::new(receiver),
-            report: Report::new(alloc),
+            printer: Printer::new(alloc),
         }),
         Err(_) => Err(AllocError),
     }
@@ -86,7 +86,7 @@ pub fn make_parts(alloc: Global, order: &LoopOrder) -> Result<LoopParts, AllocEr
     ensures publisher { IfOk result (λ parts. parts.publisher ≡ loop_publisher_of order.now) }
     ensures server { IfOk result (λ parts. parts.server ≡ loop_server_of order.now) }
     ensures arbiter { IfOk result (λ parts. parts.listener.arbiter ≡ loop_arbiter_of order.now) }
-    ensures report { IfOk result (λ parts. parts.listener.report.outgoing ≡ nothing_out) }
+    ensures printer { IfOk result (λ parts. parts.listener.printer.outgoing ≡ nothing_out) }
     ensures room { IfOk result (λ parts. HasRoom parts.publisher) }
     ensures longest { IfOk result (λ parts. parts.publisher.journal.max_message ≤ parts.server.max_message) }
 {

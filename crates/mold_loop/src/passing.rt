@@ -33,7 +33,7 @@ fn is_sent<D: Datagrams>(
     datagram: &[u8],
     outgoing: &mut Outgoing,
 ) -> bool
-    ensures comes { D.tells ≡ true →
+    ensures comes { D.modeled ≡ true →
         ComesOf on result to datagram.now (D.port port.old) (D.port port.new) outgoing.old outgoing.new }
 {
     if !on {
@@ -54,11 +54,11 @@ pub(crate) fn send_on<D: Datagrams>(
     datagram: &[u8],
     listener: &mut Listener,
 ) -> Routes
-    ensures comes { D.tells ≡ true → ComesOfBoth routes result peers.now.a peers.now.b datagram.now
-        (D.port port.old) (D.port port.new) listener.old.report.outgoing listener.new.report.outgoing }
+    ensures comes { D.modeled ≡ true → ComesOfBoth routes result peers.now.a peers.now.b datagram.now
+        (D.port port.old) (D.port port.new) listener.old.printer.outgoing listener.new.printer.outgoing }
     ensures arbiter { listener.new.arbiter ≡ listener.old.arbiter }
 {
-    let outgoing = &mut listener.report.outgoing;
+    let outgoing = &mut listener.printer.outgoing;
     Routes {
         a: is_sent(port, routes.a, peers.a, datagram, outgoing),
         b: is_sent(port, routes.b, peers.b, datagram, outgoing),

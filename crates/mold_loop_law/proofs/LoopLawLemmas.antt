@@ -5,17 +5,17 @@ use Rattle.std.proofs.Common.{Result, inl, refl, sym, ap, subst, ◌∙◌, arit
 use Rattle.std.specs.Io.KnownBytes.{Appends}
 use Rattle.std.specs.List.{AllByRecursion}
 use Rattle.std.proofs.lemmas.Result.{IfOk-weaker}
-use Rattle.mold_devices.specs.Devices.{AppendsFront}
-use Rattle.mold_feed.specs.Heard.{GivesOnly, PrintsLines, PrintsRefused, Saying, lines_text, sayings_text}
-use Rattle.mold_listen.specs.Listening.{Asking, Hearing, ListenerState, hearing_lines, hearing_status, missed}
-use Rattle.mold_loop.specs.Looping.{Failed, LeftOut, LineState, LoopRun, Outcome, Pass, Sent, StandsBehind}
-use Rattle.mold_loop.specs.Looping.{heard_if, heard_on, lines_behind, loop_end, loop_lines, loop_status, loop_text, offered_by}
+use Rattle.mold_devices.specs.Devices.{AppendsPrefix}
+use Rattle.mold_feed.specs.Received.{GivesOnly, PrintsLines, PrintsRefused, PrintedLine, lines_text, printed_lines_text}
+use Rattle.mold_listen.specs.Listening.{Asking, Progress, ListenerState, last_lines, listener_status, missed}
+use Rattle.mold_loop.specs.Looping.{Failed, LeftOut, LineState, LoopRun, Outcome, Pass, Sent, IsPortAfter}
+use Rattle.mold_loop.specs.Looping.{after_line_if, after_routes, lines_after, loop_end, loop_lines, loop_status, loop_text, offered_by}
 use Rattle.mold_loop.specs.Looping.{outgoing_after, passed, port_after, received_if, rounds_made}
-use Rattle.mold_loop.specs.Looping.{routed_by, sent_by, with_heard}
+use Rattle.mold_loop.specs.Looping.{routed_by, sent_by, with_progress}
 use Rattle.mold_turns.specs.Outgoing.{OutgoingState}
 use Rattle.mold_loop_law.specs.Own.{GivesSent, OwnPorts, WasSent}
 use Rattle.mold_loop.specs.Passing.{all_routed, routed, routed_end}
-use Rattle.mold_send.specs.PublishLoop.{after_data, all_datagrams, data_behind}
+use Rattle.mold_send.specs.PublishLoop.{after_data, all_datagrams, data_after}
 use Rattle.mold_loop.specs.Repairing.{RepairState, missed_more, repaired, repairing, requested, round, served}
 use Rattle.mold_turns.specs.Runs.{run}
 use Rattle.mold_feed.specs.Sent.{AllSent, HasLines, HasLinesBefore, IsOpening}
@@ -23,10 +23,10 @@ use Rattle.mold_serve.specs.Serving.{ResponderState, Service, serve_turn, servic
 use Rattle.mold_listen.specs.Text.{handed_text}
 use Rattle.mold_loop.specs.declared.loop_parts.Drops.{Drops}
 use Rattle.mold_loop.specs.declared.loop_parts.Routes.{Routes}
-use Rattle.mold_feed.proofs.HeardSayingLemmas.{between_front, text-handing}
-use Rattle.mold_feed.proofs.HeardTakingLemmas.{HasHeard, HearingLaws, IsSound, MayCome, last_number, nothing_heard}
-use Rattle.mold_feed.proofs.HeardTakingLemmas.{then_heard}
-use Rattle.mold_feed.proofs.HeardTurnLemmas.{answers_heard, ends_so, port_heard, rest_gives}
+use Rattle.mold_feed.proofs.PrintedLineLemmas.{between_front, text-handing}
+use Rattle.mold_feed.proofs.TakingLemmas.{HasHeard, HearingLaws, IsSound, MayCome, last_number, nothing_heard}
+use Rattle.mold_feed.proofs.TakingLemmas.{then_heard}
+use Rattle.mold_feed.proofs.ReceivedTurnLemmas.{after_responses, ends_so, port_heard, rest_gives}
 use Rattle.mold_feed.proofs.LinesPrintedLemmas.{HasCome, prints_lines}
 use Rattle.mold_feed.proofs.LinesTextLemmas.{spelled_length, text_between}
 use Rattle.mold_feed.proofs.SentLemmas.{each_append, each_begun, each_front, each_rest, sent_front, sent_offered, sent_one}
@@ -43,7 +43,7 @@ use Rattle.mold_receiver.specs.declared.line.Line.TheVariants.{A, B}
 use Rattle.mold_session.specs.Answer.{between}
 use Rattle.mold_session.specs.Journal.{JournalState}
 use Rattle.mold_session.specs.Server.{IsServer, ServerState}
-use Rattle.mold_session.specs.Truthful.{MayAnswer, TellsTruth}
+use Rattle.mold_session.specs.Truthful.{MayAnswer, IsTrueDatagram}
 use Rattle.mold_wire.specs.Request.{request_spelling}
 use Rattle.mold_wire.specs.declared.request.Request.{Request}
 
@@ -51,15 +51,15 @@ use Rattle.mold_wire.specs.declared.request.Request.{Request}
 pub record LoopLaws (P : Type 0) : Type 0 where
   pub opening : OpeningLaws
   pub served : (service : Service) (choices : List (List Bool)) (start : ResponderState P) →
-      MayAnswer service.journal service.limit → AllSent (TellsTruth service.journal) start.port.sent →
-      AllSent (TellsTruth service.journal) (run (serving service) choices start).port.sent
+      MayAnswer service.journal service.limit → AllSent (IsTrueDatagram service.journal) start.port.sent →
+      AllSent (IsTrueDatagram service.journal) (run (serving service) choices start).port.sent
   pub offered : (beats ends limit : ℕ) (journal : JournalState) (lines : List (List ℕ)) → IsOpening journal limit →
-      AllByRecursion (TellsTruth (left_by journal lines))
+      AllByRecursion (IsTrueDatagram (left_by journal lines))
       (all_datagrams limit beats ends (lines_published journal lines))
   pub before : (limit : ℕ) (journal : JournalState) (lines : List (List ℕ)) (why : LineRefusal) →
       IsOpening journal limit → (lines_published journal lines).refused ≡ Some why →
       HasLinesBefore lines why (lines_published journal lines).journal
-  pub hearing : HearingLaws
+  pub progress : HearingLaws
 
 -- ---- what the publisher's port sends
 
@@ -85,7 +85,7 @@ end_routed Good (Some why) journal each = tt
 published_routed : (Good : List ℕ → Type 0) (drops : Drops) (limit : ℕ) (published : PublishedLines) →
     AllByRecursion Good (all_datagrams limit 0 1 published) → AllRouted Good (all_routed drops limit 0 published)
 published_routed Good drops limit published each =
-    let front : List (List ℕ) = data_behind limit 0 published in
+    let front : List (List ℕ) = data_after limit 0 published in
     let ends : List (List ℕ) = after_data 0 1 published.journal published.refused in
     each_append (λ (datagram : Routes × List ℕ). Good datagram.1) (routed drops 1 front)
     (routed_end published.journal published.refused)
@@ -105,7 +105,7 @@ outcome_sends Good Failed to bytes port all one = all
 outcome_sends Good Sent to bytes port all one = sent_offered Good false to bytes port all one
 
 passes_send : {P : Type 0} (Good : List ℕ → Type 0) (a b : P) (passes : List Pass) (s : LineState P) →
-    AllPassed Good passes → AllSent Good s.publisher.sent → AllSent Good (lines_behind a b passes s).publisher.sent
+    AllPassed Good passes → AllSent Good s.publisher.sent → AllSent Good (lines_after a b passes s).publisher.sent
 unfolding run passed
 passes_send Good a b [] s each all = all
 passes_send Good a b (pass ∷ passes) s each all =
@@ -115,7 +115,7 @@ passes_send Good a b (pass ∷ passes) s each all =
 
 -- behind the first of the passes
 behind_sends : {P : Type 0} (Good : List ℕ → Type 0) (a b : P) (passes : List Pass) (s : LineState P) (left : Port P) →
-    StandsBehind a b passes s left → AllPassed Good passes → AllSent Good s.publisher.sent → AllSent Good left.sent
+    IsPortAfter a b passes s left → AllPassed Good passes → AllSent Good s.publisher.sent → AllSent Good left.sent
 behind_sends {P} Good a b passes s left stands each all =
     subst (λ (port : Port P). AllSent Good port.sent) (sym stands.port)
     (passes_send Good a b stands.front s
@@ -138,7 +138,7 @@ module _ {P : Type 0} (Good : List ℕ → Type 0) (to : P) (service : Service)
   rounds_send [] s all = all
   rounds_send (choice ∷ choices) s all =
       rounds_send choices (round to service choice s)
-      (requested_sends (wanted s.hearing.arbitration.view) choice s all)
+      (requested_sends (wanted s.progress.arbitration.view) choice s all)
 
 -- no round is made where a line is refused
 made_sends : {P : Type 0} (Good : List ℕ → Type 0) (to : P) (service : Service) (refused : Option LineRefusal)
@@ -152,16 +152,16 @@ made_sends Good to service (Some why) choices s serves all = all
 -- ---- what is heard
 
 -- what was heard, and what the ports of the lines still give
-record HeardLines {P : Type 0} (journal : JournalState) (Plain : Type 0) (Good : List ℕ → Type 0) (old : Hearing)
+record HeardLines {P : Type 0} (journal : JournalState) (Plain : Type 0) (Good : List ℕ → Type 0) (old : Progress)
     (new : LineState P) : Type 0 where
-  heard : HasHeard journal Plain Good old new.hearing
+  received : HasHeard journal Plain Good old new.progress
   a : GivesOnly Good new.a
   b : GivesOnly Good new.b
 
 -- what was heard, and what the port of requests still gives
-record HeardRounds {P : Type 0} (journal : JournalState) (Plain : Type 0) (Good : List ℕ → Type 0) (old : Hearing)
+record HeardRounds {P : Type 0} (journal : JournalState) (Plain : Type 0) (Good : List ℕ → Type 0) (old : Progress)
     (new : RepairState P) : Type 0 where
-  heard : HasHeard journal Plain Good old new.hearing
+  received : HasHeard journal Plain Good old new.progress
   gives : GivesOnly Good new.requests
 
 gives_if : {P : Type 0} (Good : List ℕ → Type 0) (receives : Bool) (port : Port P) → GivesOnly Good port →
@@ -179,75 +179,75 @@ module _ (journal : JournalState) (Plain : Type 0) (Good : List ℕ → Type 0) 
     (may : MayCome journal Plain Good) where
   -- ---- a pass
 
-  line_heard : {P : Type 0} (receives : Bool) (line : Line) (port : Port P) (e : Hearing) → IsSound journal e →
-      GivesOnly Good port → HasHeard journal Plain Good e (heard_if receives line port e)
+  line_heard : {P : Type 0} (receives : Bool) (line : Line) (port : Port P) (e : Progress) → IsSound journal e →
+      GivesOnly Good port → HasHeard journal Plain Good e (after_line_if receives line port e)
   line_heard true line port e sound gives = port_heard journal Plain Good laws may (Some line) port e sound gives
   line_heard false line port e sound gives = nothing_heard journal Plain Good e e sound refl refl
 
-  lines_heard : {P : Type 0} (lines : Routes) (s : LineState P) → IsSound journal s.hearing → GivesOnly Good s.a →
-      GivesOnly Good s.b → HeardLines journal Plain Good s.hearing (heard_on lines s)
-  lines_heard lines s sound a b =
-      let mid : Hearing = heard_if lines.a A s.a s.hearing in
-      let on_a = line_heard lines.a A s.a s.hearing sound a in
+  after_lines : {P : Type 0} (lines : Routes) (s : LineState P) → IsSound journal s.progress → GivesOnly Good s.a →
+      GivesOnly Good s.b → HeardLines journal Plain Good s.progress (after_routes lines s)
+  after_lines lines s sound a b =
+      let mid : Progress = after_line_if lines.a A s.a s.progress in
+      let on_a = line_heard lines.a A s.a s.progress sound a in
       let on_b = line_heard lines.b B s.b mid on_a.sound b in
       record {
-        heard = then_heard journal Plain Good s.hearing mid (heard_on lines s).hearing sound on_a on_b;
+        received = then_heard journal Plain Good s.progress mid (after_routes lines s).progress sound on_a on_b;
         a = gives_if Good lines.a s.a a;
         b = gives_if Good lines.b s.b b;
       }
 
-  pass_heard : {P : Type 0} (a b : P) (pass : Pass) (s : LineState P) → IsSound journal s.hearing →
-      GivesOnly Good s.a → GivesOnly Good s.b → HeardLines journal Plain Good s.hearing (passed a b pass s)
+  pass_heard : {P : Type 0} (a b : P) (pass : Pass) (s : LineState P) → IsSound journal s.progress →
+      GivesOnly Good s.a → GivesOnly Good s.b → HeardLines journal Plain Good s.progress (passed a b pass s)
   unfolding passed
   pass_heard {P} a b pass s sound on_a on_b =
       let mid : LineState P = offered_by a b pass s in
-      let same : mid.hearing.outgoing.text ≡ s.hearing.outgoing.text =
-      outcome_text pass.b (outgoing_after pass.a s.hearing.outgoing) ∙ outcome_text pass.a s.hearing.outgoing in
-      let offers = nothing_heard journal Plain Good s.hearing mid.hearing sound refl same in
-      let hears = lines_heard (sent_by pass) mid offers.sound on_a on_b in
+      let same : mid.progress.outgoing.text ≡ s.progress.outgoing.text =
+      outcome_text pass.b (outgoing_after pass.a s.progress.outgoing) ∙ outcome_text pass.a s.progress.outgoing in
+      let offers = nothing_heard journal Plain Good s.progress mid.progress sound refl same in
+      let hears = after_lines (sent_by pass) mid offers.sound on_a on_b in
       record {
-        heard =
-            then_heard journal Plain Good s.hearing mid.hearing (heard_on (sent_by pass) mid).hearing sound offers
-            hears.heard;
+        received =
+            then_heard journal Plain Good s.progress mid.progress (after_routes (sent_by pass) mid).progress sound offers
+            hears.received;
         a = hears.a;
         b = hears.b;
       }
 
-  passes_heard : {P : Type 0} (a b : P) (passes : List Pass) (s : LineState P) → IsSound journal s.hearing →
-      GivesOnly Good s.a → GivesOnly Good s.b → HasHeard journal Plain Good s.hearing (lines_behind a b passes s).hearing
+  passes_heard : {P : Type 0} (a b : P) (passes : List Pass) (s : LineState P) → IsSound journal s.progress →
+      GivesOnly Good s.a → GivesOnly Good s.b → HasHeard journal Plain Good s.progress (lines_after a b passes s).progress
   unfolding run
-  passes_heard a b [] s sound on_a on_b = nothing_heard journal Plain Good s.hearing s.hearing sound refl refl
+  passes_heard a b [] s sound on_a on_b = nothing_heard journal Plain Good s.progress s.progress sound refl refl
   passes_heard {P} a b (pass ∷ passes) s sound on_a on_b =
       let after : LineState P = passed a b pass s in
       let one = pass_heard a b pass s sound on_a on_b in
-      then_heard journal Plain Good s.hearing after.hearing (lines_behind a b passes after).hearing sound one.heard
-      (passes_heard a b passes after one.heard.sound one.a one.b)
+      then_heard journal Plain Good s.progress after.progress (lines_after a b passes after).progress sound one.received
+      (passes_heard a b passes after one.received.sound one.a one.b)
 
   -- ---- a round
 
-  repaired_heard : {P : Type 0} (service : Service) (fails : List Bool) (s : RepairState P) → IsSound journal s.hearing →
-      GivesOnly Good s.requests → HeardRounds journal Plain Good s.hearing (repaired service fails s)
+  repaired_heard : {P : Type 0} (service : Service) (fails : List Bool) (s : RepairState P) → IsSound journal s.progress →
+      GivesOnly Good s.requests → HeardRounds journal Plain Good s.progress (repaired service fails s)
   repaired_heard {P} service fails s sound gives =
       let tally = (served service fails s).tally in
-      let mid : Hearing = missed_more tally.outgoing.failures s.hearing in
-      let before : Asking P = record { port = s.requests; hearing = mid } in
-      let same = nothing_heard journal Plain Good s.hearing mid sound refl refl in
-      let answers = answers_heard journal Plain Good laws may tally.answered before same.sound gives in
+      let mid : Progress = missed_more tally.outgoing.failures s.progress in
+      let before : Asking P = record { port = s.requests; progress = mid } in
+      let same = nothing_heard journal Plain Good s.progress mid sound refl refl in
+      let answers = after_responses journal Plain Good laws may tally.answered before same.sound gives in
       record {
-        heard =
-            then_heard journal Plain Good s.hearing mid (repaired service fails s).hearing sound same answers.heard;
+        received =
+            then_heard journal Plain Good s.progress mid (repaired service fails s).progress sound same answers.received;
         gives = answers.gives;
       }
 
   requested_heard : {P : Type 0} (wish : Option Request) (to : P) (service : Service) (choice : Bool × List Bool)
-      (s : RepairState P) → IsSound journal s.hearing → GivesOnly Good s.requests →
-      HeardRounds journal Plain Good s.hearing (requested wish to service choice s)
+      (s : RepairState P) → IsSound journal s.progress → GivesOnly Good s.requests →
+      HeardRounds journal Plain Good s.progress (requested wish to service choice s)
   requested_heard None to service choice s sound gives = record {
-    heard = nothing_heard journal Plain Good s.hearing s.hearing sound refl refl;
+    received = nothing_heard journal Plain Good s.progress s.progress sound refl refl;
     gives = gives;
   }
   requested_heard (Some request) to service (true, fails) s sound gives = record {
-    heard = nothing_heard journal Plain Good s.hearing (missed s.hearing) sound refl refl;
+    received = nothing_heard journal Plain Good s.progress (missed s.progress) sound refl refl;
     gives = gives;
   }
   requested_heard (Some request) to service (false, fails) s sound gives =
@@ -256,28 +256,28 @@ module _ (journal : JournalState) (Plain : Type 0) (Good : List ℕ → Type 0) 
         server = s.server;
         requests = offered false to (request_spelling request) s.requests;
         answered = s.answered;
-        hearing = s.hearing;
+        progress = s.progress;
       })
       sound gives
 
   rounds_heard : {P : Type 0} (to : P) (service : Service) (choices : List (Bool × List Bool)) (s : RepairState P) →
-      IsSound journal s.hearing → GivesOnly Good s.requests →
-      HasHeard journal Plain Good s.hearing (run (repairing to service) choices s).hearing
+      IsSound journal s.progress → GivesOnly Good s.requests →
+      HasHeard journal Plain Good s.progress (run (repairing to service) choices s).progress
   unfolding run round
-  rounds_heard to service [] s sound gives = nothing_heard journal Plain Good s.hearing s.hearing sound refl refl
+  rounds_heard to service [] s sound gives = nothing_heard journal Plain Good s.progress s.progress sound refl refl
   rounds_heard {P} to service (choice ∷ choices) s sound gives =
       let after : RepairState P = round to service choice s in
-      let one = requested_heard (wanted s.hearing.arbitration.view) to service choice s sound gives in
-      then_heard journal Plain Good s.hearing after.hearing (run (repairing to service) choices after).hearing sound
-      one.heard
-      (rounds_heard to service choices after one.heard.sound one.gives)
+      let one = requested_heard (wanted s.progress.arbitration.view) to service choice s sound gives in
+      then_heard journal Plain Good s.progress after.progress (run (repairing to service) choices after).progress sound
+      one.received
+      (rounds_heard to service choices after one.received.sound one.gives)
 
   made_heard : {P : Type 0} (refused : Option LineRefusal) (to : P) (service : Service)
-      (choices : List (Bool × List Bool)) (s : RepairState P) → IsSound journal s.hearing → GivesOnly Good s.requests →
-      HasHeard journal Plain Good s.hearing (rounds_made refused to service choices s).hearing
+      (choices : List (Bool × List Bool)) (s : RepairState P) → IsSound journal s.progress → GivesOnly Good s.requests →
+      HasHeard journal Plain Good s.progress (rounds_made refused to service choices s).progress
   made_heard None to service choices s sound gives = rounds_heard to service choices s sound gives
   made_heard (Some why) to service choices s sound gives =
-      nothing_heard journal Plain Good s.hearing s.hearing sound refl refl
+      nothing_heard journal Plain Good s.progress s.progress sound refl refl
 
 -- ---- a loop
 
@@ -308,11 +308,11 @@ module _ {P : Type 0} (laws : LoopLaws P) (reporting : Bool) (drops : Drops) (a 
   left = left_by journal lines
 
   abbrev Good : List ℕ → Type 0
-  Good = TellsTruth left
+  Good = IsTrueDatagram left
 
   -- all that was heard at the end
-  abbrev end : Hearing
-  end = (loop_end a b to published server ran.passes ran.choices start rounds).hearing
+  abbrev end : Progress
+  end = (loop_end a b to published server ran.passes ran.choices start rounds).progress
 
   publisher_true : AllSent Good start_left.publisher.sent
   publisher_true =
@@ -333,39 +333,39 @@ module _ {P : Type 0} (laws : LoopLaws P) (reporting : Bool) (drops : Drops) (a 
       let whole = loop_end a b to published server ran.passes ran.choices start rounds in
       sent_front Good rounds_left.server.sent whole.server.sent ran.answers
       (made_sends Good to (service_of left server) published.refused ran.choices
-      (with_heard (lines_behind a b ran.passes start).hearing rounds) turn_true
+      (with_progress (lines_after a b ran.passes start).progress rounds) turn_true
       (none_sent Good rounds.server.sent own.server))
 
   -- an honest listener has heard only the truth
-  hears_true : IsSound left start.hearing → HasHeard left (Unit {0}) Good start.hearing end
+  hears_true : IsSound left start.progress → HasHeard left (Unit {0}) Good start.progress end
   hears_true sound =
       let comes : MayCome left (Unit {0}) Good =
       record { harmless = λ bytes told. inl told; told = λ is_plain bytes told. told } in
-      let mid : Hearing = (lines_behind a b ran.passes start).hearing in
-      let on_lines = passes_heard left (Unit {0}) Good laws.hearing comes a b ran.passes start sound
+      let mid : Progress = (lines_after a b ran.passes start).progress in
+      let on_lines = passes_heard left (Unit {0}) Good laws.progress comes a b ran.passes start sound
       (gives_true Good start_left.publisher.sent start.a publisher_true own.a)
       (gives_true Good start_left.publisher.sent start.b publisher_true own.b) in
-      then_heard left (Unit {0}) Good start.hearing mid end sound on_lines
-      (made_heard left (Unit {0}) Good laws.hearing comes published.refused to (service_of left server) ran.choices
-      (with_heard mid rounds) on_lines.sound
+      then_heard left (Unit {0}) Good start.progress mid end sound on_lines
+      (made_heard left (Unit {0}) Good laws.progress comes published.refused to (service_of left server) ran.choices
+      (with_progress mid rounds) on_lines.sound
       (gives_true Good rounds_left.server.sent rounds.requests server_true own.requests))
 
   -- ---- a new listener
 
   module _ (first window : ℕ) (least : 1 ≤ first) (most : first ≤ length left.messages + 1)
-      (anew : start.hearing.arbitration.view ≡ fresh journal.session first window)
-      (blank : start.hearing.outgoing.text ≡ []) where
-    begins : start.hearing.arbitration.view.next ≡ first
-    begins = begins_at laws.opening limit journal lines opening first window least most start.hearing.arbitration anew
+      (anew : start.progress.arbitration.view ≡ fresh journal.session first window)
+      (blank : start.progress.outgoing.text ≡ []) where
+    begins : start.progress.arbitration.view.next ≡ first
+    begins = begins_at laws.opening limit journal lines opening first window least most start.progress.arbitration anew
 
-    sound : IsSound left start.hearing
+    sound : IsSound left start.progress
     sound = record {
       honest =
-          begins_honest laws.opening limit journal lines opening first window least most start.hearing.arbitration anew;
-      session = begins_in laws.opening limit journal lines opening first window least most start.hearing.arbitration anew;
+          begins_honest laws.opening limit journal lines opening first window least most start.progress.arbitration anew;
+      session = begins_in laws.opening limit journal lines opening first window least most start.progress.arbitration anew;
     }
 
-    done : HasHeard left (Unit {0}) Good start.hearing end
+    done : HasHeard left (Unit {0}) Good start.progress end
     done = hears_true sound
 
     from : first ≤ end.arbitration.view.next
@@ -378,10 +378,10 @@ module _ {P : Type 0} (laws : LoopLaws P) (reporting : Bool) (drops : Drops) (a 
     text_is =
         let next : ℕ = end.arbitration.view.next in
         done.text
-        ∙ ap (λ (text : List ℕ). text ++ sayings_text done.sayings) blank
-        ∙ ap (λ (sayings : List Saying). sayings_text sayings) (done.plain tt)
-        ∙ text-handing start.hearing.arbitration.view.next
-        (between left.messages start.hearing.arbitration.view.next next)
+        ∙ ap (λ (text : List ℕ). text ++ printed_lines_text done.printed_lines) blank
+        ∙ ap (λ (printed_lines : List PrintedLine). printed_lines_text printed_lines) (done.plain tt)
+        ∙ text-handing start.progress.arbitration.view.next
+        (between left.messages start.progress.arbitration.view.next next)
         ∙ ap (λ (n : ℕ). handed_text n (between left.messages n next)) begins
 
     -- where a line is refused
@@ -426,7 +426,7 @@ module _ {P : Type 0} (laws : LoopLaws P) (reporting : Bool) (drops : Drops) (a 
             (λ answer written.
             (written.1 ∙ two_is, subst (λ (text : List ℕ). Appends old new text) all_is written.0))
             ran.whole;
-        front = subst (λ (text : List ℕ). AppendsFront old new text) all_is ran.front;
+        front = subst (λ (text : List ℕ). AppendsPrefix old new text) all_is ran.front;
       }
 
     -- where none is
@@ -436,14 +436,14 @@ module _ {P : Type 0} (laws : LoopLaws P) (reporting : Bool) (drops : Drops) (a 
       spelled = laws.opening.lines limit journal lines opening unrefused
 
       -- the last lines and the status are a listener's
-      line_is : loop_lines reporting published.journal published.refused end ≡ hearing_lines reporting end
+      line_is : loop_lines reporting published.journal published.refused end ≡ last_lines reporting end
       line_is = ap (λ (refused : Option LineRefusal). loop_lines reporting published.journal refused end) unrefused
 
-      status_is : loop_status published.refused end ≡ hearing_status end
+      status_is : loop_status published.refused end ≡ listener_status end
       status_is = ap (λ (refused : Option LineRefusal). loop_status refused end) unrefused
 
       abbrev ending : ListenerState P
-      ending = record { a = start.a; b = start.b; requests = rounds.requests; hearing = end }
+      ending = record { a = start.a; b = start.b; requests = rounds.requests; progress = end }
 
       comes : HasCome reporting lines first ending result old new
       comes =
@@ -456,11 +456,11 @@ module _ {P : Type 0} (laws : LoopLaws P) (reporting : Bool) (drops : Drops) (a 
                   written.1 ∙ status_is,
                 ))
                 ran.whole;
-            front = subst (λ (line : List ℕ). AppendsFront old new (end.outgoing.text ++ line)) line_is ran.front;
+            front = subst (λ (line : List ℕ). AppendsPrefix old new (end.outgoing.text ++ line)) line_is ran.front;
             from = from;
             to = omega (arith, many, within);
             ahead = done.sound.honest.well_formed.ahead;
-            heard = omega (arith, many, done.sound.honest.known);
+            received = omega (arith, many, done.sound.honest.known);
             all = λ over.
                 let is = (done.sound.honest.ends end.arbitration.view.next
                 (ends_so end.arbitration.view.ended end.arbitration.view.next over)).1 in

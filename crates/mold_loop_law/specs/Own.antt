@@ -2,7 +2,7 @@
 use Rattle.std.specs.Prelude.{◌≡◌, ℕ, List, []}
 use Rattle.std.specs.List.{Contains}
 use Rattle.mold_ports.specs.Ports.{Port}
-use Rattle.mold_feed.specs.Heard.{GivesOnly}
+use Rattle.mold_feed.specs.Received.{GivesOnly}
 use Rattle.mold_loop.specs.Looping.{LineState}
 use Rattle.mold_loop.specs.Repairing.{RepairState}
 

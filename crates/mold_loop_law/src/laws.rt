@@ -3,7 +3,7 @@
 
 ghost use Rattle.std.specs.Prelude.{◌≡◌, ◌+◌, ◌≤◌, Bool, List, [], None, Option, Result, Some, length, ℕ};
 ghost use Rattle.mold_devices.specs.declared.fault.CommandFault.{CommandFault};
-ghost use Rattle.mold_feed.specs.Heard.{PrintsLines, PrintsRefused};
+ghost use Rattle.mold_feed.specs.Received.{PrintsLines, PrintsRefused};
 ghost use Rattle.mold_feed.specs.Sent.{IsOpening};
 ghost use Rattle.mold_loop.specs.Looping.{LineState, LoopRun};
 ghost use Rattle.mold_loop.specs.Repairing.{RepairState};
@@ -33,8 +33,8 @@ pub fn loop_law<D: Datagrams>()
         (rounds rounds_left : RepairState D.Peer) (result : Result ℕ CommandFault) (old new : Option (List ℕ)) →
         IsOpening journal limit → (lines_published journal lines).refused ≡ None →
         IsServer server → journal.max_message ≤ server.max_message →
-        1 ≤ first → first ≤ length lines + 1 → start.hearing.arbitration.view ≡ fresh journal.session first window →
-        start.hearing.outgoing.text ≡ [] → OwnPorts start start_left rounds rounds_left →
+        1 ≤ first → first ≤ length lines + 1 → start.progress.arbitration.view ≡ fresh journal.session first window →
+        start.progress.outgoing.text ≡ [] → OwnPorts start start_left rounds rounds_left →
         LoopRun reporting drops a b to turns limit 0 (lines_published journal lines) server start rounds result old new
         start_left rounds_left → PrintsLines reporting lines first result old new }
     ensures refused { (reporting : Bool) (drops : Drops) (a b to : D.Peer) (turns limit first window : ℕ)
@@ -43,8 +43,8 @@ pub fn loop_law<D: Datagrams>()
         (result : Result ℕ CommandFault) (old new : Option (List ℕ)) →
         IsOpening journal limit → (lines_published journal lines).refused ≡ Some why →
         1 ≤ first → first ≤ length (lines_published journal lines).journal.messages + 1 →
-        start.hearing.arbitration.view ≡ fresh journal.session first window →
-        start.hearing.outgoing.text ≡ [] → OwnPorts start start_left rounds rounds_left →
+        start.progress.arbitration.view ≡ fresh journal.session first window →
+        start.progress.outgoing.text ≡ [] → OwnPorts start start_left rounds rounds_left →
         LoopRun reporting drops a b to turns limit 0 (lines_published journal lines) server start rounds result old new
         start_left rounds_left →
         PrintsRefused lines (length (lines_published journal lines).journal.messages + 1) why first result old new }

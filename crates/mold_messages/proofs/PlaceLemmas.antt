@@ -6,7 +6,7 @@ use Rattle.std.proofs.lemmas.List.{take_rest, drop_min, drop_at, take_all, lengt
 use Rattle.std.proofs.lemmas.List.{length-drop, take-append-le, drop-append-le, take-append-drop}
 use Rattle.std.proofs.lemmas.List.Sums.{sum_by-cons}
 use Rattle.mold_messages.specs.Listed.{byte_count, extended}
-use Rattle.mold_messages.specs.Places.{pieces, IsRising, place}
+use Rattle.mold_messages.specs.Offsets.{pieces, IsRising, place}
 
 pub length-pieces : (start : ℕ) (ends bytes : List ℕ) → length (pieces start ends bytes) ≡ length ends
 unfolding pieces

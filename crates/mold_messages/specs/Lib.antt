@@ -1,3 +1,3 @@
 pub mod Listed
-pub mod Places
+pub mod Offsets
 pub mod Parts

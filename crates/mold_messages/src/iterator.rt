@@ -17,7 +17,7 @@ pub struct MessageIterator<'a> {
 
 impl<'a> Model for MessageIterator<'a> {
     ghost use Rattle.std.specs.Prelude.{ℕ, List, length};
-    ghost use Rattle.mold_messages.specs.Places.{pieces, IsRising};
+    ghost use Rattle.mold_messages.specs.Offsets.{pieces, IsRising};
 
     ghost Value = { List (List ℕ) };
 
@@ -28,7 +28,7 @@ impl<'a> Model for MessageIterator<'a> {
 
 impl<'a> MessageIterator<'a> {
     ghost use Rattle.std.specs.Prelude.{◌≡◌, length};
-    ghost use Rattle.mold_messages.specs.Places.{pieces, IsRising};
+    ghost use Rattle.mold_messages.specs.Offsets.{pieces, IsRising};
 
     pub(crate) fn new(start: usize, ends: &'a [usize], bytes: &'a [u8]) -> MessageIterator<'a>
         requires { IsRising start ends.now (length bytes.now) }

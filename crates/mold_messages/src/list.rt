@@ -4,7 +4,7 @@ ghost use Rattle.std.specs.Prelude.{◌≡◌, ◌-◌, ◌<◌, ◌≤◌, ◌+
 ghost use Rattle.std.specs.Prelude.{OnErr, ◌==◌};
 ghost use Rattle.std.specs.Option.{option_copied};
 ghost use Rattle.mold_messages.specs.Listed.{byte_count, extended, HasRoom, KeepsRoom};
-ghost use Rattle.mold_messages.specs.Places.{place};
+ghost use Rattle.mold_messages.specs.Offsets.{place};
 
 use crate::iterator::MessageIterator;
 use crate::part::part;
@@ -12,7 +12,7 @@ use std::alloc::{AllocError, Global};
 use std::marker::Model;
 
 // Where the message at place `i` begins; behind the last message, where that ends.
-fn place_of(ends: &[usize], i: usize) -> usize
+fn offset_of(ends: &[usize], i: usize) -> usize
     requires { i ≤ length ends.now }
     ensures { result ≡ place 0 ends.now i }
 {
@@ -33,7 +33,7 @@ pub struct MessageList {
 impl Model for MessageList {
     ghost use Rattle.std.specs.Prelude.{length, vec_capacity};
     ghost use Rattle.mold_messages.specs.Listed.{Listed};
-    ghost use Rattle.mold_messages.specs.Places.{pieces, IsRising};
+    ghost use Rattle.mold_messages.specs.Offsets.{pieces, IsRising};
 
     ghost Value = { Listed };
 
@@ -78,8 +78,8 @@ impl MessageList {
         if i >= self.ends.len() {
             return None;
         }
-        let start = place_of(&self.ends, i);
-        let end = place_of(&self.ends, i + 1);
+        let start = offset_of(&self.ends, i);
+        let end = offset_of(&self.ends, i + 1);
         Some(part(&self.bytes, start, end))
     }
 
@@ -89,7 +89,7 @@ impl MessageList {
         requires within { to ≤ length self.now.messages }
         ensures { result ≡ byte_count (take (to - from) (drop from self.now.messages)) }
     {
-        place_of(&self.ends, to) - place_of(&self.ends, from)
+        offset_of(&self.ends, to) - offset_of(&self.ends, from)
     }
 
     /// How many bytes the messages have together, in constant time. They are less than 2 ^ 63 and the
@@ -117,7 +117,7 @@ impl MessageList {
         ensures { result ≡ drop i self.now.messages }
     {
         let first = self.ends.len().min(i);
-        let start = place_of(&self.ends, first);
+        let start = offset_of(&self.ends, first);
         MessageIterator::new(start, &self.ends[first..], &self.bytes)
     }
 
@@ -168,7 +168,7 @@ impl MessageList {
         ensures { self.new ≡ record self.old { messages = take keep self.old.messages } }
     {
         if keep < self.ends.len() {
-            let end = place_of(&self.ends, keep);
+            let end = offset_of(&self.ends, keep);
             self.ends.truncate(keep);
             self.bytes.truncate(end);
         }

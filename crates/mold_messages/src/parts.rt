@@ -11,7 +11,7 @@ use std::alloc::{AllocError, Global};
 use std::marker::Model;
 
 // Where the last of the parts ends.
-fn end_behind(spans: &[(usize, usize)]) -> usize
+fn end_after(spans: &[(usize, usize)]) -> usize
     ensures { result ≡ end_of 0 spans.now }
 {
     match spans.last() {
@@ -146,7 +146,7 @@ impl PartList {
         ensures bytes { self.new.bytes ≡ take self.new.end self.old.bytes }
     {
         self.spans.truncate(keep);
-        let end = end_behind(&self.spans);
+        let end = end_after(&self.spans);
         self.bytes.truncate(end);
     }
 

@@ -15,7 +15,7 @@ pub record Port (P : Type 0) : Type 0 where
   pub sent : List (P × List ℕ)
   pub failures : ℕ
 
--- a receipt in a place of so many bytes: what is longer is cut
+-- a receipt in a buffer of so many bytes: what is longer is cut
 abbrev pub cut : {P : Type 0} → ℕ → Receipt P → Receipt P
 cut n (Datagram from bytes) = Datagram from (take n bytes)
 cut n Quiet = Quiet
@@ -56,8 +56,8 @@ offered false to bytes port = record {
   failures = port.failures;
 }
 
--- what a receive told, by its answer and the place that it filled
+-- what a receive told, by its answer and the buffer that it filled
 abbrev pub receipt_of : {P E : Type 0} → Result (Option (ℕ × P)) E → List ℕ → Receipt P
-receipt_of (Ok (Some found)) place = Datagram found.1 (take found.0 place)
-receipt_of (Ok None) place = Quiet
-receipt_of (Err fault) place = Failure
+receipt_of (Ok (Some found)) buffer = Datagram found.1 (take found.0 buffer)
+receipt_of (Ok None) buffer = Quiet
+receipt_of (Err fault) buffer = Failure

@@ -12,7 +12,7 @@ pub trait Datagrams {
     type Peer: Copy;
 
     // Whether such ports tell what their receives will give and what they sent.
-    ghost tells: { Bool };
+    ghost modeled: { Bool };
 
     // What its receives will give, what it sent, and how often it failed. The count stands at `u64::MAX`
     // once it is there.
@@ -20,16 +20,17 @@ pub trait Datagrams {
 
     /// Sends a datagram.
     fn send(&mut self, to: Self::Peer, bytes: &[u8]) -> Result<(), DeviceFault>
-        ensures sent { tells ≡ true → port self.new ≡ offered (is_err result) to bytes.now (port self.old) }
+        ensures sent { modeled ≡ true → port self.new ≡ offered (is_err result) to bytes.now (port self.old) }
         ensures failures { Counts (port self.old).failures (port self.new).failures result };
 
-    /// Receives a datagram into the front of `place`, and answers its length and its sender; none where
-    /// nothing came in the port's time. What is longer than `place` is cut. After a fault the contents of
-    /// `place` are open.
-    fn receive(&mut self, place: &mut [u8]) -> Result<Option<(usize, Self::Peer)>, DeviceFault>
-        ensures count { IfOk result (λ answer. IfSome answer (λ found. found.0 ≤ length place.new)) }
-        ensures came { tells ≡ true → receipt_of result place.new ≡ cut (length place.new) (next_of (port self.old)) }
-        ensures left { tells ≡ true → port self.new ≡ received (port self.old) }
+    /// Receives a datagram into the front of `buffer`, and answers its length and its sender; none where
+    /// nothing came in the port's time. What is longer than `buffer` is cut. After a fault the contents of
+    /// `buffer` are open.
+    fn receive(&mut self, buffer: &mut [u8]) -> Result<Option<(usize, Self::Peer)>, DeviceFault>
+        ensures count { IfOk result (λ answer. IfSome answer (λ found. found.0 ≤ length buffer.new)) }
+        ensures came { modeled ≡ true →
+            receipt_of result buffer.new ≡ cut (length buffer.new) (next_of (port self.old)) }
+        ensures left { modeled ≡ true → port self.new ≡ received (port self.old) }
         ensures failures { Counts (port self.old).failures (port self.new).failures result };
 
     /// How often it failed to send or to receive, up to `u64::MAX`.

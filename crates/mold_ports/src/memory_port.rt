@@ -99,7 +99,7 @@ impl MemoryPort {
 impl Datagrams for MemoryPort {
     type Peer = u32;
 
-    ghost tells = { true };
+    ghost modeled = { true };
 
     ghost port = { λ s. s.port };
 
@@ -125,10 +125,10 @@ impl Datagrams for MemoryPort {
         Ok(())
     }
 
-    fn receive(&mut self, place: &mut [u8]) -> Result<Option<(usize, u32)>, DeviceFault>
+    fn receive(&mut self, buffer: &mut [u8]) -> Result<Option<(usize, u32)>, DeviceFault>
         // What a port does.
-        ensures count { IfOk result (λ answer. IfSome answer (λ found. found.0 ≤ length place.new)) }
-        ensures came { receipt_of result place.new ≡ cut (length place.new) (next_of self.old.port) }
+        ensures count { IfOk result (λ answer. IfSome answer (λ found. found.0 ≤ length buffer.new)) }
+        ensures came { receipt_of result buffer.new ≡ cut (length buffer.new) (next_of self.old.port) }
         ensures left { self.new.port ≡ received self.old.port }
         ensures failures { Counts self.old.port.failures self.new.port.failures result }
 
@@ -142,8 +142,8 @@ impl Datagrams for MemoryPort {
         self.used += 1;
         match step {
             Step::Come { from, bytes } => {
-                let count = bytes.len().min(place.len());
-                place[..count].copy_from_slice(&bytes[..count]);
+                let count = bytes.len().min(buffer.len());
+                buffer[..count].copy_from_slice(&bytes[..count]);
                 Ok(Some((count, *from)))
             }
             Step::Quiet => Ok(None),

@@ -102,10 +102,10 @@ impl UdpPort {
     }
 
     // Takes a datagram that is here; alone, one that comes in the port's time. It returns none if there is none.
-    fn take(&self, place: &mut [u8]) -> Result<Option<(usize, SocketAddr)>, DeviceFault>
-        ensures { IfOk result (λ answer. IfSome answer (λ found. found.0 ≤ length place.new)) }
+    fn take(&self, buffer: &mut [u8]) -> Result<Option<(usize, SocketAddr)>, DeviceFault>
+        ensures { IfOk result (λ answer. IfSome answer (λ found. found.0 ≤ length buffer.new)) }
     {
-        match self.socket.recv_from(place) {
+        match self.socket.recv_from(buffer) {
             Ok(found) => Ok(Some(found)),
             Err(error) if error.kind() == ErrorKind::WouldBlock => Ok(None),
             Err(_) => Err(DeviceFault),
@@ -139,31 +139,31 @@ impl UdpPort {
     }
 
     // Waits, and takes the datagram that is here then. It returns none if there is none.
-    fn take_after_wait(&self, place: &mut [u8]) -> Result<Option<(usize, SocketAddr)>, DeviceFault>
-        ensures { IfOk result (λ answer. IfSome answer (λ found. found.0 ≤ length place.new)) }
+    fn take_after_wait(&self, buffer: &mut [u8]) -> Result<Option<(usize, SocketAddr)>, DeviceFault>
+        ensures { IfOk result (λ answer. IfSome answer (λ found. found.0 ≤ length buffer.new)) }
     {
         if !self.wait()? {
             return Ok(None);
         }
-        match self.take(place)? {
+        match self.take(buffer)? {
             Some(found) => Ok(Some(found)),
             None => Err(DeviceFault),
         }
     }
 
     // Takes a datagram that is here or comes in the port's time. It returns none if there is none.
-    fn take_in_time(&self, place: &mut [u8]) -> Result<Option<(usize, SocketAddr)>, DeviceFault>
-        ensures { IfOk result (λ answer. IfSome answer (λ found. found.0 ≤ length place.new)) }
+    fn take_in_time(&self, buffer: &mut [u8]) -> Result<Option<(usize, SocketAddr)>, DeviceFault>
+        ensures { IfOk result (λ answer. IfSome answer (λ found. found.0 ≤ length buffer.new)) }
     {
         if self.is_alone() {
-            return self.take(place);
+            return self.take(buffer);
         }
         if self.outlook == Outlook::Busy {
-            if let Some(found) = self.take(place)? {
+            if let Some(found) = self.take(buffer)? {
                 return Ok(Some(found));
             }
         }
-        self.take_after_wait(place)
+        self.take_after_wait(buffer)
     }
 
     // Sends a datagram; beside other ports it waits until the system has room for it.
@@ -191,7 +191,7 @@ impl UdpPort {
 impl Datagrams for UdpPort {
     type Peer = SocketAddr;
 
-    ghost tells = { false };
+    ghost modeled = { false };
 
     ghost port = { λ p. record { comes = []; sent = []; failures = p.failures } };
 
@@ -211,15 +211,15 @@ impl Datagrams for UdpPort {
         }
     }
 
-    fn receive(&mut self, place: &mut [u8]) -> Result<Option<(usize, SocketAddr)>, DeviceFault>
+    fn receive(&mut self, buffer: &mut [u8]) -> Result<Option<(usize, SocketAddr)>, DeviceFault>
         // What a port does.
-        ensures count { IfOk result (λ answer. IfSome answer (λ found. found.0 ≤ length place.new)) }
+        ensures count { IfOk result (λ answer. IfSome answer (λ found. found.0 ≤ length buffer.new)) }
         ensures failures { Counts self.old.failures self.new.failures result }
 
         // Just what this one does.
         ensures outlook { self.new.outlook ≡ after_receive result self.old.outlook }
     {
-        let answer = self.take_in_time(place);
+        let answer = self.take_in_time(buffer);
         self.outlook = match &answer {
             Ok(Some(_)) => Outlook::Busy,
             Ok(None) | Err(_) => self.outlook.after_nothing(),

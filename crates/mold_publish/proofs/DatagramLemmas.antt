@@ -12,7 +12,7 @@ use Rattle.mold_wire.specs.Packing.{packet_length, Fits, IsFront, front}
 use Rattle.mold_session.specs.Datagrams.{data_packet, packing}
 use Rattle.mold_session.specs.Journal.{JournalState, appended}
 use Rattle.mold_session.specs.Publisher.{PublisherState, unsent_of, next_front, next_datagram, after_datagram}
-use Rattle.mold_publish.specs.Sending.{packets_behind}
+use Rattle.mold_publish.specs.Sending.{packets_after}
 use Rattle.mold_publish.specs.Publishing.{PublishedLines, published_from, lines_published, line_outcome}
 use Rattle.mold_publish.specs.Publishing.{HasRoom, IsJustFull}
 use Rattle.mold_publish.specs.declared.line_refusal.LineRefusal.{LineRefusal}
@@ -168,9 +168,9 @@ module _ (laws : PackingLaws) (publisher : PublisherState) (full : IsJustFull pu
         (omega (arith, length-append full.found (full.last ∷ more.more))) full.fits full.more
 
     abbrev pub packets_left : List Packet
-    packets_left = packets_behind publisher.limit (publisher.sent + length full.found) journal
+    packets_left = packets_after publisher.limit (publisher.sent + length full.found) journal
 
-    pub full_packets : packets_behind publisher.limit publisher.sent journal
+    pub full_packets : packets_after publisher.limit publisher.sent journal
         ≡ data_packet publisher.journal.session (publisher.sent + 1) full.found ∷ packets_left
     full_packets =
         laws.first publisher.limit journal.session (publisher.sent + 1) (drop publisher.sent journal.messages)
@@ -220,7 +220,7 @@ module _ (laws : PackingLaws) (publisher : PublisherState) (room : HasRoom publi
         (none_fits publisher.limit (least_limit publisher.limit (unsent_of publisher) room.fits));
   }
 
-  pub room_packets : packets_behind publisher.limit publisher.sent publisher.journal ≡ list_of (next_datagram publisher)
+  pub room_packets : packets_after publisher.limit publisher.sent publisher.journal ≡ list_of (next_datagram publisher)
   room_packets = elim (cases_eq publisher.sent (length publisher.journal.messages)) [
     | inl same ↦
         rw (eq-eqb publisher.sent (length publisher.journal.messages) same)

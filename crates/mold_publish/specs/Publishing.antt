@@ -81,28 +81,28 @@ pub record IsJustFull (publisher : PublisherState) : Type 0 where
   pub more : ¬ Fits publisher.limit (found ++ last ∷ [])
   pub alone : Fits publisher.limit (last ∷ [])
 
-abbrev pub RoomBehind : PublisherState → Filled → Type 0
-RoomBehind publisher Full = IsJustFull publisher
-RoomBehind publisher End = HasRoom publisher
-RoomBehind publisher (Refused why) = HasRoom publisher
+abbrev pub RoomAfter : PublisherState → Filled → Type 0
+RoomAfter publisher Full = IsJustFull publisher
+RoomAfter publisher End = HasRoom publisher
+RoomAfter publisher (Refused why) = HasRoom publisher
 
 -- what the lines that were left are published as, by what is left of them now
-abbrev pub published_behind : JournalState → List ℕ → Filled → PublishedLines
-published_behind journal left Full = lines_published journal (lines_of left)
-published_behind journal left End = record { journal = journal; refused = None }
-published_behind journal left (Refused why) = record { journal = journal; refused = Some why }
+abbrev pub published_with : JournalState → List ℕ → Filled → PublishedLines
+published_with journal left Full = lines_published journal (lines_of left)
+published_with journal left End = record { journal = journal; refused = None }
+published_with journal left (Refused why) = record { journal = journal; refused = Some why }
 
 -- lines were published, those that were known where any were
 abbrev pub LinesPublished : JournalState → JournalState → Option (List ℕ) → Option (List ℕ) → Filled → Type 0
 LinesPublished old new None left filled = ⊤
 LinesPublished old new (Some input) None filled = ⊥
 LinesPublished old new (Some input) (Some left) filled =
-    lines_published old (lines_of input) ≡ published_behind new left filled
+    lines_published old (lines_of input) ≡ published_with new left filled
 
 -- a publisher published lines of what was known to be left, until this was why it published no more;
 -- nothing was put in a datagram meanwhile
 pub record Fills (old new : PublisherState) (known left : Option (List ℕ)) (filled : Filled) : Type 0 where
   pub limit : new.limit ≡ old.limit
   pub sent : new.sent ≡ old.sent
-  pub room : RoomBehind new filled
+  pub room : RoomAfter new filled
   pub lines : LinesPublished old.journal new.journal known left filled

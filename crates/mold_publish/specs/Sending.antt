@@ -16,5 +16,5 @@ abbrev pub end_packet : JournalState → Packet
 end_packet journal = record { session = journal.session; sequence = length journal.messages + 1; body = End }
 
 -- the data packets of a journal's messages behind the first ones
-abbrev pub packets_behind : ℕ → ℕ → JournalState → List Packet
-packets_behind limit sent journal = packing limit journal.session (sent + 1) (drop sent journal.messages)
+abbrev pub packets_after : ℕ → ℕ → JournalState → List Packet
+packets_after limit sent journal = packing limit journal.session (sent + 1) (drop sent journal.messages)

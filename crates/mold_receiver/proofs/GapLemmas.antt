@@ -14,7 +14,7 @@ use Rattle.mold_wire.specs.declared.packet.Body.{Body}
 use Rattle.mold_wire.specs.declared.packet.Body.TheVariants.{Data, End}
 use Rattle.mold_wire.specs.declared.packet.Packet.{Packet}
 use Rattle.mold_rule.specs.Ranges.{lacking}
-use Rattle.mold_rule.specs.declared.refusal.Refusal.{Refusal as Refused}
+use Rattle.mold_rule.specs.declared.refusal.Refusal.{Refusal}
 use Rattle.mold_receiver.specs.Gap.{HandsOn, IsTakenInGap, Took, messages_from}
 use Rattle.mold_receiver.specs.Receive.{data_packet, decide, handed_on, receive_read, reception, refusal, view_after}
 use Rattle.mold_receiver.specs.Store.{Message, available}
@@ -186,7 +186,7 @@ taken_in_gap counts v ms end bytes is read =
     let none = is.none in
     record {
       reception = reception v p;
-      received = ap (receive_read v) read ∙ ap (λ (o : Option Refused). decide o (reception v p)) none;
+      received = ap (receive_read v) read ∙ ap (λ (o : Option Refusal). decide o (reception v p)) none;
       view = refl;
       handed = refl;
       well_formed = takes_well v p is.well none;

@@ -12,7 +12,7 @@ use Rattle.mold_wire.specs.declared.packet.Packet.{Packet}
 use Rattle.mold_wire.specs.declared.packet.Body.{Body}
 use Rattle.mold_wire.specs.declared.packet.Body.TheVariants.{Data, Heartbeat, End}
 use Rattle.mold_wire.specs.declared.session.Session.{Session}
-use Rattle.mold_rule.specs.declared.refusal.Refusal.{Refusal as Refused}
+use Rattle.mold_rule.specs.declared.refusal.Refusal.{Refusal}
 use Rattle.mold_receiver.specs.Honest.{IsHonest, IsTakenHonestly}
 use Rattle.mold_receiver.specs.Receive.{decide, ended_after, receive_read, reception, refusal, view_after}
 use Rattle.mold_receiver.specs.Store.{Message}
@@ -103,7 +103,7 @@ takes_honestly admits v p bytes published closed read honest told same is_true =
     let none = refuses_nothing admits v p published closed honest told same is_true in
     record {
       reception = reception v p;
-      received = ap (receive_read v) read ∙ ap (λ (o : Option Refused). decide o (reception v p)) none;
+      received = ap (receive_read v) read ∙ ap (λ (o : Option Refusal). decide o (reception v p)) none;
       honest = stays_honest v p published closed honest told is_true none;
       handed = λ i m is.
           elim (handed_had v p i m is) [

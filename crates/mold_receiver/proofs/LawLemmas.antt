@@ -15,7 +15,7 @@ use Rattle.mold_wire.specs.Reading.{reading}
 use Rattle.mold_wire.specs.declared.packet.Packet.{Packet}
 use Rattle.mold_wire.specs.declared.request.Request.{Request}
 use Rattle.mold_wire.specs.declared.session.Session.{Session}
-use Rattle.mold_rule.specs.declared.refusal.Refusal.{Refusal as Refused}
+use Rattle.mold_rule.specs.declared.refusal.Refusal.{Refusal}
 use Rattle.mold_rule.specs.declared.refusal.Refusal.TheVariants.{WrongSession}
 use Rattle.mold_receiver.specs.Receive.{IsTakenPacket, Reception, decide, handed_on, receive, receive_read}
 use Rattle.mold_receiver.specs.Receive.{reception, refusal, view_after}
@@ -33,10 +33,10 @@ use Rattle.mold_receiver.proofs.WantedLemmas.{lacking_short, lacking_long, lacki
 pub some_same : {X : Type 0} {x y : X} → ◌≡◌ {A = Option X} (Some x) (Some y) → x ≡ y
 some_same e = cc
 
-same_ok : {x y : Reception} → ◌≡◌ {A = Result Reception Refused} (Ok x) (Ok y) → x ≡ y
+same_ok : {x y : Reception} → ◌≡◌ {A = Result Reception Refusal} (Ok x) (Ok y) → x ≡ y
 same_ok e = cc
 
-err_ok : {x : Refused} {y : Reception} → ◌≡◌ {A = Result Reception Refused} (Err x) (Ok y) → ⊥
+err_ok : {x : Refusal} {y : Reception} → ◌≡◌ {A = Result Reception Refusal} (Err x) (Ok y) → ⊥
 err_ok e = cc
 
 -- past what was heard of nothing is available

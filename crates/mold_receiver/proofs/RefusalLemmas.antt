@@ -9,7 +9,7 @@ use Rattle.mold_wire.specs.Packet.{messages_of}
 use Rattle.mold_wire.specs.declared.error.DecodeError.{DecodeError}
 use Rattle.mold_wire.specs.declared.packet.Packet.{Packet}
 use Rattle.mold_rule.specs.Refusals.{IsAdmitted, first_some, refusal_of, refusals}
-use Rattle.mold_rule.specs.declared.refusal.Refusal.{Refusal as Refused}
+use Rattle.mold_rule.specs.declared.refusal.Refusal.{Refusal}
 use Rattle.mold_rule.specs.declared.refusal.Refusal.TheVariants.{Malformed, Memory}
 use Rattle.mold_receiver.specs.Receive.{Reception, decide, receive_read, reception, refusal}
 use Rattle.mold_receiver.specs.Store.{Message, Store, differs, first_conflict, from_next}
@@ -29,11 +29,11 @@ admitted_none admits v p is same =
     ∙ admits (Some v.session.0) v.known v.ended p is
 
 -- each of some refusals is none
-abbrev pub AllNone : List (Option Refused) → Type 0
+abbrev pub AllNone : List (Option Refusal) → Type 0
 AllNone [] = Unit {0}
 AllNone (r ∷ rs) = (r ≡ None) × AllNone rs
 
-all_none : (rs : List (Option Refused)) → first_some rs ≡ None → AllNone rs
+all_none : (rs : List (Option Refusal)) → first_some rs ≡ None → AllNone rs
 all_none [] none = tt
 all_none (None ∷ rs) none = (refl, all_none rs none)
 all_none (Some r ∷ rs) none = absurd (none_some (sym none))
@@ -51,18 +51,18 @@ abbrev pub NamesNoMemory : Type 0
 NamesNoMemory = (session : Option (List ℕ)) (known : ℕ) (ended number : Option ℕ) (p : Packet) →
     refusal_of session known ended number p ≡ Some Memory → ⊥
 
-same_refused : {r s : Refused} → ◌≡◌ {A = Result Reception Refused} (Err r) (Err s) → r ≡ s
+same_refused : {r s : Refusal} → ◌≡◌ {A = Result Reception Refusal} (Err r) (Err s) → r ≡ s
 same_refused e = cc
 
-ok_err : {r : Reception} {s : Refused} → ◌≡◌ {A = Result Reception Refused} (Ok r) (Err s) → ⊥
+ok_err : {r : Reception} {s : Refusal} → ◌≡◌ {A = Result Reception Refusal} (Ok r) (Err s) → ⊥
 ok_err e = cc
 
-malformed_memory : {e : DecodeError} → ◌≡◌ {A = Refused} (Malformed e) Memory → ⊥
+malformed_memory : {e : DecodeError} → ◌≡◌ {A = Refusal} (Malformed e) Memory → ⊥
 malformed_memory e = cc
 
-decided : (o : Option Refused) (r : Reception) (x : Refused) → decide o r ≡ Err x → o ≡ Some x
+decided : (o : Option Refusal) (r : Reception) (x : Refusal) → decide o r ≡ Err x → o ≡ Some x
 decided None r x is = absurd (ok_err is)
-decided (Some y) r x is = ap (λ (z : Refused). Some z) (same_refused is)
+decided (Some y) r x is = ap (λ (z : Refusal). Some z) (same_refused is)
 
 -- so the receiving rule never answers it
 pub never_memory : NamesNoMemory → (v : View) (read : Result Packet DecodeError) → receive_read v read ≡ Err Memory → ⊥

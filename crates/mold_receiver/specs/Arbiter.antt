@@ -7,7 +7,7 @@ use Rattle.mold_receiver.specs.declared.line.Line.{Line}
 use Rattle.mold_receiver.specs.declared.line.Line.TheVariants.{A, B}
 use Rattle.mold_receiver.specs.declared.line.LineReport.{LineReport}
 use Rattle.mold_receiver.specs.declared.line.LineReports.{LineReports}
-use Rattle.mold_rule.specs.declared.refusal.Refusal.{Refusal as Refused}
+use Rattle.mold_rule.specs.declared.refusal.Refusal.{Refusal}
 use Rattle.mold_rule.specs.declared.refusal.Refusal.TheVariants.{Memory}
 use Rattle.mold_receiver.specs.declared.taken.Taken.{Taken}
 use Rattle.mold_receiver.specs.Batch.{Handed, followed_by}
@@ -63,7 +63,7 @@ reports_refused B reports = record { a = reports.a; b = report_refused reports.b
 
 -- an arbitration when a datagram came, on a line or as the answer to a request, by what the receiving rule
 -- makes of it
-abbrev pub arbitrated : Option Line → List ℕ → Arbitration → Result Reception Refused → Arbitration
+abbrev pub arbitrated : Option Line → List ℕ → Arbitration → Result Reception Refusal → Arbitration
 arbitrated None bytes old (Ok reception) = record { view = reception.view; reports = old.reports }
 arbitrated None bytes old (Err refused) = old
 arbitrated (Some line) bytes old (Ok reception) = record {
@@ -92,7 +92,7 @@ pub record HasArbitrated (line : Option Line) (old : Arbitration) (bytes : List 
 
 -- an arbiter refused a datagram: the memory for a copy was refused, and nothing has changed; or the rule refuses
 -- it, and the arbiter is what the rules say
-abbrev pub HasRefused : Option Line → Arbitration → List ℕ → Arbitration → Refused → Type 0
+abbrev pub HasRefused : Option Line → Arbitration → List ℕ → Arbitration → Refusal → Type 0
 HasRefused line old bytes new refused =
     ((refused ≡ Memory) × IsCopied old.view bytes × (new ≡ old)) ⊎
     ((receive old.view bytes ≡ Err refused) × (new ≡ arbitrates line bytes old))

@@ -11,7 +11,7 @@ use Rattle.mold_wire.specs.declared.packet.Body.TheVariants.{Data, Heartbeat, En
 use Rattle.mold_wire.specs.declared.session.Session.{Session}
 use Rattle.mold_wire.specs.declared.error.DecodeError.{DecodeError}
 use Rattle.mold_rule.specs.Refusals.{refusal_of}
-use Rattle.mold_rule.specs.declared.refusal.Refusal.{Refusal as Refused}
+use Rattle.mold_rule.specs.declared.refusal.Refusal.{Refusal}
 use Rattle.mold_rule.specs.declared.refusal.Refusal.TheVariants.{Malformed, Memory}
 use Rattle.mold_receiver.specs.declared.taken.Taken.{Taken}
 use Rattle.mold_receiver.specs.Batch.{Handed, followed_by}
@@ -20,7 +20,7 @@ use Rattle.mold_receiver.specs.View.{View}
 
 -- why a packet is refused, if it is: the first refusal of the rule. Messages differ where packet and store have
 -- different ones at a number not below `next`
-abbrev pub refusal : View → Packet → Option Refused
+abbrev pub refusal : View → Packet → Option Refusal
 refusal v p =
     refusal_of (Some v.session.0) v.known v.ended
     (first_conflict v.store (from_next v.next p.sequence (messages_of p.body))) p
@@ -102,19 +102,19 @@ abbrev pub data_packet : Session → ℕ → List Message → Packet
 data_packet session sequence messages = record { session = session; sequence = sequence; body = Data messages }
 
 -- a packet is refused or taken
-abbrev pub decide : Option Refused → Reception → Result Reception Refused
+abbrev pub decide : Option Refusal → Reception → Result Reception Refusal
 decide None taken = Ok taken
 decide (Some refused) taken = Err refused
 
-abbrev pub receive_packet : View → Packet → Result Reception Refused
+abbrev pub receive_packet : View → Packet → Result Reception Refusal
 receive_packet v p = decide (refusal v p) (reception v p)
 
-abbrev pub receive_read : View → Result Packet DecodeError → Result Reception Refused
+abbrev pub receive_read : View → Result Packet DecodeError → Result Reception Refusal
 receive_read v (Ok packet) = receive_packet v packet
 receive_read v (Err error) = Err (Malformed error)
 
 -- a datagram is refused or taken
-abbrev pub receive : View → List ℕ → Result Reception Refused
+abbrev pub receive : View → List ℕ → Result Reception Refusal
 receive v bytes = receive_read v (reading bytes)
 
 -- the top of the packet that was read
@@ -146,5 +146,5 @@ pub record IsCopied (v : View) (bytes : List ℕ) : Type 0 where
   pub some : 0 < reception.taken.handed + reception.taken.kept
 
 -- why a datagram is refused: the rule refuses it, or the memory for a copy was refused
-abbrev pub IsRefusedFor : View → List ℕ → Refused → Type 0
+abbrev pub IsRefusedFor : View → List ℕ → Refusal → Type 0
 IsRefusedFor v bytes refused = ((refused ≡ Memory) × IsCopied v bytes) ⊎ (receive v bytes ≡ Err refused)

@@ -4,7 +4,7 @@ use Rattle.std.specs.Prelude.{slice_get, map, is_some, if◌then◌else◌}
 use Rattle.std.specs.FinMap as finite
 use Rattle.std.specs.Option.{option_flatten, option_map}
 use Rattle.mold_receiver.specs.Store.{Message, Store}
-use Rattle.mold_receiver.specs.declared.receiver.TheConstants.{MAX_WINDOW}
+use Rattle.mold_wire.specs.declared.limits.TheConstants.{MAX_WINDOW}
 
 -- a slot, which is empty or has a message
 abbrev pub Slot : Type 0

@@ -6,7 +6,7 @@ use Rattle.std.specs.Ordering.{nat_cmp}
 use Rattle.mold_wire.specs.declared.session.Session.{Session}
 use Rattle.mold_receiver.specs.Slots.{Slot, store_of}
 use Rattle.mold_receiver.specs.Store.{Message, Store}
-use Rattle.mold_receiver.specs.declared.receiver.TheConstants.{MAX_WINDOW}
+use Rattle.mold_wire.specs.declared.limits.TheConstants.{MAX_WINDOW}
 
 pub record View : Type 0 where
   -- the session that it receives

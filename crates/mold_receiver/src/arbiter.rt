@@ -11,7 +11,7 @@ use crate::line::{Line, LineReport, LineReports};
 use crate::origin::Origin;
 use crate::receiver::Receiver;
 use crate::taken::{Accepted, Taken};
-use mold_rule::Refusal as Refused;
+use mold_rule::Refusal;
 use std::marker::Model;
 
 /// A receiver of packets that come on two lines, and what came on each of these. It doesn't matter which
@@ -54,7 +54,7 @@ impl Arbiter {
         origin: Origin,
         bytes: &[u8],
         batch: &mut Batch,
-    ) -> Result<Taken, Refused>
+    ) -> Result<Taken, Refusal>
         requires { Follows batch.old self.old.view.next }
         ensures taken { IfOk result
             (λ taken. HasArbitrated (line_of origin) self.old bytes.now batch.old self.new batch.new taken) }
@@ -95,7 +95,7 @@ impl Arbiter {
 
     /// Takes a datagram that came on a line, as `take_from` does.
     #[inline(always)]
-    pub fn take(&mut self, line: Line, bytes: &[u8], batch: &mut Batch) -> Result<Taken, Refused>
+    pub fn take(&mut self, line: Line, bytes: &[u8], batch: &mut Batch) -> Result<Taken, Refusal>
         requires { Follows batch.old self.old.view.next }
         ensures taken { IfOk result
             (λ taken. HasArbitrated (Some line) self.old bytes.now batch.old self.new batch.new taken) }
@@ -109,7 +109,7 @@ impl Arbiter {
     /// Takes a datagram that a re-request server sent, as `take_from` does. It is on no line, so no report
     /// changes.
     #[inline(always)]
-    pub fn take_answer(&mut self, bytes: &[u8], batch: &mut Batch) -> Result<Taken, Refused>
+    pub fn take_answer(&mut self, bytes: &[u8], batch: &mut Batch) -> Result<Taken, Refusal>
         requires { Follows batch.old self.old.view.next }
         ensures taken { IfOk result
             (λ taken. HasArbitrated None self.old bytes.now batch.old self.new batch.new taken) }

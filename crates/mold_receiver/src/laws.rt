@@ -20,15 +20,9 @@ ghost use Rattle.mold_receiver.specs.Store.{Message, available};
 ghost use Rattle.mold_receiver.specs.View.{View, IsWellFormed, fresh};
 ghost use Rattle.mold_receiver.specs.Wanted.{IsGap, gap_end, gaps, lacks, missing, wanted};
 ghost use Rattle.mold_receiver.specs.Gap.{IsTakenInGap};
-ghost use Rattle.mold_receiver.specs.declared.receiver.TheConstants.{MAX_WINDOW};
 
 use mold_rule::laws::{cause_law, lacking_law, ranges_size_law, refusal_law};
 use mold_wire::laws::{reading_law, true_packet_law};
-
-/// The greatest window, written out.
-pub fn constants_law()
-    ensures { MAX_WINDOW ≡ 65536 }
-{}
 
 /// The new `next` of a packet that is taken is the least number from the old one on that is lacking in what
 /// is available, and what is handed on is what is available there, in order.

@@ -4,7 +4,7 @@ ghost use Rattle.std.specs.Prelude.{◌≡◌};
 ghost use Rattle.mold_receiver.specs.Arbiter.{report_on, report_refused, report_taken, reports_refused, reports_taken};
 ghost use Rattle.mold_rule.specs.declared.refusal.Refusal.TheVariants.{Memory};
 
-use mold_rule::Refusal as Refused;
+use mold_rule::Refusal;
 
 /// A line. Both carry the same packets, so that one stands in for what the other lost.
 #[derive(Clone, Copy, Debug, PartialEq, Eq, Hash)]
@@ -99,12 +99,12 @@ impl LineReports {
     }
 
     /// A datagram was refused on the line; want of memory isn't counted.
-    pub(crate) fn note_refused(&mut self, line: Line, refused: Refused)
+    pub(crate) fn note_refused(&mut self, line: Line, refused: Refusal)
         ensures memory { refused ≡ Memory → self.new ≡ self.old }
         ensures other { (refused ≡ Memory → ⊥) → self.new ≡ reports_refused line self.old }
     {
         match refused {
-            Refused::Memory => {}
+            Refusal::Memory => {}
             _ => self.count_refused(line),
         }
     }

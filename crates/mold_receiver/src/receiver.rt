@@ -26,13 +26,10 @@ use crate::error::ReceiverError;
 use crate::hand::hand_on;
 use crate::slots::Slots;
 use crate::taken::{Accepted, Taken};
-use mold_rule::{Refusal as Refused, check_header};
-use mold_wire::{Blocks, Body, MAX_COUNT, Packet, Request, Session, decode};
+use mold_rule::{Refusal, check_header};
+use mold_wire::{Blocks, Body, MAX_COUNT, MAX_WINDOW, Packet, Request, Session, decode};
 use std::alloc::{AllocError, Global};
 use std::marker::Model;
-
-/// The greatest window, in messages.
-pub const MAX_WINDOW: u32 = 65536;
 
 // How many of a packet's messages lie behind the window, by its top and the number of its messages.
 fn count_beyond(next: u64, window: usize, top: u64, count: u16) -> u32
@@ -44,7 +41,7 @@ fn count_beyond(next: u64, window: usize, top: u64, count: u16) -> u32
 }
 
 // The end that is known when the packet was taken.
-fn told_end(packet: &Packet<'_>, ended: Option<u64>) -> Option<u64>
+fn known_end(packet: &Packet<'_>, ended: Option<u64>) -> Option<u64>
     ensures { result ≡ ended_after packet.now.body packet.now.sequence ended }
 {
     match packet.body {
@@ -182,7 +179,7 @@ impl Receiver {
         ensures handed { handed_on self.old packet.now.sequence (messages_of packet.now.body) ≡ [] }
     {
         self.known = self.known.max(top);
-        self.ended = told_end(packet, self.ended);
+        self.ended = known_end(packet, self.ended);
         Taken {
             handed: 0,
             kept: 0,
@@ -192,14 +189,14 @@ impl Receiver {
 
     // The packet's top, or the first refusal that it meets.
     #[inline(always)]
-    fn check(&self, packet: &Packet<'_>) -> Result<u64, Refused>
+    fn check(&self, packet: &Packet<'_>) -> Result<u64, Refusal>
         ensures top { IfOk result (λ top. top ≡ top_of packet.now) }
         ensures taken { OnOk result (refusal self.now packet.now ≡ None) }
         ensures refused { IfErr result (λ refused. refusal self.now packet.now ≡ Some refused) }
     {
         let top = check_header(packet, Some(self.session), self.known, self.ended)?;
         match conflict_of(&self.slots, self.next, packet, top) {
-            Some(number) => Err(Refused::Conflict { number }),
+            Some(number) => Err(Refusal::Conflict { number }),
             None => Ok(top),
         }
     }
@@ -238,7 +235,7 @@ impl Receiver {
 
     /// Takes a datagram as `take` does, and tells the packet's top too.
     #[inline(always)]
-    pub(crate) fn accept(&mut self, bytes: &[u8], batch: &mut Batch) -> Result<Accepted, Refused>
+    pub(crate) fn accept(&mut self, bytes: &[u8], batch: &mut Batch) -> Result<Accepted, Refusal>
         requires { Follows batch.old self.old.next }
         ensures taken { IfOk result
             (λ accepted. HasTaken self.old bytes.now batch.old self.new batch.new accepted.taken) }
@@ -249,7 +246,7 @@ impl Receiver {
     {
         let packet = match decode(bytes) {
             Ok(packet) => packet,
-            Err(error) => return Err(Refused::Malformed(error)),
+            Err(error) => return Err(Refusal::Malformed(error)),
         };
         let top = self.check(&packet)?;
         match self.take_packet(&packet, top, batch) {
@@ -268,14 +265,14 @@ impl Receiver {
                 },
                 top,
             }),
-            Err(_) => Err(Refused::Memory),
+            Err(_) => Err(Refusal::Memory),
         }
     }
 
     /// Takes a datagram: what it brings is handed on to the end of `batch`, or stored, or known already.
     /// Every refusal but `Memory` is found before any memory is asked for, and after each of them receiver
     /// and batch are as before. The batch must be empty or end just before `next`.
-    pub fn take(&mut self, bytes: &[u8], batch: &mut Batch) -> Result<Taken, Refused>
+    pub fn take(&mut self, bytes: &[u8], batch: &mut Batch) -> Result<Taken, Refusal>
         requires { Follows batch.old self.old.next }
         ensures taken { IfOk result (λ taken. HasTaken self.old bytes.now batch.old self.new batch.new taken) }
         ensures refused { IfErr result (λ refused. IsRefusedFor self.old bytes.now refused) }

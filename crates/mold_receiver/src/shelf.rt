@@ -7,8 +7,8 @@ ghost use Rattle.std.specs.Option.{option_copied};
 ghost use Rattle.mold_receiver.specs.Keeping.{is_fresh, put_fresh};
 ghost use Rattle.mold_receiver.specs.Shelf.{IsKept, joined, message_in, slots_on};
 ghost use Rattle.mold_receiver.specs.Slots.{slot_at, count_held, IsFirstHeld};
-ghost use Rattle.mold_receiver.specs.declared.receiver.TheConstants.{MAX_WINDOW};
-ghost use Rattle.mold_receiver.specs.declared.shelf.TheConstants.{LEAST_WASTE, WASTE_OF_A_SLOT};
+ghost use Rattle.mold_wire.specs.declared.limits.TheConstants.{MAX_WINDOW};
+ghost use Rattle.mold_receiver.specs.declared.shelf.TheConstants.{MIN_WASTE, WASTE_OF_A_SLOT};
 
 use crate::ring::{advance, close_up, empty_ring, span_in, write};
 use crate::span::Span;
@@ -16,10 +16,10 @@ use circular_buffer::HeapCircularBuffer;
 use std::alloc::{AllocError, Global};
 
 // The most bytes: an offset is a number of 32 bits.
-const MOST_BYTES: usize = u32::MAX as usize;
+const MAX_BYTES: usize = u32::MAX as usize;
 
 // Packing never starts below this much waste, in bytes that belong to no message.
-const LEAST_WASTE: usize = 65536;
+const MIN_WASTE: usize = 65536;
 
 // Nor below this much for each slot that packing walks.
 const WASTE_OF_A_SLOT: usize = 32;
@@ -121,7 +121,7 @@ impl Shelf {
         ensures used { self.new.used ≤ length self.old.bytes.items }
     {
         let begin = self.bytes.len();
-        if bytes.len() > MOST_BYTES - begin {
+        if bytes.len() > MAX_BYTES - begin {
             return Err(AllocError);
         }
         self.bytes.extend_from_slice(bytes)?;
@@ -204,10 +204,10 @@ impl Shelf {
         ensures kept { IsKept self.new }
         ensures same { slots_on self.new ≡ slots_on self.old }
         ensures borne { OnOk result (length self.new.bytes.items - self.new.used ≤
-            max (max LEAST_WASTE (WASTE_OF_A_SLOT * self.new.reach)) self.new.used) }
+            max (max MIN_WASTE (WASTE_OF_A_SLOT * self.new.reach)) self.new.used) }
     {
         let walk = WASTE_OF_A_SLOT * self.reach;
-        let borne = LEAST_WASTE.max(walk).max(self.used);
+        let borne = MIN_WASTE.max(walk).max(self.used);
         if self.bytes.len() - self.used <= borne {
             return Ok(());
         }

@@ -11,14 +11,14 @@ use Rattle.mold_receiver.specs.Receive.{HasTaken, Reception, data_packet, handed
 use Rattle.mold_receiver.specs.Store.{Message}
 use Rattle.mold_receiver.specs.View.{View, IsWellFormed}
 use Rattle.mold_receiver.specs.Wanted.{IsGap, missing}
-use Rattle.mold_rule.specs.declared.refusal.Refusal.{Refusal as Refused}
+use Rattle.mold_rule.specs.declared.refusal.Refusal.{Refusal}
 use Rattle.mold_receiver.specs.declared.taken.Taken.{Taken}
 use Rattle.mold_rounds.proofs.RoundsLemmas.{leaves_gap}
 use Rattle.mold_rounds.specs.CatchUp.{filled, message_of}
 use Rattle.mold_rounds.specs.Taking.{Awaits, TakesOne}
 use Rattle.mold_session.specs.Answer.{PlanState, IsSpent, SendsNext, moved, next_packet, next_part, planned}
 use Rattle.mold_session.specs.Journal.{JournalState}
-use Rattle.mold_session.specs.Truthful.{TellsTruth}
+use Rattle.mold_session.specs.Truthful.{IsTrueDatagram}
 use Rattle.mold_wire.specs.Packet.{Spells}
 use Rattle.mold_wire.specs.Truth.{Carries, IsTruePacket, published_at}
 use Rattle.mold_wire.specs.declared.packet.Packet.{Packet}
@@ -54,7 +54,7 @@ CarriesPublished = (packet : Packet) (published : List Message) (closed : Bool) 
 pub comes : TakesInGap → OnePacket → CarriesPublished → (v : View) (journal : JournalState) (limit : ℕ)
     (plan : PlanState) (bytes : List ℕ) → Awaits v journal plan → (IsSpent plan → ⊥) →
     SendsNext journal.messages limit plan → Spells (next_packet journal.messages limit plan) bytes →
-    TellsTruth journal bytes → Comes v journal limit plan bytes
+    IsTrueDatagram journal bytes → Comes v journal limit plan bytes
 comes takes one carries v journal limit plan bytes awaits more sends spelled truth =
     let part : List Message = next_part journal.messages limit plan in
     let at = awaits.gap (has_more plan awaits.ordered more) in
@@ -81,7 +81,7 @@ comes takes one carries v journal limit plan bytes awaits more sends spelled tru
 -- what is received is one thing
 one_reception : (v : View) (bytes : List ℕ) (r s : Reception) → receive v bytes ≡ Ok r → receive v bytes ≡ Ok s → r ≡ s
 one_reception v bytes r s one other =
-    ap (λ (x : Result Reception Refused). result_unwrap_or x r) (sym one ∙ other)
+    ap (λ (x : Result Reception Refusal). result_unwrap_or x r) (sym one ∙ other)
 
 -- what is handed on is what was published or stored with its number
 hands_filled : (v w : View) (journal : JournalState) (limit : ℕ) (plan : PlanState) (bytes : List ℕ) →
@@ -149,7 +149,7 @@ takes_one v w before after journal limit plan behind bytes told is has now =
     }
 
 -- nothing but memory refuses the packet
-pub never_refused : (v : View) (bytes : List ℕ) (r : Reception) (refused : Refused) → receive v bytes ≡ Ok r →
+pub never_refused : (v : View) (bytes : List ℕ) (r : Reception) (refused : Refusal) → receive v bytes ≡ Ok r →
     receive v bytes ≡ Err refused → ⊥
 never_refused v bytes r refused taken not_taken =
-    true≢false (ap (λ (x : Result Reception Refused). is_ok x) (sym taken ∙ not_taken))
+    true≢false (ap (λ (x : Result Reception Refusal). is_ok x) (sym taken ∙ not_taken))

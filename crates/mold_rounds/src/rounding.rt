@@ -12,7 +12,7 @@ ghost use Rattle.mold_session.specs.Server.{IsServer, counted};
 
 use crate::memory::Memory;
 use mold_receiver::laws::{followed_law, round_law, wanted_law};
-use mold_receiver::{Batch, Receiver, Refused};
+use mold_receiver::{Batch, Receiver, Refusal};
 use mold_rule::laws::ranges_walk_law;
 use mold_session::laws::{
     answer_not_empty_law, answered_law, first_part_law, packing_law, planned_law,
@@ -51,7 +51,7 @@ pub fn take_next(
     match receiver.take(datagram, batch) {
         Ok(_) => Ok(true),
         Err(error) => match error {
-            Refused::Memory => Err(Memory),
+            Refusal::Memory => Err(Memory),
             // The datagram is true of the session, so no other refusal applies.
             _ => unreachable!(),
         },

@@ -5,7 +5,7 @@ use Rattle.std.specs.Prelude.{IfSome, IfOk, IsErr, OnOk}
 use Rattle.std.proofs.lemmas.List.{drop_all}
 use Rattle.std.specs.Io.KnownBytes.{Appends}
 use Rattle.std.proofs.KnownBytes.{Appends-nil}
-use Rattle.mold_devices.specs.Devices.{AppendsFront}
+use Rattle.mold_devices.specs.Devices.{AppendsPrefix}
 use Rattle.mold_devices.specs.declared.fault.CommandFault.{CommandFault}
 use Rattle.mold_session.specs.File.{AppendsFile}
 use Rattle.hex.specs.Hex.{decode_of}
@@ -20,7 +20,7 @@ use Rattle.mold_send.proofs.SendingLemmas.{AllSent, ended, sends_more}
 use Rattle.mold_publish.specs.Publishing.{packed_status}
 use Rattle.mold_send.specs.PublishLoop.{PublicationState, PublishRun, Saves, Sends, SendsLines, all_datagrams, after_data, both, close_datagrams}
 use Rattle.mold_turns.specs.Outgoing.{OutgoingState, nothing_out, with_more}
-use Rattle.mold_send.specs.PublishLoop.{data_behind, failed_after, published_line, offer, publication_of, published_text}
+use Rattle.mold_send.specs.PublishLoop.{data_after, failed_after, published_line, offer, publication_of, published_text}
 use Rattle.mold_send.specs.PublishLoop.{closed_unless, left_journal, saved_bytes}
 use Rattle.mold_publish.specs.Publishing.{PublishedLines, lines_published, published_from, line_outcome, refused_text, HasRoom}
 use Rattle.mold_publish.specs.declared.line_refusal.LineRefusal.{LineRefusal}
@@ -44,7 +44,7 @@ pub run_from : {P : Type 0} (a b : P) (beats ends : ℕ) (start : PublisherState
     (journal : JournalState) (refused : Option LineRefusal) (front : List (List ℕ)) (result : Result ℕ CommandFault)
     (before after : Port P) (text_old text_new file_old file_new : Option (List ℕ)) → start.sent ≡ 0 →
     start.journal.closed ≡ false → IfSome known (AllSent start journal refused front) →
-    (data_behind start.limit 0 (record { journal = journal; refused = refused }) ≡ front → journal.closed ≡ false →
+    (data_after start.limit 0 (record { journal = journal; refused = refused }) ≡ front → journal.closed ≡ false →
     PublishRun a b beats ends start.limit (record { journal = journal; refused = refused }) result before after text_old
     text_new file_old file_new) →
     IfSome known (λ input. PublishRun a b beats ends start.limit (lines_published start.journal (lines_of input)) result
@@ -56,12 +56,12 @@ run_from {P} a b beats ends start (Some input) journal refused front result befo
     PublishRun a b beats ends start.limit p result before after text_old text_new file_old file_new)
     (sym all.1)
     (run
-    (ap (λ (p : PublishedLines). data_behind start.limit 0 p) (sym all.1)
-    ∙ ap (λ (n : ℕ). data_behind start.limit n (lines_published start.journal (lines_of input))) (sym none)
+    (ap (λ (p : PublishedLines). data_after start.limit 0 p) (sym all.1)
+    ∙ ap (λ (n : ℕ). data_after start.limit n (lines_published start.journal (lines_of input))) (sym none)
     ∙ all.0)
     (ap (λ (p : PublishedLines). p.journal.closed) (sym all.1) ∙ still_open (lines_of input) start.journal ∙ unclosed))
 
-pub no_front : (known : Option (List ℕ)) (text : List ℕ) → AppendsFront known known text
+pub no_front : (known : Option (List ℕ)) (text : List ℕ) → AppendsPrefix known known text
 no_front known text = record { front = []; rest = text; parts = refl; appended = Appends-nil known }
 
 -- after a fault
@@ -69,8 +69,8 @@ pub run_cut : {P : Type 0} (a b : P) (beats ends limit : ℕ) (published : Publi
     (before : Port P) (mid : PublicationState P) (text_old text_new file_old file_new : Option (List ℕ))
     (front : List (List ℕ)) → IsErr result → Sends (both a b front) (publication_of before nothing_out) mid →
     Begins front (all_datagrams limit beats ends published) →
-    ((failed : ℕ) → AppendsFront text_old text_new (published_text limit published failed)) →
-    AppendsFront file_old file_new (saved_bytes published.journal published.refused) →
+    ((failed : ℕ) → AppendsPrefix text_old text_new (published_text limit published failed)) →
+    AppendsPrefix file_old file_new (saved_bytes published.journal published.refused) →
     PublishRun a b beats ends limit published result before mid.port text_old text_new file_old file_new
 run_cut {P} a b beats ends limit published result before mid text_old text_new file_old file_new front failed sends begins text file =
     let rest = ended a b begins.rest mid in
@@ -98,11 +98,11 @@ run_unread a b beats ends start now None report result before none failed count 
 run_unread {P} {E} a b beats ends start now (Some input) report result before none failed count after text file zeroed unsent bad sent =
     let published = lines_published start.journal (lines_of input) in
     let begins =
-    subst (λ (n : ℕ). Begins sent.front (data_behind start.limit n published)) unsent sent.begins in
+    subst (λ (n : ℕ). Begins sent.front (data_after start.limit n published)) unsent sent.begins in
     run_cut a b beats ends start.limit published result before (publication_of after failed) text text file file sent.front bad
     (subst (λ (o : OutgoingState). Sends (both a b sent.front) (publication_of before o) (publication_of after failed)) zeroed sent.sends)
     (begins_trans begins
-    (begins_more (data_behind start.limit 0 published) (after_data beats ends published.journal published.refused)))
+    (begins_more (data_after start.limit 0 published) (after_data beats ends published.journal published.refused)))
     (λ lost. no_front text (published_text start.limit published lost))
     (no_front file (saved_bytes published.journal published.refused))
 
@@ -114,8 +114,8 @@ pub run_whole : {P : Type 0} (a b : P) (beats ends limit : ℕ) (published : Pub
     IfOk result (λ status. Appends text_old text_new (published_text limit published end.outgoing.failures)
     × (status ≡ packed_status published.refused)) →
     OnOk result (Saves published.journal published.refused file_old file_new) →
-    AppendsFront text_old text_new (published_text limit published end.outgoing.failures) →
-    AppendsFront file_old file_new (saved_bytes published.journal published.refused) →
+    AppendsPrefix text_old text_new (published_text limit published end.outgoing.failures) →
+    AppendsPrefix file_old file_new (saved_bytes published.journal published.refused) →
     PublishRun a b beats ends limit published result before end.port text_old text_new file_old file_new
 run_whole a b beats ends limit published result before end text_old text_new file_old file_new sends text file text_front file_front =
     record {
@@ -132,7 +132,7 @@ run_whole a b beats ends limit published result before end text_old text_new fil
 -- the data and what is behind them, one after the other
 pub all_sends : {P : Type 0} (a b : P) (beats ends limit : ℕ) (journal : JournalState) (front : List (List ℕ))
     (before : Port P) (none : OutgoingState) (mid end : PublicationState P) → none ≡ nothing_out →
-    data_behind limit 0 (record { journal = journal; refused = None }) ≡ front →
+    data_after limit 0 (record { journal = journal; refused = None }) ≡ front →
     Sends (both a b front) (publication_of before none) mid →
     Sends (both a b (close_datagrams beats ends journal)) mid end →
     Sends (both a b (all_datagrams limit beats ends (record { journal = journal; refused = None })))
@@ -146,7 +146,7 @@ all_sends {P} a b beats ends limit journal front before none mid end zeroed whol
 
 pub refused_sends : {P : Type 0} (a b : P) (beats ends limit : ℕ) (journal : JournalState) (why : LineRefusal)
     (front : List (List ℕ)) (before : Port P) (none : OutgoingState) (end : PublicationState P) → none ≡ nothing_out →
-    data_behind limit 0 (record { journal = journal; refused = Some why }) ≡ front →
+    data_after limit 0 (record { journal = journal; refused = Some why }) ≡ front →
     Sends (both a b front) (publication_of before none) end →
     Sends (both a b (all_datagrams limit beats ends (record { journal = journal; refused = Some why })))
     (publication_of before nothing_out) end
@@ -187,7 +187,7 @@ pub run_refused : {P E : Type 0} (a b : P) (beats ends : ℕ) (start now : Publi
     none ≡ nothing_out → start.sent ≡ 0 → start.journal.closed ≡ false →
     SendsLines {E = E} a b start now known (Ok (Some why)) (publication_of before none) (publication_of after failed) count →
     number ≡ length now.journal.messages + 1 → out ≡ with_more (refused_text number why) failed →
-    AppendsFront text_old text_new out.text →
+    AppendsPrefix text_old text_new out.text →
     IfOk result (λ status. Appends text_old text_new out.text × (status ≡ 2)) →
     IfSome known (λ input. PublishRun a b beats ends start.limit (lines_published start.journal (lines_of input)) result
     before after text_old text_new file file)
@@ -207,7 +207,7 @@ run_refused {P} {E} a b beats ends start now known why result before none failed
     whole_data sent.sends)
     (subst (λ (t : List ℕ). IfOk result (λ status. Appends text_old text_new t × (status ≡ 2))) same report)
     (on_ok result refl)
-    (subst (λ (t : List ℕ). AppendsFront text_old text_new t) same text)
+    (subst (λ (t : List ℕ). AppendsPrefix text_old text_new t) same text)
     (no_front file []))
 
 -- The session was closed, and its journal is the one that is saved. What is printed is known where no text stood
@@ -222,10 +222,10 @@ run_closed : {P E : Type 0} (a b : P) (beats ends : ℕ) (start now : PublisherS
     (lost.text ≡ [] → IfOk result (λ status.
     Appends text_old text_new (published_line (length now.journal.messages) count lost.failures) × (status ≡ 0))) →
     (lost.text ≡ [] →
-    AppendsFront text_old text_new (published_line (length now.journal.messages) count lost.failures)) →
+    AppendsPrefix text_old text_new (published_line (length now.journal.messages) count lost.failures)) →
     saved ≡ closed_unless None now.journal →
     OnOk result (AppendsFile file_old file_new saved.session saved.messages saved.closed) →
-    (saved.closed ≡ true → AppendsFront file_old file_new (saved_bytes saved None)) →
+    (saved.closed ≡ true → AppendsPrefix file_old file_new (saved_bytes saved None)) →
     IfSome known (λ input. PublishRun a b beats ends start.limit (lines_published start.journal (lines_of input)) result
     before after text_old text_new file_old file_new)
 run_closed {P} {E} a b beats ends start now known result before none failed lost count mid after text_old text_new
@@ -233,7 +233,7 @@ run_closed {P} {E} a b beats ends start now known result before none failed lost
     run_from a b beats ends start known now.journal None sent.front result before after text_old text_new file_old
     file_new unsent unclosed sent.whole
     (λ whole_data shut.
-    let same : count ≡ length (data_behind start.limit 0 (record { journal = now.journal; refused = None })) =
+    let same : count ≡ length (data_after start.limit 0 (record { journal = now.journal; refused = None })) =
     sent.counted ∙ ap (λ (ds : List (List ℕ)). length ds) (sym whole_data) in
     let empty : lost.text ≡ [] =
     text_kept a b (close_datagrams beats ends now.journal) (publication_of mid failed) (publication_of after lost)
@@ -247,9 +247,9 @@ run_closed {P} {E} a b beats ends start now known result before none failed lost
     Appends text_old text_new (published_line (length now.journal.messages) n lost.failures) × (status ≡ 0))) same
     (report empty))
     (subst (λ (j : JournalState). OnOk result (AppendsFile file_old file_new j.session j.messages j.closed)) is file)
-    (subst (λ (n : ℕ). AppendsFront text_old text_new (published_line (length now.journal.messages) n lost.failures)) same
+    (subst (λ (n : ℕ). AppendsPrefix text_old text_new (published_line (length now.journal.messages) n lost.failures)) same
     (text empty))
-    (subst (λ (j : JournalState). AppendsFront file_old file_new (saved_bytes j None)) is
+    (subst (λ (j : JournalState). AppendsPrefix file_old file_new (saved_bytes j None)) is
     (front (ap (λ (j : JournalState). j.closed) is))))
 
 -- a fault before anything was printed
@@ -261,7 +261,7 @@ pub run_unsaved : {P E : Type 0} (a b : P) (beats ends : ℕ) (start now : Publi
     (now.journal.closed ≡ false →
     Sends (both a b (close_datagrams beats ends now.journal)) (publication_of mid failed) (publication_of after lost)) →
     saved ≡ closed_unless None now.journal → IsErr result →
-    (saved.closed ≡ true → AppendsFront file_old file_new (saved_bytes saved None)) →
+    (saved.closed ≡ true → AppendsPrefix file_old file_new (saved_bytes saved None)) →
     IfSome known (λ input. PublishRun a b beats ends start.limit (lines_published start.journal (lines_of input)) result
     before after text text file_old file_new)
 run_unsaved {P} {E} a b beats ends start now known result before none failed lost count mid after text file_old file_new
@@ -285,9 +285,9 @@ pub run_printed : {P E : Type 0} (a b : P) (beats ends : ℕ) (start now : Publi
     saved ≡ closed_unless None now.journal → many ≡ length now.journal.messages →
     out ≡ with_more (published_line many count lost.failures) lost →
     IfOk result (λ status. Appends text_old text_new out.text × (status ≡ 0)) →
-    AppendsFront text_old text_new out.text →
+    AppendsPrefix text_old text_new out.text →
     OnOk result (AppendsFile file_old file_new saved.session saved.messages saved.closed) →
-    (saved.closed ≡ true → AppendsFront file_old file_new (saved_bytes saved None)) →
+    (saved.closed ≡ true → AppendsPrefix file_old file_new (saved_bytes saved None)) →
     IfSome known (λ input. PublishRun a b beats ends start.limit (lines_published start.journal (lines_of input)) result
     before after text_old text_new file_old file_new)
 run_printed {P} {E} a b beats ends start now known result before none failed lost out count many mid after text_old
@@ -300,7 +300,7 @@ run_printed {P} {E} a b beats ends start now known result before none failed los
     file_new saved zeroed unsent unclosed sent closes
     (λ empty. subst (λ (t : List ℕ). IfOk result (λ status. Appends text_old text_new t × (status ≡ 0))) (line empty)
     report)
-    (λ empty. subst (λ (t : List ℕ). AppendsFront text_old text_new t) (line empty) text)
+    (λ empty. subst (λ (t : List ℕ). AppendsPrefix text_old text_new t) (line empty) text)
     is
     file
     front

@@ -14,12 +14,12 @@ use Rattle.mold_session.specs.Journal.{JournalState}
 use Rattle.mold_session.specs.Publisher.{Lends, PublisherState, next_datagram, after_datagram}
 use Rattle.mold_turns.specs.Runs.{Begins}
 use Rattle.mold_turns.proofs.RunLemmas.{begins_more, begins_trans, begins_whole, none_answered, none_ok}
-use Rattle.mold_publish.specs.Sending.{all_but_last, packets_behind}
+use Rattle.mold_publish.specs.Sending.{all_but_last, packets_after}
 use Rattle.mold_ports.specs.Ports.{Port}
 use Rattle.mold_send.specs.PublishLoop.{IsSame, IsSameLines, PublicationState, Sends, SendsBoth, SendsLines, both, lines_state}
 use Rattle.mold_send.specs.declared.publication.Publication.{Publication}
 use Rattle.mold_send.specs.declared.sending.TwoLines.{TwoLines}
-use Rattle.mold_send.specs.PublishLoop.{data_behind, offer, packets_to_send}
+use Rattle.mold_send.specs.PublishLoop.{data_after, offer, packets_to_send}
 use Rattle.mold_send.specs.PublishLoop.{spelled_some}
 use Rattle.mold_publish.specs.Publishing.{PublishedLines, lines_published, HasRoom, IsJustFull, Fills}
 use Rattle.mold_publish.specs.declared.line_refusal.LineRefusal.{LineRefusal}
@@ -131,18 +131,18 @@ first_kept packet (next ∷ packets) some = refl
 
 -- the first packet of several is sent first
 first_sent : (limit sent then : ℕ) (journal : JournalState) (packet : Packet) (refused : Option LineRefusal) →
-    packets_behind limit sent journal ≡ packet ∷ packets_behind limit then journal →
-    0 < length (packets_behind limit then journal) →
+    packets_after limit sent journal ≡ packet ∷ packets_after limit then journal →
+    0 < length (packets_after limit then journal) →
     packets_to_send limit sent journal refused ≡ packet ∷ packets_to_send limit then journal refused
 first_sent limit sent then journal packet None packets some = packets
 first_sent limit sent then journal packet (Some why) packets some =
     ap (λ (ps : List Packet). all_but_last ps) packets
-    ∙ first_kept packet (packets_behind limit then journal) some
+    ∙ first_kept packet (packets_after limit then journal) some
 
 pub full_data : PackingLaws → (now : PublisherState) → IsJustFull now → (lines : List (List ℕ)) →
-    data_behind now.limit now.sent (lines_published now.journal lines)
+    data_after now.limit now.sent (lines_published now.journal lines)
     ≡ spelled_some (next_datagram now)
-    ++ data_behind now.limit (after_datagram now).sent (lines_published now.journal lines)
+    ++ data_after now.limit (after_datagram now).sent (lines_published now.journal lines)
 full_data laws now full lines =
     let published = lines_published now.journal lines in
     let more = grown lines now.journal in
@@ -150,10 +150,10 @@ full_data laws now full lines =
     ap (λ (ps : List Packet). map spelling_of ps)
     (first_sent now.limit now.sent (now.sent + length full.found) published.journal packet published.refused
     (full_packets laws now full published.journal more) (more_packets laws now full published.journal more))
-    ∙ ap (λ (d : Option Packet). spelled_some d ++ data_behind now.limit (now.sent + length full.found) published)
+    ∙ ap (λ (d : Option Packet). spelled_some d ++ data_after now.limit (now.sent + length full.found) published)
     (sym (full_datagram laws now full))
     ∙ ap (λ (ms : List (List ℕ)).
-    spelled_some (next_datagram now) ++ data_behind now.limit (now.sent + length ms) published)
+    spelled_some (next_datagram now) ++ data_after now.limit (now.sent + length ms) published)
     (sym (full_front laws now full))
 
 -- what is lent is the datagram of the packet
@@ -173,8 +173,8 @@ abbrev pub LeftToSend : PublisherState → PublisherState → Option (List ℕ) 
 LeftToSend start now None left front = Unit {0}
 LeftToSend start now (Some input) None front = ⊥
 LeftToSend start now (Some input) (Some left) front =
-    (data_behind start.limit start.sent (lines_published start.journal (lines_of input))
-    ≡ front ++ data_behind now.limit now.sent (lines_published now.journal (lines_of left)))
+    (data_after start.limit start.sent (lines_published start.journal (lines_of input))
+    ≡ front ++ data_after now.limit now.sent (lines_published now.journal (lines_of left)))
     × (lines_published start.journal (lines_of input) ≡ lines_published now.journal (lines_of left))
 
 pub record SentSoFar {P : Type 0} (a b : P) (start now : PublisherState) (known left : Option (List ℕ))
@@ -196,11 +196,11 @@ sent_none a b start known publication count none =
 -- the same data by another publisher of the same limit and the same messages sent
 data_same : (one other : PublisherState) (first second : PublishedLines) → other.limit ≡ one.limit →
     other.sent ≡ one.sent → first ≡ second →
-    data_behind one.limit one.sent first ≡ data_behind other.limit other.sent second
+    data_after one.limit one.sent first ≡ data_after other.limit other.sent second
 data_same one other first second limit sent same =
-    ap (λ (n : ℕ). data_behind n one.sent first) (sym limit)
-    ∙ ap (λ (n : ℕ). data_behind other.limit n first) (sym sent)
-    ∙ ap (data_behind other.limit other.sent) same
+    ap (λ (n : ℕ). data_after n one.sent first) (sym limit)
+    ∙ ap (λ (n : ℕ). data_after other.limit n first) (sym sent)
+    ∙ ap (data_after other.limit other.sent) same
 
 pub left_full : PackingLaws → (start before now : PublisherState) (known left behind : Option (List ℕ))
     (front : List (List ℕ)) → LeftToSend start before known left front → Fills before now left behind Full →
@@ -214,7 +214,7 @@ left_full laws start before now (Some input) (Some xs) (Some ys) front so_far fi
       (data_same before now _ (lines_published now.journal (lines_of ys)) filled.limit filled.sent filled.lines
       ∙ full_data laws now filled.room (lines_of ys))
       ∙ sym (append_assoc front (spelled_some (next_datagram now))
-      (data_behind now.limit (after_datagram now).sent (lines_published now.journal (lines_of ys)))),
+      (data_after now.limit (after_datagram now).sent (lines_published now.journal (lines_of ys)))),
   so_far.1 ∙ filled.lines,
 )
 
@@ -238,7 +238,7 @@ sent_full {P} laws a b start before now after known left behind old mid new coun
 -- a fault: what was offered is a beginning
 pub begun : (start now : PublisherState) (known left : Option (List ℕ)) (front : List (List ℕ)) →
     LeftToSend start now known left front → IfSome known (λ input.
-    Begins front (data_behind start.limit start.sent (lines_published start.journal (lines_of input))))
+    Begins front (data_after start.limit start.sent (lines_published start.journal (lines_of input))))
 begun start now None left front so_far = tt
 begun start now (Some input) None front so_far = absurd so_far
 begun start now (Some input) (Some xs) front so_far = record { rest = _; parts = so_far.0 }
@@ -274,12 +274,12 @@ sent_not a b start last known result old count failed = record {
 -- all the data were offered
 abbrev pub AllSent : PublisherState → JournalState → Option LineRefusal → List (List ℕ) → List ℕ → Type 0
 AllSent start journal refused front input =
-    (data_behind start.limit start.sent (lines_published start.journal (lines_of input)) ≡ front)
+    (data_after start.limit start.sent (lines_published start.journal (lines_of input)) ≡ front)
     × (lines_published start.journal (lines_of input) ≡ record { journal = journal; refused = refused })
 
 pub begun_all : (start : PublisherState) (journal : JournalState) (refused : Option LineRefusal) (known : Option (List ℕ))
     (front : List (List ℕ)) → IfSome known (AllSent start journal refused front) → IfSome known (λ input.
-    Begins front (data_behind start.limit start.sent (lines_published start.journal (lines_of input))))
+    Begins front (data_after start.limit start.sent (lines_published start.journal (lines_of input))))
 begun_all start journal refused None front all = tt
 begun_all start journal refused (Some input) front all =
     record { rest = []; parts = all.0 ∙ sym (append-nil front) }

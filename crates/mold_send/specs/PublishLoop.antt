@@ -7,7 +7,7 @@ use Rattle.mold_wire.specs.Block.{blocks}
 use Rattle.mold_wire.specs.Packet.{spelling_of}
 use Rattle.mold_wire.specs.declared.packet.Packet.{Packet}
 use Rattle.mold_wire.specs.declared.packet.Body.TheVariants.{Heartbeat}
-use Rattle.mold_devices.specs.Devices.{AppendsFront, one_more}
+use Rattle.mold_devices.specs.Devices.{AppendsPrefix, one_more}
 use Rattle.mold_devices.specs.Lines.{lines_of}
 use Rattle.mold_devices.specs.declared.fault.CommandFault.{CommandFault}
 use Rattle.mold_devices.specs.declared.fault.CommandFault.TheVariants.{Read, Write, Memory}
@@ -20,7 +20,7 @@ use Rattle.mold_turns.specs.Outgoing.{OutgoingState, failed_once, nothing_out}
 use Rattle.mold_turns.specs.Runs.{Begins}
 use Rattle.mold_send.specs.declared.publication.Publication.{Publication}
 use Rattle.mold_send.specs.declared.sending.TwoLines.{TwoLines}
-use Rattle.mold_publish.specs.Sending.{all_but_last, end_packet, packets_behind}
+use Rattle.mold_publish.specs.Sending.{all_but_last, end_packet, packets_after}
 use Rattle.mold_publish.specs.Publishing.{packed_status, PublishedLines, lines_published, refused_text}
 use Rattle.mold_publish.specs.declared.line_refusal.LineRefusal.{LineRefusal}
 
@@ -83,12 +83,12 @@ spelled_some (Some packet) = spelling_of packet ∷ []
 -- the data packets of the messages behind the first ones; all but the last where the line after the
 -- messages is refused
 abbrev pub packets_to_send : ℕ → ℕ → JournalState → Option LineRefusal → List Packet
-packets_to_send limit sent journal None = packets_behind limit sent journal
-packets_to_send limit sent journal (Some why) = all_but_last (packets_behind limit sent journal)
+packets_to_send limit sent journal None = packets_after limit sent journal
+packets_to_send limit sent journal (Some why) = all_but_last (packets_after limit sent journal)
 
 -- their datagrams
-abbrev pub data_behind : ℕ → ℕ → PublishedLines → List (List ℕ)
-data_behind limit sent published =
+abbrev pub data_after : ℕ → ℕ → PublishedLines → List (List ℕ)
+data_after limit sent published =
     map spelling_of (packets_to_send limit sent published.journal published.refused)
 
 -- the heartbeat of a session whose messages are all sent
@@ -108,7 +108,7 @@ after_data beats ends journal (Some why) = []
 -- all datagrams that are offered
 abbrev pub all_datagrams : ℕ → ℕ → ℕ → PublishedLines → List (List ℕ)
 all_datagrams limit beats ends published =
-    data_behind limit 0 published ++ after_data beats ends published.journal published.refused
+    data_after limit 0 published ++ after_data beats ends published.journal published.refused
 
 -- the last line: how many messages, data datagrams and failed sends there were
 abbrev pub published_line : ℕ → ℕ → ℕ → List ℕ
@@ -123,7 +123,7 @@ report_text journal (Some why) datagrams failed = refused_text (length journal.m
 
 abbrev pub published_text : ℕ → PublishedLines → ℕ → List ℕ
 published_text limit published failed =
-    report_text published.journal published.refused (length (data_behind limit 0 published)) failed
+    report_text published.journal published.refused (length (data_after limit 0 published)) failed
 
 -- the file of the closed journal; nothing where a line is refused
 abbrev pub saved_bytes : JournalState → Option LineRefusal → List ℕ
@@ -152,9 +152,9 @@ pub record SendsLines {P E : Type 0} (a b : P) (start now : PublisherState) (kno
   pub sends : Sends (both a b front) old new
   pub counted : OnOk result (count ≡ length front)
   pub begins : IfSome known (λ input.
-      Begins front (data_behind start.limit start.sent (lines_published start.journal (lines_of input))))
+      Begins front (data_after start.limit start.sent (lines_published start.journal (lines_of input))))
   pub whole : IfOk result (λ refused. IfSome known (λ input.
-      (data_behind start.limit start.sent (lines_published start.journal (lines_of input)) ≡ front)
+      (data_after start.limit start.sent (lines_published start.journal (lines_of input)) ≡ front)
       × (lines_published start.journal (lines_of input) ≡ record { journal = now.journal; refused = refused })))
 
 -- a publication does so, and counts the datagrams
@@ -179,8 +179,8 @@ pub record PublishRun {P : Type 0} (a b : P) (beats ends limit : ℕ) (published
       × (status ≡ packed_status published.refused))
   pub file : OnOk result (Saves published.journal published.refused file_old file_new)
   pub sent_front : Begins after.sent end.port.sent
-  pub text_front : AppendsFront text_old text_new (published_text limit published end.outgoing.failures)
-  pub file_front : AppendsFront file_old file_new (saved_bytes published.journal published.refused)
+  pub text_front : AppendsPrefix text_old text_new (published_text limit published end.outgoing.failures)
+  pub file_front : AppendsPrefix file_old file_new (saved_bytes published.journal published.refused)
 
 -- which counts rise with which fault: the source's with `Read`, that of one of the two sinks with `Write`, none
 -- with `Memory`

@@ -1,7 +1,7 @@
 //! What publishes a session on two lines.
 
 ghost use Rattle.std.specs.Prelude.{◌≡◌, ◌+◌, ◌≤◌, [], true, false, None, length, replicate, IfErr, IfOk, IfSome, OnOk};
-ghost use Rattle.mold_devices.specs.Devices.{AppendsFront, Counts};
+ghost use Rattle.mold_devices.specs.Devices.{AppendsPrefix, Counts};
 ghost use Rattle.mold_devices.specs.Faults.{CountsRead};
 ghost use Rattle.mold_devices.specs.Lines.{lines_of};
 ghost use Rattle.mold_turns.specs.Outgoing.{nothing_out, with_more};
@@ -30,7 +30,7 @@ fn save_journal<K: Sink>(journal: &Journal, sink: &mut K) -> Result<(), CommandF
     ensures whole { OnOk result (AppendsFile (K.held sink.old) (K.held sink.new)
         journal.now.session journal.now.messages journal.now.closed) }
     ensures front { journal.now.closed ≡ true →
-        AppendsFront (K.held sink.old) (K.held sink.new) (saved_bytes journal.now None) }
+        AppendsPrefix (K.held sink.old) (K.held sink.new) (saved_bytes journal.now None) }
     ensures fault { IfErr result (λ fault. fault ≡ CommandFault.Write) }
     ensures failures { Counts (K.failed sink.old) (K.failed sink.new) result }
 {
@@ -82,7 +82,7 @@ impl<'a, 'p, D: Datagrams> Publication<'a, 'p, D> {
     // one.
     fn send_next(&mut self)
         requires { self.old.datagrams ≤ self.old.publisher.now.sent }
-        ensures sends { D.tells ≡ true →
+        ensures sends { D.modeled ≡ true →
             SendsBoth D.port (spelled_some (next_datagram self.old.publisher.now)) self.old.lines self.new.lines }
         ensures counted { self.new.datagrams
             ≡ self.old.datagrams + length (spelled_some (next_datagram self.old.publisher.now)) }
@@ -101,7 +101,7 @@ impl<'a, 'p, D: Datagrams> Publication<'a, 'p, D> {
     fn send_lines<S: Source>(&mut self, source: &mut S) -> Result<Option<LineRefusal>, ReadFault>
         requires room { HasRoom self.old.publisher.now }
         requires none { self.old.datagrams ≡ 0 }
-        ensures sends { D.tells ≡ true → SendsInput D.port (S.left source.old) result self.old self.new }
+        ensures sends { D.modeled ≡ true → SendsInput D.port (S.left source.old) result self.old self.new }
         ensures all { IfOk result (λ refused. refused ≡ None →
             self.new.publisher.now.sent ≡ length self.new.publisher.now.journal.messages) }
         ensures same { IsSame self.old self.new }
@@ -126,7 +126,7 @@ impl<'a, 'p, D: Datagrams> Publication<'a, 'p, D> {
     // Sends the publisher's heartbeat so often.
     fn send_beats(&mut self, beats: u32)
         requires sent { self.old.publisher.now.sent ≡ length self.old.publisher.now.journal.messages }
-        ensures sends { D.tells ≡ true → self.old.publisher.now.journal.closed ≡ false → SendsBoth D.port
+        ensures sends { D.modeled ≡ true → self.old.publisher.now.journal.closed ≡ false → SendsBoth D.port
             (replicate beats (spelling_of (beat_packet self.old.publisher.now.journal))) self.old.lines self.new.lines }
         ensures publisher { self.new.publisher ≡ self.old.publisher }
         ensures datagrams { self.new.datagrams ≡ self.old.datagrams }
@@ -140,7 +140,7 @@ impl<'a, 'p, D: Datagrams> Publication<'a, 'p, D> {
     // Sends the end packet of a closed publisher so often.
     fn send_ends(&mut self, ends: u32)
         requires closed { self.old.publisher.now.journal.closed ≡ true }
-        ensures sends { D.tells ≡ true → SendsBoth D.port
+        ensures sends { D.modeled ≡ true → SendsBoth D.port
             (replicate ends (spelling_of (end_packet self.old.publisher.now.journal))) self.old.lines self.new.lines }
         ensures publisher { self.new.publisher ≡ self.old.publisher }
         ensures datagrams { self.new.datagrams ≡ self.old.datagrams }
@@ -155,7 +155,7 @@ impl<'a, 'p, D: Datagrams> Publication<'a, 'p, D> {
     // many end packets, each to `a` and then to `b`.
     fn send_close(&mut self, beats: u32, ends: u32)
         requires { self.old.publisher.now.sent ≡ length self.old.publisher.now.journal.messages }
-        ensures sends { D.tells ≡ true → self.old.publisher.now.journal.closed ≡ false → SendsBoth D.port
+        ensures sends { D.modeled ≡ true → self.old.publisher.now.journal.closed ≡ false → SendsBoth D.port
             (close_datagrams beats ends self.old.publisher.now.journal) self.old.lines self.new.lines }
         ensures closed { self.new.publisher.now ≡ closed self.old.publisher.now }
         ensures datagrams { self.new.datagrams ≡ self.old.datagrams }
@@ -180,13 +180,13 @@ impl<'a, 'p, D: Datagrams> Publication<'a, 'p, D> {
         requires empty { self.old.publisher.now.journal.messages ≡ [] }
         requires unsent { self.old.datagrams ≡ 0 }
         requires quiet { self.old.lines.outgoing.now ≡ nothing_out }
-        ensures run { D.tells ≡ true → IfSome (S.left source.old) (λ input. PublishRun
+        ensures run { D.modeled ≡ true → IfSome (S.left source.old) (λ input. PublishRun
             self.old.lines.a.now self.old.lines.b.now
             closing.beats closing.ends self.old.publisher.now.limit
             (lines_published self.old.publisher.now.journal (lines_of input))
             result (D.port self.old.lines.port.now) (D.port self.new.lines.port.now)
             (K.held sink.old) (K.held sink.new) (J.held journal_sink.old) (J.held journal_sink.new)) }
-        ensures journal { IfOk result (λ _. D.tells ≡ true → IfSome (S.left source.old) (λ input.
+        ensures journal { IfOk result (λ _. D.modeled ≡ true → IfSome (S.left source.old) (λ input.
             self.new.publisher.now.journal
             ≡ left_journal (lines_published self.old.publisher.now.journal (lines_of input)))) }
         ensures same { IsSame self.old self.new }

@@ -37,10 +37,10 @@ pub fn publish_loop<D: Datagrams, S: Source, K: Sink, J: Sink>(
 ) -> Result<u8, CommandFault>
     requires unclosed { publisher.old.journal.closed ≡ false }
     requires empty { publisher.old.journal.messages ≡ [] }
-    ensures run { D.tells ≡ true → IfSome (S.left source.old) (λ input. PublishRun a b beats ends publisher.old.limit
+    ensures run { D.modeled ≡ true → IfSome (S.left source.old) (λ input. PublishRun a b beats ends publisher.old.limit
         (lines_published publisher.old.journal (lines_of input)) result (D.port port.old) (D.port port.new)
         (K.held sink.old) (K.held sink.new) (J.held journal_sink.old) (J.held journal_sink.new)) }
-    ensures journal { IfOk result (λ _. D.tells ≡ true → IfSome (S.left source.old) (λ input.
+    ensures journal { IfOk result (λ _. D.modeled ≡ true → IfSome (S.left source.old) (λ input.
         publisher.new.journal ≡ left_journal (lines_published publisher.old.journal (lines_of input)))) }
     ensures failures { CountsPublish (S.failed source.old) (S.failed source.new) (K.failed sink.old)
         (K.failed sink.new) (J.failed journal_sink.old) (J.failed journal_sink.new) result }
@@ -71,12 +71,12 @@ pub fn publish<D: Datagrams, S: Source + Drop, K: Sink + Drop, J: Sink + Drop>(
 ) -> Result<u8, CommandFault>
     requires unclosed { publisher.old.journal.closed ≡ false }
     requires empty { publisher.old.journal.messages ≡ [] }
-    ensures run { D.tells ≡ true → IfSome (S.left devices.old.source) (λ input.
+    ensures run { D.modeled ≡ true → IfSome (S.left devices.old.source) (λ input.
         PublishRun options.a options.b options.beats options.ends publisher.old.limit
         (lines_published publisher.old.journal (lines_of input)) result (D.port port.old) (D.port port.new)
         (K.held devices.old.sink) (K.held devices.new.sink)
         (J.held devices.old.journal) (J.held devices.new.journal)) }
-    ensures journal { IfOk result (λ _. D.tells ≡ true → IfSome (S.left devices.old.source) (λ input.
+    ensures journal { IfOk result (λ _. D.modeled ≡ true → IfSome (S.left devices.old.source) (λ input.
         publisher.new.journal ≡ left_journal (lines_published publisher.old.journal (lines_of input)))) }
     ensures failures { CountsPublish (S.failed devices.old.source) (S.failed devices.new.source)
         (K.failed devices.old.sink) (K.failed devices.new.sink)

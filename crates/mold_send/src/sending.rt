@@ -21,7 +21,7 @@ pub(crate) struct TwoLines<'a, 'p, D: Datagrams> {
 impl<'a, 'p, D: Datagrams> TwoLines<'a, 'p, D> {
     // Sends a datagram, and counts where it failed.
     fn send_one(&mut self, to: D::Peer, datagram: &[u8])
-        ensures sends { D.tells ≡ true →
+        ensures sends { D.modeled ≡ true →
             Sends ((to, datagram.now) ∷ []) (lines_state D.port self.old) (lines_state D.port self.new) }
         ensures same { IsSameLines self.old self.new }
     {
@@ -32,7 +32,7 @@ impl<'a, 'p, D: Datagrams> TwoLines<'a, 'p, D> {
 
     /// Sends a datagram to `a` and then to `b`.
     pub(crate) fn send_both(&mut self, datagram: &[u8])
-        ensures sends { D.tells ≡ true → SendsBoth D.port (datagram.now ∷ []) self.old self.new }
+        ensures sends { D.modeled ≡ true → SendsBoth D.port (datagram.now ∷ []) self.old self.new }
         ensures same { IsSameLines self.old self.new }
     {
         self.send_one(*self.a, datagram);
@@ -41,7 +41,7 @@ impl<'a, 'p, D: Datagrams> TwoLines<'a, 'p, D> {
 
     /// Sends a datagram to both so often.
     pub(crate) fn send_often(&mut self, datagram: &[u8], times: u32)
-        ensures sends { D.tells ≡ true → SendsBoth D.port (replicate times datagram.now) self.old self.new }
+        ensures sends { D.modeled ≡ true → SendsBoth D.port (replicate times datagram.now) self.old self.new }
         ensures same { IsSameLines self.old self.new }
     {
         for _time in 0..times {

@@ -144,13 +144,13 @@ serving_is {P} service = record {
 -- ---- a turn by what was received
 
 -- what was received in a place of 65,507 bytes is met
-pub turn_by : {P : Type 0} (service : Service) (fails : List Bool) (responder : ResponderState P) (receipt : Receipt P) (place : ℕ) →
-    place ≡ MAX_LIMIT → receipt ≡ cut place (next_of responder.port) →
+pub turn_by : {P : Type 0} (service : Service) (fails : List Bool) (responder : ResponderState P) (receipt : Receipt P) (buffer : ℕ) →
+    buffer ≡ MAX_LIMIT → receipt ≡ cut buffer (next_of responder.port) →
     serve_turn service fails responder
     ≡ met service fails receipt
     (record { port = received responder.port; tally = responder.tally; requests = responder.requests })
 unfolding serve_turn
-turn_by {P} service fails responder receipt place long is =
+turn_by {P} service fails responder receipt buffer long is =
     ap
     (λ (r : Receipt P).
     met service fails r (record { port = received responder.port; tally = responder.tally; requests = responder.requests }))
@@ -158,13 +158,13 @@ turn_by {P} service fails responder receipt place long is =
 
 -- where what was received is met, a turn is made
 pub turn_met : {P T E : Type 0} (result : Result T E) (service : Service) (fails : List Bool) (old new : ResponderState P)
-    (receipt : Receipt P) (place : ℕ) (port : Port P) → place ≡ MAX_LIMIT → receipt ≡ cut place (next_of old.port) →
+    (receipt : Receipt P) (buffer : ℕ) (port : Port P) → buffer ≡ MAX_LIMIT → receipt ≡ cut buffer (next_of old.port) →
     port ≡ received old.port →
     Reaches result new
     (met service fails receipt (record { port = port; tally = old.tally; requests = old.requests })) →
     Reaches result new (serve_turn service fails old)
-turn_met {P} {T} {E} result service fails old new receipt place port long is left reached =
-    subst (λ (s : ResponderState P). Reaches result new s) (sym (turn_by service fails old receipt place long is))
+turn_met {P} {T} {E} result service fails old new receipt buffer port long is left reached =
+    subst (λ (s : ResponderState P). Reaches result new s) (sym (turn_by service fails old receipt buffer long is))
     (subst
     (λ (p : Port P).
     Reaches result new

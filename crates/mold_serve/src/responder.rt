@@ -31,7 +31,7 @@ impl<'a, D: Datagrams> Responder<'a, D> {
         requires longest { MayAnswer self.old }
         requires session { plan.old.session ≡ self.old.journal.now.session }
         requires to { plan.old.to ≤ length self.old.journal.now.messages + 1 }
-        ensures offered { D.tells ≡ true → MatchResult result
+        ensures offered { D.modeled ≡ true → MatchResult result
             (λ more. OffersNext to result more
             (left_of (service self.old) plan.old) (left_of (service self.old) plan.new)
             (state D.port self.old) (state D.port self.new))
@@ -61,7 +61,7 @@ impl<'a, D: Datagrams> Responder<'a, D> {
         requires longest { MayAnswer self.old }
         requires session { plan.old.session ≡ self.old.journal.now.session }
         requires to { plan.old.to ≤ length self.old.journal.now.messages + 1 }
-        ensures offered { D.tells ≡ true → (fails : List Bool) × Reaches result (state D.port self.new)
+        ensures offered { D.modeled ≡ true → (fails : List Bool) × Reaches result (state D.port self.new)
             (offer_all to (left_of (service self.old) plan.old) fails (state D.port self.old)) }
         ensures same { IsSame self.old self.new }
     {
@@ -74,7 +74,7 @@ impl<'a, D: Datagrams> Responder<'a, D> {
     /// was done.
     pub(crate) fn answer(&mut self, from: D::Peer, request: &[u8]) -> Result<(), AllocError>
         requires { MayAnswer self.old }
-        ensures replied { D.tells ≡ true → (fails : List Bool) × Reaches result (state D.port self.new)
+        ensures replied { D.modeled ≡ true → (fails : List Bool) × Reaches result (state D.port self.new)
             (replied from fails (reply (service self.old) request.now) (state D.port self.old)) }
         ensures same { IsSame self.old self.new }
     {
@@ -85,16 +85,16 @@ impl<'a, D: Datagrams> Responder<'a, D> {
         }
     }
 
-    /// Makes a turn: one receive, and what it gave is met. `place` has `MAX_LIMIT` bytes.
-    pub fn take_turn(&mut self, place: &mut [u8]) -> Result<(), AllocError>
+    /// Makes a turn: one receive, and what it gave is met. `buffer` has `MAX_LIMIT` bytes.
+    pub fn take_turn(&mut self, buffer: &mut [u8]) -> Result<(), AllocError>
         requires longest { MayAnswer self.old }
-        requires place { length place.old ≡ MAX_LIMIT }
-        ensures turn { D.tells ≡ true → (fails : List Bool) × Reaches result (state D.port self.new)
+        requires buffer { length buffer.old ≡ MAX_LIMIT }
+        ensures turn { D.modeled ≡ true → (fails : List Bool) × Reaches result (state D.port self.new)
             (serve_turn (service self.old) fails (state D.port self.old)) }
         ensures same { IsSame self.old self.new }
     {
-        match self.port.receive(place) {
-            Ok(Some((len, from))) => self.answer(from, &place[..len]),
+        match self.port.receive(buffer) {
+            Ok(Some((len, from))) => self.answer(from, &buffer[..len]),
             Ok(None) => {
                 self.tally.add_quiet();
                 Ok(())
@@ -110,33 +110,33 @@ impl<'a, D: Datagrams> Responder<'a, D> {
     fn take_turns<K: Sink>(
         &mut self,
         turns: u64,
-        place: &mut [u8],
+        buffer: &mut [u8],
         sink: &mut K,
     ) -> Result<(), CommandFault>
         requires longest { MayAnswer self.old }
-        requires place { length place.old ≡ MAX_LIMIT }
-        ensures rests { D.tells ≡ true → Rests (serving (service self.old)) behind turns (state D.port self.old)
+        requires buffer { length buffer.old ≡ MAX_LIMIT }
+        ensures rests { D.modeled ≡ true → Rests (serving (service self.old)) behind turns (state D.port self.old)
             result (K.held sink.old) (K.held sink.new) (state D.port self.new) }
         ensures same { IsSame self.old self.new }
         ensures sink { CountsSink (K.failed sink.old) (K.failed sink.new) result }
     {
         for _turn in 0..turns {
-            self.take_turn(place)?;
+            self.take_turn(buffer)?;
             self.tally.outgoing.send_large(sink)?;
         }
         Ok(())
     }
 
-    /// Makes the turns, prints the last line, and answers the status, which is 0. `place` has `MAX_LIMIT` bytes.
+    /// Makes the turns, prints the last line, and answers the status, which is 0. `buffer` has `MAX_LIMIT` bytes.
     pub(crate) fn serve<K: Sink>(
         &mut self,
         turns: u64,
-        place: &mut [u8],
+        buffer: &mut [u8],
         sink: &mut K,
     ) -> Result<u8, CommandFault>
         requires longest { MayAnswer self.old }
-        requires place { length place.old ≡ MAX_LIMIT }
-        ensures run { D.tells ≡ true → Ran (serving (service self.old)) turns
+        requires buffer { length buffer.old ≡ MAX_LIMIT }
+        ensures run { D.modeled ≡ true → Ran (serving (service self.old)) turns
             (state D.port self.old) (λ responder. served_line responder.tally) (λ responder. 0)
             (λ responder. (D.port self.new.port.now ≡ responder.port)
             × (self.new.server.now ≡ served_by self.old.server.now responder))
@@ -144,7 +144,7 @@ impl<'a, D: Datagrams> Responder<'a, D> {
         ensures same { IsSame self.old self.new }
         ensures sink { CountsSink (K.failed sink.old) (K.failed sink.new) result }
     {
-        self.take_turns(turns, place, sink)?;
+        self.take_turns(turns, buffer, sink)?;
         self.tally.push_last()?;
         self.tally.outgoing.send(sink)?;
         Ok(0)

@@ -27,7 +27,7 @@ pub fn answer_request<D: Datagrams>(
     tally: &mut Tally,
 ) -> Result<(), AllocError>
     requires { journal.now.max_message ≤ server.old.max_message }
-    ensures replied { D.tells ≡ true → (fails : List Bool) × Reaches result
+    ensures replied { D.modeled ≡ true → (fails : List Bool) × Reaches result
         (responder_of (D.port port.new) tally.new server.new)
         (replied from fails (reply (service_of journal.now server.old) request.now)
         (responder_of (D.port port.old) tally.old server.old)) }
@@ -56,19 +56,19 @@ pub fn serve_loop<D: Datagrams, K: Sink>(
     sink: &mut K,
 ) -> Result<u8, CommandFault>
     requires { journal.now.max_message ≤ server.old.max_message }
-    ensures run { D.tells ≡ true → Ran (serving (service_of journal.now server.old)) turns
+    ensures run { D.modeled ≡ true → Ran (serving (service_of journal.now server.old)) turns
         (responder_of (D.port port.old) no_tally server.old) (λ responder. served_line responder.tally) (λ responder. 0)
         (λ responder. (D.port port.new ≡ responder.port) × (server.new ≡ served_by server.old responder))
         result (K.held sink.old) (K.held sink.new) (D.port port.new).sent }
     ensures sink { CountsSink (K.failed sink.old) (K.failed sink.new) result }
 {
     let mut tally = Tally::new(alloc);
-    let mut place = vec![in alloc; 0; MAX_LIMIT]?;
+    let mut buffer = vec![in alloc; 0; MAX_LIMIT]?;
     let mut responder = Responder {
         port,
         server,
         journal,
         tally: &mut tally,
     };
-    responder.serve(turns, place.as_mut_slice(), sink)
+    responder.serve(turns, buffer.as_mut_slice(), sink)
 }

@@ -20,12 +20,12 @@ use Rattle.mold_session.proofs.OneFaultLemmas.{short_or_headed, foreign_or_heade
 -- no block more is taken there: nothing is left, or what is left is refused
 data Stops (count : ℕ) (rest : List ℕ) : Type 0 where
   Over : rest ≡ [] → Stops count rest
-  Refused : (error : FileError) → IsFaultAt 65535 count rest error → Stops count rest
+  Refusal : (error : FileError) → IsFaultAt 65535 count rest error → Stops count rest
 
 no_block_stopped : (count len : ℕ) (message more rest : List ℕ) → count + len < 18446744073709551614 →
     length message < 65536 → rest ≡ block message ++ more → Stops count rest → ⊥
 no_block_stopped count len message more rest few within starts (Over none) = no_block message more (sym starts ∙ none)
-no_block_stopped count len message more rest few within starts (Refused error fault) =
+no_block_stopped count len message more rest few within starts (Refusal error fault) =
     let full = full_at_block 65535 count message more rest error (omega arith) (omega (arith, within)) starts fault in
     absurd (omega (arith, few, full.1))
 
@@ -80,7 +80,7 @@ data Parted (bytes : List ℕ) (messages : List (List ℕ)) : Type 0 where
 before : (bytes : List ℕ) (messages : List (List ℕ)) (error : FileError) → AreBefore bytes messages error →
     Parted bytes messages
 before bytes messages error are =
-    Headed are.rest are.front (Refused error (fault_at 65535 (length messages) are.rest error are.fault))
+    Headed are.rest are.front (Refusal error (fault_at 65535 (length messages) are.rest error are.fault))
 
 parted : (bytes : List ℕ) (messages : List (List ℕ)) (fault : Option FileError) → Gives bytes messages fault →
     Parted bytes messages

@@ -4,8 +4,8 @@ use Rattle.std.specs.Prelude.{IfSome, IfErr, unwrap_or, if◌then◌else◌}
 use Rattle.std.specs.Io.KnownBytes.{Consumes, prepend_known}
 use Rattle.std.proofs.KnownBytes.{prepend_known-nil}
 use Rattle.mold_wire.specs.Block.{blocks}
-use Rattle.mold_session.specs.File.{AppendsFileFront, head_2}
-use Rattle.mold_session.specs.FileFault.{IsBehind1, IsBehind2, BlocksFault, IsMiscounted, JournalFault}
+use Rattle.mold_session.specs.File.{AppendsFilePrefix, head_2}
+use Rattle.mold_session.specs.FileFault.{IsBody1, IsBody2, BlocksFault, IsMiscounted, JournalFault}
 use Rattle.mold_session.specs.Journal.{AreMessages}
 use Rattle.mold_session.specs.Loading.{head_spelling, IsStated, ReadsHead, SpellsFile, Refuses}
 use Rattle.mold_session.specs.Reader.{CountFault}
@@ -17,7 +17,7 @@ use Rattle.mold_session.proofs.HeadLemmas.{behind_1, behind_2, count_at, refused
 
 -- the blocks follow a head of either version
 pub behind_head : (session : List ℕ) (closed : Bool) (stated : Option ℕ) (bytes behind : List ℕ) → length session ≡ 10 →
-    bytes ≡ head_spelling session closed stated ++ behind → IsBehind1 bytes behind ⊎ IsBehind2 bytes behind
+    bytes ≡ head_spelling session closed stated ++ behind → IsBody1 bytes behind ⊎ IsBody2 bytes behind
 behind_head session closed None bytes behind ten parts = inl (behind_1 session bytes behind ten parts)
 behind_head session closed (Some count) bytes behind ten parts =
     inr (behind_2 session bytes behind closed count ten parts)
@@ -153,7 +153,7 @@ of_version (Some bytes) head messages (Some count) spelled = inr (refl, spelled)
 
 pub begins_upgrade : (known old new : Option (List ℕ)) (head : FileHead) (messages : List (List ℕ))
     (close closed : Bool) → IfSome known (λ bytes. SpellsFile head messages head.stated bytes) →
-    closed ≡ (if head.closed then true else close) → AppendsFileFront old new head.session messages closed →
+    closed ≡ (if head.closed then true else close) → AppendsFilePrefix old new head.session messages closed →
     BeginsUpgrade known old new close
 begins_upgrade known old new head messages close closed spelled is begun = record {
   version = version_of head.stated;
@@ -161,5 +161,5 @@ begins_upgrade known old new head messages close closed spelled is begun = recor
   messages = messages;
   was = head.closed;
   loaded = of_version known head messages head.stated spelled;
-  saved = subst (AppendsFileFront old new head.session messages) is begun;
+  saved = subst (AppendsFilePrefix old new head.session messages) is begun;
 }

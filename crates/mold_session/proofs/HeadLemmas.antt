@@ -10,7 +10,7 @@ use Rattle.std.specs.Io.KnownBytes.{Consumes}
 use Rattle.byteorder.specs.Endian.{big_number}
 use Rattle.mold_wire.specs.Block.{be64}
 use Rattle.mold_session.specs.File.{magic_1, magic_2, closed_byte, head_1, head_2}
-use Rattle.mold_session.specs.FileFault.{IsBehind1, IsBehind2, JournalFault}
+use Rattle.mold_session.specs.FileFault.{IsBody1, IsBody2, JournalFault}
 use Rattle.mold_session.specs.Loading.{NumbersFault, Refuses}
 use Rattle.mold_session.specs.declared.error.FileError.{FileError}
 use Rattle.mold_session.specs.declared.error.FileError.TheVariants.{TooLong, Memory, BadMagic, Short, BlockCut, Read, Write, Full, CountDiffers, BadFlag}
@@ -54,7 +54,7 @@ length-head_2 session closed count ten =
 
 -- what follows a head of version 1
 pub behind_1 : (session bytes behind : List ℕ) → length session ≡ 10 → bytes ≡ head_1 session ++ behind →
-    IsBehind1 bytes behind
+    IsBody1 bytes behind
 behind_1 session bytes behind ten parts = record {
   magic =
       ap (take 8) (parts ∙ append_assoc magic_1 session behind)
@@ -82,7 +82,7 @@ flag_at session bytes behind closed count ten parts =
 
 -- and one of version 2
 pub behind_2 : (session bytes behind : List ℕ) (closed : Bool) (count : ℕ) → length session ≡ 10 →
-    bytes ≡ head_2 session closed count ++ behind → IsBehind2 bytes behind
+    bytes ≡ head_2 session closed count ++ behind → IsBody2 bytes behind
 behind_2 session bytes behind closed count ten parts = record {
   magic =
       ap (take 8) (parts ∙ append_assoc magic_2 (session ++ (closed_byte closed ∷ be64 count)) behind)

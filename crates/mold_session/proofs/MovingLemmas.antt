@@ -3,7 +3,7 @@ use Rattle.std.proofs.Common.{◌≡◌, ℕ, List, [], ◌++◌, Option, Result
 use Rattle.std.specs.Prelude.{OnErr}
 use Rattle.std.specs.Io.KnownBytes.{Appends}
 use Rattle.std.proofs.KnownBytes.{Appends-trans}
-use Rattle.mold_devices.specs.Devices.{AppendsFront}
+use Rattle.mold_devices.specs.Devices.{AppendsPrefix}
 use Rattle.mold_session.specs.Moving.{Moves}
 
 -- what holds anyway holds at an error
@@ -12,8 +12,8 @@ on_err (Ok value) is = tt
 on_err (Err error) is = is
 
 -- a front of a text is a front of the text and more
-pub front_more : (old new : Option (List ℕ)) (text more : List ℕ) → AppendsFront old new text →
-    AppendsFront old new (text ++ more)
+pub front_more : (old new : Option (List ℕ)) (text more : List ℕ) → AppendsPrefix old new text →
+    AppendsPrefix old new (text ++ more)
 front_more old new text more p = record {
   front = p.front;
   rest = p.rest ++ more;
@@ -23,7 +23,7 @@ front_more old new text more p = record {
 
 -- a whole text and then a front of the next are a front of both
 pub front_after : (old mid new : Option (List ℕ)) (text more : List ℕ) → Appends old mid text →
-    AppendsFront mid new more → AppendsFront old new (text ++ more)
+    AppendsPrefix mid new more → AppendsPrefix old new (text ++ more)
 front_after old mid new text more p q = record {
   front = text ++ q.front;
   rest = q.rest;
@@ -65,14 +65,14 @@ moves_both old mid new kept text held more still p q = record {
 
 -- and then a front of what is kept
 pub moves_front : (old mid new : Option (List ℕ)) (kept text held : List ℕ) → Moves old mid kept text held →
-    AppendsFront mid new held → AppendsFront old new (kept ++ text)
-moves_front old mid new kept text held p q = subst (AppendsFront old new) (sym p.parts)
+    AppendsPrefix mid new held → AppendsPrefix old new (kept ++ text)
+moves_front old mid new kept text held p q = subst (AppendsPrefix old new) (sym p.parts)
     (front_after old mid new p.written held p.appended q)
 
 -- or a front of that and more
 pub moves_front_more : (old mid new : Option (List ℕ)) (kept text held more : List ℕ) → Moves old mid kept text held →
-    AppendsFront mid new (held ++ more) → AppendsFront old new (kept ++ (text ++ more))
-moves_front_more old mid new kept text held more p q = subst (AppendsFront old new) (
+    AppendsPrefix mid new (held ++ more) → AppendsPrefix old new (kept ++ (text ++ more))
+moves_front_more old mid new kept text held more p q = subst (AppendsPrefix old new) (
     sym (append_assoc p.written held more)
     ∙ ap (λ (t : List ℕ). t ++ more) (sym p.parts)
     ∙ append_assoc kept text more

@@ -5,7 +5,7 @@ use Rattle.std.specs.List.{AllByRecursion}
 use Rattle.byteorder.specs.Endian.{big_number}
 use Rattle.mold_wire.specs.Block.{block, blocks}
 use Rattle.mold_session.specs.File.{magic_1, magic_2}
-use Rattle.mold_session.specs.FileFault.{IsVersion2, IsBehind1, IsBehind2, IsCut, BlockFault, BlocksFault, FaultInBlocks, IsMiscounted, JournalFault}
+use Rattle.mold_session.specs.FileFault.{IsVersion2, IsBody1, IsBody2, IsCut, BlockFault, BlocksFault, FaultInBlocks, IsMiscounted, JournalFault}
 use Rattle.mold_session.specs.Journal.{IsWithin}
 use Rattle.mold_session.specs.declared.error.FileError.{FileError}
 use Rattle.mold_session.specs.declared.error.FileError.TheVariants.{TooLong, Memory, BadMagic, Short, BlockCut, Read, Write, Full, CountDiffers, BadFlag}
@@ -136,7 +136,7 @@ one_blocks_fault most behind one other bound first second =
 
 -- what stands behind the head is one
 abbrev pub IsBehind : List ℕ → List ℕ → Type 0
-IsBehind bytes behind = IsBehind1 bytes behind ⊎ IsBehind2 bytes behind
+IsBehind bytes behind = IsBody1 bytes behind ⊎ IsBody2 bytes behind
 
 pub same_behind : (bytes one other : List ℕ) → IsBehind bytes one → IsBehind bytes other → one ≡ other
 same_behind bytes one other (inl first) (inl second) = first.from ∙ sym second.from

@@ -5,8 +5,8 @@ use Rattle.std.specs.Io.KnownBytes.{Appends}
 use Rattle.std.proofs.KnownBytes.{Appends-nil, Appends-trans}
 use Rattle.mold_wire.specs.Block.{be16, block, blocks}
 use Rattle.mold_wire.specs.declared.session.Session.{Session}
-use Rattle.mold_devices.specs.Devices.{AppendsFront}
-use Rattle.mold_session.specs.File.{head_2, AppendsFile, AppendsFileFront}
+use Rattle.mold_devices.specs.Devices.{AppendsPrefix}
+use Rattle.mold_session.specs.File.{head_2, AppendsFile, AppendsFilePrefix}
 use Rattle.mold_session.specs.Journal.{AreMessages, IsWithin}
 use Rattle.mold_session.specs.Moving.{Moves}
 use Rattle.mold_session.proofs.MovingLemmas.{front_more, front_after, moves_both, moves_front_more}
@@ -25,16 +25,16 @@ block_moves old mid new kept len held message still same p q =
     (moves_both old mid new kept len held message still p q)
 
 pub block_front : (old new : Option (List ℕ)) (kept len message : List ℕ) → len ≡ be16 (length message) →
-    AppendsFront old new (kept ++ len) → AppendsFront old new (kept ++ block message)
+    AppendsPrefix old new (kept ++ len) → AppendsPrefix old new (kept ++ block message)
 block_front old new kept len message same p =
-    subst (AppendsFront old new) (append_assoc kept len message ∙ ap (λ (t : List ℕ). kept ++ (t ++ message)) same)
+    subst (AppendsPrefix old new) (append_assoc kept len message ∙ ap (λ (t : List ℕ). kept ++ (t ++ message)) same)
     (front_more old new (kept ++ len) message p)
 
 pub block_front_behind : (old mid new : Option (List ℕ)) (kept len held message : List ℕ) →
-    len ≡ be16 (length message) → Moves old mid kept len held → AppendsFront mid new (held ++ message) →
-    AppendsFront old new (kept ++ block message)
+    len ≡ be16 (length message) → Moves old mid kept len held → AppendsPrefix mid new (held ++ message) →
+    AppendsPrefix old new (kept ++ block message)
 block_front_behind old mid new kept len held message same p q =
-    subst (λ (t : List ℕ). AppendsFront old new (kept ++ (t ++ message))) same
+    subst (λ (t : List ℕ). AppendsPrefix old new (kept ++ (t ++ message))) same
     (moves_front_more old mid new kept len held message p q)
 
 -- the blocks of some of the messages stand behind the head, and the rest is to come
@@ -103,13 +103,13 @@ whole head all done rest parts =
 
 pub saves_front_in_block : (old mid new : Option (List ℕ)) (head : List ℕ) (all left : List (List ℕ))
     (message : List ℕ) (rest : List (List ℕ)) (kept : List ℕ) → left ≡ message ∷ rest →
-    Saves old mid head all left kept → AppendsFront mid new (kept ++ block message) →
-    AppendsFront old new (head ++ blocks all)
+    Saves old mid head all left kept → AppendsPrefix mid new (kept ++ block message) →
+    AppendsPrefix old new (head ++ blocks all)
 saves_front_in_block old mid new head all left message rest kept some saves p =
-    let begun : AppendsFront old new ((head ++ blocks saves.done) ++ block message) =
+    let begun : AppendsPrefix old new ((head ++ blocks saves.done) ++ block message) =
     moves_front_more old mid new [] (head ++ blocks saves.done) kept (block message) saves.moved p
     in
-    subst (AppendsFront old new) (
+    subst (AppendsPrefix old new) (
     append_assoc (head ++ blocks saves.done) (block message) (blocks rest)
     ∙ ap (λ (t : List (List ℕ)). (head ++ blocks saves.done) ++ blocks t) (sym some)
     ∙ whole head all saves.done left saves.parts
@@ -117,13 +117,13 @@ saves_front_in_block old mid new head all left message rest kept some saves p =
     (front_more old new ((head ++ blocks saves.done) ++ block message) (blocks rest) begun)
 
 pub saves_front : (old mid new : Option (List ℕ)) (head : List ℕ) (all rest : List (List ℕ)) (kept : List ℕ) →
-    Saves old mid head all rest kept → AppendsFront mid new kept → AppendsFront old new (head ++ blocks all)
+    Saves old mid head all rest kept → AppendsPrefix mid new kept → AppendsPrefix old new (head ++ blocks all)
 saves_front old mid new head all rest kept saves p =
-    let begun : AppendsFront old new (head ++ blocks saves.done) =
-    subst (AppendsFront old new) (sym saves.moved.parts)
+    let begun : AppendsPrefix old new (head ++ blocks saves.done) =
+    subst (AppendsPrefix old new) (sym saves.moved.parts)
     (front_after old mid new saves.moved.written kept saves.moved.appended p)
     in
-    subst (AppendsFront old new) (whole head all saves.done rest saves.parts)
+    subst (AppendsPrefix old new) (whole head all saves.done rest saves.parts)
     (front_more old new (head ++ blocks saves.done) (blocks rest) begun)
 
 pub saves_all : (old mid new : Option (List ℕ)) (head : List ℕ) (all rest : List (List ℕ)) (kept : List ℕ) →
@@ -153,8 +153,8 @@ file_saved old new session closed count messages named listed counted p = record
 
 pub file_begun : (old new : Option (List ℕ)) (session : Session) (closed : Bool) (count : ℕ)
     (messages : List (List ℕ)) → length session.0 ≡ 10 → AreMessages 65535 messages → count ≡ length messages →
-    AppendsFront old new (head_2 session.0 closed count ++ blocks messages) →
-    AppendsFileFront old new session messages closed
+    AppendsPrefix old new (head_2 session.0 closed count ++ blocks messages) →
+    AppendsFilePrefix old new session messages closed
 file_begun old new session closed count messages named listed counted p = record {
   file = head_2 session.0 closed count ++ blocks messages;
   spelled = record {

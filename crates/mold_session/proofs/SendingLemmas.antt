@@ -19,7 +19,7 @@ use Rattle.mold_session.specs.Datagrams.{data_packet}
 use Rattle.mold_session.specs.Journal.{IsWithin, JournalState}
 use Rattle.mold_session.specs.Publisher.{IsPublisher, Lends, PublisherState, next_datagram, next_end, next_front}
 use Rattle.mold_session.specs.Publisher.{next_heartbeat, unsent_of}
-use Rattle.mold_session.specs.Truthful.{MayAnswer, TellsTruth}
+use Rattle.mold_session.specs.Truthful.{MayAnswer, IsTrueDatagram}
 
 -- what the laws of the wire say
 pub record WireLaws : Type 0 where
@@ -108,7 +108,7 @@ datagram_spelled laws publisher packet is named next =
 pub datagram_says :
     (laws : WireLaws) (publisher : PublisherState) (packet : Packet) → IsPublisher publisher →
     length publisher.journal.session.0 ≡ 10 → next_datagram publisher ≡ Some packet →
-    TellsTruth publisher.journal (spelling_of packet)
+    IsTrueDatagram publisher.journal (spelling_of packet)
 datagram_says laws publisher packet is named next =
     datagram_true publisher (spelling_of packet) laws.piece laws.front_is is
     (subst (λ (t : Option Packet). Lends t (Some (spelling_of packet))) (sym next)
@@ -135,7 +135,7 @@ closed_packet false first packet is = absurd (none-some packet is)
 pub heartbeat_says :
     (laws : WireLaws) (publisher : PublisherState) (packet : Packet) → IsPublisher publisher →
     length publisher.journal.session.0 ≡ 10 → next_heartbeat publisher ≡ Some packet →
-    TellsTruth publisher.journal (spelling_of packet)
+    IsTrueDatagram publisher.journal (spelling_of packet)
 heartbeat_says laws publisher packet is named next =
     let first : Packet = record {
       session = publisher.journal.session;
@@ -156,7 +156,7 @@ heartbeat_says laws publisher packet is named next =
 pub end_says :
     (laws : WireLaws) (publisher : PublisherState) (packet : Packet) → IsPublisher publisher →
     length publisher.journal.session.0 ≡ 10 → next_end publisher ≡ Some packet →
-    TellsTruth publisher.journal (spelling_of packet)
+    IsTrueDatagram publisher.journal (spelling_of packet)
 end_says laws publisher packet is named next =
     let first : Packet = record {
       session = publisher.journal.session;
@@ -177,7 +177,7 @@ end_says laws publisher packet is named next =
 next_says :
     (laws : WireLaws) (journal : JournalState) (limit : ℕ) (plan : PlanState) → MayAnswer journal limit →
     IsPlan plan → plan.from < plan.to → plan.to ≤ length journal.messages + 1 → plan.session ≡ journal.session →
-    TellsTruth journal (spelling_of (next_packet journal.messages limit plan))
+    IsTrueDatagram journal (spelling_of (next_packet journal.messages limit plan))
 next_says laws journal limit plan may is more last session =
     let asked : List (List ℕ) = between journal.messages plan.from plan.to in
     let count : length asked ≡ plan.to - plan.from =
@@ -211,7 +211,7 @@ pub planned_says :
     (laws : WireLaws) (journal : JournalState) (limit left : ℕ) (plan : PlanState) → plan.left ≡ left →
     MayAnswer journal limit → IsPlan plan → plan.to ≤ length journal.messages + 1 → plan.session ≡ journal.session →
     (place : ℕ) (packet : Packet) → slice_get (planned journal.messages limit plan) place ≡ Some packet →
-    TellsTruth journal (spelling_of packet)
+    IsTrueDatagram journal (spelling_of packet)
 planned_says laws journal limit zero plan count may is last session place packet found =
     absurd (none-some packet (sym (ap (λ (t : List Packet). slice_get t place)
     (none_of journal.messages limit plan (inl count))) ∙ found))
@@ -226,7 +226,7 @@ planned_says laws journal limit (suc left) plan count may is last session place 
           in
           let next = next_of journal.messages limit plan laws.front_is laws.some laws.alone each is last unspent in
           let part : ℕ = length (next_part journal.messages limit plan) in
-          in_cons (λ (t : Packet). TellsTruth journal (spelling_of t)) (next_packet journal.messages limit plan)
+          in_cons (λ (t : Packet). IsTrueDatagram journal (spelling_of t)) (next_packet journal.messages limit plan)
           packet (planned journal.messages limit (moved plan part)) place
           (ap (λ (t : List Packet). slice_get t place) (sym next.sent) ∙ found)
           (next_says laws journal limit plan may is (omega (arith, is.1, more)) last session)

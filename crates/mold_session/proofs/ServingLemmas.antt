@@ -9,7 +9,7 @@ use Rattle.mold_session.proofs.AnswerLemmas.{is_part, part_some, next_of, plan_i
 use Rattle.mold_session.proofs.AskingLemmas.{planned_from}
 use Rattle.mold_session.proofs.FrontLemmas.{FrontIs, OnlyFront, SomeFront, Alone, fit_alone, front_of_taken, data_body}
 use Rattle.mold_session.proofs.TruthLemmas.{Piece, packet_true}
-use Rattle.mold_session.specs.Truthful.{TellsTruth}
+use Rattle.mold_session.specs.Truthful.{IsTrueDatagram}
 use Rattle.mold_session.specs.Answer.{from_number, between, PlanState, IsPlan, plan_for, next_part, next_packet, planned, moved}
 use Rattle.mold_session.specs.Journal.{JournalState, IsJournal}
 use Rattle.mold_session.specs.Packing.{HasPacked}
@@ -75,7 +75,7 @@ spells_next old new journal plan count bytes packed more spells =
 -- what is lent as the answer to a request
 pub record IsAnswer (journal : JournalState) (server : ServerState) (asked lent : List ℕ) : Type 0 where
   pub spelled : SpellsAnswer journal server asked lent
-  pub truth : TellsTruth journal lent
+  pub truth : IsTrueDatagram journal lent
 
 -- it is the first packet of the answer, where the plan is of a request that was asked
 pub spells_answer :

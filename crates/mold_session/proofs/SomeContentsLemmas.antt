@@ -38,7 +38,7 @@ taken_bytes (suc n) (byte ∷ bytes) are (suc i) = taken_bytes n bytes (λ k. ar
 -- nothing is left behind so many messages, or no block that may be taken
 data Ending (count : ℕ) (rest : List ℕ) : Type 0 where
   Over : rest ≡ [] → Ending count rest
-  Refused : (error : FileError) → BlockFault 65535 count rest error → Ending count rest
+  Refusal : (error : FileError) → BlockFault 65535 count rest error → Ending count rest
 
 -- bytes behind so many messages as blocks, and what is left behind the last one
 record Split (base : ℕ) (bytes : List ℕ) : Type 0 where
@@ -99,9 +99,9 @@ split : (fuel base : ℕ) (bytes : List ℕ) → length bytes ≤ fuel → IsByt
 split fuel base [] short are few = stop base [] few (Over refl)
 split zero base (high ∷ bytes) short are few = absurd (omega (arith, short))
 split (suc fuel) base (high ∷ []) short are few = ⊎_elim
-    (λ left. stop base (high ∷ []) few (Refused (BlockCut (base + 1))
+    (λ left. stop base (high ∷ []) few (Refusal (BlockCut (base + 1))
     (left, refl, record { some = omega arith; short = inl (omega arith) })))
-    (λ none. stop base (high ∷ []) few (Refused Full (omega arith, none)))
+    (λ none. stop base (high ∷ []) few (Refusal Full (omega arith, none)))
     (cases_lt base 18446744073709551614)
 split (suc fuel) base (high ∷ low ∷ more) short are few =
     let len = big_number 2 (high ∷ low ∷ more) in
@@ -110,14 +110,14 @@ split (suc fuel) base (high ∷ low ∷ more) short are few =
     let most : len ≤ 65535 = omega (arith, one, other) in
     ⊎_elim
     (λ left. ⊎_elim
-    (λ cut. stop base (high ∷ low ∷ more) few (Refused (BlockCut (base + 1))
+    (λ cut. stop base (high ∷ low ∷ more) few (Refusal (BlockCut (base + 1))
     (left, refl, record { some = omega arith; short = inr (most, omega (arith, cut)) })))
     (λ whole. next_split base (take len more) (high ∷ low ∷ more) (drop len more)
     (omega (arith, length-take-le len more whole, most)) (first_block high low more one other whole)
     (split fuel (base + 1) (drop len more) (omega (arith, short, length-drop len more))
     (bytes_behind len more (bytes_behind 2 (high ∷ low ∷ more) are)) (omega (arith, left))))
     (cases_lt (length more) len))
-    (λ none. stop base (high ∷ low ∷ more) few (Refused Full (omega arith, none)))
+    (λ none. stop base (high ∷ low ∷ more) few (Refusal Full (omega arith, none)))
     (cases_lt base 18446744073709551614)
 
 -- ---- behind a head
@@ -177,7 +177,7 @@ module _ (head : FileHead) (bytes behind : List ℕ) (ten : length head.session.
             (CountDiffers (unwrap_or head.stated (length found.messages)) (length found.messages)) (none, differs.1);
       })
       (counted head.stated (length found.messages))
-  ended (Refused error fault) =
+  ended (Refusal error fault) =
       let here : length found.messages ≡ 0 + length found.messages = omega arith in
       record {
         messages = found.messages;

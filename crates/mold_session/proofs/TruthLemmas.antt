@@ -13,7 +13,7 @@ use Rattle.mold_session.specs.Answer.{between, PlanState, IsPlan, next_part, nex
 use Rattle.mold_session.specs.Datagrams.{data_packet}
 use Rattle.mold_session.specs.Journal.{JournalState, IsJournal}
 use Rattle.mold_session.specs.Publisher.{PublisherState, IsPublisher, unsent_of, next_front, next_datagram, next_heartbeat, next_end, Lends}
-use Rattle.mold_session.specs.Truthful.{TellsTruth}
+use Rattle.mold_session.specs.Truthful.{IsTrueDatagram}
 
 -- what the wire crate's law says of a data packet whose messages stand at its number
 abbrev pub Piece : Type 0
@@ -25,7 +25,7 @@ Piece =
 -- the datagram of a publisher's unsent messages
 pub datagram_true :
     (publisher : PublisherState) (bytes : List ℕ) → Piece → FrontIs → IsPublisher publisher →
-    Lends (next_datagram publisher) (Some bytes) → TellsTruth publisher.journal bytes
+    Lends (next_datagram publisher) (Some bytes) → IsTrueDatagram publisher.journal bytes
 datagram_true publisher bytes piece front_is is lends =
     let published : List (List ℕ) = publisher.journal.messages in
     elim (cases_eq publisher.sent (length published)) [
@@ -60,7 +60,7 @@ lends_closed false packet bytes lends = absurd lends
 -- a heartbeat
 pub heartbeat_true :
     (publisher : PublisherState) (bytes : List ℕ) → IsPublisher publisher →
-    Lends (next_heartbeat publisher) (Some bytes) → TellsTruth publisher.journal bytes
+    Lends (next_heartbeat publisher) (Some bytes) → IsTrueDatagram publisher.journal bytes
 heartbeat_true publisher bytes is lends =
     let packet : Packet = record {
       session = publisher.journal.session;
@@ -77,7 +77,7 @@ heartbeat_true publisher bytes is lends =
 -- the end of a session
 pub end_true :
     (publisher : PublisherState) (bytes : List ℕ) → IsPublisher publisher →
-    Lends (next_end publisher) (Some bytes) → TellsTruth publisher.journal bytes
+    Lends (next_end publisher) (Some bytes) → IsTrueDatagram publisher.journal bytes
 end_true publisher bytes is lends =
     let packet : Packet = record {
       session = publisher.journal.session;
@@ -96,7 +96,7 @@ end_true publisher bytes is lends =
 pub packet_true :
     (journal : JournalState) (limit : ℕ) (plan : PlanState) (bytes : List ℕ) → Piece → FrontIs → IsJournal journal →
     20 ≤ limit → IsPlan plan → plan.to ≤ length journal.messages + 1 → plan.session ≡ journal.session →
-    Spells (next_packet journal.messages limit plan) bytes → TellsTruth journal bytes
+    Spells (next_packet journal.messages limit plan) bytes → IsTrueDatagram journal bytes
 packet_true journal limit plan bytes piece front_is journaled room is last named spelled =
     let published : List (List ℕ) = journal.messages in
     let asked : List (List ℕ) = between published plan.from plan.to in

@@ -2,7 +2,7 @@
 use Rattle.std.specs.Prelude.{◌≡◌, ◌⊎◌, ℕ, List, [], ◌++◌, length, Option, None, Some}
 use Rattle.mold_wire.specs.Block.{blocks}
 use Rattle.mold_wire.specs.declared.block.TheConstants.{MAX_MESSAGE}
-use Rattle.mold_session.specs.FileFault.{IsBehind1, IsBehind2, BlockFault, JournalFault}
+use Rattle.mold_session.specs.FileFault.{IsBody1, IsBody2, BlockFault, JournalFault}
 use Rattle.mold_session.specs.Journal.{AreMessages}
 use Rattle.mold_session.specs.Loading.{SpellsFile}
 use Rattle.mold_session.specs.declared.error.FileError.{FileError}
@@ -13,7 +13,7 @@ use Rattle.mold_session.specs.declared.loading.FileHead.{FileHead}
 -- behind a whole head stand the blocks of these messages, and then the rest
 pub record HasBlocks (bytes : List ℕ) (messages : List (List ℕ)) (rest : List ℕ) : Type 0 where
   pub behind : List ℕ
-  pub head : IsBehind1 bytes behind ⊎ IsBehind2 bytes behind
+  pub head : IsBody1 bytes behind ⊎ IsBody2 bytes behind
   pub listed : AreMessages MAX_MESSAGE messages
   pub parts : behind ≡ blocks messages ++ rest
 
@@ -25,23 +25,23 @@ pub record AreBefore (bytes : List ℕ) (messages : List (List ℕ)) (error : Fi
 
 -- the messages of a file with this fault: none where its head is refused, and else those of the whole blocks before
 -- the fault
-abbrev pub StandBefore : List ℕ → List (List ℕ) → FileError → Type 0
-StandBefore bytes messages (Short len) = messages ≡ []
-StandBefore bytes messages BadMagic = messages ≡ []
-StandBefore bytes messages (BadFlag byte) = messages ≡ []
-StandBefore bytes messages (CountDiffers count found) = HasBlocks bytes messages []
-StandBefore bytes messages Full = AreBefore bytes messages Full
-StandBefore bytes messages (TooLong len) = AreBefore bytes messages (TooLong len)
-StandBefore bytes messages (BlockCut number) = AreBefore bytes messages (BlockCut number)
-StandBefore bytes messages Read = ⊥
-StandBefore bytes messages Memory = ⊥
-StandBefore bytes messages Write = ⊥
+abbrev pub PrecedeFault : List ℕ → List (List ℕ) → FileError → Type 0
+PrecedeFault bytes messages (Short len) = messages ≡ []
+PrecedeFault bytes messages BadMagic = messages ≡ []
+PrecedeFault bytes messages (BadFlag byte) = messages ≡ []
+PrecedeFault bytes messages (CountDiffers count found) = HasBlocks bytes messages []
+PrecedeFault bytes messages Full = AreBefore bytes messages Full
+PrecedeFault bytes messages (TooLong len) = AreBefore bytes messages (TooLong len)
+PrecedeFault bytes messages (BlockCut number) = AreBefore bytes messages (BlockCut number)
+PrecedeFault bytes messages Read = ⊥
+PrecedeFault bytes messages Memory = ⊥
+PrecedeFault bytes messages Write = ⊥
 
 -- the bytes are the file of a journal of these messages, of either version; or they are none, for this reason, and
 -- these messages stand before the fault
 abbrev pub Gives : List ℕ → List (List ℕ) → Option FileError → Type 0
 Gives bytes messages None = (head : FileHead) × SpellsFile head messages head.stated bytes
-Gives bytes messages (Some error) = JournalFault MAX_MESSAGE bytes error × StandBefore bytes messages error
+Gives bytes messages (Some error) = JournalFault MAX_MESSAGE bytes error × PrecedeFault bytes messages error
 
 -- what bytes give as a file whose messages may have any length
 pub record FileContents (bytes : List ℕ) : Type 0 where

@@ -4,7 +4,7 @@ use Rattle.std.specs.Io.KnownBytes.{Appends}
 use Rattle.mold_wire.specs.Block.{be64, blocks}
 use Rattle.mold_wire.specs.declared.block.TheConstants.{MAX_MESSAGE}
 use Rattle.mold_wire.specs.declared.session.Session.{Session}
-use Rattle.mold_devices.specs.Devices.{AppendsFront}
+use Rattle.mold_devices.specs.Devices.{AppendsPrefix}
 use Rattle.mold_session.specs.Journal.{AreMessages}
 
 -- what a file begins with: version 1, which is read, and version 2, which is read and written
@@ -51,8 +51,8 @@ pub record AppendsFile (old new : Option (List ℕ)) (session : Session) (messag
   pub appended : Appends old new file
 
 -- known bytes grew by a beginning of it
-pub record AppendsFileFront (old new : Option (List ℕ)) (session : Session) (messages : List (List ℕ))
+pub record AppendsFilePrefix (old new : Option (List ℕ)) (session : Session) (messages : List (List ℕ))
     (closed : Bool) : Type 0 where
   pub file : List ℕ
   pub spelled : SpellsJournal2 session messages closed file
-  pub appended : AppendsFront old new file
+  pub appended : AppendsPrefix old new file

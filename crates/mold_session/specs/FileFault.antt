@@ -23,12 +23,12 @@ IsBadFlag byte = 1 < byte
 
 -- what stands behind a whole head that is not refused: from byte 18 on in version 1, and from byte 27 on in
 -- version 2
-pub record IsBehind1 (bytes behind : List ℕ) : Type 0 where
+pub record IsBody1 (bytes behind : List ℕ) : Type 0 where
   pub magic : take 8 bytes ≡ magic_1
   pub whole : 18 ≤ length bytes
   pub from : behind ≡ drop 18 bytes
 
-pub record IsBehind2 (bytes behind : List ℕ) : Type 0 where
+pub record IsBody2 (bytes behind : List ℕ) : Type 0 where
   pub magic : take 8 bytes ≡ magic_2
   pub whole : 27 ≤ length bytes
   pub flag : slice_index bytes 18 ≤ 1
@@ -59,12 +59,12 @@ pub record BlocksFault (most : ℕ) (behind : List ℕ) (error : FileError) : Ty
 -- the same in a file of either version
 abbrev pub FaultInBlocks : ℕ → List ℕ → FileError → Type 0
 FaultInBlocks most bytes error =
-    (behind : List ℕ) × (IsBehind1 bytes behind ⊎ IsBehind2 bytes behind) × BlocksFault most behind error
+    (behind : List ℕ) × (IsBody1 bytes behind ⊎ IsBody2 bytes behind) × BlocksFault most behind error
 
 -- a file of version 2 that ends between blocks has another number of messages than it states
 pub record IsMiscounted (most : ℕ) (bytes : List ℕ) (count found : ℕ) : Type 0 where
   pub behind : List ℕ
-  pub head : IsBehind2 bytes behind
+  pub head : IsBody2 bytes behind
   pub messages : List (List ℕ)
   pub each : AllByRecursion (IsWithin most) messages
   pub few : length messages < MAX_NUMBER

@@ -17,7 +17,7 @@ use Rattle.mold_session.specs.declared.error.AnswerError.TheVariants.{RequestLen
 use Rattle.mold_session.specs.declared.error.AnswerError.TheVariants.{EmptyRequest, Ahead}
 use Rattle.mold_session.specs.declared.error.ServerError.{ServerError}
 use Rattle.mold_session.specs.declared.error.ServerError.TheVariants.{Limit, Burst}
-use Rattle.mold_session.specs.declared.server.TheConstants.{MAX_BURST}
+use Rattle.mold_wire.specs.declared.limits.TheConstants.{MAX_BURST}
 
 -- the limit of a datagram, how long a journal's messages may be, how many datagrams answer one request at most, and
 -- how many requests were answered

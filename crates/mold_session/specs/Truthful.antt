@@ -8,7 +8,7 @@ use Rattle.mold_wire.specs.Packer.{IsLimit}
 use Rattle.mold_session.specs.Journal.{IsJournal, JournalState}
 
 -- the bytes spell a packet of the journal's session, which is true of what the journal has
-pub record TellsTruth (journal : JournalState) (bytes : List ℕ) : Type 0 where
+pub record IsTrueDatagram (journal : JournalState) (bytes : List ℕ) : Type 0 where
   pub packet : Packet
   pub spelled : Spells packet bytes
   pub session : packet.session ≡ journal.session

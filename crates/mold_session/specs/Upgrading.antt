@@ -4,7 +4,7 @@ use Rattle.std.specs.Prelude.{Ok, Err, IfSome}
 use Rattle.mold_wire.specs.declared.block.TheConstants.{MAX_MESSAGE}
 use Rattle.mold_wire.specs.declared.session.Session.{Session}
 use Rattle.mold_devices.specs.Devices.{one_more}
-use Rattle.mold_session.specs.File.{SpellsJournal, SpellsJournal2, AppendsFile, AppendsFileFront}
+use Rattle.mold_session.specs.File.{SpellsJournal, SpellsJournal2, AppendsFile, AppendsFilePrefix}
 use Rattle.mold_session.specs.FileFault.{JournalFault}
 use Rattle.mold_session.specs.Loading.{Refuses}
 use Rattle.mold_session.specs.declared.error.FileError.{FileError}
@@ -40,7 +40,7 @@ pub record BeginsUpgrade (known old new : Option (List ℕ)) (close : Bool) : Ty
   pub messages : List (List ℕ)
   pub was : Bool
   pub loaded : IfSome known (λ bytes. SpellsVersion version session messages was bytes)
-  pub saved : AppendsFileFront old new session messages (if was then true else close)
+  pub saved : AppendsFilePrefix old new session messages (if was then true else close)
 
 -- a sink that fails leaves a beginning, and each other refusal is that of the file
 abbrev pub RefusesUpgrade : Option (List ℕ) → Option (List ℕ) → Option (List ℕ) → Bool → FileError → Type 0

@@ -7,7 +7,7 @@ ghost use Rattle.std.specs.Io.KnownBytes.{IsAtEnd};
 ghost use Rattle.std.specs.Option.{option_copied, OnSome};
 ghost use Rattle.mold_messages.specs.Listed.{byte_count};
 ghost use Rattle.mold_devices.specs.Devices.{Counts};
-ghost use Rattle.mold_session.specs.File.{SpellsJournal, SpellsJournal2, AppendsFile, AppendsFileFront, file_length};
+ghost use Rattle.mold_session.specs.File.{SpellsJournal, SpellsJournal2, AppendsFile, AppendsFilePrefix, file_length};
 ghost use Rattle.mold_session.specs.FileFault.{JournalFault};
 ghost use Rattle.mold_session.specs.Journal.{IsJournal, message_numbered, append_refusal, appended, fresh_journal};
 ghost use Rattle.mold_session.specs.Loading.{Refuses, CountsLoad};
@@ -187,7 +187,7 @@ impl Journal {
     pub fn save<K: Sink>(&self, sink: &mut K) -> Result<(), FileError>
         ensures whole { OnOk result (AppendsFile (K.held sink.old) (K.held sink.new)
             self.now.session self.now.messages self.now.closed) }
-        ensures front { OnErr result (AppendsFileFront (K.held sink.old) (K.held sink.new)
+        ensures front { OnErr result (AppendsFilePrefix (K.held sink.old) (K.held sink.new)
             self.now.session self.now.messages self.now.closed) }
         ensures refused { IfErr result (λ error. error ≡ FileError.Write) }
         ensures failures { Counts (K.failed sink.old) (K.failed sink.new) result }

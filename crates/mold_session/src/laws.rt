@@ -23,10 +23,9 @@ ghost use Rattle.mold_session.specs.File.{SpellsJournal, SpellsJournal2};
 ghost use Rattle.mold_session.specs.FileFault.{JournalFault};
 ghost use Rattle.mold_session.specs.declared.error.FileError.{FileError};
 ghost use Rattle.mold_session.specs.declared.journal.TheConstants.{MAX_MESSAGES};
-ghost use Rattle.mold_session.specs.declared.server.TheConstants.{MAX_BURST};
 ghost use Rattle.mold_session.specs.Publisher.{IsPublisher, MayPublish, PublisherState, after_datagram, closed};
 ghost use Rattle.mold_session.specs.Publisher.{next_datagram, next_end, next_heartbeat, published};
-ghost use Rattle.mold_session.specs.Truthful.{MayAnswer, TellsTruth};
+ghost use Rattle.mold_session.specs.Truthful.{MayAnswer, IsTrueDatagram};
 ghost use Rattle.mold_session.specs.Loading.{Refuses};
 ghost use Rattle.mold_session.specs.Reader.{EndsWith, HasRead, ReaderState, ReadsNext, RestFault};
 ghost use Rattle.mold_session.specs.Server.{ServerState, IsServer, IsAnswerable, asking, planning};
@@ -36,10 +35,9 @@ use mold_wire::laws::{
     true_packet_law,
 };
 
-/// The limits of a session, written out.
+/// The most messages of a session, written out.
 pub fn constants_law()
     ensures messages { MAX_MESSAGES ≡ 18446744073709551614 }
-    ensures burst { MAX_BURST ≡ 64 }
 {}
 
 /// How messages are packed: none give no packet, and where the longest front that fits has a message, it
@@ -123,17 +121,17 @@ pub fn sending_law()
         Spells packet (spelling_of packet) }
     ensures datagram { (publisher : PublisherState) (packet : Packet) → IsPublisher publisher →
         length publisher.journal.session.0 ≡ 10 → next_datagram publisher ≡ Some packet →
-        TellsTruth publisher.journal (spelling_of packet) }
+        IsTrueDatagram publisher.journal (spelling_of packet) }
     ensures heartbeat { (publisher : PublisherState) (packet : Packet) → IsPublisher publisher →
         length publisher.journal.session.0 ≡ 10 → next_heartbeat publisher ≡ Some packet →
-        TellsTruth publisher.journal (spelling_of packet) }
+        IsTrueDatagram publisher.journal (spelling_of packet) }
     ensures end { (publisher : PublisherState) (packet : Packet) → IsPublisher publisher →
         length publisher.journal.session.0 ≡ 10 → next_end publisher ≡ Some packet →
-        TellsTruth publisher.journal (spelling_of packet) }
+        IsTrueDatagram publisher.journal (spelling_of packet) }
     ensures planned { (journal : JournalState) (limit : ℕ) (plan : PlanState) (place : ℕ) (packet : Packet) →
         MayAnswer journal limit → IsPlan plan → plan.to ≤ length journal.messages + 1 →
         plan.session ≡ journal.session → slice_get (planned journal.messages limit plan) place ≡ Some packet →
-        TellsTruth journal (spelling_of packet) }
+        IsTrueDatagram journal (spelling_of packet) }
 {
     front_law();
     one_spelling_law();

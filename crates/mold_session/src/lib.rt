@@ -27,8 +27,9 @@ pub use loading::FileHead;
 pub use mold_devices::{
     DeviceFault, FromRead, IntoWrite, MemorySink, MemorySource, Sink, SliceSource, Source,
 };
+pub use mold_wire::MAX_BURST;
 pub use plan::Plan;
 pub use publisher::Publisher;
 pub use reader::JournalReader;
-pub use server::{MAX_BURST, Server};
+pub use server::Server;
 pub use upgrading::{Upgraded, upgrade};

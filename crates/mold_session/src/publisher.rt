@@ -8,7 +8,7 @@ ghost use Rattle.mold_wire.specs.Packing.{Fits};
 ghost use Rattle.mold_session.specs.Journal.{append_refusal};
 ghost use Rattle.mold_session.specs.Publisher.{IsPublisher, unsent_of, next_datagram, next_heartbeat, next_end};
 ghost use Rattle.mold_session.specs.Publisher.{after_datagram, fresh_publisher, published, closed, Lends};
-ghost use Rattle.mold_session.specs.Truthful.{TellsTruth};
+ghost use Rattle.mold_session.specs.Truthful.{IsTrueDatagram};
 ghost use Rattle.mold_session.specs.declared.error.AppendError.{AppendError};
 ghost use Rattle.mold_session.specs.declared.error.PublisherError.{PublisherError};
 
@@ -120,7 +120,7 @@ impl Publisher {
         ensures lent { Lends (next_datagram self.old) (option_copied result) }
         ensures within { IfSome result (λ bytes. length bytes.now ≤ self.old.limit) }
         ensures idle { IfNone result (after_datagram self.old ≡ self.old) }
-        ensures truth { IfSome result (λ bytes. TellsTruth self.old.journal bytes.now) }
+        ensures truth { IfSome result (λ bytes. IsTrueDatagram self.old.journal bytes.now) }
     {
         front_law();
         packet_length_law();
@@ -147,7 +147,7 @@ impl Publisher {
         ensures* after { sem 𝓛 (Rests the_row self.entry (λ new. new ≡ self.old)) }
         ensures lent { Lends (next_heartbeat self.old) (option_copied result) }
         ensures within { IfSome result (λ bytes. length bytes.now ≤ self.old.limit) }
-        ensures truth { IfSome result (λ bytes. TellsTruth self.old.journal bytes.now) }
+        ensures truth { IfSome result (λ bytes. IsTrueDatagram self.old.journal bytes.now) }
     {
         if self.journal.is_closed() {
             return None;
@@ -181,7 +181,7 @@ impl Publisher {
         ensures* after { sem 𝓛 (Rests the_row self.entry (λ new. new ≡ self.old)) }
         ensures lent { Lends (next_end self.old) (option_copied result) }
         ensures within { IfSome result (λ bytes. length bytes.now ≤ self.old.limit) }
-        ensures truth { IfSome result (λ bytes. TellsTruth self.old.journal bytes.now) }
+        ensures truth { IfSome result (λ bytes. IsTrueDatagram self.old.journal bytes.now) }
     {
         if !self.journal.is_closed() {
             return None;

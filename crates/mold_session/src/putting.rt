@@ -3,7 +3,7 @@
 ghost use Rattle.std.specs.Prelude.{◌≡◌, ◌+◌, ◌≤◌, ◌++◌, length, take, drop};
 
 /// Writes the text behind the bytes that are used, and leaves what is behind it.
-pub fn put_behind(bytes: &mut [u8], used: usize, text: &[u8])
+pub fn put_after(bytes: &mut [u8], used: usize, text: &[u8])
     requires { used + length text.now ≤ length bytes.old }
     ensures { bytes.new ≡ take used bytes.old ++ (text.now ++ drop (length text.now) (drop used bytes.old)) }
 {

@@ -3,14 +3,14 @@
 ghost use Rattle.std.specs.Prelude.{◌≡◌, ◌<◌, ◌≤◌, ◌^◌, ◌++◌, length, OnOk, OnErr};
 ghost use Rattle.mold_wire.specs.Block.{be16, block};
 ghost use Rattle.mold_wire.specs.declared.block.TheConstants.{MAX_MESSAGE};
-ghost use Rattle.mold_devices.specs.Devices.{AppendsFront, Counts};
-ghost use Rattle.mold_session.specs.File.{head_2, file_length, AppendsFile, AppendsFileFront};
+ghost use Rattle.mold_devices.specs.Devices.{AppendsPrefix, Counts};
+ghost use Rattle.mold_session.specs.File.{head_2, file_length, AppendsFile, AppendsFilePrefix};
 ghost use Rattle.mold_session.specs.Journal.{AreMessages};
 ghost use Rattle.mold_session.specs.Moving.{Moves};
 ghost use Rattle.mold_session.specs.Putting.{PutsFile};
 
 use crate::magic::second_magic;
-use crate::putting::put_behind;
+use crate::putting::put_after;
 use crate::write_buffer::WriteBuffer;
 use byteorder::{BigEndian, ByteOrder};
 use mold_devices::{DeviceFault, Sink};
@@ -28,10 +28,10 @@ fn head(session: Session, closed: bool, count: u64) -> [u8; HEAD_LENGTH]
     let mut number = [0; 8];
     BigEndian::write_u64(&mut number, count);
     let mut bytes = [0; HEAD_LENGTH];
-    put_behind(&mut bytes, 0, &second_magic());
-    put_behind(&mut bytes, 8, &session.0);
-    put_behind(&mut bytes, 18, &[u8::from(closed)]);
-    put_behind(&mut bytes, 19, &number);
+    put_after(&mut bytes, 0, &second_magic());
+    put_after(&mut bytes, 8, &session.0);
+    put_after(&mut bytes, 18, &[u8::from(closed)]);
+    put_after(&mut bytes, 19, &number);
     bytes
 }
 
@@ -53,7 +53,7 @@ fn put_block<K: Sink>(
 ) -> Result<(), DeviceFault>
     requires { length message.now < 2 ^ 16 }
     ensures moved { OnOk result (Moves (K.held sink.old) (K.held sink.new) buffer.old (block message.now) buffer.new) }
-    ensures front { OnErr result (AppendsFront (K.held sink.old) (K.held sink.new) (buffer.old ++ block message.now)) }
+    ensures front { OnErr result (AppendsPrefix (K.held sink.old) (K.held sink.new) (buffer.old ++ block message.now)) }
     ensures failures { Counts (K.failed sink.old) (K.failed sink.new) result }
 {
     buffer.put(sink, &length_of(message))?;
@@ -71,7 +71,7 @@ pub fn save_file<K: Sink>(
     requires { AreMessages MAX_MESSAGE list.now.messages }
     ensures whole { OnOk result (AppendsFile (K.held sink.old) (K.held sink.new) session list.now.messages closed) }
     ensures front { OnErr result
-        (AppendsFileFront (K.held sink.old) (K.held sink.new) session list.now.messages closed) }
+        (AppendsFilePrefix (K.held sink.old) (K.held sink.new) session list.now.messages closed) }
     ensures failures { Counts (K.failed sink.old) (K.failed sink.new) result }
 {
     let mut buffer = WriteBuffer::new();
@@ -89,12 +89,12 @@ pub fn put_file(bytes: &mut [u8], session: Session, closed: bool, list: &Message
     ensures put { PutsFile bytes.old bytes.new session list.now.messages closed result }
     ensures size { result ≡ file_length list.now.messages }
 {
-    put_behind(bytes, 0, &head(session, closed, list.len() as u64));
+    put_after(bytes, 0, &head(session, closed, list.len() as u64));
     let mut used = HEAD_LENGTH;
     for message in list.iter() {
-        put_behind(bytes, used, &length_of(message));
+        put_after(bytes, used, &length_of(message));
         used += LENGTH_BYTES;
-        put_behind(bytes, used, message);
+        put_after(bytes, used, message);
         used += message.len();
     }
     used

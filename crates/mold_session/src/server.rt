@@ -8,7 +8,7 @@ ghost use Rattle.mold_session.specs.Answer.{IsPlan, IsSpent, next_part, next_pac
 ghost use Rattle.mold_session.specs.Journal.{IsJournal};
 ghost use Rattle.mold_session.specs.Server.{IsServer, fresh_server, server_refusal, asking, planning, SpellsAnswer};
 ghost use Rattle.mold_session.specs.Server.{counted_if};
-ghost use Rattle.mold_session.specs.Truthful.{TellsTruth};
+ghost use Rattle.mold_session.specs.Truthful.{IsTrueDatagram};
 ghost use Rattle.mold_session.specs.declared.error.ServerError.{ServerError};
 
 use crate::asking::asked;
@@ -17,12 +17,9 @@ use crate::journal::Journal;
 use crate::packing::pack_next;
 use crate::plan::Plan;
 use mold_wire::laws::{front_law, packet_length_law, true_packet_law};
-use mold_wire::{MAX_LIMIT, MESSAGE_OVERHEAD, MIN_LIMIT, Packer};
+use mold_wire::{MAX_BURST, MAX_LIMIT, MESSAGE_OVERHEAD, MIN_LIMIT, Packer};
 use std::alloc::Global;
 use std::marker::Model;
-
-/// The most datagrams that answer a request.
-pub const MAX_BURST: u16 = 64;
 
 /// Answers requests for messages of a session from its journal: with at most so many datagrams, the
 /// burst, each the longest front that fits of what is left of what was asked and the journal has. Only
@@ -127,7 +124,7 @@ impl Server {
         ensures* after { sem 𝓛 (Rests the_row self.entry (λ new. new ≡ counted_if (is_ok result) self.old)) }
         ensures spelled { IfOk result (λ bytes. SpellsAnswer journal.now self.old request.now bytes.now) }
         ensures within { IfOk result (λ bytes. length bytes.now ≤ self.old.limit) }
-        ensures truth { IfOk result (λ bytes. TellsTruth journal.now bytes.now) }
+        ensures truth { IfOk result (λ bytes. IsTrueDatagram journal.now bytes.now) }
         ensures refused { IfErr result (λ error. asking journal.now request.now ≡ Err error) }
         ensures journal { IsJournal journal.now }
         ensures server { IsServer self.old }
@@ -168,7 +165,7 @@ impl Server {
         ensures spelled { IfSome result (λ bytes.
             Spells (next_packet journal.now.messages self.old.limit plan.old) bytes.now) }
         ensures within { IfSome result (λ bytes. length bytes.now ≤ self.old.limit) }
-        ensures truth { IfSome result (λ bytes. TellsTruth journal.now bytes.now) }
+        ensures truth { IfSome result (λ bytes. IsTrueDatagram journal.now bytes.now) }
         ensures moved { OnSome result
             (plan.new ≡ moved plan.old (length (next_part journal.now.messages self.old.limit plan.old))) }
         ensures more { OnSome result (¬ IsSpent plan.old) }

@@ -2,10 +2,10 @@
 
 ghost use Rattle.std.specs.Prelude.{◌≡◌, ◌+◌, ◌≤◌, ◌++◌, [], length, OnOk, OnErr};
 ghost use Rattle.std.specs.Io.KnownBytes.{Appends};
-ghost use Rattle.mold_devices.specs.Devices.{AppendsFront, Counts};
+ghost use Rattle.mold_devices.specs.Devices.{AppendsPrefix, Counts};
 ghost use Rattle.mold_session.specs.Moving.{Moves};
 
-use crate::putting::put_behind;
+use crate::putting::put_after;
 use mold_devices::{DeviceFault, Sink, write_all};
 use std::marker::Model;
 
@@ -44,7 +44,7 @@ impl WriteBuffer {
         requires { length self.old + length text.now ≤ 4096 }
         ensures { self.new ≡ self.old ++ text.now }
     {
-        put_behind(&mut self.bytes, self.used, text);
+        put_after(&mut self.bytes, self.used, text);
         self.used += text.len();
     }
 
@@ -52,7 +52,7 @@ impl WriteBuffer {
     pub fn flush<K: Sink>(&mut self, sink: &mut K) -> Result<(), DeviceFault>
         ensures whole { OnOk result (Appends (K.held sink.old) (K.held sink.new) self.old) }
         ensures empty { OnOk result (self.new ≡ []) }
-        ensures front { OnErr result (AppendsFront (K.held sink.old) (K.held sink.new) self.old) }
+        ensures front { OnErr result (AppendsPrefix (K.held sink.old) (K.held sink.new) self.old) }
         ensures failures { Counts (K.failed sink.old) (K.failed sink.new) result }
     {
         write_all(sink, &self.bytes[..self.used])?;
@@ -64,7 +64,7 @@ impl WriteBuffer {
     /// text at once where it is longer than all room. After a fault a front of both is written.
     pub fn put<K: Sink>(&mut self, sink: &mut K, text: &[u8]) -> Result<(), DeviceFault>
         ensures moved { OnOk result (Moves (K.held sink.old) (K.held sink.new) self.old text.now self.new) }
-        ensures front { OnErr result (AppendsFront (K.held sink.old) (K.held sink.new) (self.old ++ text.now)) }
+        ensures front { OnErr result (AppendsPrefix (K.held sink.old) (K.held sink.new) (self.old ++ text.now)) }
         ensures failures { Counts (K.failed sink.old) (K.failed sink.new) result }
     {
         if text.len() <= ROOM - self.used {

@@ -6,7 +6,7 @@ use Rattle.std.specs.Prelude.{IfSome, IfOk, OnOk}
 use Rattle.std.proofs.Common.{⊎_elim}
 use Rattle.std.specs.Io.KnownBytes.{Appends}
 use Rattle.std.proofs.KnownBytes.{Appends-nil, Appends-trans}
-use Rattle.mold_devices.specs.Devices.{AppendsFront}
+use Rattle.mold_devices.specs.Devices.{AppendsPrefix}
 use Rattle.mold_session.specs.Contents.{FileContents, Gives, IsFront}
 use Rattle.mold_session.specs.Loading.{CountsLoadFault, Refuses}
 use Rattle.mold_session.specs.Reader.{ReaderState, HasRead, ReadsNext, EndsWith, RestFault}
@@ -126,8 +126,8 @@ dumping_sent from count known left old mid now reader text none so_far sends emp
 
 -- ---- a beginning of the text
 
-front_more : (old new : Option (List ℕ)) (text more all : List ℕ) → all ≡ text ++ more → AppendsFront old new text →
-    AppendsFront old new all
+front_more : (old new : Option (List ℕ)) (text more all : List ℕ) → all ≡ text ++ more → AppendsPrefix old new text →
+    AppendsPrefix old new all
 front_more old new text more all is begun = record {
   front = begun.front;
   rest = begun.rest ++ more;
@@ -135,8 +135,8 @@ front_more old new text more all is begun = record {
   appended = begun.appended;
 }
 
-front_after : (old mid new : Option (List ℕ)) (text more : List ℕ) → Appends old mid text → AppendsFront mid new more →
-    AppendsFront old new (text ++ more)
+front_after : (old mid new : Option (List ℕ)) (text more : List ℕ) → Appends old mid text → AppendsPrefix mid new more →
+    AppendsPrefix old new (text ++ more)
 front_after old mid new text more sent begun = record {
   front = text ++ begun.front;
   rest = begun.rest;
@@ -146,7 +146,7 @@ front_after old mid new text more sent begun = record {
 
 lines_front : (from count : ℕ) (bytes : List ℕ) (old mid new : Option (List ℕ)) (messages : List (List ℕ))
     (text : List ℕ) (contents : FileContents bytes) → Gathered from count (Some bytes) old mid messages text →
-    AppendsFront mid new text → AppendsFront old new (dump_text from count contents)
+    AppendsPrefix mid new text → AppendsPrefix old new (dump_text from count contents)
 lines_front from count bytes old mid new messages text contents gathered begun =
     let first = gathered.first contents in
     let lines = first_lines from count messages first.extra in
@@ -160,8 +160,8 @@ lines_front from count bytes old mid new messages text contents gathered begun =
 
 -- a beginning of what was gathered was written
 pub gathered_front : (from count : ℕ) (known old mid new : Option (List ℕ)) (messages : List (List ℕ)) (text : List ℕ) →
-    Gathered from count known old mid messages text → AppendsFront mid new text →
-    IfSome known (λ bytes. (contents : FileContents bytes) → AppendsFront old new (dump_text from count contents))
+    Gathered from count known old mid messages text → AppendsPrefix mid new text →
+    IfSome known (λ bytes. (contents : FileContents bytes) → AppendsPrefix old new (dump_text from count contents))
 gathered_front from count None old mid new messages text gathered begun = tt
 gathered_front from count (Some bytes) old mid new messages text gathered begun =
     λ contents. lines_front from count bytes old mid new messages text contents gathered begun
@@ -248,18 +248,18 @@ module _ (laws : ReaderLaws) (from count : ℕ) (old mid new : Option (List ℕ)
       ∙ append_assoc written text (fault_line ended)
 
   end_front : (bytes : List ℕ) (contents : FileContents bytes) → Gathered from count (Some bytes) old mid messages text →
-      Ends (Some bytes) messages ended → AppendsFront mid new (text ++ ended_line ended) →
-      AppendsFront old new (dump_text from count contents)
+      Ends (Some bytes) messages ended → AppendsPrefix mid new (text ++ ended_line ended) →
+      AppendsPrefix old new (dump_text from count contents)
   end_front bytes contents gathered ends begun = ⊎_elim
       (λ told.
-      subst (AppendsFront old new)
+      subst (AppendsPrefix old new)
       (sym (all_text bytes contents gathered (gives_told bytes messages ended ends told) gathered.written gathered.parts))
       (front_after old mid new gathered.written (text ++ fault_line ended) gathered.sent
-      (subst (λ (t : List ℕ). AppendsFront mid new (text ++ t)) (line_told ended told) begun)))
+      (subst (λ (t : List ℕ). AppendsPrefix mid new (text ++ t)) (line_told ended told) begun)))
       (λ none.
       lines_front from count bytes old mid new messages text contents gathered
-      (subst (AppendsFront mid new) (append-nil text)
-      (subst (λ (t : List ℕ). AppendsFront mid new (text ++ t)) none begun)))
+      (subst (AppendsPrefix mid new) (append-nil text)
+      (subst (λ (t : List ℕ). AppendsPrefix mid new (text ++ t)) none begun)))
       (is_told ended)
 
   end_whole : (bytes : List ℕ) (status : ℕ) → Gathered from count (Some bytes) old mid messages text →
@@ -283,8 +283,8 @@ module _ (laws : ReaderLaws) (from count : ℕ) (old mid new : Option (List ℕ)
 -- what was gathered and how reading ended were written, or a beginning of them
 pub ended_front : ReaderLaws → (from count : ℕ) (known old mid new : Option (List ℕ)) (messages : List (List ℕ))
     (text : List ℕ) (ended : Option FileError) → Gathered from count known old mid messages text →
-    Ends known messages ended → AppendsFront mid new (text ++ ended_line ended) →
-    IfSome known (λ bytes. (contents : FileContents bytes) → AppendsFront old new (dump_text from count contents))
+    Ends known messages ended → AppendsPrefix mid new (text ++ ended_line ended) →
+    IfSome known (λ bytes. (contents : FileContents bytes) → AppendsPrefix old new (dump_text from count contents))
 ended_front laws from count None old mid new messages text ended gathered ends begun = tt
 ended_front laws from count (Some bytes) old mid new messages text ended gathered ends begun =
     λ contents. end_front laws from count old mid new messages text ended bytes contents gathered ends begun

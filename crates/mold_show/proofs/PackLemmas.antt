@@ -11,7 +11,7 @@ use Rattle.mold_session.specs.Datagrams.{data_packet}
 use Rattle.mold_session.specs.Journal.{JournalState}
 use Rattle.mold_session.specs.Publisher.{PublisherState, next_datagram, after_datagram}
 use Rattle.mold_show.specs.Pack.{packed_text, pack_printing}
-use Rattle.mold_publish.specs.Sending.{all_but_last, end_packet, packets_behind}
+use Rattle.mold_publish.specs.Sending.{all_but_last, end_packet, packets_after}
 use Rattle.mold_publish.specs.Publishing.{packed_status}
 use Rattle.mold_show.specs.Packets.{packet_line, packet_lines, line_of_some}
 use Rattle.mold_publish.specs.Publishing.{PublishedLines, lines_published, refused_text, IsJustFull, Fills}
@@ -45,21 +45,21 @@ first_but_last packet (next ∷ packets) some = refl
 
 -- the first packet of several is printed first
 first_printed : (limit sent then : ℕ) (journal : JournalState) (packet : Packet) (refused : Option LineRefusal) →
-    packets_behind limit sent journal ≡ packet ∷ packets_behind limit then journal →
-    0 < length (packets_behind limit then journal) →
+    packets_after limit sent journal ≡ packet ∷ packets_after limit then journal →
+    0 < length (packets_after limit then journal) →
     packed_text limit sent journal refused ≡ packet_line packet ++ packed_text limit then journal refused
 first_printed limit sent then journal packet None packets some =
     let behind = packet_line (end_packet journal) in
     ap (λ (ps : List Packet). packet_lines ps ++ behind) packets
-    ∙ ap (λ (t : List ℕ). t ++ behind) (first_line packet (packets_behind limit then journal))
-    ∙ append_assoc (packet_line packet) (packet_lines (packets_behind limit then journal)) behind
+    ∙ ap (λ (t : List ℕ). t ++ behind) (first_line packet (packets_after limit then journal))
+    ∙ append_assoc (packet_line packet) (packet_lines (packets_after limit then journal)) behind
 first_printed limit sent then journal packet (Some why) packets some =
     let behind = refused_text (length journal.messages + 1) why in
     ap (λ (ps : List Packet). packet_lines (all_but_last ps) ++ behind) packets
     ∙ ap (λ (ps : List Packet). packet_lines ps ++ behind)
-    (first_but_last packet (packets_behind limit then journal) some)
-    ∙ ap (λ (t : List ℕ). t ++ behind) (first_line packet (all_but_last (packets_behind limit then journal)))
-    ∙ append_assoc (packet_line packet) (packet_lines (all_but_last (packets_behind limit then journal))) behind
+    (first_but_last packet (packets_after limit then journal) some)
+    ∙ ap (λ (t : List ℕ). t ++ behind) (first_line packet (all_but_last (packets_after limit then journal)))
+    ∙ append_assoc (packet_line packet) (packet_lines (all_but_last (packets_after limit then journal))) behind
 
 -- ---- turns
 

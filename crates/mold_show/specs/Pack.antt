@@ -7,16 +7,16 @@ use Rattle.mold_session.specs.Publisher.{PublisherState, fresh_publisher}
 use Rattle.mold_wire.specs.declared.session.Session.{Session}
 use Rattle.mold_show.specs.Packets.{packet_line, packet_lines}
 use Rattle.mold_publish.specs.Publishing.{lines_published, packed_status, refused_text}
-use Rattle.mold_publish.specs.Sending.{all_but_last, end_packet, packets_behind}
+use Rattle.mold_publish.specs.Sending.{all_but_last, end_packet, packets_after}
 use Rattle.mold_publish.specs.declared.line_refusal.LineRefusal.{LineRefusal}
 
 -- what is printed of a session's messages behind the first ones: their data packets and the end packet,
 -- or where the line behind the last message is refused, all but the last of the data packets and why
 abbrev pub packed_text : ℕ → ℕ → JournalState → Option LineRefusal → List ℕ
 packed_text limit sent journal None =
-    packet_lines (packets_behind limit sent journal) ++ packet_line (end_packet journal)
+    packet_lines (packets_after limit sent journal) ++ packet_line (end_packet journal)
 packed_text limit sent journal (Some why) =
-    packet_lines (all_but_last (packets_behind limit sent journal)) ++ refused_text (length journal.messages + 1) why
+    packet_lines (all_but_last (packets_after limit sent journal)) ++ refused_text (length journal.messages + 1) why
 
 -- what a publisher prints of the lines that are left, and the status that it ends with
 abbrev pub pack_printing : PublisherState → Printing

@@ -3,7 +3,7 @@
 ghost use Rattle.std.specs.Prelude.{◌≡◌, ◌<◌, ◌++◌, ℕ, IfErr, IfOk, IfSome, IsErr, OnErr, OnOk, Some};
 ghost use Rattle.std.specs.Bool.{OnFalse, OnTrue};
 ghost use Rattle.std.specs.Io.KnownBytes.{Appends, prepend_known};
-ghost use Rattle.mold_devices.specs.Devices.{AppendsFront};
+ghost use Rattle.mold_devices.specs.Devices.{AppendsPrefix};
 ghost use Rattle.mold_devices.specs.Faults.{CountsCommand, CountsFault};
 ghost use Rattle.mold_refusals.specs.Words.{file_fault_words};
 ghost use Rattle.mold_session.specs.Contents.{FileContents};
@@ -83,7 +83,7 @@ fn end_with<K: Sink>(
     sink: &mut K,
 ) -> Result<u8, CommandFault>
     ensures fails { IsErr result }
-    ensures front { AppendsFront (K.held sink.old) (K.held sink.new) text.old.items }
+    ensures front { AppendsPrefix (K.held sink.old) (K.held sink.new) text.old.items }
     ensures failures { (old new : ℕ) → CountsFault old new (K.failed sink.old) (K.failed sink.old) fault →
         CountsCommand old new (K.failed sink.old) (K.failed sink.new) result }
 {
@@ -92,14 +92,14 @@ fn end_with<K: Sink>(
 }
 
 // Writes why the file is none behind the text, sends both, and answers the status.
-fn tell_refusal<K: Sink>(
+fn print_refusal<K: Sink>(
     text: &mut Vec<u8>,
     error: FileError,
     sink: &mut K,
 ) -> Result<u8, CommandFault>
     ensures whole { IfOk result (λ status. Appends (K.held sink.old) (K.held sink.new)
         (text.old.items ++ refused_line (file_fault_words error)) × (status ≡ 2)) }
-    ensures front { AppendsFront (K.held sink.old) (K.held sink.new)
+    ensures front { AppendsPrefix (K.held sink.old) (K.held sink.new)
         (text.old.items ++ refused_line (file_fault_words error)) }
     ensures failures { (count : ℕ) → CountsCommand count count (K.failed sink.old) (K.failed sink.new) result }
 {
@@ -122,14 +122,14 @@ fn end_refused<K: Sink>(
     ensures whole { IfOk result (λ status. Appends (K.held sink.old) (K.held sink.new)
         (text.old.items ++ ended_line (Some error)) × (status ≡ 2)) }
     ensures told { OnOk result (IsTold (Some error)) }
-    ensures front { AppendsFront (K.held sink.old) (K.held sink.new) (text.old.items ++ ended_line (Some error)) }
+    ensures front { AppendsPrefix (K.held sink.old) (K.held sink.new) (text.old.items ++ ended_line (Some error)) }
     ensures failures { (old new : ℕ) → CountsLoadFault old new error →
         CountsCommand old new (K.failed sink.old) (K.failed sink.new) result }
 {
     match error {
         FileError::Read => end_with(text, CommandFault::Read, sink),
         FileError::Memory => end_with(text, CommandFault::Memory, sink),
-        _ => tell_refusal(text, error, sink),
+        _ => print_refusal(text, error, sink),
     }
 }
 
@@ -142,7 +142,7 @@ fn end_dump<K: Sink>(
     ensures whole { IfOk result (λ status. Appends (K.held sink.old) (K.held sink.new)
         (text.old.items ++ ended_line ended) × (status ≡ fault_status ended)) }
     ensures told { OnOk result (IsTold ended) }
-    ensures front { AppendsFront (K.held sink.old) (K.held sink.new) (text.old.items ++ ended_line ended) }
+    ensures front { AppendsPrefix (K.held sink.old) (K.held sink.new) (text.old.items ++ ended_line ended) }
     ensures failures { (old new : ℕ) → CountsEnd old new ended →
         CountsCommand old new (K.failed sink.old) (K.failed sink.new) result }
 {
@@ -172,7 +172,7 @@ pub fn dump_file<S: Source, K: Sink>(
         × (Appends (K.held sink.old) (K.held sink.new) (dump_text from count contents)
         × (status ≡ dump_status contents)))) }
     ensures front { IfSome (S.left source.old) (λ bytes. (contents : FileContents bytes) →
-        AppendsFront (K.held sink.old) (K.held sink.new) (dump_text from count contents)) }
+        AppendsPrefix (K.held sink.old) (K.held sink.new) (dump_text from count contents)) }
     ensures failures { CountsCommand (S.failed source.old) (S.failed source.new)
         (K.failed sink.old) (K.failed sink.new) result }
 {

@@ -4,50 +4,50 @@ use Rattle.std.proofs.Common.{refl, sym, ap, ◌∙◌, append_assoc, append-nil
 use Rattle.std.specs.Prelude.{slice_get}
 use Rattle.std.proofs.lemmas.List.{drop_all, take-take, take_at}
 use Rattle.mold_sim.specs.Reports.{receiver_lines, some_receiver_line}
-use Rattle.mold_world.specs.World.{PlaceState}
+use Rattle.mold_world.specs.World.{SubscriberState}
 
 -- the lines of the first so many receivers were written behind what was there
-pub record AreShown (old new : List ℕ) (places : List PlaceState) (count : ℕ) : Type 0 where
+pub record AreShown (old new : List ℕ) (subscribers : List SubscriberState) (count : ℕ) : Type 0 where
   pub added : List ℕ
   pub written : new ≡ old ++ added
-  pub rest : receiver_lines 0 places ≡ added ++ receiver_lines count (drop count places)
+  pub rest : receiver_lines 0 subscribers ≡ added ++ receiver_lines count (drop count subscribers)
 
 -- at the start there is none
-pub none_shown : (old : List ℕ) (places : List PlaceState) → AreShown old old places 0
-none_shown old places = record { added = []; written = sym (append-nil old); rest = refl }
+pub none_shown : (old : List ℕ) (subscribers : List SubscriberState) → AreShown old old subscribers 0
+none_shown old subscribers = record { added = []; written = sym (append-nil old); rest = refl }
 
 -- the line of the receiver at a place is the first of those from it on
-one_line : (number count : ℕ) (places : List PlaceState) → count < length places →
-    receiver_lines number (drop count places)
-    ≡ some_receiver_line number (slice_get places count) ++ receiver_lines (number + 1) (drop (count + 1) places)
+one_line : (number count : ℕ) (subscribers : List SubscriberState) → count < length subscribers →
+    receiver_lines number (drop count subscribers)
+    ≡ some_receiver_line number (slice_get subscribers count) ++ receiver_lines (number + 1) (drop (count + 1) subscribers)
 unfolding receiver_lines
 one_line number count [] lt = absurd (omega arith)
-one_line number zero (place ∷ places) lt = refl
-one_line number (suc count) (place ∷ places) lt =
-    let line = some_receiver_line number (slice_get places count) in
-    one_line number count places (omega arith)
-    ∙ ap (λ (n : ℕ). line ++ receiver_lines (number + 1) (drop n places)) (add-one count)
-    ∙ ap (λ (n : ℕ). line ++ receiver_lines (number + 1) (drop n (place ∷ places))) (sym (add-one (suc count)))
+one_line number zero (place ∷ subscribers) lt = refl
+one_line number (suc count) (place ∷ subscribers) lt =
+    let line = some_receiver_line number (slice_get subscribers count) in
+    one_line number count subscribers (omega arith)
+    ∙ ap (λ (n : ℕ). line ++ receiver_lines (number + 1) (drop n subscribers)) (add-one count)
+    ∙ ap (λ (n : ℕ). line ++ receiver_lines (number + 1) (drop n (place ∷ subscribers))) (sym (add-one (suc count)))
 
 -- one more line
-pub one_shown : (old new newer : List ℕ) (places : List PlaceState) (count : ℕ) → count < length places →
-    AreShown old new places count → newer ≡ new ++ some_receiver_line count (slice_get places count) →
-    AreShown old newer places (count + 1)
-one_shown old new newer places count lt shown written =
-    let line = some_receiver_line count (slice_get places count) in
+pub one_shown : (old new newer : List ℕ) (subscribers : List SubscriberState) (count : ℕ) → count < length subscribers →
+    AreShown old new subscribers count → newer ≡ new ++ some_receiver_line count (slice_get subscribers count) →
+    AreShown old newer subscribers (count + 1)
+one_shown old new newer subscribers count lt shown written =
+    let line = some_receiver_line count (slice_get subscribers count) in
     record {
       added = shown.added ++ line;
       written = written ∙ ap (λ (t : List ℕ). t ++ line) shown.written ∙ append_assoc old shown.added line;
       rest =
           shown.rest
-          ∙ ap (λ (t : List ℕ). shown.added ++ t) (one_line count count places lt)
-          ∙ sym (append_assoc shown.added line (receiver_lines (count + 1) (drop (count + 1) places)));
+          ∙ ap (λ (t : List ℕ). shown.added ++ t) (one_line count count subscribers lt)
+          ∙ sym (append_assoc shown.added line (receiver_lines (count + 1) (drop (count + 1) subscribers)));
     }
 
 -- what was there stands in front of what comes behind them
-pub still_kept : (old mid new : List ℕ) (places : List PlaceState) (count : ℕ) → AreShown old mid places count →
+pub still_kept : (old mid new : List ℕ) (subscribers : List SubscriberState) (count : ℕ) → AreShown old mid subscribers count →
     take (length mid) new ≡ mid → take (length old) new ≡ old
-still_kept old mid new places count shown kept =
+still_kept old mid new subscribers count shown kept =
     let within : length old ≤ length mid = omega (arith, ap length shown.written, length-append old shown.added) in
     sym (take-take (length old) (length mid) new within)
     ∙ ap (take (length old)) (kept ∙ shown.written)
@@ -58,11 +58,11 @@ unfolding receiver_lines
 no_lines number = refl
 
 -- behind the last receiver all lines are there
-pub all_shown : (old new : List ℕ) (places : List PlaceState) (count : ℕ) → length places ≤ count →
-    AreShown old new places count → new ≡ old ++ receiver_lines 0 places
-all_shown old new places count all shown =
-    let none = ap (receiver_lines count) (drop_all count places all) ∙ no_lines count in
-    let added : receiver_lines 0 places ≡ shown.added =
+pub all_shown : (old new : List ℕ) (subscribers : List SubscriberState) (count : ℕ) → length subscribers ≤ count →
+    AreShown old new subscribers count → new ≡ old ++ receiver_lines 0 subscribers
+all_shown old new subscribers count all shown =
+    let none = ap (receiver_lines count) (drop_all count subscribers all) ∙ no_lines count in
+    let added : receiver_lines 0 subscribers ≡ shown.added =
     shown.rest ∙ ap (λ (t : List ℕ). shown.added ++ t) none ∙ append-nil shown.added
     in
     shown.written ∙ ap (λ (t : List ℕ). old ++ t) (sym added)

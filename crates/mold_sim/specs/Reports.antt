@@ -7,7 +7,7 @@ use Rattle.mold_session.specs.declared.error.SessionError.TheVariants as session
 use Rattle.mold_text.specs.Line.{line_of}
 use Rattle.mold_text.specs.Text.{refusal_words}
 use Rattle.mold_world.specs.Steps.{is_finished}
-use Rattle.mold_world.specs.World.{PlaceState}
+use Rattle.mold_world.specs.World.{SubscriberState}
 use Rattle.mold_world.specs.declared.report.Report.{Report}
 use Rattle.mold_world.specs.declared.report.Report.TheVariants as report
 use Rattle.mold_world.specs.declared.report.WorldError.{WorldError}
@@ -56,18 +56,18 @@ abbrev pub state_word : Bool → List ℕ
 state_word finished = if finished then codes "finished" else codes "open"
 
 -- the line of the receiver with this number
-abbrev pub receiver_line : ℕ → PlaceState → List ℕ
+abbrev pub receiver_line : ℕ → SubscriberState → List ℕ
 receiver_line number place = line_of
     (codes "receiver" ∷ decimal number ∷ codes "next" ∷ decimal place.arbitration.view.next
     ∷ codes "known" ∷ decimal place.arbitration.view.known ∷ codes "book" ∷ decimal (length place.book.messages)
     ∷ state_word (is_finished place.arbitration.view) ∷ [])
 
 -- the same where there is such a receiver
-abbrev pub some_receiver_line : ℕ → Option PlaceState → List ℕ
+abbrev pub some_receiver_line : ℕ → Option SubscriberState → List ℕ
 some_receiver_line number None = []
 some_receiver_line number (Some place) = receiver_line number place
 
 -- the lines of receivers that are numbered from the first one's number on
-unfoldable pub receiver_lines : ℕ → List PlaceState → List ℕ
+unfoldable pub receiver_lines : ℕ → List SubscriberState → List ℕ
 receiver_lines number [] = []
-receiver_lines number (place ∷ places) = receiver_line number place ++ receiver_lines (number + 1) places
+receiver_lines number (place ∷ subscribers) = receiver_line number place ++ receiver_lines (number + 1) subscribers

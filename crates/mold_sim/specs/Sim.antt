@@ -15,34 +15,34 @@ use Rattle.mold_world.specs.Event.{Happening}
 use Rattle.mold_world.specs.World.{WorldState, beginning}
 
 -- what comes of a line: its text, whether it is refused, and the world afterwards
-pub record Told : Type 0 where
+pub record LineOutcome : Type 0 where
   pub text : List ℕ
   pub refused : Bool
   pub world : WorldState
 
 -- of an event, by what the rule of events says
-abbrev pub told_of : WorldState → Outcome → Told
-told_of w (Ok done) = record { text = line_of (report_words done.0); refused = false; world = done.1 }
-told_of w (Err why) = record { text = refused_line (error_words why); refused = true; world = w }
+abbrev pub outcome_of : WorldState → Outcome → LineOutcome
+outcome_of w (Ok done) = record { text = line_of (report_words done.0); refused = false; world = done.1 }
+outcome_of w (Err why) = record { text = refused_line (error_words why); refused = true; world = w }
 
 -- of a line that says an event, or none
-abbrev pub told_by : WorldState → Option Happening → Told
-told_by w None = record { text = refused_line (codes "Syntax" ∷ []); refused = true; world = w }
-told_by w (Some happening) = told_of w (effect w happening)
+abbrev pub event_outcome : WorldState → Option Happening → LineOutcome
+event_outcome w None = record { text = refused_line (codes "Syntax" ∷ []); refused = true; world = w }
+event_outcome w (Some happening) = outcome_of w (effect w happening)
 
 -- of a line; nothing comes of an empty one
-unfoldable pub told : WorldState → List ℕ → Told
-told w [] = record { text = []; refused = false; world = w }
-told w (byte ∷ bytes) = told_by w (happening_of (byte ∷ bytes))
+unfoldable pub line_outcome : WorldState → List ℕ → LineOutcome
+line_outcome w [] = record { text = []; refused = false; world = w }
+line_outcome w (byte ∷ bytes) = event_outcome w (happening_of (byte ∷ bytes))
 
 -- the text of some lines, and whether any of them is refused
 unfoldable pub lines_text : WorldState → List (List ℕ) → List ℕ
 lines_text w [] = []
-lines_text w (line ∷ lines) = (told w line).text ++ lines_text (told w line).world lines
+lines_text w (line ∷ lines) = (line_outcome w line).text ++ lines_text (line_outcome w line).world lines
 
 unfoldable pub lines_refused : WorldState → List (List ℕ) → Bool
 lines_refused w [] = false
-lines_refused w (line ∷ lines) = (told w line).refused || lines_refused (told w line).world lines
+lines_refused w (line ∷ lines) = (line_outcome w line).refused || lines_refused (line_outcome w line).world lines
 
 -- an event in front of others, where there is one
 abbrev pub then_events : Option Happening → List Happening → List Happening
@@ -57,7 +57,7 @@ events_of ((byte ∷ bytes) ∷ lines) = then_events (happening_of (byte ∷ byt
 
 -- what a script prints: each line's text, and after the last the receivers of the world that its events lead to
 abbrev pub script_text : WorldState → List (List ℕ) → List ℕ
-script_text w lines = lines_text w lines ++ receiver_lines 0 (run_events w (events_of lines)).places
+script_text w lines = lines_text w lines ++ receiver_lines 0 (run_events w (events_of lines)).subscribers
 
 -- a command that simulates: the world so far, and whether a line was refused so far
 pub record SimState : Type 0 where

@@ -70,7 +70,7 @@ pub fn push_report(out: &mut Vec<u8>, report: Report) -> Result<(), AllocError>
 // The line of a receiver; nothing where there is none of this number.
 fn push_receiver(out: &mut Vec<u8>, world: &World, r: usize) -> Result<(), AllocError>
     ensures text { OnOk result (out.new.items ≡
-        out.old.items ++ some_receiver_line r (slice_get world.now.places r)) }
+        out.old.items ++ some_receiver_line r (slice_get world.now.subscribers r)) }
     ensures kept { OnErr result (take (length out.old.items) out.new.items ≡ out.old.items) }
 {
     let Some(receiver) = world.receiver(r) else {
@@ -105,7 +105,7 @@ fn push_receiver(out: &mut Vec<u8>, world: &World, r: usize) -> Result<(), Alloc
 
 /// Writes a line for each receiver, in order.
 pub fn push_receivers(out: &mut Vec<u8>, world: &World) -> Result<(), AllocError>
-    ensures text { OnOk result (out.new.items ≡ out.old.items ++ receiver_lines 0 world.now.places) }
+    ensures text { OnOk result (out.new.items ≡ out.old.items ++ receiver_lines 0 world.now.subscribers) }
     ensures kept { OnErr result (take (length out.old.items) out.new.items ≡ out.old.items) }
 {
     'receivers: for r in 0..world.receivers() {

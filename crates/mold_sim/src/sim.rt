@@ -1,9 +1,9 @@
 //! `mold sim`: a script of events, each of which is applied to a world.
 
 ghost use Rattle.std.specs.Prelude.{◌≡◌, ◌≤◌, ◌++◌, length, take, IfOk, OnErr};
-ghost use Rattle.mold_sim.specs.Sim.{sim_beginning, told};
-ghost use Rattle.mold_receiver.specs.declared.receiver.TheConstants.{MAX_WINDOW};
-ghost use Rattle.mold_session.specs.declared.server.TheConstants.{MAX_BURST};
+ghost use Rattle.mold_sim.specs.Sim.{sim_beginning, line_outcome};
+ghost use Rattle.mold_wire.specs.declared.limits.TheConstants.{MAX_WINDOW};
+ghost use Rattle.mold_wire.specs.declared.limits.TheConstants.{MAX_BURST};
 ghost use Rattle.mold_wire.specs.declared.limits.TheConstants.{MAX_LIMIT, MIN_LIMIT};
 
 use crate::reading::read_line;
@@ -21,16 +21,16 @@ const RECEIVERS: usize = 8;
 
 // Applies the event that the line says and writes what came of it, and answers whether the line is refused.
 // The event's bytes take the place of what `bytes` holds.
-#[tactic(auto, unfolding(crate::specs::Sim::told))]
-fn tell_line(
+#[tactic(auto, unfolding(crate::specs::Sim::line_outcome))]
+fn print_line(
     world: &mut World,
     line: &[u8],
     bytes: &mut Vec<u8>,
     out: &mut Vec<u8>,
 ) -> Result<bool, AllocError>
-    ensures text { IfOk result (λ _. out.new.items ≡ out.old.items ++ (told world.old line.now).text) }
-    ensures refused { IfOk result (λ refused. refused ≡ (told world.old line.now).refused) }
-    ensures world { IfOk result (λ _. world.new ≡ (told world.old line.now).world) }
+    ensures text { IfOk result (λ _. out.new.items ≡ out.old.items ++ (line_outcome world.old line.now).text) }
+    ensures refused { IfOk result (λ refused. refused ≡ (line_outcome world.old line.now).refused) }
+    ensures world { IfOk result (λ _. world.new ≡ (line_outcome world.old line.now).world) }
     ensures kept { OnErr result (take (length out.old.items) out.new.items ≡ out.old.items) }
 {
     if line.is_empty() {
@@ -130,7 +130,7 @@ impl LineCommand for Sim {
             let status = if self.refused { 2 } else { 0 };
             return Ok(Turn::Done { status });
         }
-        self.refused |= tell_line(&mut self.world, lines.line(), &mut self.bytes, out)?;
+        self.refused |= print_line(&mut self.world, lines.line(), &mut self.bytes, out)?;
         Ok(Turn::More)
     }
 }

@@ -19,13 +19,13 @@ word_text (Digits bytes) = encode_lower bytes.now
 word_text (Message message) = message_digits message.now
 
 -- a word behind a space
-abbrev pub behind_space : List ℕ → List ℕ
-behind_space word = codes " " ++ word
+abbrev pub after_space : List ℕ → List ℕ
+after_space word = codes " " ++ word
 
 -- words joined by single spaces
 unfoldable pub joined : List (List ℕ) → List ℕ
 joined [] = []
-joined (first ∷ others) = first ++ flat_map behind_space others
+joined (first ∷ others) = first ++ flat_map after_space others
 
 -- a line: its words joined by single spaces, and the byte 0A
 abbrev pub line_of : List (List ℕ) → List ℕ

@@ -3,7 +3,7 @@
 ghost use Rattle.std.specs.Prelude.{◌≡◌, ◌++◌, ◌+◌, ◌≤◌, length, map, take, OnErr, OnOk};
 ghost use Rattle.std.specs.List.{flat_map};
 ghost use Rattle.mold_digits.specs.Writing.{IsWritten};
-ghost use Rattle.mold_text.specs.Line.{behind_space, joined, line_of, word_text};
+ghost use Rattle.mold_text.specs.Line.{after_space, joined, line_of, word_text};
 ghost use Rattle.mold_text.specs.Room.{counted, line_room, words_room};
 
 use crate::word::{Word, word_room, write_word};
@@ -26,7 +26,7 @@ fn words_room(words: &[Word<'_>]) -> usize
 #[inline(always)]
 fn write_spaced(out: &mut [u8], at: usize, words: &[Word<'_>]) -> usize
     requires { at + words_room words.now ≤ length out.old }
-    ensures written { IsWritten out.old out.new at result (flat_map behind_space (map word_text words.now)) }
+    ensures written { IsWritten out.old out.new at result (flat_map after_space (map word_text words.now)) }
     ensures most { result ≤ at + words_room words.now }
 {
     let mut end = at;

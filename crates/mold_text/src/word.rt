@@ -6,7 +6,7 @@ ghost use Rattle.mold_text.specs.Line.{message_digits, word_text};
 ghost use Rattle.mold_text.specs.Room.{counted, word_room};
 
 use mold_digits::{
-    MOST_DIGITS, MOST_LONG_DIGITS, write_bytes, write_long_number, write_number, write_text,
+    MAX_DIGITS, MAX_LONG_DIGITS, write_bytes, write_long_number, write_number, write_text,
 };
 
 /// A word of a line, by how it is printed.
@@ -31,8 +31,8 @@ pub(crate) fn word_room(word: &Word<'_>) -> usize
 {
     match word {
         Word::Text(text) => text.len(),
-        Word::Number(_) => MOST_DIGITS,
-        Word::LongNumber(_) => MOST_LONG_DIGITS,
+        Word::Number(_) => MAX_DIGITS,
+        Word::LongNumber(_) => MAX_LONG_DIGITS,
         Word::Digits(bytes) => bytes.len().saturating_mul(2),
         Word::Message(message) => message.len().saturating_mul(2).saturating_add(1),
     }

@@ -6,7 +6,7 @@ use Rattle.std.proofs.Math.ListN.{length-replicate}
 use Rattle.std.specs.Prelude.{IsErr, IfOk, OnOk, if◌then◌else◌}
 use Rattle.std.specs.Io.KnownBytes.{Appends}
 use Rattle.std.proofs.KnownBytes.{Appends-nil, Appends-trans}
-use Rattle.mold_devices.specs.Devices.{AppendsFront}
+use Rattle.mold_devices.specs.Devices.{AppendsPrefix}
 use Rattle.mold_turns.specs.Runs.{Loop, run, Begins, Moves, Rests, RestsOfTwo, Ran}
 
 -- ---- beginnings
@@ -263,7 +263,7 @@ module _ {C S M : Type 0} {loop : Loop C S M} {behind : List ℕ → S → S} (i
   -- a turn was made, and then a write failed
   pub rests_cut : {T E : Type 0} (result : Result T E) {start now : S} {old mid new : Option (List ℕ)} {count : ℕ}
       (turns : ℕ) (choice : C) (after : S) → Going loop behind start old mid count now → count < turns →
-      after ≡ loop.turn choice now → AppendsFront mid new (loop.text after) → IsErr result →
+      after ≡ loop.turn choice now → AppendsPrefix mid new (loop.text after) → IsErr result →
       Rests loop behind turns start result old new after
   unfolding filled
   rests_cut result {start} {now} {old} {mid} {new} {count} turns choice after going few made cut failed =
@@ -355,7 +355,7 @@ module _ {C S M : Type 0} {loop : Loop C S M} {behind : List ℕ → S → S} (i
     -- a turn was made, and then a write failed, behind which the state is `left`
     pub two_cut : {T E : Type 0} (result : Result T E) {start now : S} {old mid new : Option (List ℕ)} {count : ℕ}
         (turns : ℕ) (choice : C) (after left : S) → Going loop behind start old mid count now → count < turns →
-        after ≡ loop.turn choice now → AppendsFront mid new (loop.text after) → loop.sent left ≡ loop.sent after →
+        after ≡ loop.turn choice now → AppendsPrefix mid new (loop.text after) → loop.sent left ≡ loop.sent after →
         other left ≡ other after → IsErr result → RestsOfTwo loop other behind turns start result old new left
     unfolding rests_left rests_cut filled
     two_cut result {start} {now} {old} {mid} {new} {count} turns choice after left going few made cut same same_too failed =
@@ -423,7 +423,7 @@ module _ {C S M : Type 0} {loop : Loop C S M} {behind : List ℕ → S → S} (i
 
       -- the last write failed
       pub ran_front : {E : Type 0} (result : Result ℕ E) {new : Option (List ℕ)} (text : List ℕ) →
-          text ≡ loop.text now ++ last now → AppendsFront mid new text → IsErr result →
+          text ≡ loop.text now ++ last now → AppendsPrefix mid new text → IsErr result →
           Ran loop turns start last status agrees result old new (loop.sent now)
       ran_front result {new} text is_text cut failed = record {
         choices = rests.choices;

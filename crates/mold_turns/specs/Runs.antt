@@ -1,7 +1,7 @@
 -- Loops that go by turns: what a run of turns comes to.
 use Rattle.std.specs.Prelude.{◌≡◌, ℕ, Bool, if◌then◌else◌, List, [], ◌∷◌, ◌++◌, length, Option, Result, IfOk, OnOk}
 use Rattle.std.specs.Io.KnownBytes.{Appends}
-use Rattle.mold_devices.specs.Devices.{AppendsFront}
+use Rattle.mold_devices.specs.Devices.{AppendsPrefix}
 
 -- a loop over a state S: what a turn makes of it, by a choice C of what nobody can know before, as which of its
 -- sends fail; whether the loop ends with it; the text printed so far; and all M that were sent so far
@@ -61,5 +61,5 @@ pub record Ran {C S M E : Type 0} (loop : Loop C S M) (turns : ℕ) (start : S) 
       Appends old new (loop.text (run loop choices start) ++ last (run loop choices start))
       × (answer ≡ status (run loop choices start)))
   pub left : OnOk result (agrees (run loop choices start))
-  pub front : AppendsFront old new (loop.text (run loop choices start) ++ last (run loop choices start))
+  pub front : AppendsPrefix old new (loop.text (run loop choices start) ++ last (run loop choices start))
   pub sent : Begins sendings (loop.sent (run loop choices start))

@@ -3,7 +3,7 @@
 ghost use Rattle.std.specs.Prelude.{◌≡◌, ◌<◌, ◌≤◌, [], false, true, length, map, take, IfErr, IsOk, OnErr};
 ghost use Rattle.std.specs.Prelude.{OnOk};
 ghost use Rattle.std.specs.Io.KnownBytes.{Appends};
-ghost use Rattle.mold_devices.specs.Devices.{AppendsFront, Counts};
+ghost use Rattle.mold_devices.specs.Devices.{AppendsPrefix, Counts};
 ghost use Rattle.mold_turns.specs.Outgoing.{failed_often, failed_once, nothing_out, with_more};
 ghost use Rattle.mold_turns.specs.Runs.{Moves};
 ghost use Rattle.mold_text.specs.Line.{line_of, word_text};
@@ -80,7 +80,7 @@ impl Outgoing {
         ensures live { K.live sink.old ≡ true → OnOk result (self.new.text ≡ []) }
         ensures same { OnErr result (self.new ≡ self.old) }
         ensures failures { self.new.failures ≡ self.old.failures }
-        ensures front { AppendsFront (K.held sink.old) (K.held sink.new) self.old.text }
+        ensures front { AppendsPrefix (K.held sink.old) (K.held sink.new) self.old.text }
         ensures fault { IfErr result (λ fault. fault ≡ CommandFault.Write) }
         ensures sink { Counts (K.failed sink.old) (K.failed sink.new) result }
     {
@@ -96,7 +96,7 @@ impl Outgoing {
         ensures empty { OnOk result (self.new.text ≡ []) }
         ensures same { OnErr result (self.new ≡ self.old) }
         ensures failures { self.new.failures ≡ self.old.failures }
-        ensures front { AppendsFront (K.held sink.old) (K.held sink.new) self.old.text }
+        ensures front { AppendsPrefix (K.held sink.old) (K.held sink.new) self.old.text }
         ensures fault { IfErr result (λ fault. fault ≡ CommandFault.Write) }
         ensures sink { Counts (K.failed sink.old) (K.failed sink.new) result }
     {

@@ -35,7 +35,7 @@ fn word(fault: ProgramFault) -> &'static str
 }
 
 /// Prints the word behind `fault` as a line of standard error, and answers the status.
-pub fn tell_fault(rt: &impl Eprint, word: &str) -> ExitCode
+pub fn print_fault(rt: &impl Eprint, word: &str) -> ExitCode
     ensures { exit_status result ≡ 3 }
 {
     let _ = rt.eprintln(format_args!("fault {word}"));
@@ -48,6 +48,6 @@ pub fn exit_code(rt: &impl Eprint, outcome: Result<u8, ProgramFault>) -> ExitCod
 {
     match outcome {
         Ok(status) => ExitCode::from(status),
-        Err(fault) => tell_fault(rt, word(fault)),
+        Err(fault) => print_fault(rt, word(fault)),
     }
 }

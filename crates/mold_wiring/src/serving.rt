@@ -2,7 +2,7 @@
 
 ghost use Rattle.std.specs.Prelude.{◌≡◌, ◌-◌, IfErr, IfOk, IfSome};
 ghost use Rattle.std.specs.Io.KnownBytes.{Appends};
-ghost use Rattle.mold_devices.specs.Devices.{AppendsFront};
+ghost use Rattle.mold_devices.specs.Devices.{AppendsPrefix};
 ghost use Rattle.mold_refusals.specs.Words.{file_fault_words};
 ghost use Rattle.mold_text.specs.Text.{refused_line};
 ghost use Rattle.mold_devices.specs.Faults.{CountsSink};
@@ -38,14 +38,14 @@ pub fn load_journal<S: Source>(
 }
 
 /// Tells why a file is no journal, and answers the status.
-pub fn tell_file_refused<K: Sink>(
+pub fn print_file_refusal<K: Sink>(
     alloc: Global,
     error: FileError,
     sink: &mut K,
 ) -> Result<u8, CommandFault>
     ensures told { IfOk result (λ status.
         Appends (K.held sink.old) (K.held sink.new) (refused_line (file_fault_words error)) × (status ≡ 2)) }
-    ensures front { AppendsFront (K.held sink.old) (K.held sink.new) (refused_line (file_fault_words error)) }
+    ensures front { AppendsPrefix (K.held sink.old) (K.held sink.new) (refused_line (file_fault_words error)) }
     ensures nothing { IfErr result (λ fault. fault ≡ CommandFault.Memory → sink.new ≡ sink.old) }
     ensures sink { CountsSink (K.failed sink.old) (K.failed sink.new) result }
 {

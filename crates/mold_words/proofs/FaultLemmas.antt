@@ -16,8 +16,8 @@ use Rattle.clap.specs.declared.error.kind.ErrorKind.TheVariants.{OutOfMemory}
 use Rattle.mold_words.specs.Words.{mold_app}
 use Rattle.mold_words.specs.NoOrders.{is_address}
 use Rattle.mold_words.specs.Orders.{lacks_address, order_in, order_of, Say}
-use Rattle.mold_words.specs.Wanted.{Wanted}
-use Rattle.mold_words.specs.Faults.{Tells, TellsOf, told, told_if_made, value_told}
+use Rattle.mold_words.specs.Arguments.{Arguments}
+use Rattle.mold_words.specs.Faults.{IsClapFault, IsFaultOf, fault_of_kind, fault_if_made, value_fault}
 use Rattle.mold_words.specs.declared.no_order.NoOrder.{NoOrder}
 use Rattle.mold_words.specs.declared.no_order.NoOrder.TheVariants as no_order
 use Rattle.mold_words.specs.declared.fault.UsageFault.{UsageFault}
@@ -25,26 +25,26 @@ use Rattle.mold_words.specs.declared.fault.UsageFault.TheVariants.{Memory}
 
 -- an error for want of memory, or of one of the kinds, is told as that
 tells-told : (kinds : Kinds) (error : ErrorKind) (text : Result (String Global) AllocError)
-    → (error ≡ OutOfMemory) ⊎ IsAmong error kinds → Tells kinds (told_if_made error text)
+    → (error ≡ OutOfMemory) ⊎ IsAmong error kinds → IsClapFault kinds (fault_if_made error text)
 tells-told kinds error (Err refused) has = inl refl
-tells-told kinds error (Ok text) (inl memory) = inl (ap (λ kind. told kind text) memory)
+tells-told kinds error (Ok text) (inl memory) = inl (ap (λ kind. fault_of_kind kind text) memory)
 tells-told kinds error (Ok text) (inr among) = inr (error, text, among, refl)
 
 -- so is the error of a parse of the program's words
 pub tells-parse : (words : List Text) (app : App) (error : Error) (kind : ErrorKind)
     (text : Result (String Global) AllocError) (fault : UsageFault)
-    → app ≡ mold_app → HasKind (fault_of app words) error → kind ≡ kind_of error → fault ≡ told_if_made kind text
-    → Tells (fault_of mold_app words) fault
+    → app ≡ mold_app → HasKind (fault_of app words) error → kind ≡ kind_of error → fault ≡ fault_if_made kind text
+    → IsClapFault (fault_of mold_app words) fault
 tells-parse words app error kind text fault same has is made =
     let kinds = ap (λ (a : App). fault_of a words) same in
     let told_here = tells-told (fault_of app words) (kind_of error) text has in
-    subst (λ (ks : Kinds). Tells ks fault) kinds
-    (subst (Tells (fault_of app words)) (sym (made ∙ ap (λ k. told_if_made k text) is)) told_here)
+    subst (λ (ks : Kinds). IsClapFault ks fault) kinds
+    (subst (IsClapFault (fault_of app words)) (sym (made ∙ ap (λ k. fault_if_made k text) is)) told_here)
 
 -- where there is no fault to tell, memory was refused
-pub tells-nothing : (kinds : Kinds) (fault : UsageFault) → kinds ≡ [] → Tells kinds fault → fault ≡ Memory
+pub tells-nothing : (kinds : Kinds) (fault : UsageFault) → kinds ≡ [] → IsClapFault kinds fault → fault ≡ Memory
 tells-nothing kinds fault none (inl memory) = memory
-tells-nothing kinds fault none (inr told) = absurd (subst (IsAmong told.0) none told.2)
+tells-nothing kinds fault none (inr fault_of_kind) = absurd (subst (IsAmong fault_of_kind.0) none fault_of_kind.2)
 
 -- words that give no order, where memory was not refused, say nothing, and not for an address unless one is
 -- none; where it was, the text of why is not made
@@ -68,32 +68,32 @@ gives-none words app m none text same matches nothing unmade = record {
 }
 
 unmade-memory : (is : Bool) (text : Result (String Global) AllocError) → is_err text ≡ true
-    → value_told is text ≡ Memory
+    → value_fault is text ≡ Memory
 unmade-memory is (Ok text) unmade = absurd (false≢true unmade)
 unmade-memory is (Err refused) unmade = refl
 
-told-value : (words : List Text) (is : Bool) (text : Result (String Global) AllocError) (fault : UsageFault)
-    → order_of words ≡ None → is ≡ lacks_address (subcommand_of mold_app words) → fault ≡ value_told is text
-    → TellsOf words fault
-told-value words is (Ok text) fault nothing same made =
-    inr (nothing, (text, made ∙ ap (λ (b : Bool). value_told b (Ok text)) same))
-told-value words is (Err refused) fault nothing same made = inl (inl made)
+fault_of_kind-value : (words : List Text) (is : Bool) (text : Result (String Global) AllocError) (fault : UsageFault)
+    → order_of words ≡ None → is ≡ lacks_address (subcommand_of mold_app words) → fault ≡ value_fault is text
+    → IsFaultOf words fault
+fault_of_kind-value words is (Ok text) fault nothing same made =
+    inr (nothing, (text, made ∙ ap (λ (b : Bool). value_fault b (Ok text)) same))
+fault_of_kind-value words is (Err refused) fault nothing same made = inl (inl made)
 
 -- their fault tells that
 pub tells-none : (words : List Text) (none : NoOrder) (found : Option (Text × List Row))
     (text : Result (String Global) AllocError) (fault : UsageFault) → GivesNone words none found text
-    → fault ≡ value_told (is_address none) text → TellsOf words fault
+    → fault ≡ value_fault (is_address none) text → IsFaultOf words fault
 tells-none words none found text fault gives made =
     elim gives.nothing [
       | inl memory ↦ inl (inl (made ∙ unmade-memory (is_address none) text (gives.unmade memory)))
-      | inr nothing ↦ told-value words (is_address none) text fault (gives.says ∙ nothing.0)
+      | inr nothing ↦ fault_of_kind-value words (is_address none) text fault (gives.says ∙ nothing.0)
           (nothing.1 ∙ sym (ap lacks_address gives.named)) made
     ]
 
 -- and words that say something gave none for want of memory alone
 pub says-none : (words : List Text) (none : NoOrder) (found : Option (Text × List Row))
-    (text : Result (String Global) AllocError) (fault : UsageFault) (wanted : Wanted)
-    → GivesNone words none found text → fault ≡ value_told (is_address none) text → Say words wanted
+    (text : Result (String Global) AllocError) (fault : UsageFault) (wanted : Arguments)
+    → GivesNone words none found text → fault ≡ value_fault (is_address none) text → Say words wanted
     → fault ≡ Memory
 says-none words none found text fault wanted gives made say =
     elim gives.nothing [

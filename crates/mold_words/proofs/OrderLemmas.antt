@@ -8,7 +8,7 @@ use Rattle.clap.specs.Words.{subcommand_of, subcommand_rows_of}
 use Rattle.clap.specs.declared.parser.matches.ArgMatches.{ArgMatches}
 use Rattle.mold_words.specs.Words.{mold_app}
 use Rattle.mold_words.specs.Orders.{AreTaken, order_in, order_of}
-use Rattle.mold_words.specs.Wanted.{show_wanted}
+use Rattle.mold_words.specs.Arguments.{show_wanted}
 
 -- `clap` states the matches of the program's commands, and its faults
 pub mold_is_simple : is_simple mold_app ≡ true

@@ -5,7 +5,7 @@ use Rattle.std.specs.List.{after_first, before_first, position_or_len, slice_ind
 use Rattle.std.specs.Option.{option_and_then}
 use Rattle.clap.specs.Words.{Text}
 use Rattle.mold_words.specs.Values.{number_of}
-use Rattle.mold_words.specs.declared.addresses.TheConstants.{MOST_PORT}
+use Rattle.mold_words.specs.declared.addresses.TheConstants.{MAX_PORT}
 
 -- what stands before the first byte of this kind, and what behind it; none where there is none
 abbrev pub cut_at : ℕ → Text → Option (Text × Text)
@@ -48,6 +48,6 @@ address_of text =
     (λ parts. option_and_then
     (λ host. option_and_then
     (λ port. Some (host, port))
-    (plain_number MOST_PORT parts.1))
+    (plain_number MAX_PORT parts.1))
     (host_of parts.0))
     (cut_at 58 text)

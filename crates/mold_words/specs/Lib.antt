@@ -4,5 +4,5 @@ pub mod NoOrders
 pub mod Orders
 pub mod Table
 pub mod Values
-pub mod Wanted
+pub mod Arguments
 pub mod Words

@@ -7,12 +7,13 @@ use Rattle.std.specs.Str.{bytes_eq}
 use Rattle.clap.specs.Words.{Row, Text, fault_of, first_of, subcommand_of}
 use Rattle.mold_words.specs.Addresses.{address_of}
 use Rattle.mold_words.specs.Values.{session_of, number_of}
-use Rattle.mold_words.specs.Wanted.{Place, Wanted, check_lines_wanted, check_wanted, dump_wanted, listen_wanted}
-use Rattle.mold_words.specs.Wanted.{loop_wanted, pack_wanted, publish_wanted, serve_wanted, show_wanted, sim_wanted}
-use Rattle.mold_words.specs.Wanted.{upgrade_wanted}
+use Rattle.mold_words.specs.Arguments.{Arguments, HostPort, check_lines_wanted, check_wanted, dump_wanted}
+use Rattle.mold_words.specs.Arguments.{listen_wanted, loop_wanted, pack_wanted, publish_wanted, serve_wanted}
+use Rattle.mold_words.specs.Arguments.{show_wanted, sim_wanted, upgrade_wanted}
 use Rattle.mold_words.specs.Words.{mold_app}
-use Rattle.mold_words.specs.declared.options.TheConstants.{MOST_BURST, MOST_TURNS, MOST_WINDOW}
-use Rattle.mold_words.specs.declared.options.TheConstants.{USUAL_LIMIT, USUAL_TURNS, USUAL_WINDOW}
+use Rattle.mold_words.specs.declared.options.TheConstants.{MAX_TURNS}
+use Rattle.mold_wire.specs.declared.limits.TheConstants.{MAX_BURST, MAX_WINDOW}
+use Rattle.mold_words.specs.declared.options.TheConstants.{DEFAULT_LIMIT, DEFAULT_TURNS, DEFAULT_WINDOW}
 use Rattle.mold_wire.specs.declared.limits.TheConstants.{MAX_LIMIT, MAX_NUMBER, MIN_LIMIT}
 
 -- `clap` finds no fault in the words
@@ -39,16 +40,16 @@ number_in name usual least most rows = number_or usual least most (first_of name
 -- the most bytes of a packet; the messages that a receiver looks ahead; the most packets that answer a request;
 -- how many turns are made
 abbrev pub limit_in : Text → List Row → Option ℕ
-limit_in name rows = number_in name USUAL_LIMIT MIN_LIMIT MAX_LIMIT rows
+limit_in name rows = number_in name DEFAULT_LIMIT MIN_LIMIT MAX_LIMIT rows
 
 abbrev pub window_in : List Row → Option ℕ
-window_in rows = number_in (codes "window") USUAL_WINDOW 1 MOST_WINDOW rows
+window_in rows = number_in (codes "window") DEFAULT_WINDOW 1 MAX_WINDOW rows
 
 abbrev pub burst_in : List Row → Option ℕ
-burst_in rows = number_in (codes "burst") 1 1 MOST_BURST rows
+burst_in rows = number_in (codes "burst") 1 1 MAX_BURST rows
 
 abbrev pub turns_in : List Row → Option ℕ
-turns_in rows = number_in (codes "turns") USUAL_TURNS 1 MOST_TURNS rows
+turns_in rows = number_in (codes "turns") DEFAULT_TURNS 1 MAX_TURNS rows
 
 -- what is printed is written at once
 abbrev pub live_in : List Row → Bool
@@ -68,7 +69,7 @@ limits_in rows =
     (limit_in (codes "limit") rows)
 
 -- the address of the option of this name
-abbrev pub address_in : Text → List Row → Option Place
+abbrev pub address_in : Text → List Row → Option HostPort
 address_in name rows = option_and_then address_of (first_of name rows)
 
 -- an option of this name was given whose text is no address
@@ -81,18 +82,18 @@ has_no_address rows =
     list_any (is_no_address rows) (codes "a" ∷ codes "b" ∷ codes "server" ∷ codes "bind" ∷ [])
 
 -- what `show` says with the options found
-unfoldable pub show_of : List Row → Wanted
+unfoldable pub show_of : List Row → Arguments
 show_of rows = show_wanted (flag_in (codes "request") rows)
 
 -- what `pack` says with the options found
-unfoldable pub pack_of : List Row → Option Wanted
+unfoldable pub pack_of : List Row → Option Arguments
 pack_of rows =
     option_and_then
     (λ session. option_map (λ limit. pack_wanted session limit) (limit_in (codes "limit") rows))
     (session_in (codes "session") rows)
 
 -- what `sim` says with the options found
-unfoldable pub sim_of : List Row → Option Wanted
+unfoldable pub sim_of : List Row → Option Arguments
 sim_of rows =
     option_and_then
     (λ session. option_and_then
@@ -114,14 +115,14 @@ sim_of rows =
     (session_in (codes "session") rows)
 
 -- what `check` says with its word: just `-` is no folder, and says that lines come on standard input
-unfoldable pub check_of : List Row → Option Wanted
+unfoldable pub check_of : List Row → Option Arguments
 check_of rows =
     option_and_then
     (λ folder. Some (if bytes_eq folder (codes "-") then check_lines_wanted else check_wanted folder))
     (first_of (codes "folder") rows)
 
 -- what `publish` says with the options found
-unfoldable pub publish_of : List Row → Option Wanted
+unfoldable pub publish_of : List Row → Option Arguments
 publish_of rows =
     option_and_then
     (λ session. option_and_then
@@ -148,7 +149,7 @@ publish_of rows =
     (session_in (codes "session") rows)
 
 -- what `serve` says with the options found
-unfoldable pub serve_of : List Row → Option Wanted
+unfoldable pub serve_of : List Row → Option Arguments
 serve_of rows =
     option_and_then
     (λ journal. option_and_then
@@ -170,7 +171,7 @@ serve_of rows =
     (first_of (codes "journal") rows)
 
 -- what `listen` says with the options found
-unfoldable pub listen_of : List Row → Option Wanted
+unfoldable pub listen_of : List Row → Option Arguments
 listen_of rows =
     option_and_then
     (λ session. option_and_then
@@ -202,7 +203,7 @@ listen_of rows =
     (session_in (codes "session") rows)
 
 -- what `loop` says with the options found
-unfoldable pub loop_of : List Row → Option Wanted
+unfoldable pub loop_of : List Row → Option Arguments
 loop_of rows =
     option_and_then
     (λ session. option_and_then
@@ -231,7 +232,7 @@ loop_of rows =
     (session_in (codes "session") rows)
 
 -- what `upgrade` says with the options found: its two files have names that differ
-unfoldable pub upgrade_of : List Row → Option Wanted
+unfoldable pub upgrade_of : List Row → Option Arguments
 upgrade_of rows =
     option_and_then
     (λ journal. option_and_then
@@ -240,7 +241,7 @@ upgrade_of rows =
     (first_of (codes "journal") rows)
 
 -- what `dump` says with the options found: without a count all of the messages, which are never more
-unfoldable pub dump_of : List Row → Option Wanted
+unfoldable pub dump_of : List Row → Option Arguments
 dump_of rows =
     option_and_then
     (λ journal. option_and_then
@@ -251,7 +252,7 @@ dump_of rows =
     (first_of (codes "journal") rows)
 
 -- what the command of this name says with the options found
-unfoldable pub order_at : Text → List Row → Option Wanted
+unfoldable pub order_at : Text → List Row → Option Arguments
 order_at name rows =
     if bytes_eq name (codes "show") then Some (show_of rows)
     else if bytes_eq name (codes "pack") then pack_of rows
@@ -267,7 +268,7 @@ order_at name rows =
 
 -- what a command says that was found with its options: nothing where an address is none; where no command was
 -- found, to show packets
-abbrev pub order_in : Option (Text × List Row) → Option Wanted
+abbrev pub order_in : Option (Text × List Row) → Option Arguments
 order_in None = Some (show_wanted false)
 order_in (Some found) = if has_no_address found.1 then None else order_at found.0 found.1
 
@@ -278,9 +279,9 @@ lacks_address (Some found) = has_no_address found.1
 
 -- the order that the words say: that of the command which `clap` finds in them; none where an option's
 -- text is no value of it
-unfoldable pub order_of : List Text → Option Wanted
+unfoldable pub order_of : List Text → Option Arguments
 order_of words = order_in (subcommand_of mold_app words)
 
 -- `clap` finds no fault in the words, and this is what they ask for
-abbrev pub Say : List Text → Wanted → Type 0
+abbrev pub Say : List Text → Arguments → Type 0
 Say words wanted = AreTaken words × (order_of words ≡ Some wanted)

@@ -2,14 +2,14 @@
 
 ghost use Rattle.std.specs.Prelude.{◌≡◌, option_map};
 ghost use Rattle.mold_words.specs.Addresses.{address_of, cut_at, host_of, is_plain, plain_number};
-ghost use Rattle.mold_words.specs.Wanted.{address_view};
-ghost use Rattle.mold_words.specs.declared.addresses.TheConstants.{MOST_PORT};
+ghost use Rattle.mold_words.specs.Arguments.{address_view};
+ghost use Rattle.mold_words.specs.declared.addresses.TheConstants.{MAX_PORT};
 
 use crate::address::Address;
 use crate::values::number_of;
 
 // The greatest port.
-const MOST_PORT: u64 = 65535;
+const MAX_PORT: u64 = 65535;
 
 // What stands before the first point or colon, and what behind it.
 fn cut_at_point(text: &str) -> Option<(&str, &str)>
@@ -43,10 +43,10 @@ fn byte_of(text: &str) -> Option<u8>
 
 #[tactic(auto, unfolding(crate::specs::Addresses::plain_number))]
 fn port_of(text: &str) -> Option<u16>
-    ensures { result ≡ plain_number MOST_PORT text.now }
+    ensures { result ≡ plain_number MAX_PORT text.now }
 {
     if is_plain(text) {
-        Some(number_of(text, 0, MOST_PORT)? as u16)
+        Some(number_of(text, 0, MAX_PORT)? as u16)
     } else {
         None
     }

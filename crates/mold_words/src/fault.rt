@@ -1,6 +1,6 @@
 //! Why words give no order.
 ghost use Rattle.std.specs.Prelude.{◌≡◌};
-ghost use Rattle.mold_words.specs.Faults.{told_if_made, value_told};
+ghost use Rattle.mold_words.specs.Faults.{fault_if_made, value_fault};
 ghost use Rattle.mold_words.specs.declared.fault.UsageFault.TheVariants.{Memory};
 
 use clap::error::ErrorKind;
@@ -37,7 +37,7 @@ impl From<AllocError> for UsageFault {
 
 /// The fault that tells an error of this kind by the text that was made of it.
 pub(crate) fn fault_for(kind: ErrorKind, text: Result<String, AllocError>) -> UsageFault
-    ensures { result ≡ told_if_made kind text }
+    ensures { result ≡ fault_if_made kind text }
 {
     let Ok(text) = text else {
         return UsageFault::Memory;
@@ -52,7 +52,7 @@ pub(crate) fn fault_for(kind: ErrorKind, text: Result<String, AllocError>) -> Us
 
 /// The fault that tells, by the text that was made of it, an option's text that is no value of it.
 pub(crate) fn value_fault(is_address: bool, text: Result<String, AllocError>) -> UsageFault
-    ensures { result ≡ value_told is_address text }
+    ensures { result ≡ value_fault is_address text }
 {
     match text {
         Ok(text) if is_address => UsageFault::Address { text },

@@ -3,9 +3,9 @@ ghost use Rattle.std.specs.Prelude.{◌≡◌, [], ◌∷◌, IfSome, IsTrue, Li
 ghost use Rattle.clap.specs.Words.{Text, fault_of, subcommand_of};
 ghost use Rattle.clap.specs.declared.error.kind.ErrorKind.TheVariants.{DisplayHelp, DisplayVersion, UnknownArgument};
 ghost use Rattle.mold_words.specs.Orders.{AreTaken, Say, order_of};
-ghost use Rattle.mold_words.specs.Wanted.{check_lines_wanted, check_wanted, dump_wanted, listen_wanted, loop_wanted};
-ghost use Rattle.mold_words.specs.Wanted.{pack_wanted, publish_wanted, serve_wanted, show_wanted, sim_wanted};
-ghost use Rattle.mold_words.specs.Wanted.{upgrade_wanted};
+ghost use Rattle.mold_words.specs.Arguments.{check_lines_wanted, check_wanted, dump_wanted, listen_wanted, loop_wanted};
+ghost use Rattle.mold_words.specs.Arguments.{pack_wanted, publish_wanted, serve_wanted, show_wanted, sim_wanted};
+ghost use Rattle.mold_words.specs.Arguments.{upgrade_wanted};
 ghost use Rattle.mold_words.specs.Words.{is_command, mold_app};
 
 /// The words `show` and `show --request` are taken and say to show, and so is `--` alone, which

@@ -3,7 +3,7 @@
 ghost use Rattle.std.specs.Prelude.{◌≡◌, ◌≤◌, true};
 ghost use Rattle.std.specs.List.{list_all};
 ghost use Rattle.mold_words.specs.Values.{is_character};
-ghost use Rattle.mold_words.specs.declared.options.TheConstants.{MOST_BURST, MOST_WINDOW};
+ghost use Rattle.mold_wire.specs.declared.limits.TheConstants.{MAX_BURST, MAX_WINDOW};
 
 use crate::address::Address;
 
@@ -32,7 +32,7 @@ pub struct ListenOrder {
     pub report: bool,
     ghost named: { list_all is_character session ≡ true },
     ghost first: { (1 ≤ next) × (next ≤ 9223372036854775807) },
-    ghost windowed: { (1 ≤ window) × (window ≤ MOST_WINDOW) },
-    ghost bursting: { (1 ≤ burst) × (burst ≤ MOST_BURST) },
+    ghost windowed: { (1 ≤ window) × (window ≤ MAX_WINDOW) },
+    ghost bursting: { (1 ≤ burst) × (burst ≤ MAX_BURST) },
     ghost turning: { (1 ≤ turns) × (turns ≤ 1000000) },
 }

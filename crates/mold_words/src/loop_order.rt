@@ -3,7 +3,7 @@
 ghost use Rattle.std.specs.Prelude.{◌≡◌, ◌≤◌, true};
 ghost use Rattle.std.specs.List.{list_all};
 ghost use Rattle.mold_words.specs.Values.{is_character};
-ghost use Rattle.mold_words.specs.declared.options.TheConstants.{MOST_BURST, MOST_WINDOW};
+ghost use Rattle.mold_wire.specs.declared.limits.TheConstants.{MAX_BURST, MAX_WINDOW};
 
 use crate::limits::Limits;
 
@@ -27,8 +27,8 @@ pub struct LoopOrder {
     /// Whether what came on each line is told before the last line.
     pub report: bool,
     ghost named: { list_all is_character session ≡ true },
-    ghost windowed: { (1 ≤ window) × (window ≤ MOST_WINDOW) },
-    ghost bursting: { (1 ≤ burst) × (burst ≤ MOST_BURST) },
+    ghost windowed: { (1 ≤ window) × (window ≤ MAX_WINDOW) },
+    ghost bursting: { (1 ≤ burst) × (burst ≤ MAX_BURST) },
     ghost dropping: { (drop_a ≤ 1000) × (drop_b ≤ 1000) },
     ghost turning: { (1 ≤ turns) × (turns ≤ 1000000) },
 }

@@ -7,8 +7,8 @@ ghost use Rattle.mold_words.specs.NoOrders.{LacksOrder, LacksValue, is_address};
 ghost use Rattle.mold_words.specs.Orders.{address_in, burst_in, flag_in, has_no_address, is_no_address, limit_in};
 ghost use Rattle.mold_words.specs.Orders.{limits_in, live_in, number_in, report_in, session_in, turns_in, window_in};
 ghost use Rattle.mold_words.specs.Values.{is_character};
-ghost use Rattle.mold_words.specs.Wanted.{address_view};
-ghost use Rattle.mold_words.specs.declared.options.TheConstants.{MOST_BURST, MOST_WINDOW};
+ghost use Rattle.mold_words.specs.Arguments.{address_view};
+ghost use Rattle.mold_wire.specs.declared.limits.TheConstants.{MAX_BURST, MAX_WINDOW};
 ghost use Rattle.mold_wire.specs.declared.limits.TheConstants.{MAX_LIMIT, MIN_LIMIT};
 
 use crate::address::Address;
@@ -17,24 +17,18 @@ use crate::limits::Limits;
 use crate::no_order::NoOrder;
 use crate::values::{number_of, session_of};
 use clap::ArgMatches;
-use mold_wire::{MAX_LIMIT, MIN_LIMIT};
+use mold_wire::{MAX_BURST, MAX_LIMIT, MAX_WINDOW, MIN_LIMIT};
 use std::alloc::Global;
 
 // What holds where an option is not given.
-const USUAL_LIMIT: u64 = 1400;
+const DEFAULT_LIMIT: u64 = 1400;
 
-const USUAL_WINDOW: u64 = 1024;
+const DEFAULT_WINDOW: u64 = 1024;
 
-const USUAL_TURNS: u64 = 1000;
+const DEFAULT_TURNS: u64 = 1000;
 
 // The most turns.
-const MOST_TURNS: u64 = 1_000_000;
-
-// The greatest window and the greatest burst. This crate depends on neither receiver nor server, so they are
-// named here, too; the crates that make a receiver and a server of an order prove that it takes no greater ones.
-const MOST_WINDOW: u64 = 65536;
-
-const MOST_BURST: u64 = 64;
+const MAX_TURNS: u64 = 1_000_000;
 
 /// The text of an option that has one.
 pub(crate) fn required_in<'a>(
@@ -120,7 +114,7 @@ pub(crate) fn limit_in(options: &ArgMatches<'_>, name: &'static str) -> Result<u
     Ok(number_in(
         options,
         name,
-        USUAL_LIMIT,
+        DEFAULT_LIMIT,
         MIN_LIMIT as u64,
         MAX_LIMIT as u64,
     )? as usize)
@@ -131,9 +125,9 @@ pub(crate) fn window_in(options: &ArgMatches<'_>) -> Result<u32, NoOrder>
     ensures value { MatchResult result
         (λ number. window_in (rows_of (found_of options.now)) ≡ Some number)
         (LacksValue (window_in (rows_of (found_of options.now)))) }
-    ensures within { IfOk result (λ number. (1 ≤ number) × (number ≤ MOST_WINDOW)) }
+    ensures within { IfOk result (λ number. (1 ≤ number) × (number ≤ MAX_WINDOW)) }
 {
-    Ok(number_in(options, "window", USUAL_WINDOW, 1, MOST_WINDOW)? as u32)
+    Ok(number_in(options, "window", DEFAULT_WINDOW, 1, u64::from(MAX_WINDOW))? as u32)
 }
 
 /// The most packets that answer a request.
@@ -141,9 +135,9 @@ pub(crate) fn burst_in(options: &ArgMatches<'_>) -> Result<u16, NoOrder>
     ensures value { MatchResult result
         (λ number. burst_in (rows_of (found_of options.now)) ≡ Some number)
         (LacksValue (burst_in (rows_of (found_of options.now)))) }
-    ensures within { IfOk result (λ number. (1 ≤ number) × (number ≤ MOST_BURST)) }
+    ensures within { IfOk result (λ number. (1 ≤ number) × (number ≤ MAX_BURST)) }
 {
-    Ok(number_in(options, "burst", 1, 1, MOST_BURST)? as u16)
+    Ok(number_in(options, "burst", 1, 1, u64::from(MAX_BURST))? as u16)
 }
 
 /// How many turns are made.
@@ -153,7 +147,7 @@ pub(crate) fn turns_in(options: &ArgMatches<'_>) -> Result<u32, NoOrder>
         (LacksValue (turns_in (rows_of (found_of options.now)))) }
     ensures within { IfOk result (λ number. (1 ≤ number) × (number ≤ 1000000)) }
 {
-    Ok(number_in(options, "turns", USUAL_TURNS, 1, MOST_TURNS)? as u32)
+    Ok(number_in(options, "turns", DEFAULT_TURNS, 1, MAX_TURNS)? as u32)
 }
 
 /// Whether what is printed is written at once.

@@ -5,7 +5,7 @@ ghost use Rattle.clap.specs.Words.{found_of, rows_of, subcommand_rows_of};
 ghost use Rattle.mold_words.specs.NoOrders.{LacksOrder, is_address};
 ghost use Rattle.mold_words.specs.Orders.{check_of, dump_of, lacks_address, listen_of, loop_of, order_at, order_in};
 ghost use Rattle.mold_words.specs.Orders.{pack_of, publish_of, serve_of, show_of, sim_of, upgrade_of};
-ghost use Rattle.mold_words.specs.Wanted.{view};
+ghost use Rattle.mold_words.specs.Arguments.{view};
 
 use crate::dump_order::DumpOrder;
 use crate::listen_order::ListenOrder;
@@ -26,7 +26,7 @@ use mold_wire::MAX_NUMBER;
 use std::alloc::Global;
 
 /// The greatest number that a listener may begin with.
-const MOST_NEXT: u64 = 9_223_372_036_854_775_807;
+const MAX_NEXT: u64 = 9_223_372_036_854_775_807;
 
 /// The order of the command that was found; where none was, to show packets.
 pub(crate) fn order_from(alloc: Global, matches: &ArgMatches<'_>) -> Result<Order, NoOrder>
@@ -216,7 +216,7 @@ fn listen_order(options: &ArgMatches<'_>) -> Result<Order, NoOrder>
         (LacksOrder (listen_of (rows_of (found_of options.now)))) }
 {
     let session = session_in(options, "session")?;
-    let next = number_in(options, "next", 1, 1, MOST_NEXT)?;
+    let next = number_in(options, "next", 1, 1, MAX_NEXT)?;
     let window = window_in(options)?;
     let a = address_in(options, "a")?;
     let b = address_in(options, "b")?;

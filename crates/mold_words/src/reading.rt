@@ -1,8 +1,8 @@
 //! Words to an order.
 ghost use Rattle.std.specs.Prelude.{◌≡◌, [], IfErr, IfOk, Ok, Some, false, map, string_bytes};
-ghost use Rattle.mold_words.specs.Faults.{TellsOf};
+ghost use Rattle.mold_words.specs.Faults.{IsFaultOf};
 ghost use Rattle.mold_words.specs.Orders.{AreTaken, Say, order_of};
-ghost use Rattle.mold_words.specs.Wanted.{Wanted, view};
+ghost use Rattle.mold_words.specs.Arguments.{Arguments, view};
 
 use crate::command::mold_command;
 use crate::fault::{UsageFault, fault_for, value_fault};
@@ -21,9 +21,9 @@ pub fn read_words(alloc: Global, words: &[String]) -> Result<Order, UsageFault>
     // Words that `clap` takes, and that say something, fail for want of memory alone; of others a
     // fault tells what `clap` has against them, or that a text is no value of its option; an address that is
     // none is told before other such texts.
-    ensures refused { IfErr result (λ fault. (wanted : Wanted) → Say (map string_bytes words.now) wanted
+    ensures refused { IfErr result (λ fault. (wanted : Arguments) → Say (map string_bytes words.now) wanted
         → fault ≡ UsageFault.Memory) }
-    ensures fault { IfErr result (TellsOf (map string_bytes words.now)) }
+    ensures fault { IfErr result (IsFaultOf (map string_bytes words.now)) }
     ensures no_words { words.now ≡ [] → result ≡ Ok (Order.Show false) }
 {
     if words.is_empty() {

@@ -1,7 +1,7 @@
 //! What `serve` is told.
 
 ghost use Rattle.std.specs.Prelude.{◌≤◌};
-ghost use Rattle.mold_words.specs.declared.options.TheConstants.{MOST_BURST};
+ghost use Rattle.mold_wire.specs.declared.limits.TheConstants.{MAX_BURST};
 ghost use Rattle.mold_wire.specs.declared.limits.TheConstants.{MAX_LIMIT, MIN_LIMIT};
 
 use crate::address::Address;
@@ -22,6 +22,6 @@ pub struct ServeOrder {
     /// Whether what a turn printed is written at its end, and not gathered.
     pub live: bool,
     ghost limited: { (MIN_LIMIT ≤ limit) × (limit ≤ MAX_LIMIT) },
-    ghost bursting: { (1 ≤ burst) × (burst ≤ MOST_BURST) },
+    ghost bursting: { (1 ≤ burst) × (burst ≤ MAX_BURST) },
     ghost turning: { (1 ≤ turns) × (turns ≤ 1000000) },
 }

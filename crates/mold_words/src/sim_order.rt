@@ -3,7 +3,7 @@
 ghost use Rattle.std.specs.Prelude.{◌≡◌, ◌≤◌, true};
 ghost use Rattle.std.specs.List.{list_all};
 ghost use Rattle.mold_words.specs.Values.{is_character};
-ghost use Rattle.mold_words.specs.declared.options.TheConstants.{MOST_BURST, MOST_WINDOW};
+ghost use Rattle.mold_wire.specs.declared.limits.TheConstants.{MAX_BURST, MAX_WINDOW};
 
 use crate::limits::Limits;
 
@@ -21,7 +21,7 @@ pub struct SimOrder {
     /// The most packets that answer a request, 1 to `MAX_BURST`.
     pub burst: u16,
     ghost named: { list_all is_character session ≡ true },
-    ghost windowed: { (1 ≤ window) × (window ≤ MOST_WINDOW) },
+    ghost windowed: { (1 ≤ window) × (window ≤ MAX_WINDOW) },
     ghost received: { (1 ≤ receivers) × (receivers ≤ 8) },
-    ghost bursting: { (1 ≤ burst) × (burst ≤ MOST_BURST) },
+    ghost bursting: { (1 ≤ burst) × (burst ≤ MAX_BURST) },
 }

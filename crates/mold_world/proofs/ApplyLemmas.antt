@@ -13,13 +13,13 @@ use Rattle.mold_session.specs.declared.error.AnswerError.{AnswerError}
 use Rattle.mold_session.specs.declared.error.AppendError.{AppendError}
 use Rattle.mold_world.specs.Event.{Happening}
 use Rattle.mold_world.specs.Effect.{Outcome, asked, asked_for, delivered, effect, is_own, noised, publishing}
-use Rattle.mold_world.specs.Effect.{renewed, requested, restarted, sending, unsent_count, with_place}
+use Rattle.mold_world.specs.Effect.{restarted_at, requested, restarted, sending, unsent_count, with_subscriber}
 use Rattle.mold_world.specs.declared.event.EventOf.TheVariants.{Publish, Datagram, Heartbeat, Close, End, Request, Ask, Deliver, Noise, Restart}
-use Rattle.mold_world.specs.Hearing.{Hears}
+use Rattle.mold_world.specs.Deliveries.{HasReceived}
 use Rattle.mold_world.specs.Kept.{IsWorld}
 use Rattle.mold_world.specs.Refusals.{Applies, MayWant, Refuses}
 use Rattle.mold_world.specs.Steps.{AreSteps}
-use Rattle.mold_world.specs.World.{PlaceState, WorldState}
+use Rattle.mold_world.specs.World.{SubscriberState, WorldState}
 use Rattle.mold_world.specs.declared.report.Report.{Report}
 use Rattle.mold_world.specs.declared.report.Report.TheVariants as report
 use Rattle.mold_session.specs.declared.error.SessionError.TheVariants as session
@@ -63,9 +63,9 @@ applied_steps steps old new happening (Err error) is applied = tt
 
 pub applied_heard :
     (heard : (w new : WorldState) (happening : Happening) (says : Report) → IsWorld w →
-    effect w happening ≡ Ok (says, new) → Hears happening says w new)
+    effect w happening ≡ Ok (says, new) → HasReceived happening says w new)
     (old new : WorldState) (happening : Happening) (result : Result Report WorldError) → IsWorld old →
-    Applies old happening result new → IfOk result (λ says. Hears happening says old new)
+    Applies old happening result new → IfOk result (λ says. HasReceived happening says old new)
 applied_heard heard old new happening (Ok says) is applied = heard old new happening says is applied
 applied_heard heard old new happening (Err error) is applied = tt
 
@@ -101,32 +101,32 @@ want_none : (w : WorldState) (want : Option Asked) → asked_for w want ≡ Err 
 want_none w None is = ok_none _ is
 want_none w (Some request) is = ok_none _ is
 
-ask_none : (w : WorldState) (place : Option PlaceState) → asked w place ≡ Err Memory → ⊥
+ask_none : (w : WorldState) (place : Option SubscriberState) → asked w place ≡ Err Memory → ⊥
 ask_none w None is = other_none _ (λ e. let f = e in cc) is
 ask_none w (Some place) is = want_none w (wanted place.arbitration.view) is
 
 deliver_none :
-    (w : WorldState) (receiver : ℕ) (way : Way) (place : Option PlaceState) (datagram : Option (List ℕ)) →
+    (w : WorldState) (receiver : ℕ) (way : Way) (place : Option SubscriberState) (datagram : Option (List ℕ)) →
     delivered w receiver way place datagram ≡ Err Memory → ⊥
 deliver_none w receiver way None datagram is = other_none _ (λ e. let f = e in cc) is
 deliver_none w receiver way (Some place) None is = other_none _ (λ e. let f = e in cc) is
 deliver_none w receiver way (Some place) (Some bytes) is = ok_none _ is
 
 noise_none :
-    (w : WorldState) (receiver : ℕ) (way : Way) (bytes : List ℕ) (place : Option PlaceState) (own : Bool) →
+    (w : WorldState) (receiver : ℕ) (way : Way) (bytes : List ℕ) (place : Option SubscriberState) (own : Bool) →
     noised w receiver way bytes place own ≡ Err Memory → ⊥
 noise_none w receiver way bytes None own is = other_none _ (λ e. let f = e in cc) is
 noise_none w receiver way bytes (Some place) true is = other_none _ (λ e. let f = e in cc) is
 noise_none w receiver way bytes (Some place) false is = ok_none _ is
 
 restart_none_at :
-    (w : WorldState) (receiver next : ℕ) (place : PlaceState) (reached : Bool) →
-    cond {A = Outcome} reached (Ok (report.Restarted next, with_place w receiver (renewed place next)))
+    (w : WorldState) (receiver next : ℕ) (place : SubscriberState) (reached : Bool) →
+    cond {A = Outcome} reached (Ok (report.Restarted next, with_subscriber w receiver (restarted_at place next)))
     (Err (NotReached place.arbitration.view.next)) ≡ Err Memory → ⊥
 restart_none_at w receiver next place true is = ok_none _ is
 restart_none_at w receiver next place false is = other_none _ (λ e. let f = e in cc) is
 
-restart_none : (w : WorldState) (receiver next : ℕ) (place : Option PlaceState) → restarted w receiver next place ≡ Err Memory → ⊥
+restart_none : (w : WorldState) (receiver next : ℕ) (place : Option SubscriberState) → restarted w receiver next place ≡ Err Memory → ⊥
 restart_none w receiver next None is = other_none _ (λ e. let f = e in cc) is
 restart_none w receiver next (Some place) is =
     restart_none_at w receiver next place (leb 1 next && leb next place.arbitration.view.next) is
@@ -139,13 +139,13 @@ effect_never_wants w Heartbeat is = send_none w (next_heartbeat w.publisher) w.p
 effect_never_wants w Close is = close_none w (ltb 0 (unsent_count w.publisher)) is
 effect_never_wants w End is = send_none w (next_end w.publisher) w.publisher is
 effect_never_wants w (Request bytes) is = request_none w (asking w.publisher.journal bytes) is
-effect_never_wants w (Ask receiver) is = ask_none w (slice_get w.places receiver) is
+effect_never_wants w (Ask receiver) is = ask_none w (slice_get w.subscribers receiver) is
 effect_never_wants w (Deliver receiver way at) is =
-    deliver_none w receiver way (slice_get w.places receiver) (slice_get w.sent at) is
+    deliver_none w receiver way (slice_get w.subscribers receiver) (slice_get w.sent at) is
 effect_never_wants w (Noise receiver way bytes) is =
-    noise_none w receiver way bytes (slice_get w.places receiver)
+    noise_none w receiver way bytes (slice_get w.subscribers receiver)
     (is_own w.publisher.journal.session (reading bytes)) is
-effect_never_wants w (Restart receiver next) is = restart_none w receiver next (slice_get w.places receiver) is
+effect_never_wants w (Restart receiver next) is = restart_none w receiver next (slice_get w.subscribers receiver) is
 
 -- so where memory is answered it may be wanting
 pub wanting_where_memory :

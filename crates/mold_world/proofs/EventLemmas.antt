@@ -20,26 +20,26 @@ use Rattle.mold_receiver.specs.Store.{from_next}
 use Rattle.mold_rule.specs.declared.refusal.Refusal.TheVariants.{Malformed, WrongSession}
 use Rattle.mold_receiver.specs.View.{IsWellFormed, View}
 use Rattle.mold_receiver.specs.Wanted.{IsGap, gap_end, wanted}
-use Rattle.mold_rule.specs.declared.refusal.Refusal.{Refusal as Refused}
+use Rattle.mold_rule.specs.declared.refusal.Refusal.{Refusal}
 use Rattle.mold_session.specs.Answer.{IsPlan, PlanState, answer, plan_for, planned}
 use Rattle.mold_session.specs.Server.{IsAnswerable, asking}
 use Rattle.mold_session.specs.declared.error.AnswerError.{AnswerError}
 use Rattle.mold_session.specs.Journal.{JournalState, append_refusal}
 use Rattle.mold_session.specs.Publisher.{IsPublisher, MayPublish, PublisherState, after_datagram, closed}
 use Rattle.mold_session.specs.Publisher.{next_datagram, next_end, next_heartbeat, published}
-use Rattle.mold_session.specs.Truthful.{MayAnswer, TellsTruth}
+use Rattle.mold_session.specs.Truthful.{MayAnswer, IsTrueDatagram}
 use Rattle.mold_session.specs.declared.error.AppendError.{AppendError}
 use Rattle.mold_world.proofs.MachineLemmas.{append_cases, one_alone}
-use Rattle.mold_world.proofs.PlaceLemmas.{ReceiverLaws, given_kept, noise_kept, place_closed, place_published}
-use Rattle.mold_world.proofs.PlaceLemmas.{place_sent, renewed_kept}
+use Rattle.mold_world.proofs.SubscriberLemmas.{ReceiverLaws, given_kept, noise_kept, place_closed, place_published}
+use Rattle.mold_world.proofs.SubscriberLemmas.{place_sent, renewed_kept}
 use Rattle.mold_world.specs.Event.{Happening}
 use Rattle.mold_world.specs.Effect.{Outcome, delivered, effect, is_own, noised, publishing, restarted}
-use Rattle.mold_world.specs.Effect.{after_event, after_outcome, answered, asked, asked_for, given, renewed, requested, run_events, sending, unsent_count}
-use Rattle.mold_world.specs.Effect.{with_place}
+use Rattle.mold_world.specs.Effect.{after_event, after_outcome, answered, asked, asked_for, given, restarted_at, requested, run_events, sending, unsent_count}
+use Rattle.mold_world.specs.Effect.{with_subscriber}
 use Rattle.mold_world.specs.declared.event.EventOf.TheVariants.{Publish, Datagram, Heartbeat, Close, End, Request, Ask, Deliver, Noise, Restart}
 use Rattle.mold_world.specs.Headline.{IsPrefix}
-use Rattle.mold_world.specs.Kept.{IsPlaceKept, IsWorld}
-use Rattle.mold_world.specs.World.{PlaceState, WorldState}
+use Rattle.mold_world.specs.Kept.{IsSubscriberKept, IsWorld}
+use Rattle.mold_world.specs.World.{SubscriberState, WorldState}
 use Rattle.mold_world.specs.declared.report.Report.{Report}
 use Rattle.mold_world.specs.declared.report.Report.TheVariants as report
 use Rattle.mold_session.specs.declared.error.SessionError.TheVariants as session
@@ -61,13 +61,13 @@ pub record SendingLaws : Type 0 where
       publisher.sent ≡ length publisher.journal.messages → IsPublisher (closed publisher)
   pub datagram : (publisher : PublisherState) (packet : Packet) → IsPublisher publisher →
       length publisher.journal.session.0 ≡ 10 → next_datagram publisher ≡ Some packet →
-      TellsTruth publisher.journal (spelling_of packet)
+      IsTrueDatagram publisher.journal (spelling_of packet)
   pub heartbeat : (publisher : PublisherState) (packet : Packet) → IsPublisher publisher →
       length publisher.journal.session.0 ≡ 10 → next_heartbeat publisher ≡ Some packet →
-      TellsTruth publisher.journal (spelling_of packet)
+      IsTrueDatagram publisher.journal (spelling_of packet)
   pub end : (publisher : PublisherState) (packet : Packet) → IsPublisher publisher →
       length publisher.journal.session.0 ≡ 10 → next_end publisher ≡ Some packet →
-      TellsTruth publisher.journal (spelling_of packet)
+      IsTrueDatagram publisher.journal (spelling_of packet)
   pub grows : (packet : Packet) (published : List (List ℕ)) (message : List ℕ) →
       length published < 18446744073709551614 → IsTruePacket packet published false →
       IsTruePacket packet (published ++ message ∷ []) false
@@ -80,7 +80,7 @@ world_with_publisher :
     new.journal.session ≡ w.publisher.journal.session → new.journal.max_message ≡ w.publisher.journal.max_message →
     ((packet : Packet) → IsTruePacket packet w.publisher.journal.messages w.publisher.journal.closed →
     IsTruePacket packet new.journal.messages new.journal.closed) →
-    ((place : PlaceState) → IsPlaceKept w.publisher.journal w.sent place → IsPlaceKept new.journal w.sent place) →
+    ((place : SubscriberState) → IsSubscriberKept w.publisher.journal w.sent place → IsSubscriberKept new.journal w.sent place) →
     IsWorld (record w { publisher = new })
 world_with_publisher w new is publisher named longest still kept = record {
   publisher = publisher;
@@ -98,7 +98,7 @@ world_with_publisher w new is publisher named longest still kept = record {
         session = told.session ∙ sym named;
         so = still told.packet told.so;
       };
-  places = λ receiver place found. kept place (is.places receiver place found);
+  subscribers = λ receiver place found. kept place (is.subscribers receiver place found);
 }
 
 -- a message that is published
@@ -134,7 +134,7 @@ world_closed laws receivers w is all =
 world_sent :
     (w : WorldState) (publisher : PublisherState) (more : List (List ℕ)) → IsWorld w → IsPublisher publisher →
     publisher.journal ≡ w.publisher.journal →
-    ((place : ℕ) (bytes : List ℕ) → slice_get more place ≡ Some bytes → TellsTruth w.publisher.journal bytes) →
+    ((place : ℕ) (bytes : List ℕ) → slice_get more place ≡ Some bytes → IsTrueDatagram w.publisher.journal bytes) →
     IsWorld (record w { publisher = publisher; sent = w.sent ++ more })
 world_sent w publisher more is still same true_all =
     let back = sym same in
@@ -142,27 +142,27 @@ world_sent w publisher more is still same true_all =
       publisher = still;
       answers = subst (λ (t : JournalState). MayAnswer t w.server_limit) back is.answers;
       said = λ place bytes found.
-          subst (λ (t : JournalState). TellsTruth t bytes) back
+          subst (λ (t : JournalState). IsTrueDatagram t bytes) back
           (elim (append_cases w.sent more place bytes found) [
             | inl before ↦ is.said place bytes before
             | inr new ↦ true_all new.0 bytes new.2
           ]);
-      places = λ receiver place found.
-          subst (λ (t : JournalState). IsPlaceKept t (w.sent ++ more) place) back
-          (place_sent w.publisher.journal w.sent more place (is.places receiver place found));
+      subscribers = λ receiver place found.
+          subst (λ (t : JournalState). IsSubscriberKept t (w.sent ++ more) place) back
+          (place_sent w.publisher.journal w.sent more place (is.subscribers receiver place found));
     }
 
 world_with_place :
-    (w : WorldState) (receiver : ℕ) (new : PlaceState) → IsWorld w →
-    IsPlaceKept w.publisher.journal w.sent new → IsWorld (with_place w receiver new)
+    (w : WorldState) (receiver : ℕ) (new : SubscriberState) → IsWorld w →
+    IsSubscriberKept w.publisher.journal w.sent new → IsWorld (with_subscriber w receiver new)
 world_with_place w receiver new is kept = record {
   publisher = is.publisher;
   answers = is.answers;
   said = is.said;
-  places = λ other place found.
-      elim (set_cases w.places receiver new other place found) [
-        | inl here ↦ subst (λ (t : PlaceState). IsPlaceKept w.publisher.journal w.sent t) here kept
-        | inr there ↦ is.places other place there
+  subscribers = λ other place found.
+      elim (set_cases w.subscribers receiver new other place found) [
+        | inl here ↦ subst (λ (t : SubscriberState). IsSubscriberKept w.publisher.journal w.sent t) here kept
+        | inr there ↦ is.subscribers other place there
       ];
 }
 
@@ -187,7 +187,7 @@ publish_kept laws receivers w message (Some refusal) done is some same = err_wor
 pub record IsSendable (w : WorldState) (publisher : PublisherState) (packet : Packet) : Type 0 where
   pub still : IsPublisher publisher
   pub same : publisher.journal ≡ w.publisher.journal
-  pub told : TellsTruth w.publisher.journal (spelling_of packet)
+  pub told : IsTrueDatagram w.publisher.journal (spelling_of packet)
 
 send_kept :
     (w : WorldState) (next : Option Packet) (publisher : PublisherState) (done : Report × WorldState) → IsWorld w →
@@ -197,7 +197,7 @@ send_kept w None publisher done is sendable same = ok_world _ done is same
 send_kept w (Some packet) publisher done is sendable same =
     let may = sendable packet refl in
     ok_world _ done (world_sent w publisher (spelling_of packet ∷ []) is may.still may.same (λ place bytes found.
-    subst (λ (t : List ℕ). TellsTruth w.publisher.journal t) (one_alone (spelling_of packet) bytes place found)
+    subst (λ (t : List ℕ). IsTrueDatagram w.publisher.journal t) (one_alone (spelling_of packet) bytes place found)
     may.told)) same
 
 close_kept :
@@ -211,20 +211,20 @@ close_kept laws receivers w false done is none same =
     (omega (arith, ltb-false 0 (unsent_count w.publisher) none, is.publisher.published))) same
 
 deliver_kept :
-    (receivers : ReceiverLaws) (w : WorldState) (receiver at : ℕ) (way : Way) (place : Option PlaceState)
-    (datagram : Option (List ℕ)) (done : Report × WorldState) → IsWorld w → slice_get w.places receiver ≡ place →
+    (receivers : ReceiverLaws) (w : WorldState) (receiver at : ℕ) (way : Way) (place : Option SubscriberState)
+    (datagram : Option (List ℕ)) (done : Report × WorldState) → IsWorld w → slice_get w.subscribers receiver ≡ place →
     slice_get w.sent at ≡ datagram → delivered w receiver way place datagram ≡ Ok done → IsWorld done.1
 deliver_kept receivers w receiver at way None datagram done is here sent same = err_world _ done same
 deliver_kept receivers w receiver at way (Some place) None done is here sent same = err_world _ done same
 deliver_kept receivers w receiver at way (Some place) (Some bytes) done is here sent same =
     ok_world _ done (world_with_place w receiver (given place way bytes) is
-    (given_kept receivers w.publisher.journal w.sent place way bytes (is.places receiver place here)
+    (given_kept receivers w.publisher.journal w.sent place way bytes (is.subscribers receiver place here)
     (record { place = at; found = sent; told = is.said at bytes sent }))) same
 
 -- bytes that are no packet of the session are refused
 pub not_own :
     (view : View) (own : Session) (read : Result Packet DecodeError) → view.session ≡ own → is_own own read ≡ false →
-    (refused : Refused) × (receive_read view read ≡ Err refused)
+    (refused : Refusal) × (receive_read view read ≡ Err refused)
 not_own view own (Err error) same other = (Malformed error, refl)
 not_own view own (Ok packet) same other =
     let differs : bytes_eq packet.session.0 view.session.0 ≡ false =
@@ -242,34 +242,34 @@ not_own view own (Ok packet) same other =
     )
 
 noise_given :
-    (w : WorldState) (receiver : ℕ) (way : Way) (bytes : List ℕ) (place : Option PlaceState) (own : Bool)
-    (done : Report × WorldState) → IsWorld w → slice_get w.places receiver ≡ place →
+    (w : WorldState) (receiver : ℕ) (way : Way) (bytes : List ℕ) (place : Option SubscriberState) (own : Bool)
+    (done : Report × WorldState) → IsWorld w → slice_get w.subscribers receiver ≡ place →
     is_own w.publisher.journal.session (reading bytes) ≡ own → noised w receiver way bytes place own ≡ Ok done →
     IsWorld done.1
 noise_given w receiver way bytes None own done is here mine same = err_world _ done same
 noise_given w receiver way bytes (Some place) true done is here mine same = err_world _ done same
 noise_given w receiver way bytes (Some place) false done is here mine same =
-    let kept = is.places receiver place here in
+    let kept = is.subscribers receiver place here in
     let refused = not_own place.arbitration.view w.publisher.journal.session (reading bytes) kept.session mine in
     ok_world _ done (world_with_place w receiver (given place way bytes) is
     (noise_kept w.publisher.journal w.sent place way bytes refused.0 refused.1 kept)) same
 
 restart_given :
-    (receivers : ReceiverLaws) (w : WorldState) (receiver next : ℕ) (place : PlaceState) (reached : Bool)
-    (done : Report × WorldState) → IsWorld w → slice_get w.places receiver ≡ Some place →
+    (receivers : ReceiverLaws) (w : WorldState) (receiver next : ℕ) (place : SubscriberState) (reached : Bool)
+    (done : Report × WorldState) → IsWorld w → slice_get w.subscribers receiver ≡ Some place →
     (leb 1 next && leb next place.arbitration.view.next) ≡ reached →
-    cond {A = Outcome} reached (Ok (report.Restarted next, with_place w receiver (renewed place next)))
+    cond {A = Outcome} reached (Ok (report.Restarted next, with_subscriber w receiver (restarted_at place next)))
     (Err (NotReached place.arbitration.view.next)) ≡ Ok done → IsWorld done.1
 restart_given receivers w receiver next place false done is here reached same = err_world _ done same
 restart_given receivers w receiver next place true done is here reached same =
     let both = and_parts (leb 1 next) (leb next place.arbitration.view.next) reached in
-    ok_world _ done (world_with_place w receiver (renewed place next) is
+    ok_world _ done (world_with_place w receiver (restarted_at place next) is
     (renewed_kept receivers w.publisher.journal w.sent place next is.publisher.journaled.few (leb-true 1 next both.0)
-    (leb-true next place.arbitration.view.next both.1) (is.places receiver place here))) same
+    (leb-true next place.arbitration.view.next both.1) (is.subscribers receiver place here))) same
 
 restart_kept :
-    (receivers : ReceiverLaws) (w : WorldState) (receiver next : ℕ) (place : Option PlaceState)
-    (done : Report × WorldState) → IsWorld w → slice_get w.places receiver ≡ place →
+    (receivers : ReceiverLaws) (w : WorldState) (receiver next : ℕ) (place : Option SubscriberState)
+    (done : Report × WorldState) → IsWorld w → slice_get w.subscribers receiver ≡ place →
     restarted w receiver next place ≡ Ok done → IsWorld done.1
 restart_kept receivers w receiver next None done is here same = err_world _ done same
 restart_kept receivers w receiver next (Some place) done is here same =
@@ -289,7 +289,7 @@ pub record AnswerLaws : Type 0 where
       ≡ answer journal.messages journal.session limit request.sequence request.count burst
   pub told : (journal : JournalState) (limit : ℕ) (plan : PlanState) (place : ℕ) (packet : Packet) →
       MayAnswer journal limit → IsPlan plan → plan.to ≤ length journal.messages + 1 → plan.session ≡ journal.session →
-      slice_get (planned journal.messages limit plan) place ≡ Some packet → TellsTruth journal (spelling_of packet)
+      slice_get (planned journal.messages limit plan) place ≡ Some packet → IsTrueDatagram journal (spelling_of packet)
   pub asks : (view : View) (request : Asked) → wanted view ≡ Some request →
       (request.session ≡ view.session) × (request.sequence ≡ view.next)
       × (request.count ≡ min 65534 (gap_end view - view.next))
@@ -308,14 +308,14 @@ pub answer_told :
     (answers : AnswerLaws) (w : WorldState) (request : Asked) → IsWorld w →
     IsAnswerable w.publisher.journal request → (place : ℕ) (bytes : List ℕ) →
     slice_get (map spelling_of (answer w.publisher.journal.messages w.publisher.journal.session w.server_limit
-    request.sequence request.count w.burst)) place ≡ Some bytes → TellsTruth w.publisher.journal bytes
+    request.sequence request.count w.burst)) place ≡ Some bytes → IsTrueDatagram w.publisher.journal bytes
 answer_told answers w request is may place bytes found =
     let journal : JournalState = w.publisher.journal in
     let packets : List Packet =
     answer journal.messages journal.session w.server_limit request.sequence request.count w.burst
     in
     let here = map_cases packets place bytes found in
-    subst (λ (t : List ℕ). TellsTruth journal t) here.2
+    subst (λ (t : List ℕ). IsTrueDatagram journal t) here.2
     (answers.told journal w.server_limit (plan_for journal w.burst request) place here.0 is.answers
     (answers.plan journal w.burst request may) (answers.within journal w.burst request) refl
     (ap (λ (t : List Packet). slice_get t place) (answers.answer_is journal w.server_limit w.burst request may)
@@ -340,8 +340,8 @@ request_kept answers w bytes (Err refusal) done is asked_now same = err_world _ 
 
 -- what a receiver of the world wants, the journal has
 pub wanted_answerable :
-    (answers : AnswerLaws) (journal : JournalState) (sent : List (List ℕ)) (place : PlaceState) (request : Asked) →
-    IsPlaceKept journal sent place → wanted place.arbitration.view ≡ Some request → IsAnswerable journal request
+    (answers : AnswerLaws) (journal : JournalState) (sent : List (List ℕ)) (place : SubscriberState) (request : Asked) →
+    IsSubscriberKept journal sent place → wanted place.arbitration.view ≡ Some request → IsAnswerable journal request
 wanted_answerable answers journal sent place request kept want =
     let view : View = place.arbitration.view in
     let asks = answers.asks view request want in
@@ -354,8 +354,8 @@ wanted_answerable answers journal sent place request kept want =
     }
 
 ask_wanted :
-    (answers : AnswerLaws) (w : WorldState) (place : PlaceState) (want : Option Asked) (done : Report × WorldState) →
-    IsWorld w → IsPlaceKept w.publisher.journal w.sent place → wanted place.arbitration.view ≡ want →
+    (answers : AnswerLaws) (w : WorldState) (place : SubscriberState) (want : Option Asked) (done : Report × WorldState) →
+    IsWorld w → IsSubscriberKept w.publisher.journal w.sent place → wanted place.arbitration.view ≡ want →
     asked_for w want ≡ Ok done → IsWorld done.1
 ask_wanted answers w place None done is kept want same = ok_world _ done is same
 ask_wanted answers w place (Some request) done is kept want same =
@@ -363,11 +363,11 @@ ask_wanted answers w place (Some request) done is kept want same =
     same
 
 ask_kept :
-    (answers : AnswerLaws) (w : WorldState) (receiver : ℕ) (place : Option PlaceState) (done : Report × WorldState) →
-    IsWorld w → slice_get w.places receiver ≡ place → asked w place ≡ Ok done → IsWorld done.1
+    (answers : AnswerLaws) (w : WorldState) (receiver : ℕ) (place : Option SubscriberState) (done : Report × WorldState) →
+    IsWorld w → slice_get w.subscribers receiver ≡ place → asked w place ≡ Ok done → IsWorld done.1
 ask_kept answers w receiver None done is here same = err_world _ done same
 ask_kept answers w receiver (Some place) done is here same =
-    ask_wanted answers w place (wanted place.arbitration.view) done is (is.places receiver place here) refl same
+    ask_wanted answers w place (wanted place.arbitration.view) done is (is.subscribers receiver place here) refl same
 
 pub record AllLaws : Type 0 where
   pub sending : SendingLaws
@@ -404,15 +404,15 @@ event_kept laws w End done is same =
 event_kept laws w (Request bytes) done is same =
     request_kept laws.answers w bytes (asking w.publisher.journal bytes) done is refl same
 event_kept laws w (Ask receiver) done is same =
-    ask_kept laws.answers w receiver (slice_get w.places receiver) done is refl same
+    ask_kept laws.answers w receiver (slice_get w.subscribers receiver) done is refl same
 event_kept laws w (Deliver receiver way at) done is same =
-    deliver_kept laws.receivers w receiver at way (slice_get w.places receiver) (slice_get w.sent at) done is refl refl
+    deliver_kept laws.receivers w receiver at way (slice_get w.subscribers receiver) (slice_get w.sent at) done is refl refl
     same
 event_kept laws w (Noise receiver way bytes) done is same =
-    noise_given w receiver way bytes (slice_get w.places receiver)
+    noise_given w receiver way bytes (slice_get w.subscribers receiver)
     (is_own w.publisher.journal.session (reading bytes)) done is refl refl same
 event_kept laws w (Restart receiver next) done is same =
-    restart_kept laws.receivers w receiver next (slice_get w.places receiver) done is refl same
+    restart_kept laws.receivers w receiver next (slice_get w.subscribers receiver) done is refl same
 
 pub outcome_kept :
     (laws : AllLaws) (w : WorldState) (outcome : Outcome) → IsWorld w →
@@ -430,10 +430,10 @@ run_kept laws w (happening ∷ happenings) is =
 
 -- each book is a prefix of what was published
 pub world_books :
-    (w : WorldState) (receiver : ℕ) (place : PlaceState) → IsWorld w → slice_get w.places receiver ≡ Some place →
+    (w : WorldState) (receiver : ℕ) (place : SubscriberState) → IsWorld w → slice_get w.subscribers receiver ≡ Some place →
     IsPrefix place.book.messages w.publisher.journal.messages
 world_books w receiver place is here =
-    let kept = is.places receiver place here in
+    let kept = is.subscribers receiver place here in
     let front : ℕ = place.arbitration.view.next - 1 in
     record {
       behind = drop front w.publisher.journal.messages;
@@ -443,10 +443,10 @@ world_books w receiver place is here =
 
 -- and all of it where the receiver is finished
 pub world_whole :
-    (w : WorldState) (receiver : ℕ) (place : PlaceState) → IsWorld w → slice_get w.places receiver ≡ Some place →
+    (w : WorldState) (receiver : ℕ) (place : SubscriberState) → IsWorld w → slice_get w.subscribers receiver ≡ Some place →
     place.arbitration.view.ended ≡ Some place.arbitration.view.next →
     (w.publisher.journal.closed ≡ true) × (place.book.messages ≡ w.publisher.journal.messages)
 world_whole w receiver place is here finished =
-    let kept = is.places receiver place here in
+    let kept = is.subscribers receiver place here in
     let end = kept.honest.ends place.arbitration.view.next finished in
     (end.0, kept.book ∙ take_all (place.arbitration.view.next - 1) w.publisher.journal.messages (omega (arith, end.1)))

@@ -9,20 +9,20 @@ use Rattle.mold_wire.specs.declared.request.Request.{Request as Asked}
 use Rattle.mold_receiver.specs.Receive.{IsTakenPacket, Reception, receive}
 use Rattle.mold_receiver.specs.View.{View}
 use Rattle.mold_receiver.specs.Wanted.{wanted}
-use Rattle.mold_rule.specs.declared.refusal.Refusal.{Refusal as Refused}
+use Rattle.mold_rule.specs.declared.refusal.Refusal.{Refusal}
 use Rattle.mold_session.specs.Journal.{append_refusal}
 use Rattle.mold_session.specs.Publisher.{closed}
 use Rattle.mold_session.specs.Publisher.{next_end, next_heartbeat}
 use Rattle.mold_session.specs.Server.{asking}
 use Rattle.mold_session.specs.declared.error.AnswerError.{AnswerError}
 use Rattle.mold_session.specs.declared.error.AppendError.{AppendError}
-use Rattle.mold_world.proofs.PlaceLemmas.{view_refused, view_taken}
+use Rattle.mold_world.proofs.SubscriberLemmas.{view_refused, view_taken}
 use Rattle.mold_world.specs.Event.{Happening}
 use Rattle.mold_world.specs.Effect.{Outcome, after_outcome, asked, asked_for, delivered, effect}
-use Rattle.mold_world.specs.Effect.{given, is_own, noised, publishing, renewed, requested, restarted}
-use Rattle.mold_world.specs.Effect.{sending, unsent_count, with_place}
+use Rattle.mold_world.specs.Effect.{given, is_own, noised, publishing, restarted_at, requested, restarted}
+use Rattle.mold_world.specs.Effect.{sending, unsent_count, with_subscriber}
 use Rattle.mold_world.specs.declared.event.EventOf.TheVariants.{Publish, Datagram, Heartbeat, Close, End, Request, Ask, Deliver, Noise, Restart}
-use Rattle.mold_world.specs.World.{PlaceState, WorldState}
+use Rattle.mold_world.specs.World.{SubscriberState, WorldState}
 use Rattle.mold_world.specs.declared.report.Report.{Report}
 use Rattle.mold_world.specs.declared.report.Report.TheVariants as report
 use Rattle.mold_session.specs.declared.error.SessionError.TheVariants as session
@@ -38,14 +38,14 @@ TakenLaw = (v : View) (bytes : List ℕ) (r : Reception) → receive v bytes ≡
 
 -- the receiver got as far as a number
 pub record IsReached (w : WorldState) (receiver next : ℕ) : Type 0 where
-  pub place : PlaceState
-  pub here : slice_get w.places receiver ≡ Some place
+  pub place : SubscriberState
+  pub here : slice_get w.subscribers receiver ≡ Some place
   pub far : next ≤ place.arbitration.view.next
 
 -- an event after which no more is put in datagrams than before, and the receiver is no less far
 pub record IsAsFar (w new : WorldState) (receiver : ℕ) : Type 0 where
   pub sent : new.publisher.sent ≡ w.publisher.sent
-  pub reached : (place : PlaceState) → slice_get w.places receiver ≡ Some place →
+  pub reached : (place : SubscriberState) → slice_get w.subscribers receiver ≡ Some place →
       IsReached new receiver place.arbitration.view.next
 
 ok_far :
@@ -61,34 +61,34 @@ err_far w receiver refused done same = err_so (λ (t : Report × WorldState). Is
 
 -- the receivers are the same
 same_far :
-    (w new : WorldState) (receiver : ℕ) → new.publisher.sent ≡ w.publisher.sent → new.places ≡ w.places →
+    (w new : WorldState) (receiver : ℕ) → new.publisher.sent ≡ w.publisher.sent → new.subscribers ≡ w.subscribers →
     IsAsFar w new receiver
-same_far w new receiver sent places = record {
+same_far w new receiver sent subscribers = record {
   sent = sent;
   reached = λ place here. record {
     place = place;
-    here = ap (λ (t : List PlaceState). slice_get t receiver) places ∙ here;
+    here = ap (λ (t : List SubscriberState). slice_get t receiver) subscribers ∙ here;
     far = omega arith;
   };
 }
 
 -- a receiver is set to a state in which it is no less far
 pub with_far :
-    (w : WorldState) (receiver other : ℕ) (old new : PlaceState) → slice_get w.places other ≡ Some old →
+    (w : WorldState) (receiver other : ℕ) (old new : SubscriberState) → slice_get w.subscribers other ≡ Some old →
     (receiver ≡ other → old.arbitration.view.next ≤ new.arbitration.view.next) →
-    IsAsFar w (with_place w other new) receiver
+    IsAsFar w (with_subscriber w other new) receiver
 with_far w receiver other old new is far = record {
   sent = refl;
   reached = λ place here.
-      elim (set_at w.places other new receiver place here) [
+      elim (set_at w.subscribers other new receiver place here) [
         | inl set ↦
             let same : old ≡ place = same_Some old place
-            (sym is ∙ ap (λ (t : ℕ). slice_get w.places t) (sym set.0) ∙ here)
+            (sym is ∙ ap (λ (t : ℕ). slice_get w.subscribers t) (sym set.0) ∙ here)
             in
             record {
               place = new;
               here = set.1;
-              far = subst (λ (t : PlaceState). t.arbitration.view.next ≤ new.arbitration.view.next) same (far set.0);
+              far = subst (λ (t : SubscriberState). t.arbitration.view.next ≤ new.arbitration.view.next) same (far set.0);
             }
         | inr there ↦ record { place = place; here = there; far = omega arith }
       ];
@@ -96,8 +96,8 @@ with_far w receiver other old new is far = record {
 
 -- what a datagram does to a receiver's next number
 outcome_next :
-    (law : TakenLaw) (place : PlaceState) (way : Way) (bytes : List ℕ)
-    (outcome : Result Reception Refused) → receive place.arbitration.view bytes ≡ outcome →
+    (law : TakenLaw) (place : SubscriberState) (way : Way) (bytes : List ℕ)
+    (outcome : Result Reception Refusal) → receive place.arbitration.view bytes ≡ outcome →
     place.arbitration.view.next ≤ (given place way bytes).arbitration.view.next
 outcome_next law place way bytes (Ok r) received =
     let view : View = place.arbitration.view in
@@ -117,7 +117,7 @@ outcome_next law place way bytes (Err refused) received =
     omega (arith, next)
 
 pub given_next :
-    (law : TakenLaw) (place : PlaceState) (way : Way) (bytes : List ℕ) →
+    (law : TakenLaw) (place : SubscriberState) (way : Way) (bytes : List ℕ) →
     place.arbitration.view.next ≤ (given place way bytes).arbitration.view.next
 given_next law place way bytes =
     outcome_next law place way bytes (receive place.arbitration.view bytes) refl
@@ -155,14 +155,14 @@ want_far w receiver None done same = ok_far w receiver _ done (same_far w _ rece
 want_far w receiver (Some request) done same = ok_far w receiver _ done (same_far w _ receiver refl refl) same
 
 ask_far :
-    (w : WorldState) (receiver : ℕ) (place : Option PlaceState) (done : Report × WorldState) →
+    (w : WorldState) (receiver : ℕ) (place : Option SubscriberState) (done : Report × WorldState) →
     asked w place ≡ Ok done → IsAsFar w done.1 receiver
 ask_far w receiver None done same = err_far w receiver _ done same
 ask_far w receiver (Some place) done same = want_far w receiver (wanted place.arbitration.view) done same
 
 deliver_far :
-    (law : TakenLaw) (w : WorldState) (receiver other : ℕ) (way : Way) (place : Option PlaceState)
-    (datagram : Option (List ℕ)) (done : Report × WorldState) → slice_get w.places other ≡ place →
+    (law : TakenLaw) (w : WorldState) (receiver other : ℕ) (way : Way) (place : Option SubscriberState)
+    (datagram : Option (List ℕ)) (done : Report × WorldState) → slice_get w.subscribers other ≡ place →
     delivered w other way place datagram ≡ Ok done → IsAsFar w done.1 receiver
 deliver_far law w receiver other way None datagram done is same = err_far w receiver _ done same
 deliver_far law w receiver other way (Some place) None done is same = err_far w receiver _ done same
@@ -172,7 +172,7 @@ deliver_far law w receiver other way (Some place) (Some bytes) done is same =
 
 noise_far :
     (law : TakenLaw) (w : WorldState) (receiver other : ℕ) (way : Way) (bytes : List ℕ)
-    (place : Option PlaceState) (own : Bool) (done : Report × WorldState) → slice_get w.places other ≡ place →
+    (place : Option SubscriberState) (own : Bool) (done : Report × WorldState) → slice_get w.subscribers other ≡ place →
     noised w other way bytes place own ≡ Ok done → IsAsFar w done.1 receiver
 noise_far law w receiver other way bytes None own done is same = err_far w receiver _ done same
 noise_far law w receiver other way bytes (Some place) true done is same = err_far w receiver _ done same
@@ -181,18 +181,18 @@ noise_far law w receiver other way bytes (Some place) false done is same =
     given_next law place way bytes)) same
 
 restart_at_far :
-    (w : WorldState) (receiver other next : ℕ) (place : PlaceState) (reached : Bool) (done : Report × WorldState) →
-    slice_get w.places other ≡ Some place → (receiver ≡ other → ⊥) →
-    cond {A = Outcome} reached (Ok (report.Restarted next, with_place w other (renewed place next)))
+    (w : WorldState) (receiver other next : ℕ) (place : SubscriberState) (reached : Bool) (done : Report × WorldState) →
+    slice_get w.subscribers other ≡ Some place → (receiver ≡ other → ⊥) →
+    cond {A = Outcome} reached (Ok (report.Restarted next, with_subscriber w other (restarted_at place next)))
     (Err (NotReached place.arbitration.view.next)) ≡ Ok done → IsAsFar w done.1 receiver
 restart_at_far w receiver other next place true done is another same =
-    ok_far w receiver _ done (with_far w receiver other place (renewed place next) is (λ here. absurd (another here)))
+    ok_far w receiver _ done (with_far w receiver other place (restarted_at place next) is (λ here. absurd (another here)))
     same
 restart_at_far w receiver other next place false done is another same = err_far w receiver _ done same
 
 restart_far :
-    (w : WorldState) (receiver other next : ℕ) (place : Option PlaceState) (done : Report × WorldState) →
-    slice_get w.places other ≡ place → (receiver ≡ other → ⊥) → restarted w other next place ≡ Ok done →
+    (w : WorldState) (receiver other next : ℕ) (place : Option SubscriberState) (done : Report × WorldState) →
+    slice_get w.subscribers other ≡ place → (receiver ≡ other → ⊥) → restarted w other next place ≡ Ok done →
     IsAsFar w done.1 receiver
 restart_far w receiver other next None done is another same = err_far w receiver _ done same
 restart_far w receiver other next (Some place) done is another same =
@@ -214,14 +214,14 @@ event_far law w receiver End done quiet stays same = send_far w receiver (next_e
 event_far law w receiver (Request bytes) done quiet stays same =
     request_far w receiver (asking w.publisher.journal bytes) done same
 event_far law w receiver (Ask other) done quiet stays same =
-    ask_far w receiver (slice_get w.places other) done same
+    ask_far w receiver (slice_get w.subscribers other) done same
 event_far law w receiver (Deliver other way at) done quiet stays same =
-    deliver_far law w receiver other way (slice_get w.places other) (slice_get w.sent at) done refl same
+    deliver_far law w receiver other way (slice_get w.subscribers other) (slice_get w.sent at) done refl same
 event_far law w receiver (Noise other way bytes) done quiet stays same =
-    noise_far law w receiver other way bytes (slice_get w.places other)
+    noise_far law w receiver other way bytes (slice_get w.subscribers other)
     (is_own w.publisher.journal.session (reading bytes)) done refl same
 event_far law w receiver (Restart other next) done quiet stays same =
-    restart_far w receiver other next (slice_get w.places other) done refl (λ here.
+    restart_far w receiver other next (slice_get w.subscribers other) done refl (λ here.
     stays next (ap (λ (t : ℕ). Restart t next) (sym here))) same
 
 pub outcome_far :

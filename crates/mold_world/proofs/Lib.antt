@@ -1,14 +1,13 @@
 pub mod SettingLemmas
 pub mod OutcomeLemmas
 pub mod MachineLemmas
-pub mod PlaceLemmas
+pub mod SubscriberLemmas
 pub mod EventLemmas
-pub mod HearingLemmas
+pub mod DeliveryLemmas
 pub mod RunLemmas
 pub mod StandingLemmas
 pub mod SendStepLemmas
 pub mod StepLemmas
-pub mod GivingLemmas
 pub mod RowLemmas
 pub mod BurstLemmas
 pub mod PlaceRowLemmas

@@ -10,8 +10,8 @@ use Rattle.mold_wire.specs.Truth.{Carries, IsTruePacket, published_at}
 use Rattle.mold_wire.specs.declared.packet.Packet.{Packet}
 use Rattle.mold_wire.specs.declared.session.Session.{Session}
 use Rattle.mold_world.specs.Headline.{ArePublished, HandOn, HasAll, IsPrefix, all_handed, handed_from, handed_in}
-use Rattle.mold_world.specs.Machine.{AreAllowed, IsAllowed, IsEndSent, IsSaid, IsSentAs, Machine, Standing, Step}
-use Rattle.mold_world.specs.Machine.{after, end_packet, run, standing_at, start}
+use Rattle.mold_world.specs.Machine.{AreAllowed, IsAllowed, IsEndSent, IsSaid, IsSentAs, Machine, ReceiverLog, Step}
+use Rattle.mold_world.specs.Machine.{after, end_packet, run, with_log, start}
 use Rattle.mold_world.specs.Machine.Step.{Publish, Close, Send, Deliver, Restart, Nothing}
 
 -- what holds of packets, whatever is published
@@ -33,9 +33,9 @@ Within book published =
 
 pub record IsKept (machine : Machine) : Type 0 where
   pub said : (place : ℕ) (bytes : List ℕ) → slice_get machine.sent place ≡ Some bytes → IsSaid machine bytes
-  pub books : (receiver : ℕ) → Within (machine.standings receiver).book machine.published
-  pub whole : (receiver : ℕ) → (machine.standings receiver).ended ≡ true →
-      (machine.closed ≡ true) × (length (machine.standings receiver).book ≡ length machine.published)
+  pub books : (receiver : ℕ) → Within (machine.logs receiver).book machine.published
+  pub whole : (receiver : ℕ) → (machine.logs receiver).ended ≡ true →
+      (machine.closed ≡ true) × (length (machine.logs receiver).book ≡ length machine.published)
 
 -- what stands in two lists, one behind the other, stands in one of them
 pub append_cases :
@@ -74,10 +74,10 @@ published_cases front back (suc place) message is =
 
 -- one receiver's standing is another, and the others' stay
 at_standing :
-    (P : Standing → Type 0) (standings : ℕ → Standing) (receiver : ℕ) (standing : Standing) (other : ℕ) →
-    P standing → P (standings other) → P (standing_at standings receiver standing other)
-at_standing P standings receiver standing other new old =
-    cond_both (other == receiver) standing (standings other) P (λ _. new) (λ _. old)
+    (P : ReceiverLog → Type 0) (logs : ℕ → ReceiverLog) (receiver : ℕ) (log : ReceiverLog) (other : ℕ) →
+    P log → P (logs other) → P (with_log logs receiver log other)
+at_standing P logs receiver log other new old =
+    cond_both (other == receiver) log (logs other) P (λ _. new) (λ _. old)
 
 -- a publication
 kept_published :
@@ -162,20 +162,20 @@ end_is_true laws machine number kept sent =
 
 -- a receiver stands otherwise, as what is kept allows, and the others as before
 kept_standing :
-    (machine : Machine) (receiver : ℕ) (standing : Standing) → IsKept machine →
-    Within standing.book machine.published →
-    (standing.ended ≡ true → (machine.closed ≡ true) × (length standing.book ≡ length machine.published)) →
-    IsKept (record machine { standings = standing_at machine.standings receiver standing })
-kept_standing machine receiver standing kept within whole = record {
+    (machine : Machine) (receiver : ℕ) (log : ReceiverLog) → IsKept machine →
+    Within log.book machine.published →
+    (log.ended ≡ true → (machine.closed ≡ true) × (length log.book ≡ length machine.published)) →
+    IsKept (record machine { logs = with_log machine.logs receiver log })
+kept_standing machine receiver log kept within whole = record {
   said = λ place bytes found.
       let said = kept.said place bytes found in
       record { packet = said.packet; spelled = said.spelled; named = said.named; is_true = said.is_true };
   books = λ other.
-      at_standing (λ (s : Standing). Within s.book machine.published) machine.standings receiver standing other
+      at_standing (λ (s : ReceiverLog). Within s.book machine.published) machine.logs receiver log other
       within (kept.books other);
   whole = λ other.
-      at_standing (λ (s : Standing). s.ended ≡ true →
-      (machine.closed ≡ true) × (length s.book ≡ length machine.published)) machine.standings receiver standing
+      at_standing (λ (s : ReceiverLog). s.ended ≡ true →
+      (machine.closed ≡ true) × (length s.book ≡ length machine.published)) machine.logs receiver log
       other whole (kept.whole other);
 }
 
@@ -184,8 +184,8 @@ kept_delivered :
     (laws : Laws) (machine : Machine) (receiver : ℕ) (messages : List (List ℕ)) (ended : Bool) → IsKept machine →
     IsAllowed machine (Deliver receiver messages ended) → IsKept (after machine (Deliver receiver messages ended))
 kept_delivered laws machine receiver messages ended kept allowed =
-    let book : List (List ℕ) = (machine.standings receiver).book in
-    let standing : Standing = record { book = book ++ messages; ended = ended } in
+    let book : List (List ℕ) = (machine.logs receiver).book in
+    let log : ReceiverLog = record { book = book ++ messages; ended = ended } in
     let longer : Within (book ++ messages) machine.published = λ number message is.
     elim (published_cases book messages number message is) [
       | inl before ↦ kept.books receiver number message before
@@ -198,22 +198,22 @@ kept_delivered laws machine receiver messages ended kept allowed =
     let told = end_is_true laws machine (length (book ++ messages) + 1) kept (allowed.1 is) in
     (told.0, omega (arith, told.1))
     in
-    kept_standing machine receiver standing kept longer whole
+    kept_standing machine receiver log kept longer whole
 
 -- a receiver that begins anew
 kept_restarted :
     (laws : Laws) (machine : Machine) (receiver next : ℕ) → IsKept machine →
     IsKept (after machine (Restart receiver next))
 kept_restarted laws machine receiver next kept =
-    let book : List (List ℕ) = (machine.standings receiver).book in
+    let book : List (List ℕ) = (machine.logs receiver).book in
     let front : List (List ℕ) = take (next - 1) book in
-    let standing : Standing = record { book = front; ended = false } in
+    let log : ReceiverLog = record { book = front; ended = false } in
     let shorter : Within front machine.published = λ number message is.
     kept.books receiver number message
     (subst (λ (t : List (List ℕ)). published_at t number ≡ Some message) (take-append-drop (next - 1) book)
     (laws.keeps front (drop (next - 1) book) number message is))
     in
-    kept_standing machine receiver standing kept shorter (λ is. absurd (false≢true is))
+    kept_standing machine receiver log kept shorter (λ is. absurd (false≢true is))
 
 kept_after :
     (laws : Laws) (machine : Machine) (step : Step) → IsKept machine → IsAllowed machine step →
@@ -281,9 +281,9 @@ handed_in_step laws machine (Publish message) kept allowed = tt
 handed_in_step laws machine Close kept allowed = tt
 handed_in_step laws machine (Send bytes) kept allowed = tt
 handed_in_step laws machine (Deliver receiver messages ended) kept allowed =
-    handed_published machine.published receiver (length (machine.standings receiver).book + 1) messages
+    handed_published machine.published receiver (length (machine.logs receiver).book + 1) messages
     (λ place message is.
-    sent_is_published laws machine (length (machine.standings receiver).book + 1 + place) message kept
+    sent_is_published laws machine (length (machine.logs receiver).book + 1 + place) message kept
     (allowed.0 place message is))
 handed_in_step laws machine (Restart receiver next) kept allowed = tt
 handed_in_step laws machine Nothing kept allowed = tt
@@ -334,9 +334,9 @@ prefix_from (message ∷ front) (other ∷ whole) agrees =
 -- each book is a front of what was published
 pub book_is_prefix :
     (machine : Machine) (receiver : ℕ) → IsKept machine →
-    IsPrefix (machine.standings receiver).book machine.published
+    IsPrefix (machine.logs receiver).book machine.published
 book_is_prefix machine receiver kept =
-    let book : List (List ℕ) = (machine.standings receiver).book in
+    let book : List (List ℕ) = (machine.logs receiver).book in
     prefix_from book machine.published (λ place message is.
     sym (at_place machine.published place)
     ∙ kept.books receiver (1 + place) message (at_place book place ∙ is))
@@ -355,10 +355,10 @@ prefix_same front whole is same =
 
 -- and is all of it where the end is reported
 pub ended_has_all :
-    (machine : Machine) (receiver : ℕ) → IsKept machine → (machine.standings receiver).ended ≡ true →
+    (machine : Machine) (receiver : ℕ) → IsKept machine → (machine.logs receiver).ended ≡ true →
     HasAll machine receiver
 ended_has_all machine receiver kept ended = record {
   closed = (kept.whole receiver ended).0;
-  whole = prefix_same (machine.standings receiver).book machine.published (book_is_prefix machine receiver kept)
+  whole = prefix_same (machine.logs receiver).book machine.published (book_is_prefix machine receiver kept)
       (kept.whole receiver ended).1;
 }

@@ -6,14 +6,14 @@ use Rattle.std.proofs.lemmas.Bool.{and_parts, le-leb, leb-true, ltb-false, ltb-t
 use Rattle.std.proofs.lemmas.Option.{slice_get_past}
 use Rattle.mold_wire.specs.Reading.{reading}
 use Rattle.mold_receiver.specs.Receive.{IsCopied, Reception, receive}
-use Rattle.mold_rule.specs.declared.refusal.Refusal.{Refusal as Refused}
+use Rattle.mold_rule.specs.declared.refusal.Refusal.{Refusal}
 use Rattle.mold_world.proofs.EventLemmas.{not_own}
-use Rattle.mold_world.specs.Effect.{Outcome, delivered, effect, given, is_own, noised, renewed, restarted, told, with_place}
+use Rattle.mold_world.specs.Effect.{Outcome, delivered, effect, given, is_own, noised, restarted_at, restarted, told, with_subscriber}
 use Rattle.mold_world.specs.declared.event.EventOf.TheVariants.{Deliver, Noise, Restart}
 use Rattle.mold_world.specs.Kept.{IsWorld}
 use Rattle.mold_world.specs.Refusals.{Applies, Refuses}
-use Rattle.mold_world.specs.Renewals.{HasReached, Renews}
-use Rattle.mold_world.specs.World.{PlaceState, WorldState}
+use Rattle.mold_world.specs.Restarts.{HasReached, Restarts}
+use Rattle.mold_world.specs.World.{SubscriberState, WorldState}
 use Rattle.mold_world.specs.declared.report.Report.{Report}
 use Rattle.mold_world.specs.declared.report.Report.TheVariants.{Restarted}
 use Rattle.mold_world.specs.declared.report.WorldError.{WorldError}
@@ -35,117 +35,117 @@ pub none_there :
 none_there xs count at same outside = past_end xs count at (ltb at count) refl same outside
 
 pub put_back :
-    (w : WorldState) (receiver : ℕ) (place new : PlaceState) → slice_get w.places receiver ≡ Some place →
-    new ≡ place → with_place w receiver new ≡ w
+    (w : WorldState) (receiver : ℕ) (place new : SubscriberState) → slice_get w.subscribers receiver ≡ Some place →
+    new ≡ place → with_subscriber w receiver new ≡ w
 put_back w receiver place new here same =
-    ap (λ (t : PlaceState). with_place w receiver t) same
-    ∙ ap (λ (t : List PlaceState). record w { places = t }) (set_back w.places receiver place here)
+    ap (λ (t : SubscriberState). with_subscriber w receiver t) same
+    ∙ ap (λ (t : List SubscriberState). record w { subscribers = t }) (set_back w.subscribers receiver place here)
 
 pub deliver_nobody :
-    (w : WorldState) (receiver : ℕ) (way : Way) (at : ℕ) → slice_get w.places receiver ≡ None →
+    (w : WorldState) (receiver : ℕ) (way : Way) (at : ℕ) → slice_get w.subscribers receiver ≡ None →
     Refuses w (Deliver receiver way at) NoReceiver
 unfolding effect
 deliver_nobody w receiver way at none =
-    inr (ap (λ (t : Option PlaceState). delivered w receiver way t (slice_get w.sent at)) none)
+    inr (ap (λ (t : Option SubscriberState). delivered w receiver way t (slice_get w.sent at)) none)
 
 -- the row at a receiver and a datagram that are known to be there, or not
 deliver_at :
-    (w : WorldState) (receiver : ℕ) (way : Way) (at : ℕ) (place : PlaceState)
-    (datagram : Option (List ℕ)) → slice_get w.places receiver ≡ Some place → slice_get w.sent at ≡ datagram →
+    (w : WorldState) (receiver : ℕ) (way : Way) (at : ℕ) (place : SubscriberState)
+    (datagram : Option (List ℕ)) → slice_get w.subscribers receiver ≡ Some place → slice_get w.sent at ≡ datagram →
     effect w (Deliver receiver way at) ≡ delivered w receiver way (Some place) datagram
 unfolding effect
 deliver_at w receiver way at place datagram here found =
     λ j. delivered w receiver way (here j) (found j)
 
 pub deliver_nothing :
-    (w : WorldState) (receiver : ℕ) (way : Way) (at : ℕ) (place new : PlaceState) →
-    slice_get w.places receiver ≡ Some place → slice_get w.sent at ≡ None → new ≡ place →
-    Refuses w (Deliver receiver way at) NoSuchDatagram × (with_place w receiver new ≡ w)
+    (w : WorldState) (receiver : ℕ) (way : Way) (at : ℕ) (place new : SubscriberState) →
+    slice_get w.subscribers receiver ≡ Some place → slice_get w.sent at ≡ None → new ≡ place →
+    Refuses w (Deliver receiver way at) NoSuchDatagram × (with_subscriber w receiver new ≡ w)
 deliver_nothing w receiver way at place new here none same =
     (inr (deliver_at w receiver way at place None here none), put_back w receiver place new here same)
 
 pub deliver_done :
-    (w : WorldState) (receiver : ℕ) (way : Way) (at : ℕ) (place new : PlaceState) (bytes : List ℕ)
-    (says : Report) → slice_get w.places receiver ≡ Some place → slice_get w.sent at ≡ Some bytes →
+    (w : WorldState) (receiver : ℕ) (way : Way) (at : ℕ) (place new : SubscriberState) (bytes : List ℕ)
+    (says : Report) → slice_get w.subscribers receiver ≡ Some place → slice_get w.sent at ≡ Some bytes →
     says ≡ told (receive place.arbitration.view bytes) → new ≡ given place way bytes →
-    effect w (Deliver receiver way at) ≡ Ok (says, with_place w receiver new)
+    effect w (Deliver receiver way at) ≡ Ok (says, with_subscriber w receiver new)
 deliver_done w receiver way at place new bytes says here found reported is =
     deliver_at w receiver way at place (Some bytes) here found
-    ∙ (λ j. Ok (sym reported j, with_place w receiver (sym is j)))
+    ∙ (λ j. Ok (sym reported j, with_subscriber w receiver (sym is j)))
 
 pub deliver_wanting :
-    (w : WorldState) (receiver : ℕ) (way : Way) (at : ℕ) (place new : PlaceState) (bytes : List ℕ) →
-    slice_get w.places receiver ≡ Some place → slice_get w.sent at ≡ Some bytes →
+    (w : WorldState) (receiver : ℕ) (way : Way) (at : ℕ) (place new : SubscriberState) (bytes : List ℕ) →
+    slice_get w.subscribers receiver ≡ Some place → slice_get w.sent at ≡ Some bytes →
     IsCopied place.arbitration.view bytes → new ≡ place →
-    Refuses w (Deliver receiver way at) Memory × (with_place w receiver new ≡ w)
+    Refuses w (Deliver receiver way at) Memory × (with_subscriber w receiver new ≡ w)
 deliver_wanting w receiver way at place new bytes here found copied same = (
   inl (refl, record { place = place; bytes = bytes; here = here; found = found; copied = copied }),
   put_back w receiver place new here same,
 )
 
 noise_at :
-    (w : WorldState) (receiver : ℕ) (way : Way) (bytes : List ℕ) (place : Option PlaceState) (own : Bool) →
-    slice_get w.places receiver ≡ place → own ≡ is_own w.publisher.journal.session (reading bytes) →
+    (w : WorldState) (receiver : ℕ) (way : Way) (bytes : List ℕ) (place : Option SubscriberState) (own : Bool) →
+    slice_get w.subscribers receiver ≡ place → own ≡ is_own w.publisher.journal.session (reading bytes) →
     effect w (Noise receiver way bytes) ≡ noised w receiver way bytes place own
 unfolding effect
 noise_at w receiver way bytes place own here mine = λ j. noised w receiver way bytes (here j) (sym mine j)
 
 pub noise_nobody :
-    (w : WorldState) (receiver : ℕ) (way : Way) (bytes : List ℕ) → slice_get w.places receiver ≡ None →
+    (w : WorldState) (receiver : ℕ) (way : Way) (bytes : List ℕ) → slice_get w.subscribers receiver ≡ None →
     Refuses w (Noise receiver way bytes) NoReceiver
 noise_nobody w receiver way bytes none =
     inr (noise_at w receiver way bytes None (is_own w.publisher.journal.session (reading bytes)) none refl)
 
 pub noise_own :
-    (w : WorldState) (receiver : ℕ) (way : Way) (bytes : List ℕ) (place new : PlaceState) →
-    slice_get w.places receiver ≡ Some place → true ≡ is_own w.publisher.journal.session (reading bytes) →
-    new ≡ place → Refuses w (Noise receiver way bytes) NotNoise × (with_place w receiver new ≡ w)
+    (w : WorldState) (receiver : ℕ) (way : Way) (bytes : List ℕ) (place new : SubscriberState) →
+    slice_get w.subscribers receiver ≡ Some place → true ≡ is_own w.publisher.journal.session (reading bytes) →
+    new ≡ place → Refuses w (Noise receiver way bytes) NotNoise × (with_subscriber w receiver new ≡ w)
 noise_own w receiver way bytes place new here mine same =
     (inr (noise_at w receiver way bytes (Some place) true here mine), put_back w receiver place new here same)
 
 pub noise_done :
-    (w : WorldState) (receiver : ℕ) (way : Way) (bytes : List ℕ) (place new : PlaceState) (says : Report) →
-    slice_get w.places receiver ≡ Some place → false ≡ is_own w.publisher.journal.session (reading bytes) →
+    (w : WorldState) (receiver : ℕ) (way : Way) (bytes : List ℕ) (place new : SubscriberState) (says : Report) →
+    slice_get w.subscribers receiver ≡ Some place → false ≡ is_own w.publisher.journal.session (reading bytes) →
     says ≡ told (receive place.arbitration.view bytes) → new ≡ given place way bytes →
-    effect w (Noise receiver way bytes) ≡ Ok (says, with_place w receiver new)
+    effect w (Noise receiver way bytes) ≡ Ok (says, with_subscriber w receiver new)
 noise_done w receiver way bytes place new says here other reported is =
     noise_at w receiver way bytes (Some place) false here other
-    ∙ (λ j. Ok (sym reported j, with_place w receiver (sym is j)))
+    ∙ (λ j. Ok (sym reported j, with_subscriber w receiver (sym is j)))
 
 -- nothing of bytes that are no packet of the session is copied
 pub noise_never_wants :
-    (w : WorldState) (receiver : ℕ) (bytes : List ℕ) (place : PlaceState) → IsWorld w →
-    slice_get w.places receiver ≡ Some place → false ≡ is_own w.publisher.journal.session (reading bytes) →
+    (w : WorldState) (receiver : ℕ) (bytes : List ℕ) (place : SubscriberState) → IsWorld w →
+    slice_get w.subscribers receiver ≡ Some place → false ≡ is_own w.publisher.journal.session (reading bytes) →
     IsCopied place.arbitration.view bytes → ⊥
 noise_never_wants w receiver bytes place is here other copied =
     let refused = not_own place.arbitration.view w.publisher.journal.session (reading bytes)
-    (is.places receiver place here).session (sym other)
+    (is.subscribers receiver place here).session (sym other)
     in
-    let both : ◌≡◌ {A = Result Reception Refused} (Ok copied.reception) (Err refused.0) =
+    let both : ◌≡◌ {A = Result Reception Refusal} (Ok copied.reception) (Err refused.0) =
     sym copied.received ∙ refused.1
     in
     (let e = both in cc)
 
 -- the row of a restart
 restart_at :
-    (w : WorldState) (receiver next : ℕ) (place : PlaceState) (reached : Bool) →
-    slice_get w.places receiver ≡ Some place → (leb 1 next && leb next place.arbitration.view.next) ≡ reached →
+    (w : WorldState) (receiver next : ℕ) (place : SubscriberState) (reached : Bool) →
+    slice_get w.subscribers receiver ≡ Some place → (leb 1 next && leb next place.arbitration.view.next) ≡ reached →
     effect w (Restart receiver next)
-    ≡ cond {A = Outcome} reached (Ok (Restarted next, with_place w receiver (renewed place next)))
+    ≡ cond {A = Outcome} reached (Ok (Restarted next, with_subscriber w receiver (restarted_at place next)))
     (Err (NotReached place.arbitration.view.next))
 unfolding effect
 restart_at w receiver next place reached here is =
-    ap (λ (t : Option PlaceState). restarted w receiver next t) here
-    ∙ ap (λ (t : Bool). cond {A = Outcome} t (Ok (Restarted next, with_place w receiver (renewed place next)))
+    ap (λ (t : Option SubscriberState). restarted w receiver next t) here
+    ∙ ap (λ (t : Bool). cond {A = Outcome} t (Ok (Restarted next, with_subscriber w receiver (restarted_at place next)))
     (Err (NotReached place.arbitration.view.next))) is
 
-reached_true : (place : PlaceState) (next : ℕ) → HasReached place next →
+reached_true : (place : SubscriberState) (next : ℕ) → HasReached place next →
     (leb 1 next && leb next place.arbitration.view.next) ≡ true
 reached_true place next reached =
     λ j. le-leb 1 next reached.0 j && le-leb next place.arbitration.view.next reached.1 j
 
 unreached :
-    (place : PlaceState) (next : ℕ) (reached : Bool) → (leb 1 next && leb next place.arbitration.view.next) ≡ reached →
+    (place : SubscriberState) (next : ℕ) (reached : Bool) → (leb 1 next && leb next place.arbitration.view.next) ≡ reached →
     (HasReached place next → ⊥) → reached ≡ false
 unreached place next false is not = refl
 unreached place next true is not =
@@ -153,18 +153,18 @@ unreached place next true is not =
     absurd (not (leb-true 1 next both.0, leb-true next place.arbitration.view.next both.1))
 
 pub restart_nobody :
-    (w : WorldState) (receiver next : ℕ) → slice_get w.places receiver ≡ None →
+    (w : WorldState) (receiver next : ℕ) → slice_get w.subscribers receiver ≡ None →
     Refuses w (Restart receiver next) NoReceiver
 unfolding effect
-restart_nobody w receiver next none = inr (ap (λ (t : Option PlaceState). restarted w receiver next t) none)
+restart_nobody w receiver next none = inr (ap (λ (t : Option SubscriberState). restarted w receiver next t) none)
 
 pub restart_applied :
-    (w : WorldState) (receiver next : ℕ) (place new : PlaceState) (result : Result Report WorldError) →
-    slice_get w.places receiver ≡ Some place → Renews place next result new →
-    Applies w (Restart receiver next) result (with_place w receiver new)
+    (w : WorldState) (receiver next : ℕ) (place new : SubscriberState) (result : Result Report WorldError) →
+    slice_get w.subscribers receiver ≡ Some place → Restarts place next result new →
+    Applies w (Restart receiver next) result (with_subscriber w receiver new)
 restart_applied w receiver next place new (Ok says) here is =
     restart_at w receiver next place true here (reached_true place next is.0)
-    ∙ (λ j. Ok (sym is.1 j, with_place w receiver (sym is.2 j)))
+    ∙ (λ j. Ok (sym is.1 j, with_subscriber w receiver (sym is.2 j)))
 restart_applied w receiver next place new (Err error) here is = (
   elim is.1 [
     | inl wanting ↦ inl (

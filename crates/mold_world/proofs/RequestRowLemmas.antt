@@ -10,7 +10,7 @@ use Rattle.mold_session.specs.declared.error.AnswerError.{AnswerError}
 use Rattle.mold_world.specs.Effect.{Outcome, answered, asked, asked_for, bursting, effect, requested}
 use Rattle.mold_world.specs.declared.event.EventOf.TheVariants.{Ask, Request}
 use Rattle.mold_world.specs.Refusals.{Applies, Refuses}
-use Rattle.mold_world.specs.World.{PlaceState, WorldState}
+use Rattle.mold_world.specs.World.{SubscriberState, WorldState}
 use Rattle.mold_world.specs.declared.report.Report.{Report}
 use Rattle.mold_world.specs.declared.report.Report.TheVariants.{Nothing}
 use Rattle.mold_session.specs.declared.error.SessionError.TheVariants.{Answer}
@@ -89,26 +89,26 @@ request_applied answerable answers w new bytes plan limit burst (Err error) is l
     )
 
 pub ask_nobody :
-    (w : WorldState) (receiver : ℕ) → slice_get w.places receiver ≡ None → Refuses w (Ask receiver) NoReceiver
+    (w : WorldState) (receiver : ℕ) → slice_get w.subscribers receiver ≡ None → Refuses w (Ask receiver) NoReceiver
 unfolding effect
 ask_nobody w receiver none = inr (ap (asked w) none)
 
 asked_at :
-    (w : WorldState) (receiver : ℕ) (place : PlaceState) (want : Option Asked) →
-    slice_get w.places receiver ≡ Some place → want ≡ wanted place.arbitration.view →
+    (w : WorldState) (receiver : ℕ) (place : SubscriberState) (want : Option Asked) →
+    slice_get w.subscribers receiver ≡ Some place → want ≡ wanted place.arbitration.view →
     effect w (Ask receiver) ≡ asked_for w want
 unfolding effect
 asked_at w receiver place want here is = ap (asked w) here ∙ ap (asked_for w) (sym is)
 
 pub ask_nothing :
-    (w : WorldState) (receiver : ℕ) (place : PlaceState) → slice_get w.places receiver ≡ Some place →
+    (w : WorldState) (receiver : ℕ) (place : SubscriberState) → slice_get w.subscribers receiver ≡ Some place →
     None ≡ wanted place.arbitration.view → effect w (Ask receiver) ≡ Ok (Nothing, w)
 ask_nothing w receiver place here none = asked_at w receiver place None here none
 
 -- a wish is a request for what is wanted
 pub ask_applied :
-    (w new : WorldState) (receiver : ℕ) (place : PlaceState) (request : Asked) (bytes : List ℕ)
-    (result : Result Report WorldError) → slice_get w.places receiver ≡ Some place →
+    (w new : WorldState) (receiver : ℕ) (place : SubscriberState) (request : Asked) (bytes : List ℕ)
+    (result : Result Report WorldError) → slice_get w.subscribers receiver ≡ Some place →
     Some request ≡ wanted place.arbitration.view → asking w.publisher.journal bytes ≡ Ok request →
     Applies w (Request bytes) result new → Applies w (Ask receiver) result new
 ask_applied w new receiver place request bytes (Ok says) here want asks applied =

@@ -26,7 +26,7 @@ use Rattle.mold_world.specs.declared.report.Report.{Report}
 use Rattle.mold_world.specs.declared.report.Report.TheVariants as report
 use Rattle.mold_session.specs.declared.error.SessionError.TheVariants as session
 use Rattle.mold_world.specs.declared.report.WorldError.{WorldError}
-use Rattle.mold_world.specs.declared.report.WorldError.TheVariants.{Memory, Layer as Refused}
+use Rattle.mold_world.specs.declared.report.WorldError.TheVariants.{Memory, Layer as Refusal}
 
 -- a message is published
 pub publish_done :
@@ -44,13 +44,13 @@ refused_by :
     (shut long full : Bool) (len : ℕ) (cause : AppendError) →
     cond {A = Option AppendError} shut (Some Closed)
     (cond long (Some (TooLong len)) (cond full (Some Full) None)) ≡ Some cause →
-    append_error cause ≡ Refused (session.Append cause)
+    append_error cause ≡ Refusal (session.Append cause)
 refused_by true long full len cause is =
-    subst (λ (t : AppendError). append_error t ≡ Refused (session.Append t)) (same_Some Closed cause is) refl
+    subst (λ (t : AppendError). append_error t ≡ Refusal (session.Append t)) (same_Some Closed cause is) refl
 refused_by false true full len cause is =
-    subst (λ (t : AppendError). append_error t ≡ Refused (session.Append t)) (same_Some (TooLong len) cause is) refl
+    subst (λ (t : AppendError). append_error t ≡ Refusal (session.Append t)) (same_Some (TooLong len) cause is) refl
 refused_by false false true len cause is =
-    subst (λ (t : AppendError). append_error t ≡ Refused (session.Append t)) (same_Some Full cause is) refl
+    subst (λ (t : AppendError). append_error t ≡ Refusal (session.Append t)) (same_Some Full cause is) refl
 refused_by false false false len cause is = absurd (none-some cause is)
 
 publish_refusal :
@@ -214,7 +214,7 @@ pub close_done :
     new ≡ closed w.publisher → effect w Close ≡ Ok (report.Closed, record w { publisher = new })
 unfolding effect
 close_done w new all is =
-    ap (λ (t : Bool). cond {A = Outcome} t (Err (Refused (session.Close (record { count = unsent_count w.publisher }))))
+    ap (λ (t : Bool). cond {A = Outcome} t (Err (Refusal (session.Close (record { count = unsent_count w.publisher }))))
     (Ok (report.Closed, record w { publisher = closed w.publisher })))
     (ap (λ (t : ℕ). ltb 0 t) (let none : unsent_count w.publisher ≡ 0 = omega (arith, all) in none))
     ∙ (λ j. Ok (report.Closed, record w { publisher = sym is j }))
@@ -222,12 +222,12 @@ close_done w new all is =
 pub close_refused :
     (w : WorldState) (error : Unsent) (new : PublisherState) →
     error ≡ record { count = unsent_count w.publisher } → w.publisher.sent + 1 ≤ length w.publisher.journal.messages →
-    new ≡ w.publisher → Refuses w Close (Refused (session.Close error)) × (record w { publisher = new } ≡ w)
+    new ≡ w.publisher → Refuses w Close (Refusal (session.Close error)) × (record w { publisher = new } ≡ w)
 unfolding effect
 close_refused w error new is some same = (
-  inr (ap (λ (t : Bool). cond {A = Outcome} t (Err (Refused (session.Close (record { count = unsent_count w.publisher }))))
+  inr (ap (λ (t : Bool). cond {A = Outcome} t (Err (Refusal (session.Close (record { count = unsent_count w.publisher }))))
       (Ok (report.Closed, record w { publisher = closed w.publisher })))
       (lt-ltb 0 (unsent_count w.publisher) (omega (arith, some)))
-      ∙ ap (λ (t : Unsent). Err (Refused (session.Close t))) (sym is)),
+      ∙ ap (λ (t : Unsent). Err (Refusal (session.Close t))) (sym is)),
   ap (λ (t : PublisherState). record w { publisher = t }) same,
 )

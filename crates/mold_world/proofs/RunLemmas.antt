@@ -10,20 +10,20 @@ use Rattle.mold_wire.specs.Truth.{published_at}
 use Rattle.mold_wire.specs.declared.packet.Packet.{Packet}
 use Rattle.mold_wire.specs.declared.session.Session.{Session}
 use Rattle.mold_receiver.specs.Receive.{Reception}
-use Rattle.mold_rule.specs.declared.refusal.Refusal.{Refusal as Refused}
+use Rattle.mold_rule.specs.declared.refusal.Refusal.{Refusal}
 use Rattle.mold_session.specs.Journal.{append_refusal}
 use Rattle.mold_session.specs.Publisher.{PublisherState}
 use Rattle.mold_session.specs.declared.error.AppendError.{AppendError}
 use Rattle.mold_world.proofs.EventLemmas.{AllLaws, event_kept, outcome_kept}
-use Rattle.mold_world.proofs.HearingLemmas.{noise_hands_nothing, sent_taken}
+use Rattle.mold_world.proofs.DeliveryLemmas.{noise_hands_nothing, sent_taken}
 use Rattle.mold_world.proofs.MachineLemmas.{both_published, each_later, handed_published}
 use Rattle.mold_world.specs.Event.{Happening}
 use Rattle.mold_world.specs.Effect.{Outcome, after_event, after_outcome, effect, run_events}
 use Rattle.mold_world.specs.declared.event.EventOf.TheVariants.{Publish, Datagram, Heartbeat, Close, End, Request, Ask, Deliver, Noise, Restart}
 use Rattle.mold_world.specs.HandOns.{handed_at, handed_by, handed_by_all, handed_of}
 use Rattle.mold_world.specs.Headline.{ArePublished, HandOn}
-use Rattle.mold_world.specs.Kept.{IsPlaceKept, IsWorld}
-use Rattle.mold_world.specs.World.{MayBegin, PlaceState, WorldState, beginning, place_at}
+use Rattle.mold_world.specs.Kept.{IsSubscriberKept, IsWorld}
+use Rattle.mold_world.specs.World.{MayBegin, SubscriberState, WorldState, beginning, subscriber_at}
 use Rattle.std.specs.Prelude.{Bool, true, ◌&&◌}
 use Rattle.std.proofs.Common.{cond, leb, ltb}
 use Rattle.mold_wire.specs.Reading.{reading}
@@ -34,8 +34,8 @@ use Rattle.mold_session.specs.Journal.{JournalState}
 use Rattle.mold_session.specs.Publisher.{after_datagram, closed, next_datagram, next_end, next_heartbeat}
 use Rattle.mold_session.specs.Server.{asking}
 use Rattle.mold_session.specs.declared.error.AnswerError.{AnswerError}
-use Rattle.mold_world.specs.Effect.{asked, asked_for, delivered, is_own, noised, publishing, renewed, requested}
-use Rattle.mold_world.specs.Effect.{restarted, sending, unsent_count, with_place}
+use Rattle.mold_world.specs.Effect.{asked, asked_for, delivered, is_own, noised, publishing, restarted_at, requested}
+use Rattle.mold_world.specs.Effect.{restarted, sending, unsent_count, with_subscriber}
 use Rattle.mold_world.specs.declared.report.Report.{Report}
 use Rattle.mold_world.specs.declared.report.Report.TheVariants as report
 use Rattle.mold_session.specs.declared.error.SessionError.TheVariants as session
@@ -46,10 +46,10 @@ use Rattle.mold_world.proofs.OutcomeLemmas.{ok_so, err_so}
 
 -- a world that begins is one
 place_of :
-    (session : Session) (windows : List ℕ) (receiver : ℕ) (place : PlaceState) →
-    slice_get (map (place_at session) windows) receiver ≡ Some place → (window : ℕ) × (place_at session window ≡ place)
+    (session : Session) (windows : List ℕ) (receiver : ℕ) (place : SubscriberState) →
+    slice_get (map (subscriber_at session) windows) receiver ≡ Some place → (window : ℕ) × (subscriber_at session window ≡ place)
 place_of session [] receiver place is = absurd (none-some place is)
-place_of session (window ∷ windows) zero place is = (window, same_Some (place_at session window) place is)
+place_of session (window ∷ windows) zero place is = (window, same_Some (subscriber_at session window) place is)
 place_of session (window ∷ windows) (suc receiver) place is = place_of session windows receiver place is
 
 pub begins :
@@ -72,9 +72,9 @@ begins laws session limit server_limit burst windows may =
         room = omega (arith, may.limited.0, may.room);
       };
       said = λ place bytes found. absurd (none-some bytes found);
-      places = λ receiver place found.
+      subscribers = λ receiver place found.
           let here = place_of session windows receiver place found in
-          subst (λ (t : PlaceState). IsPlaceKept w.publisher.journal w.sent t) here.1
+          subst (λ (t : SubscriberState). IsSubscriberKept w.publisher.journal w.sent t) here.1
           (record {
             session = refl;
             honest = laws.receivers.fresh session 1 here.0 [] false (omega arith) (omega arith) (omega arith);
@@ -138,34 +138,34 @@ want_grows w None done same = ok_grows w _ done (stays w) same
 want_grows w (Some request) done same = ok_grows w _ done (stays w) same
 
 ask_grows :
-    (w : WorldState) (place : Option PlaceState) (done : Report × WorldState) → asked w place ≡ Ok done →
+    (w : WorldState) (place : Option SubscriberState) (done : Report × WorldState) → asked w place ≡ Ok done →
     GrowsTo w done.1
 ask_grows w None done same = err_grows w _ done same
 ask_grows w (Some place) done same = want_grows w (wanted place.arbitration.view) done same
 
 deliver_grows :
-    (w : WorldState) (receiver : ℕ) (way : Way) (place : Option PlaceState) (datagram : Option (List ℕ))
+    (w : WorldState) (receiver : ℕ) (way : Way) (place : Option SubscriberState) (datagram : Option (List ℕ))
     (done : Report × WorldState) → delivered w receiver way place datagram ≡ Ok done → GrowsTo w done.1
 deliver_grows w receiver way None datagram done same = err_grows w _ done same
 deliver_grows w receiver way (Some place) None done same = err_grows w _ done same
 deliver_grows w receiver way (Some place) (Some bytes) done same = ok_grows w _ done (stays w) same
 
 noise_grows :
-    (w : WorldState) (receiver : ℕ) (way : Way) (bytes : List ℕ) (place : Option PlaceState) (own : Bool)
+    (w : WorldState) (receiver : ℕ) (way : Way) (bytes : List ℕ) (place : Option SubscriberState) (own : Bool)
     (done : Report × WorldState) → noised w receiver way bytes place own ≡ Ok done → GrowsTo w done.1
 noise_grows w receiver way bytes None own done same = err_grows w _ done same
 noise_grows w receiver way bytes (Some place) true done same = err_grows w _ done same
 noise_grows w receiver way bytes (Some place) false done same = ok_grows w _ done (stays w) same
 
 restart_at_grows :
-    (w : WorldState) (receiver next : ℕ) (place : PlaceState) (reached : Bool) (done : Report × WorldState) →
-    cond {A = Outcome} reached (Ok (report.Restarted next, with_place w receiver (renewed place next)))
+    (w : WorldState) (receiver next : ℕ) (place : SubscriberState) (reached : Bool) (done : Report × WorldState) →
+    cond {A = Outcome} reached (Ok (report.Restarted next, with_subscriber w receiver (restarted_at place next)))
     (Err (NotReached place.arbitration.view.next)) ≡ Ok done → GrowsTo w done.1
 restart_at_grows w receiver next place true done same = ok_grows w _ done (stays w) same
 restart_at_grows w receiver next place false done same = err_grows w _ done same
 
 restart_grows :
-    (w : WorldState) (receiver next : ℕ) (place : Option PlaceState) (done : Report × WorldState) →
+    (w : WorldState) (receiver next : ℕ) (place : Option SubscriberState) (done : Report × WorldState) →
     restarted w receiver next place ≡ Ok done → GrowsTo w done.1
 restart_grows w receiver next None done same = err_grows w _ done same
 restart_grows w receiver next (Some place) done same =
@@ -183,13 +183,13 @@ event_grows w Heartbeat done same = send_grows w (next_heartbeat w.publisher) w.
 event_grows w Close done same = close_grows w (ltb 0 (unsent_count w.publisher)) done same
 event_grows w End done same = send_grows w (next_end w.publisher) w.publisher done refl same
 event_grows w (Request bytes) done same = request_grows w (asking w.publisher.journal bytes) done same
-event_grows w (Ask receiver) done same = ask_grows w (slice_get w.places receiver) done same
+event_grows w (Ask receiver) done same = ask_grows w (slice_get w.subscribers receiver) done same
 event_grows w (Deliver receiver way at) done same =
-    deliver_grows w receiver way (slice_get w.places receiver) (slice_get w.sent at) done same
+    deliver_grows w receiver way (slice_get w.subscribers receiver) (slice_get w.sent at) done same
 event_grows w (Noise receiver way bytes) done same =
-    noise_grows w receiver way bytes (slice_get w.places receiver)
+    noise_grows w receiver way bytes (slice_get w.subscribers receiver)
     (is_own w.publisher.journal.session (reading bytes)) done same
-event_grows w (Restart receiver next) done same = restart_grows w receiver next (slice_get w.places receiver) done same
+event_grows w (Restart receiver next) done same = restart_grows w receiver next (slice_get w.subscribers receiver) done same
 
 outcome_grows :
     (w : WorldState) (outcome : Outcome) →
@@ -222,15 +222,15 @@ later_at laws w (happening ∷ happenings) number message is =
 
 -- what a delivery hands on was published
 handed_here :
-    (laws : AllLaws) (w : WorldState) (receiver at : ℕ) (place : Option PlaceState) (datagram : Option (List ℕ)) →
-    IsWorld w → slice_get w.places receiver ≡ place → slice_get w.sent at ≡ datagram →
+    (laws : AllLaws) (w : WorldState) (receiver at : ℕ) (place : Option SubscriberState) (datagram : Option (List ℕ)) →
+    IsWorld w → slice_get w.subscribers receiver ≡ place → slice_get w.sent at ≡ datagram →
     ArePublished w.publisher.journal.messages (handed_at receiver place datagram)
 handed_here laws w receiver at None datagram is here sent = tt
 handed_here laws w receiver at (Some place) None is here sent = tt
 handed_here laws w receiver at (Some place) (Some bytes) is here sent =
     let view : View = place.arbitration.view in
     let took = sent_taken laws.receivers.take w receiver at place bytes is here sent in
-    subst (λ (t : Result Reception Refused). ArePublished w.publisher.journal.messages (handed_of receiver view.next t))
+    subst (λ (t : Result Reception Refusal). ArePublished w.publisher.journal.messages (handed_of receiver view.next t))
     (sym took.received)
     (handed_published w.publisher.journal.messages receiver view.next took.reception.handed took.handed)
 
@@ -245,7 +245,7 @@ handed_in_event laws w End is = tt
 handed_in_event laws w (Request bytes) is = tt
 handed_in_event laws w (Ask receiver) is = tt
 handed_in_event laws w (Deliver receiver way at) is =
-    handed_here laws w receiver at (slice_get w.places receiver) (slice_get w.sent at) is refl refl
+    handed_here laws w receiver at (slice_get w.subscribers receiver) (slice_get w.sent at) is refl refl
 handed_in_event laws w (Noise receiver way bytes) is =
     subst (λ (t : List HandOn). ArePublished w.publisher.journal.messages t)
     (sym (noise_hands_nothing w receiver way bytes is)) tt

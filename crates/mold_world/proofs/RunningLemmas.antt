@@ -4,7 +4,7 @@ use Rattle.std.proofs.Common.{refl, sym, ap, subst, ◌∙◌, arith}
 use Rattle.std.specs.Prelude.{true, false, Some, Result, Ok, Err, OnErr, OnOk, is_err, slice_get}
 use Rattle.std.proofs.lemmas.List.{get_or-map, length-map, take_all, take_more}
 use Rattle.std.proofs.lemmas.Option.{slice_get-get_or}
-use Rattle.mold_world.proofs.HearingLemmas.{refused_hands_nothing}
+use Rattle.mold_world.proofs.DeliveryLemmas.{refused_hands_nothing}
 use Rattle.mold_world.specs.Event.{Happening, seen}
 use Rattle.mold_world.specs.Effect.{Outcome, after_event, after_outcome, effect, run_events}
 use Rattle.mold_world.specs.HandOns.{handed_by}
@@ -14,17 +14,17 @@ use Rattle.mold_world.specs.Machine.{AreAllowed, Machine, Step, after as after_s
 use Rattle.mold_world.specs.Refusals.{MayWant}
 use Rattle.mold_world.specs.Runs.{IsHeadline, IsStopped}
 use Rattle.mold_world.specs.Steps.{AreSteps, AreStepsOfAll, NamesAfter, machine_of}
-use Rattle.mold_world.specs.World.{PlaceState, WorldState}
+use Rattle.mold_world.specs.World.{SubscriberState, WorldState}
 use Rattle.mold_world.specs.declared.event.EventOf.{EventOf}
 use Rattle.mold_world.specs.declared.report.Report.{Report}
 
 -- the laws of runs
 pub record RunLaws : Type 0 where
   pub run : (w : WorldState) (happenings : List Happening) → IsWorld w → IsWorld (run_events w happenings)
-  pub books : (w : WorldState) (receiver : ℕ) (place : PlaceState) → IsWorld w →
-      slice_get w.places receiver ≡ Some place → IsPrefix place.book.messages w.publisher.journal.messages
-  pub whole : (w : WorldState) (receiver : ℕ) (place : PlaceState) → IsWorld w →
-      slice_get w.places receiver ≡ Some place →
+  pub books : (w : WorldState) (receiver : ℕ) (place : SubscriberState) → IsWorld w →
+      slice_get w.subscribers receiver ≡ Some place → IsPrefix place.book.messages w.publisher.journal.messages
+  pub whole : (w : WorldState) (receiver : ℕ) (place : SubscriberState) → IsWorld w →
+      slice_get w.subscribers receiver ≡ Some place →
       place.arbitration.view.ended ≡ Some place.arbitration.view.next →
       (w.publisher.journal.closed ≡ true) × (place.book.messages ≡ w.publisher.journal.messages)
   pub steps : (w new : WorldState) (happening : Happening) (report : Report) → IsWorld w →

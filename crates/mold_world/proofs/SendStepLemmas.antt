@@ -12,7 +12,7 @@ use Rattle.mold_session.specs.Datagrams.{packing}
 use Rattle.mold_session.specs.Journal.{JournalState}
 use Rattle.mold_session.specs.Publisher.{PublisherState, closed}
 use Rattle.mold_session.specs.Server.{IsAnswerable, asking}
-use Rattle.mold_session.specs.Truthful.{TellsTruth}
+use Rattle.mold_session.specs.Truthful.{IsTrueDatagram}
 use Rattle.mold_session.specs.declared.error.AnswerError.{AnswerError}
 use Rattle.mold_world.proofs.EventLemmas.{AllLaws, answer_told, wanted_answerable}
 use Rattle.mold_world.specs.Event.{Happening}
@@ -20,11 +20,11 @@ use Rattle.mold_world.specs.Effect.{answered, asked, asked_for}
 use Rattle.mold_world.specs.Effect.{requested, sending}
 use Rattle.mold_world.specs.HandOns.{handed_by}
 use Rattle.mold_world.specs.Headline.{all_handed}
-use Rattle.mold_world.specs.Kept.{IsPlaceKept, IsWorld}
+use Rattle.mold_world.specs.Kept.{IsSubscriberKept, IsWorld}
 use Rattle.mold_world.specs.Machine.{AreAllowed, IsSaid, Machine, Step, after, run}
 use Rattle.mold_world.specs.Machine.Step.{Send}
-use Rattle.mold_world.specs.Steps.{AreSends, AreSteps, Names, machine_of, standing_of}
-use Rattle.mold_world.specs.World.{PlaceState, WorldState}
+use Rattle.mold_world.specs.Steps.{AreSends, AreSteps, Names, machine_of, log_of}
+use Rattle.mold_world.specs.World.{SubscriberState, WorldState}
 use Rattle.mold_world.specs.declared.report.Report.{Report}
 use Rattle.mold_world.proofs.OutcomeLemmas.{ok_so, err_so}
 
@@ -61,14 +61,14 @@ sent_steps w happening most done names nothing sent = record {
 
 -- what tells the truth may be said
 said_of :
-    (w : WorldState) (bytes : List ℕ) → TellsTruth w.publisher.journal bytes → IsSaid (machine_of w) bytes
+    (w : WorldState) (bytes : List ℕ) → IsTrueDatagram w.publisher.journal bytes → IsSaid (machine_of w) bytes
 said_of w bytes told =
     record { packet = told.packet; spelled = told.spelled; named = told.session; is_true = told.so }
 
 pub send_steps :
     (w : WorldState) (next : Option Packet) (publisher : PublisherState) (done : Report × WorldState) →
     publisher.journal ≡ w.publisher.journal →
-    ((packet : Packet) → next ≡ Some packet → TellsTruth w.publisher.journal (spelling_of packet)) →
+    ((packet : Packet) → next ≡ Some packet → IsTrueDatagram w.publisher.journal (spelling_of packet)) →
     sending w next publisher ≡ Ok done → DidSend 1 w done.1
 send_steps w None publisher done journal told same = ok_so (IsSent 1 w) _ done same (none 1 w)
 send_steps w (Some packet) publisher done journal told same =
@@ -81,7 +81,7 @@ send_steps w (Some packet) publisher done journal told same =
         published = t.messages;
         closed = t.closed;
         sent = w.sent ++ spelling_of packet ∷ [];
-        standings = λ receiver. standing_of (slice_get w.places receiver);
+        logs = λ receiver. log_of (slice_get w.subscribers receiver);
       }) journal;
     })
 
@@ -134,8 +134,8 @@ request_steps laws w bytes (Ok request) done is asked_now same =
 request_steps laws w bytes (Err refusal) done is asked_now same = err_so (IsSent w.burst w) _ done same
 
 want_steps :
-    (laws : AllLaws) (w : WorldState) (place : PlaceState) (want : Option Asked) (done : Report × WorldState) →
-    IsWorld w → IsPlaceKept w.publisher.journal w.sent place → wanted place.arbitration.view ≡ want →
+    (laws : AllLaws) (w : WorldState) (place : SubscriberState) (want : Option Asked) (done : Report × WorldState) →
+    IsWorld w → IsSubscriberKept w.publisher.journal w.sent place → wanted place.arbitration.view ≡ want →
     asked_for w want ≡ Ok done → DidSend w.burst w done.1
 want_steps laws w place None done is kept want same = ok_so (IsSent w.burst w) _ done same (none w.burst w)
 want_steps laws w place (Some request) done is kept want same =
@@ -143,8 +143,8 @@ want_steps laws w place (Some request) done is kept want same =
     (wanted_answerable laws.answers w.publisher.journal w.sent place request kept want) same
 
 pub ask_steps :
-    (laws : AllLaws) (w : WorldState) (receiver : ℕ) (place : Option PlaceState) (done : Report × WorldState) →
-    IsWorld w → slice_get w.places receiver ≡ place → asked w place ≡ Ok done → DidSend w.burst w done.1
+    (laws : AllLaws) (w : WorldState) (receiver : ℕ) (place : Option SubscriberState) (done : Report × WorldState) →
+    IsWorld w → slice_get w.subscribers receiver ≡ place → asked w place ≡ Ok done → DidSend w.burst w done.1
 ask_steps laws w receiver None done is here same = err_so (IsSent w.burst w) _ done same
 ask_steps laws w receiver (Some place) done is here same =
-    want_steps laws w place (wanted place.arbitration.view) done is (is.places receiver place here) refl same
+    want_steps laws w place (wanted place.arbitration.view) done is (is.subscribers receiver place here) refl same

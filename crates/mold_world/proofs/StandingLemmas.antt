@@ -5,44 +5,44 @@ use Rattle.std.specs.Prelude.{◌==◌, Option, None, Some, true, false, slice_g
 use Rattle.std.proofs.lemmas.Bool.{cond-false, cond-true, cases_eq, eq-eqb, eqb-true, false≢true, ne_eqb}
 use Rattle.std.proofs.lemmas.List.{length-take}
 use Rattle.mold_session.specs.Journal.{JournalState}
-use Rattle.mold_world.specs.Effect.{with_place}
-use Rattle.mold_world.specs.Kept.{IsPlaceKept}
-use Rattle.mold_world.specs.Machine.{Standing, standing_at}
+use Rattle.mold_world.specs.Effect.{with_subscriber}
+use Rattle.mold_world.specs.Kept.{IsSubscriberKept}
+use Rattle.mold_world.specs.Machine.{ReceiverLog, with_log}
 use Rattle.mold_world.specs.Machine.{start}
-use Rattle.mold_world.specs.Steps.{is_end, machine_of, standing_of}
+use Rattle.mold_world.specs.Steps.{is_end, machine_of, log_of}
 use Rattle.mold_wire.specs.declared.session.Session.{Session}
-use Rattle.mold_world.specs.World.{PlaceState, WorldState, beginning, place_at}
+use Rattle.mold_world.specs.World.{SubscriberState, WorldState, beginning, subscriber_at}
 use Rattle.mold_world.proofs.SettingLemmas.{set_here, set_elsewhere}
 
 pub stands_at :
-    (w : WorldState) (receiver : ℕ) (old new : PlaceState) (standing : Standing) →
-    slice_get w.places receiver ≡ Some old → standing_of (Some new) ≡ standing → (other : ℕ) →
-    standing_of (slice_get (slice_set w.places receiver new) other)
-    ≡ standing_at (λ (q : ℕ). standing_of (slice_get w.places q)) receiver standing other
-stands_at w receiver old new standing here same other =
+    (w : WorldState) (receiver : ℕ) (old new : SubscriberState) (log : ReceiverLog) →
+    slice_get w.subscribers receiver ≡ Some old → log_of (Some new) ≡ log → (other : ℕ) →
+    log_of (slice_get (slice_set w.subscribers receiver new) other)
+    ≡ with_log (λ (q : ℕ). log_of (slice_get w.subscribers q)) receiver log other
+stands_at w receiver old new log here same other =
     elim (cases_eq other receiver) [
       | inl is ↦
-          ap (λ (t : ℕ). standing_of (slice_get (slice_set w.places receiver new) t)) is
-          ∙ ap standing_of (set_here w.places receiver new old here)
+          ap (λ (t : ℕ). log_of (slice_get (slice_set w.subscribers receiver new) t)) is
+          ∙ ap log_of (set_here w.subscribers receiver new old here)
           ∙ same
-          ∙ sym (cond-true (other == receiver) standing (standing_of (slice_get w.places other)) (eq-eqb other receiver is))
+          ∙ sym (cond-true (other == receiver) log (log_of (slice_get w.subscribers other)) (eq-eqb other receiver is))
       | inr differs ↦
-          ap standing_of (set_elsewhere w.places receiver new other differs)
-          ∙ sym (cond-false (other == receiver) standing (standing_of (slice_get w.places other)) (ne_eqb other receiver differs))
+          ap log_of (set_elsewhere w.subscribers receiver new other differs)
+          ∙ sym (cond-false (other == receiver) log (log_of (slice_get w.subscribers other)) (ne_eqb other receiver differs))
     ]
 
 pub machine_with :
-    (w : WorldState) (receiver : ℕ) (old new : PlaceState) (standing : Standing) →
-    slice_get w.places receiver ≡ Some old → standing_of (Some new) ≡ standing →
-    machine_of (with_place w receiver new)
-    ≡ record (machine_of w) { standings = standing_at (machine_of w).standings receiver standing }
-machine_with w receiver old new standing here same =
+    (w : WorldState) (receiver : ℕ) (old new : SubscriberState) (log : ReceiverLog) →
+    slice_get w.subscribers receiver ≡ Some old → log_of (Some new) ≡ log →
+    machine_of (with_subscriber w receiver new)
+    ≡ record (machine_of w) { logs = with_log (machine_of w).logs receiver log }
+machine_with w receiver old new log here same =
     λ i. record {
       session = w.publisher.journal.session;
       published = w.publisher.journal.messages;
       closed = w.publisher.journal.closed;
       sent = w.sent;
-      standings = λ other. stands_at w receiver old new standing here same other i;
+      logs = λ other. stands_at w receiver old new log here same other i;
     }
 
 pub end_is : (ended : Option ℕ) (next : ℕ) → is_end ended next ≡ true → ended ≡ Some next
@@ -50,23 +50,23 @@ end_is None next is = absurd (false≢true is)
 end_is (Some end) next is = ap (λ (t : ℕ). Some t) (eqb-true end next is)
 
 pub stands_same :
-    (w : WorldState) (receiver : ℕ) (place : PlaceState) → slice_get w.places receiver ≡ Some place → (other : ℕ) →
-    standing_at (λ (q : ℕ). standing_of (slice_get w.places q)) receiver (standing_of (Some place)) other
-    ≡ standing_of (slice_get w.places other)
+    (w : WorldState) (receiver : ℕ) (place : SubscriberState) → slice_get w.subscribers receiver ≡ Some place → (other : ℕ) →
+    with_log (λ (q : ℕ). log_of (slice_get w.subscribers q)) receiver (log_of (Some place)) other
+    ≡ log_of (slice_get w.subscribers other)
 stands_same w receiver place here other =
     elim (cases_eq other receiver) [
       | inl is ↦
-          cond-true (other == receiver) (standing_of (Some place)) (standing_of (slice_get w.places other))
+          cond-true (other == receiver) (log_of (Some place)) (log_of (slice_get w.subscribers other))
           (eq-eqb other receiver is)
-          ∙ sym (ap standing_of (ap (λ (t : ℕ). slice_get w.places t) is ∙ here))
+          ∙ sym (ap log_of (ap (λ (t : ℕ). slice_get w.subscribers t) is ∙ here))
       | inr differs ↦
-          cond-false (other == receiver) (standing_of (Some place)) (standing_of (slice_get w.places other))
+          cond-false (other == receiver) (log_of (Some place)) (log_of (slice_get w.subscribers other))
           (ne_eqb other receiver differs)
     ]
 
 -- how long a book is
 pub book_length :
-    (journal : JournalState) (sent : List (List ℕ)) (place : PlaceState) → IsPlaceKept journal sent place →
+    (journal : JournalState) (sent : List (List ℕ)) (place : SubscriberState) → IsSubscriberKept journal sent place →
     length place.book.messages + 1 ≡ place.arbitration.view.next
 book_length journal sent place kept =
     omega (
@@ -81,7 +81,7 @@ book_length journal sent place kept =
 -- at the start no receiver has handed anything on
 empty_standing :
     (session_name : Session) (windows : List ℕ) (receiver : ℕ) →
-    standing_of (slice_get (map (place_at session_name) windows) receiver) ≡ record { book = []; ended = false }
+    log_of (slice_get (map (subscriber_at session_name) windows) receiver) ≡ record { book = []; ended = false }
 empty_standing session_name [] receiver = refl
 empty_standing session_name (window ∷ windows) zero = refl
 empty_standing session_name (window ∷ windows) (suc receiver) = empty_standing session_name windows receiver
@@ -95,5 +95,5 @@ begins_as_machine session_name limit server_limit burst windows =
       published = [];
       closed = false;
       sent = [];
-      standings = λ receiver. empty_standing session_name windows receiver i;
+      logs = λ receiver. empty_standing session_name windows receiver i;
     }

@@ -10,28 +10,28 @@ use Rattle.mold_wire.specs.Truth.{Carries}
 use Rattle.mold_wire.specs.declared.packet.Packet.{Packet}
 use Rattle.mold_receiver.specs.Receive.{Reception, handed_on, receive}
 use Rattle.mold_receiver.specs.View.{View}
-use Rattle.mold_rule.specs.declared.refusal.Refusal.{Refusal as Refused}
+use Rattle.mold_rule.specs.declared.refusal.Refusal.{Refusal}
 use Rattle.mold_session.specs.Journal.{append_refusal}
 use Rattle.mold_session.specs.Publisher.{after_datagram, closed, next_datagram, next_end, next_heartbeat}
 use Rattle.mold_session.specs.Server.{asking}
 use Rattle.mold_session.specs.declared.error.AppendError.{AppendError}
 use Rattle.mold_world.proofs.EventLemmas.{AllLaws}
-use Rattle.mold_world.proofs.HearingLemmas.{noise_hands_nothing, noise_unmoved, sent_taken}
-use Rattle.mold_world.proofs.PlaceLemmas.{followed_messages, given_kept, handed_messages, same_Ok}
+use Rattle.mold_world.proofs.DeliveryLemmas.{noise_hands_nothing, noise_unmoved, sent_taken}
+use Rattle.mold_world.proofs.SubscriberLemmas.{followed_messages, given_kept, handed_messages, same_Ok}
 use Rattle.std.specs.FinMap as finite
 use Rattle.mold_world.specs.Event.{Happening}
 use Rattle.mold_world.specs.Effect.{Outcome, book_after, delivered, effect, given, is_own, noised}
-use Rattle.mold_world.specs.Effect.{publishing, renewed, restarted, sending, unsent_count, with_place}
+use Rattle.mold_world.specs.Effect.{publishing, restarted_at, restarted, sending, unsent_count, with_subscriber}
 use Rattle.mold_world.specs.declared.event.EventOf.TheVariants.{Publish as PublishEvent, Datagram, Heartbeat, Close as CloseEvent, End}
 use Rattle.mold_world.specs.declared.event.EventOf.TheVariants.{Request, Ask, Deliver as DeliverEvent, Noise, Restart as RestartEvent}
 use Rattle.mold_world.specs.HandOns.{handed_at, handed_by, handed_of}
 use Rattle.mold_world.specs.Headline.{handed_from}
-use Rattle.mold_world.specs.Hearing.{IsUnmoved}
-use Rattle.mold_world.specs.Kept.{IsPlaceKept, IsWorld}
-use Rattle.mold_world.specs.Machine.{IsEndSent, IsSentAs, Standing}
+use Rattle.mold_world.specs.Deliveries.{IsUnmoved}
+use Rattle.mold_world.specs.Kept.{IsSubscriberKept, IsWorld}
+use Rattle.mold_world.specs.Machine.{IsEndSent, IsSentAs, ReceiverLog}
 use Rattle.mold_world.specs.Machine.Step.{Publish, Close, Deliver, Restart}
-use Rattle.mold_world.specs.Steps.{AreSteps, is_finished, standing_of}
-use Rattle.mold_world.specs.World.{PlaceState, WorldState}
+use Rattle.mold_world.specs.Steps.{AreSteps, is_finished, log_of}
+use Rattle.mold_world.specs.World.{SubscriberState, WorldState}
 use Rattle.mold_world.specs.declared.report.Report.{Report}
 use Rattle.mold_world.specs.declared.report.Report.TheVariants as report
 use Rattle.mold_session.specs.declared.error.SessionError.TheVariants as session
@@ -70,29 +70,29 @@ close_steps w false done same =
     (record { steps = Close ∷ []; named = refl; allowed = (tt, tt); made = refl; handed = refl })
 
 -- what is handed on was sent
-pub record HandsOnSent (w : WorldState) (receiver : ℕ) (old new : PlaceState) (handed : List (List ℕ)) : Type 0 where
-  pub here : slice_get w.places receiver ≡ Some old
-  pub kept : IsPlaceKept w.publisher.journal w.sent old
-  pub still : IsPlaceKept w.publisher.journal w.sent new
+pub record HandsOnSent (w : WorldState) (receiver : ℕ) (old new : SubscriberState) (handed : List (List ℕ)) : Type 0 where
+  pub here : slice_get w.subscribers receiver ≡ Some old
+  pub kept : IsSubscriberKept w.publisher.journal w.sent old
+  pub still : IsSubscriberKept w.publisher.journal w.sent new
   pub book : new.book.messages ≡ old.book.messages ++ handed
   pub each : (i : ℕ) (message : List ℕ) → slice_get handed i ≡ Some message →
       IsSentAs w.sent (old.arbitration.view.next + i) message
 
 deliver_made :
-    (w : WorldState) (receiver at : ℕ) (way : Way) (old new : PlaceState) (handed : List (List ℕ)) →
+    (w : WorldState) (receiver at : ℕ) (way : Way) (old new : SubscriberState) (handed : List (List ℕ)) →
     HandsOnSent w receiver old new handed →
     handed_by w (DeliverEvent receiver way at) ≡ handed_from receiver old.arbitration.view.next handed →
-    AreSteps w (DeliverEvent receiver way at) (with_place w receiver new)
+    AreSteps w (DeliverEvent receiver way at) (with_subscriber w receiver new)
 deliver_made w receiver at way old new handed hands so =
-    let standing : Standing = standing_of (slice_get w.places receiver) in
-    let book : standing.book ≡ old.book.messages =
-    ap (λ (t : Option PlaceState). (standing_of t).book) hands.here
+    let log : ReceiverLog = log_of (slice_get w.subscribers receiver) in
+    let book : log.book ≡ old.book.messages =
+    ap (λ (t : Option SubscriberState). (log_of t).book) hands.here
     in
-    let behind : length standing.book + 1 ≡ old.arbitration.view.next =
+    let behind : length log.book + 1 ≡ old.arbitration.view.next =
     ap (λ (t : List (List ℕ)). length t + 1) book ∙ book_length w.publisher.journal w.sent old hands.kept
     in
     let ended : Bool = is_finished new.arbitration.view in
-    let longer : standing.book ++ handed ≡ new.book.messages =
+    let longer : log.book ++ handed ≡ new.book.messages =
     ap (λ (t : List (List ℕ)). t ++ handed) book ∙ sym hands.book
     in
     record {
@@ -111,9 +111,9 @@ deliver_made w receiver at way old new handed hands so =
         ),
         tt,
       );
-      made = machine_with w receiver old new (record { book = standing.book ++ handed; ended = ended }) hands.here
+      made = machine_with w receiver old new (record { book = log.book ++ handed; ended = ended }) hands.here
           (ap (λ (t : List (List ℕ)). record { book = t; ended = ended }) (sym longer));
-      handed = append-nil (handed_from receiver (length standing.book + 1) handed)
+      handed = append-nil (handed_from receiver (length log.book + 1) handed)
           ∙ ap (λ (t : ℕ). handed_from receiver t handed) behind
           ∙ sym so;
     }
@@ -126,13 +126,13 @@ pub record HandsOnLaw : Type 0 where
 
 -- a receiver takes what was sent
 taken_hands :
-    (laws : AllLaws) (law : HandsOnLaw) (w : WorldState) (receiver at : ℕ) (way : Way) (place : PlaceState)
-    (bytes : List ℕ) (r : Reception) → IsWorld w → slice_get w.places receiver ≡ Some place →
+    (laws : AllLaws) (law : HandsOnLaw) (w : WorldState) (receiver at : ℕ) (way : Way) (place : SubscriberState)
+    (bytes : List ℕ) (r : Reception) → IsWorld w → slice_get w.subscribers receiver ≡ Some place →
     slice_get w.sent at ≡ Some bytes → receive place.arbitration.view bytes ≡ Ok r →
     HandsOnSent w receiver place (given place way bytes) r.handed
 taken_hands laws law w receiver at way place bytes r is here found received =
     let view : View = place.arbitration.view in
-    let kept = is.places receiver place here in
+    let kept = is.subscribers receiver place here in
     let told = is.said at bytes found in
     let took = laws.receivers.taken view bytes r received in
     let packet : Packet = took.packet in
@@ -145,7 +145,7 @@ taken_hands laws law w receiver at way place bytes r is here found received =
       kept = kept;
       still = given_kept laws.receivers w.publisher.journal w.sent place way bytes kept
           (record { place = at; found = found; told = told });
-      book = ap (λ (t : Result Reception Refused). (book_after place.book view.next t).messages) received
+      book = ap (λ (t : Result Reception Refusal). (book_after place.book view.next t).messages) received
           ∙ followed_messages place.book view.next r.handed;
       each = λ i message at_i.
           elim (law.handed view packet i message
@@ -164,18 +164,18 @@ taken_hands laws law w receiver at way place bytes r is here found received =
 
 -- so what its event hands on is what its step does
 handed_taken :
-    (w : WorldState) (receiver at : ℕ) (way : Way) (place : PlaceState) (bytes : List ℕ) (r : Reception) →
-    slice_get w.places receiver ≡ Some place → slice_get w.sent at ≡ Some bytes →
+    (w : WorldState) (receiver at : ℕ) (way : Way) (place : SubscriberState) (bytes : List ℕ) (r : Reception) →
+    slice_get w.subscribers receiver ≡ Some place → slice_get w.sent at ≡ Some bytes →
     receive place.arbitration.view bytes ≡ Ok r →
     handed_by w (DeliverEvent receiver way at) ≡ handed_from receiver place.arbitration.view.next r.handed
 handed_taken w receiver at way place bytes r here found received =
     (λ j. handed_at receiver (here j) (found j))
-    ∙ ap (λ (t : Result Reception Refused). handed_of receiver place.arbitration.view.next t) received
+    ∙ ap (λ (t : Result Reception Refusal). handed_of receiver place.arbitration.view.next t) received
 
 deliver_steps :
     (laws : AllLaws) (law : HandsOnLaw) (w : WorldState) (receiver at : ℕ) (way : Way)
-    (place : Option PlaceState) (datagram : Option (List ℕ)) (done : Report × WorldState) → IsWorld w →
-    slice_get w.places receiver ≡ place → slice_get w.sent at ≡ datagram →
+    (place : Option SubscriberState) (datagram : Option (List ℕ)) (done : Report × WorldState) → IsWorld w →
+    slice_get w.subscribers receiver ≡ place → slice_get w.sent at ≡ datagram →
     delivered w receiver way place datagram ≡ Ok done → AreSteps w (DeliverEvent receiver way at) done.1
 deliver_steps laws law w receiver at way None datagram done is here found same =
     err_so (IsDone w (DeliverEvent receiver way at)) _ done same
@@ -190,12 +190,12 @@ deliver_steps laws law w receiver at way (Some place) (Some bytes) done is here 
 
 -- a receiver that refuses bytes is the same to the machine
 refused_made :
-    (w : WorldState) (receiver : ℕ) (way : Way) (bytes : List ℕ) (place : PlaceState) → IsWorld w →
-    slice_get w.places receiver ≡ Some place → IsUnmoved place way bytes →
-    AreSteps w (Noise receiver way bytes) (with_place w receiver (given place way bytes))
+    (w : WorldState) (receiver : ℕ) (way : Way) (bytes : List ℕ) (place : SubscriberState) → IsWorld w →
+    slice_get w.subscribers receiver ≡ Some place → IsUnmoved place way bytes →
+    AreSteps w (Noise receiver way bytes) (with_subscriber w receiver (given place way bytes))
 refused_made w receiver way bytes place is here stays =
-    let new : PlaceState = given place way bytes in
-    let standing : standing_of (Some new) ≡ standing_of (Some place) =
+    let new : SubscriberState = given place way bytes in
+    let log : log_of (Some new) ≡ log_of (Some place) =
     λ i. record { book = (stays.book i).messages; ended = is_finished (stays.view i) }
     in
     record {
@@ -207,16 +207,16 @@ refused_made w receiver way bytes place is here stays =
         published = w.publisher.journal.messages;
         closed = w.publisher.journal.closed;
         sent = w.sent;
-        standings = λ other.
-            (stands_at w receiver place new (standing_of (Some place)) here standing other
+        logs = λ other.
+            (stands_at w receiver place new (log_of (Some place)) here log other
             ∙ stands_same w receiver place here other) i;
       };
       handed = sym (noise_hands_nothing w receiver way bytes is);
     }
 
 noise_steps :
-    (w : WorldState) (receiver : ℕ) (way : Way) (bytes : List ℕ) (place : Option PlaceState) (own : Bool)
-    (done : Report × WorldState) → IsWorld w → slice_get w.places receiver ≡ place →
+    (w : WorldState) (receiver : ℕ) (way : Way) (bytes : List ℕ) (place : Option SubscriberState) (own : Bool)
+    (done : Report × WorldState) → IsWorld w → slice_get w.subscribers receiver ≡ place →
     is_own w.publisher.journal.session (reading bytes) ≡ own → noised w receiver way bytes place own ≡ Ok done →
     AreSteps w (Noise receiver way bytes) done.1
 noise_steps w receiver way bytes None own done is here mine same =
@@ -228,21 +228,21 @@ noise_steps w receiver way bytes (Some place) false done is here mine same =
     (refused_made w receiver way bytes place is here (noise_unmoved w receiver way bytes place is here mine))
 
 restart_at_steps :
-    (w : WorldState) (receiver next : ℕ) (place : PlaceState) (reached : Bool) (done : Report × WorldState) →
-    IsWorld w → slice_get w.places receiver ≡ Some place →
+    (w : WorldState) (receiver next : ℕ) (place : SubscriberState) (reached : Bool) (done : Report × WorldState) →
+    IsWorld w → slice_get w.subscribers receiver ≡ Some place →
     (leb 1 next && leb next place.arbitration.view.next) ≡ reached →
-    cond {A = Outcome} reached (Ok (report.Restarted next, with_place w receiver (renewed place next)))
+    cond {A = Outcome} reached (Ok (report.Restarted next, with_subscriber w receiver (restarted_at place next)))
     (Err (NotReached place.arbitration.view.next)) ≡ Ok done → AreSteps w (RestartEvent receiver next) done.1
 restart_at_steps w receiver next place false done is here reached same =
     err_so (IsDone w (RestartEvent receiver next)) _ done same
 restart_at_steps w receiver next place true done is here reached same =
-    let kept = is.places receiver place here in
+    let kept = is.subscribers receiver place here in
     let both = and_parts (leb 1 next) (leb next place.arbitration.view.next) reached in
-    let standing : Standing = standing_of (slice_get w.places receiver) in
-    let book : standing.book ≡ place.book.messages =
-    ap (λ (t : Option PlaceState). (standing_of t).book) here
+    let log : ReceiverLog = log_of (slice_get w.subscribers receiver) in
+    let book : log.book ≡ place.book.messages =
+    ap (λ (t : Option SubscriberState). (log_of t).book) here
     in
-    let cut : take (next - 1) standing.book ≡ (renewed place next).book.messages =
+    let cut : take (next - 1) log.book ≡ (restarted_at place next).book.messages =
     ap (λ (t : List (List ℕ)). take (next - 1) t) book
     ∙ sym (handed_messages place.book.first (take (next - 1) place.book.messages))
     in
@@ -261,15 +261,15 @@ restart_at_steps w receiver next place true done is here reached same =
         ),
         tt,
       );
-      made = machine_with w receiver place (renewed place next)
-          (record { book = take (next - 1) standing.book; ended = false }) here
+      made = machine_with w receiver place (restarted_at place next)
+          (record { book = take (next - 1) log.book; ended = false }) here
           (ap (λ (t : List (List ℕ)). record { book = t; ended = false }) (sym cut));
       handed = refl;
     })
 
 restart_steps :
-    (w : WorldState) (receiver next : ℕ) (place : Option PlaceState) (done : Report × WorldState) → IsWorld w →
-    slice_get w.places receiver ≡ place → restarted w receiver next place ≡ Ok done →
+    (w : WorldState) (receiver next : ℕ) (place : Option SubscriberState) (done : Report × WorldState) → IsWorld w →
+    slice_get w.subscribers receiver ≡ place → restarted w receiver next place ≡ Ok done →
     AreSteps w (RestartEvent receiver next) done.1
 restart_steps w receiver next None done is here same = err_so (IsDone w (RestartEvent receiver next)) _ done same
 restart_steps w receiver next (Some place) done is here same =
@@ -300,11 +300,11 @@ event_steps laws law w (Request bytes) done is same =
     (request_steps laws w bytes (asking w.publisher.journal bytes) done is refl same)
 event_steps laws law w (Ask receiver) done is same =
     sent_steps w (Ask receiver) w.burst done (λ steps sends. sends) refl
-    (ask_steps laws w receiver (slice_get w.places receiver) done is refl same)
+    (ask_steps laws w receiver (slice_get w.subscribers receiver) done is refl same)
 event_steps laws law w (DeliverEvent receiver way at) done is same =
-    deliver_steps laws law w receiver at way (slice_get w.places receiver) (slice_get w.sent at) done is refl refl same
+    deliver_steps laws law w receiver at way (slice_get w.subscribers receiver) (slice_get w.sent at) done is refl refl same
 event_steps laws law w (Noise receiver way bytes) done is same =
-    noise_steps w receiver way bytes (slice_get w.places receiver)
+    noise_steps w receiver way bytes (slice_get w.subscribers receiver)
     (is_own w.publisher.journal.session (reading bytes)) done is refl refl same
 event_steps laws law w (RestartEvent receiver next) done is same =
-    restart_steps w receiver next (slice_get w.places receiver) done is refl same
+    restart_steps w receiver next (slice_get w.subscribers receiver) done is refl same

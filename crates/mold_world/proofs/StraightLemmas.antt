@@ -16,16 +16,16 @@ use Rattle.mold_receiver.specs.Receive.{Reception, view_after}
 use Rattle.mold_receiver.specs.View.{IsWellFormed, View}
 use Rattle.mold_session.specs.Publisher.{IsPublisher, PublisherState, after_datagram, closed, next_datagram}
 use Rattle.mold_session.specs.Publisher.{next_front}
-use Rattle.mold_session.specs.Truthful.{TellsTruth}
-use Rattle.mold_world.proofs.PlaceLemmas.{same_Ok, view_taken}
+use Rattle.mold_session.specs.Truthful.{IsTrueDatagram}
+use Rattle.mold_world.proofs.SubscriberLemmas.{same_Ok, view_taken}
 use Rattle.mold_world.specs.Event.{Happening}
 use Rattle.mold_world.specs.Effect.{Outcome, after_event, after_outcome, delivered, effect}
 use Rattle.mold_world.specs.Effect.{given, run_events}
-use Rattle.mold_world.specs.Effect.{sending, with_place}
+use Rattle.mold_world.specs.Effect.{sending, with_subscriber}
 use Rattle.mold_world.specs.declared.event.EventOf.TheVariants.{Publish, Datagram, Heartbeat, Close, End, Request, Ask, Deliver, Noise, Restart}
 use Rattle.mold_world.specs.Kept.{IsWorld}
 use Rattle.mold_world.specs.Straight.{HasSent, IsDelivery, IsStraight}
-use Rattle.mold_world.specs.World.{PlaceState, WorldState}
+use Rattle.mold_world.specs.World.{SubscriberState, WorldState}
 use Rattle.mold_world.specs.declared.report.Report.TheVariants as report
 use Rattle.mold_session.specs.declared.error.SessionError.TheVariants as session
 use Rattle.mold_world.specs.declared.way.Way.{Way}
@@ -40,7 +40,7 @@ pub record StraightLaws : Type 0 where
       Spells packet (spelling_of packet)
   pub datagram : (publisher : PublisherState) (packet : Packet) → IsPublisher publisher →
       length publisher.journal.session.0 ≡ 10 → next_datagram publisher ≡ Some packet →
-      TellsTruth publisher.journal (spelling_of packet)
+      IsTrueDatagram publisher.journal (spelling_of packet)
   pub take : (v : View) (packet : Packet) (bytes : List ℕ) (published : List (List ℕ)) (closed : Bool) →
       IsHonest v published closed → Spells packet bytes → packet.session ≡ v.session →
       IsTruePacket packet published closed → IsTakenHonestly v bytes published closed
@@ -50,14 +50,14 @@ pub record StraightLaws : Type 0 where
 
 -- the receiver's next number is beyond all messages that were put in datagrams
 record IsBeyond (w : WorldState) (receiver : ℕ) : Type 0 where
-  place : PlaceState
-  here : slice_get w.places receiver ≡ Some place
+  place : SubscriberState
+  here : slice_get w.subscribers receiver ≡ Some place
   beyond : w.publisher.sent < place.arbitration.view.next
 
 -- which is the same as that its book begins with them
 beyond_of : (w : WorldState) (receiver : ℕ) → IsWorld w → HasSent w receiver → IsBeyond w receiver
 beyond_of w receiver is has =
-    let kept = is.places receiver has.place has.here in
+    let kept = is.subscribers receiver has.place has.here in
     let messages : List (List ℕ) = w.publisher.journal.messages in
     let next : ℕ = has.place.arbitration.view.next in
     record {
@@ -77,7 +77,7 @@ beyond_of w receiver is has =
 
 has_sent : (w : WorldState) (receiver : ℕ) → IsWorld w → IsBeyond w receiver → HasSent w receiver
 has_sent w receiver is up =
-    let kept = is.places receiver up.place up.here in
+    let kept = is.subscribers receiver up.place up.here in
     let messages : List (List ℕ) = w.publisher.journal.messages in
     let sent : ℕ = w.publisher.sent in
     let next : ℕ = up.place.arbitration.view.next in
@@ -140,14 +140,14 @@ next_is publisher packet next =
 
 -- a receiver that is given it goes on to its end
 given_next_datagram :
-    (laws : StraightLaws) (w : WorldState) (receiver : ℕ) (place : PlaceState) (packet : Packet) (way : Way) →
-    IsWorld w → slice_get w.places receiver ≡ Some place → w.publisher.sent < place.arbitration.view.next →
+    (laws : StraightLaws) (w : WorldState) (receiver : ℕ) (place : SubscriberState) (packet : Packet) (way : Way) →
+    IsWorld w → slice_get w.subscribers receiver ≡ Some place → w.publisher.sent < place.arbitration.view.next →
     next_datagram w.publisher ≡ Some packet →
     (after_datagram w.publisher).sent < (given place way (spelling_of packet)).arbitration.view.next
 given_next_datagram laws w receiver place packet way is here beyond next =
     let view : View = place.arbitration.view in
     let bytes : List ℕ = spelling_of packet in
-    let kept = is.places receiver place here in
+    let kept = is.subscribers receiver place here in
     let told = laws.datagram w.publisher packet is.publisher is.answers.named next in
     let took = laws.take view told.packet bytes w.publisher.journal.messages w.publisher.journal.closed
     kept.honest told.spelled (told.session ∙ sym kept.session) told.so
@@ -184,15 +184,15 @@ deliver_beyond laws w receiver packet way is up next =
     in
     let bytes : List ℕ = spelling_of packet in
     let last : slice_get (w.sent ++ bytes ∷ []) (length w.sent) ≡ Some bytes = last_at w.sent bytes in
-    let after : WorldState = with_place new receiver (given up.place way bytes) in
+    let after : WorldState = with_subscriber new receiver (given up.place way bytes) in
     let so : after ≡ after_event new (Deliver receiver way (length w.sent)) =
     ap (λ (t : Option (List ℕ)). after_outcome new (delivered new receiver way (Some up.place) t)) (sym last)
-    ∙ ap (λ (t : Option PlaceState). after_outcome new (delivered new receiver way t
+    ∙ ap (λ (t : Option SubscriberState). after_outcome new (delivered new receiver way t
     (slice_get (w.sent ++ bytes ∷ []) (length w.sent)))) (sym up.here)
     in
     subst (λ (t : WorldState). IsBeyond t receiver) so (record {
       place = given up.place way bytes;
-      here = set_here w.places receiver (given up.place way bytes) up.place up.here;
+      here = set_here w.subscribers receiver (given up.place way bytes) up.place up.here;
       beyond = given_next_datagram laws w receiver up.place packet way is up.here up.beyond next;
     })
 

@@ -5,7 +5,7 @@ use Rattle.mold_receiver.specs.Arbiter.{Arbitration, arbitration_code}
 use Rattle.mold_receiver.specs.Batch.{Handed}
 use Rattle.mold_session.specs.Journal.{JournalState}
 use Rattle.mold_session.specs.Publisher.{PublisherState}
-use Rattle.mold_world.specs.World.{PlaceState, WorldState}
+use Rattle.mold_world.specs.World.{SubscriberState, WorldState}
 
 abbrev pub handed_code : Coded Handed
 handed_code = code_by (ℕ × List (List ℕ)) (coded× coded_ℕ (coded_list (coded_list coded_ℕ)))
@@ -14,8 +14,8 @@ handed_code = code_by (ℕ × List (List ℕ)) (coded× coded_ℕ (coded_list (c
     (λ _. refl)
 
 -- a receiver and its book are stored as a pair
-abbrev pub place_code : Coded PlaceState
-place_code = code_by (Arbitration × Handed) (coded× arbitration_code handed_code)
+abbrev pub subscriber_code : Coded SubscriberState
+subscriber_code = code_by (Arbitration × Handed) (coded× arbitration_code handed_code)
     (λ p. (p.arbitration, p.book))
     (λ p. record { arbitration = p.0; book = p.1 })
     (λ _. refl)
@@ -35,15 +35,15 @@ publisher_code = code_by (JournalState × (ℕ × ℕ)) (coded× journal_code (c
 
 -- a world is stored as the tuple of its fields
 abbrev pub world_code : Coded WorldState
-world_code = code_by (PublisherState × (ℕ × (ℕ × (List (List ℕ) × List PlaceState))))
+world_code = code_by (PublisherState × (ℕ × (ℕ × (List (List ℕ) × List SubscriberState))))
     (coded× publisher_code
-    (coded× coded_ℕ (coded× coded_ℕ (coded× (coded_list (coded_list coded_ℕ)) (coded_list place_code)))))
-    (λ w. (w.publisher, (w.server_limit, (w.burst, (w.sent, w.places)))))
+    (coded× coded_ℕ (coded× coded_ℕ (coded× (coded_list (coded_list coded_ℕ)) (coded_list subscriber_code)))))
+    (λ w. (w.publisher, (w.server_limit, (w.burst, (w.sent, w.subscribers)))))
     (λ p. record {
       publisher = p.0;
       server_limit = p.1.0;
       burst = p.1.1.0;
       sent = p.1.1.1.0;
-      places = p.1.1.1.1;
+      subscribers = p.1.1.1.1;
     })
     (λ _. refl)

@@ -15,7 +15,7 @@ use Rattle.mold_receiver.specs.Batch.{Handed, followed_by, handed_from}
 use Rattle.mold_receiver.specs.Receive.{Reception, receive}
 use Rattle.mold_receiver.specs.Fresh.{fresh_arbitration}
 use Rattle.mold_receiver.specs.Wanted.{wanted}
-use Rattle.mold_rule.specs.declared.refusal.Refusal.{Refusal as Refused}
+use Rattle.mold_rule.specs.declared.refusal.Refusal.{Refusal}
 use Rattle.mold_session.specs.Answer.{answer}
 use Rattle.mold_session.specs.Journal.{append_refusal}
 use Rattle.mold_session.specs.Publisher.{PublisherState, after_datagram, closed, next_datagram, next_end}
@@ -24,7 +24,7 @@ use Rattle.mold_session.specs.Server.{asking}
 use Rattle.mold_session.specs.declared.error.AnswerError.{AnswerError}
 use Rattle.mold_session.specs.declared.error.AppendError.{AppendError}
 use Rattle.mold_world.specs.Event.{Happening, line_of}
-use Rattle.mold_world.specs.World.{PlaceState, WorldState}
+use Rattle.mold_world.specs.World.{SubscriberState, WorldState}
 use Rattle.mold_world.specs.declared.event.EventOf.TheVariants.{Publish, Datagram, Heartbeat, Close, End}
 use Rattle.mold_world.specs.declared.event.EventOf.TheVariants.{Request, Ask, Deliver, Noise, Restart}
 use Rattle.mold_world.specs.declared.report.Report.{Report}
@@ -82,36 +82,36 @@ abbrev pub asked_for : WorldState → Option Asked → Outcome
 asked_for w None = Ok (report.Nothing, w)
 asked_for w (Some request) = answered w request
 
-abbrev pub asked : WorldState → Option PlaceState → Outcome
+abbrev pub asked : WorldState → Option SubscriberState → Outcome
 asked w None = Err NoReceiver
 asked w (Some place) = asked_for w (wanted place.arbitration.view)
 
 -- the world with another receiver in a place
-abbrev pub with_place : WorldState → ℕ → PlaceState → WorldState
-with_place w receiver place = record w { places = slice_set w.places receiver place }
+abbrev pub with_subscriber : WorldState → ℕ → SubscriberState → WorldState
+with_subscriber w receiver place = record w { subscribers = slice_set w.subscribers receiver place }
 
 -- a book when a receiver was given a datagram: what is handed on stands behind it
-abbrev pub book_after : Handed → ℕ → Result Reception Refused → Handed
+abbrev pub book_after : Handed → ℕ → Result Reception Refusal → Handed
 book_after book next (Ok reception) = followed_by book next reception.handed
 book_after book next (Err refused) = book
 
 -- a receiver when it was given a datagram, taken or refused
-abbrev pub given : PlaceState → Way → List ℕ → PlaceState
+abbrev pub given : SubscriberState → Way → List ℕ → SubscriberState
 given place way bytes = record {
   arbitration = arbitrates (line_of way) bytes place.arbitration;
   book = book_after place.book place.arbitration.view.next (receive place.arbitration.view bytes);
 }
 
-abbrev pub told : Result Reception Refused → Report
+abbrev pub told : Result Reception Refusal → Report
 told (Ok reception) = report.Delivered reception.taken
 told (Err refused) = report.NoiseRefused refused
 
-abbrev pub giving : WorldState → ℕ → PlaceState → Way → List ℕ → Outcome
+abbrev pub giving : WorldState → ℕ → SubscriberState → Way → List ℕ → Outcome
 giving w receiver place way bytes =
-    Ok (told (receive place.arbitration.view bytes), with_place w receiver (given place way bytes))
+    Ok (told (receive place.arbitration.view bytes), with_subscriber w receiver (given place way bytes))
 
 -- a datagram comes that was sent before
-abbrev pub delivered : WorldState → ℕ → Way → Option PlaceState → Option (List ℕ) → Outcome
+abbrev pub delivered : WorldState → ℕ → Way → Option SubscriberState → Option (List ℕ) → Outcome
 delivered w receiver way None datagram = Err NoReceiver
 delivered w receiver way (Some place) None = Err NoSuchDatagram
 delivered w receiver way (Some place) (Some bytes) = giving w receiver place way bytes
@@ -121,24 +121,24 @@ abbrev pub is_own : Session → Result Packet DecodeError → Bool
 is_own own (Ok packet) = bytes_eq packet.session.0 own.0
 is_own own (Err error) = false
 
-abbrev pub noised : WorldState → ℕ → Way → List ℕ → Option PlaceState → Bool → Outcome
+abbrev pub noised : WorldState → ℕ → Way → List ℕ → Option SubscriberState → Bool → Outcome
 noised w receiver way bytes None own = Err NoReceiver
 noised w receiver way bytes (Some place) true = Err NotNoise
 noised w receiver way bytes (Some place) false = giving w receiver place way bytes
 
 -- a receiver that begins anew at a number that it had reached: its view and its reports are new, and its
 -- book is cut to the messages before
-abbrev pub renewed : PlaceState → ℕ → PlaceState
-renewed place next = record {
+abbrev pub restarted_at : SubscriberState → ℕ → SubscriberState
+restarted_at place next = record {
   arbitration = fresh_arbitration place.arbitration.view.session next place.arbitration.view.window;
   book = handed_from place.book.first (take (next - 1) place.book.messages);
 }
 
-abbrev pub restarted : WorldState → ℕ → ℕ → Option PlaceState → Outcome
+abbrev pub restarted : WorldState → ℕ → ℕ → Option SubscriberState → Outcome
 restarted w receiver next None = Err NoReceiver
 restarted w receiver next (Some place) =
     if nat_le 1 next && nat_le next place.arbitration.view.next
-    then Ok (report.Restarted next, with_place w receiver (renewed place next))
+    then Ok (report.Restarted next, with_subscriber w receiver (restarted_at place next))
     else Err (NotReached place.arbitration.view.next)
 
 -- the rule
@@ -149,12 +149,12 @@ effect w Heartbeat = sending w (next_heartbeat w.publisher) w.publisher
 effect w Close = closing w
 effect w End = sending w (next_end w.publisher) w.publisher
 effect w (Request bytes) = requested w (asking w.publisher.journal bytes)
-effect w (Ask receiver) = asked w (slice_get w.places receiver)
+effect w (Ask receiver) = asked w (slice_get w.subscribers receiver)
 effect w (Deliver receiver way place) =
-    delivered w receiver way (slice_get w.places receiver) (slice_get w.sent place)
+    delivered w receiver way (slice_get w.subscribers receiver) (slice_get w.sent place)
 effect w (Noise receiver way bytes) =
-    noised w receiver way bytes (slice_get w.places receiver) (is_own w.publisher.journal.session (reading bytes))
-effect w (Restart receiver next) = restarted w receiver next (slice_get w.places receiver)
+    noised w receiver way bytes (slice_get w.subscribers receiver) (is_own w.publisher.journal.session (reading bytes))
+effect w (Restart receiver next) = restarted w receiver next (slice_get w.subscribers receiver)
 
 -- the world after an event, refused or not, and after some events in order
 abbrev pub after_outcome : WorldState → Outcome → WorldState

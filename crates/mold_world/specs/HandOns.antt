@@ -2,28 +2,28 @@
 use Rattle.std.specs.Prelude.{ℕ, List, [], ◌∷◌, ◌++◌, Bool, true, false, Option, None, Some, Result, Ok, Err, slice_get}
 use Rattle.mold_wire.specs.Reading.{reading}
 use Rattle.mold_receiver.specs.Receive.{Reception, receive}
-use Rattle.mold_rule.specs.declared.refusal.Refusal.{Refusal as Refused}
+use Rattle.mold_rule.specs.declared.refusal.Refusal.{Refusal}
 use Rattle.mold_world.specs.Event.{Happening}
 use Rattle.mold_world.specs.Effect.{after_event, is_own}
 use Rattle.mold_world.specs.declared.event.EventOf.TheVariants.{Publish, Datagram, Heartbeat, Close, End}
 use Rattle.mold_world.specs.declared.event.EventOf.TheVariants.{Request, Ask, Deliver, Noise, Restart}
 use Rattle.mold_world.specs.Headline.{HandOn, handed_from}
-use Rattle.mold_world.specs.World.{PlaceState, WorldState}
+use Rattle.mold_world.specs.World.{SubscriberState, WorldState}
 
 -- what is handed on of bytes that were taken, from the receiver's next number on
-abbrev pub handed_of : ℕ → ℕ → Result Reception Refused → List HandOn
+abbrev pub handed_of : ℕ → ℕ → Result Reception Refusal → List HandOn
 handed_of receiver next (Ok reception) = handed_from receiver next reception.handed
 handed_of receiver next (Err refused) = []
 
 -- what a receiver hands on when a datagram comes, where both are there
-abbrev pub handed_at : ℕ → Option PlaceState → Option (List ℕ) → List HandOn
+abbrev pub handed_at : ℕ → Option SubscriberState → Option (List ℕ) → List HandOn
 handed_at receiver None datagram = []
 handed_at receiver (Some place) None = []
 handed_at receiver (Some place) (Some bytes) =
     handed_of receiver place.arbitration.view.next (receive place.arbitration.view bytes)
 
 -- what a receiver hands on when bytes come as noise, unless these are a packet of the session, which is refused
-abbrev pub handed_of_noise : ℕ → Option PlaceState → List ℕ → Bool → List HandOn
+abbrev pub handed_of_noise : ℕ → Option SubscriberState → List ℕ → Bool → List HandOn
 handed_of_noise receiver place bytes true = []
 handed_of_noise receiver place bytes false = handed_at receiver place (Some bytes)
 
@@ -37,9 +37,10 @@ handed_by w End = []
 handed_by w (Request bytes) = []
 handed_by w (Ask receiver) = []
 handed_by w (Deliver receiver way place) =
-    handed_at receiver (slice_get w.places receiver) (slice_get w.sent place)
+    handed_at receiver (slice_get w.subscribers receiver) (slice_get w.sent place)
 handed_by w (Noise receiver way bytes) =
-    handed_of_noise receiver (slice_get w.places receiver) bytes (is_own w.publisher.journal.session (reading bytes))
+    handed_of_noise receiver (slice_get w.subscribers receiver) bytes
+    (is_own w.publisher.journal.session (reading bytes))
 handed_by w (Restart receiver next) = []
 
 -- all that is handed on by some events, also by receivers that begin anew later

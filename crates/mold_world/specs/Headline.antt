@@ -28,7 +28,7 @@ handed_in machine (Publish message) = []
 handed_in machine Close = []
 handed_in machine (Send bytes) = []
 handed_in machine (Deliver receiver messages ended) =
-    handed_from receiver (length (machine.standings receiver).book + 1) messages
+    handed_from receiver (length (machine.logs receiver).book + 1) messages
 handed_in machine (Restart receiver next) = []
 handed_in machine Nothing = []
 
@@ -45,4 +45,4 @@ ArePublished published handed =
 -- the receiver has the whole session
 pub record HasAll (machine : Machine) (receiver : ℕ) : Type 0 where
   pub closed : machine.closed ≡ true
-  pub whole : (machine.standings receiver).book ≡ machine.published
+  pub whole : (machine.logs receiver).book ≡ machine.published

@@ -2,24 +2,24 @@
 use Rattle.std.specs.Prelude.{◌≡◌, ◌≤◌}
 use Rattle.mold_world.specs.Kept.{IsWorld}
 use Rattle.mold_world.specs.World.{WorldState}
-use Rattle.mold_world.specs.declared.parts.Parts.{Parts}
+use Rattle.mold_world.specs.declared.participants.Participants.{Participants}
 
 -- what users see of the parts
-abbrev pub world_of : Parts → WorldState
+abbrev pub world_of : Participants → WorldState
 world_of parts = record {
   publisher = parts.publisher;
   server_limit = parts.server.limit;
   burst = parts.server.burst;
   sent = parts.sent.messages;
-  places = parts.places.items;
+  subscribers = parts.subscribers.items;
 }
 
 -- what holds of the parts of every world; the server may answer from the publisher's journal
-pub record AreParts (parts : Parts) : Type 0 where
+pub record AreParts (parts : Participants) : Type 0 where
   pub world : IsWorld (world_of parts)
   pub serves : parts.publisher.journal.max_message ≤ parts.server.max_message
 
 -- the server still may answer from the publisher's journal
-abbrev pub KeepsServing : Parts → Parts → Type 0
+abbrev pub KeepsServing : Participants → Participants → Type 0
 KeepsServing old new = (new.publisher.journal.max_message ≡ old.publisher.journal.max_message)
     × (new.server.max_message ≡ old.server.max_message)

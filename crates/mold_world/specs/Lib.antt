@@ -3,7 +3,7 @@ pub mod Headline
 pub mod World
 pub mod Effect
 pub mod HandOns
-pub mod Hearing
+pub mod Deliveries
 pub mod Kept
 pub mod Steps
 pub mod Event
@@ -11,7 +11,7 @@ pub mod Refusals
 pub mod Runs
 pub mod Codes
 pub mod Inside
-pub mod Renewals
+pub mod Restarts
 pub mod Sending
 pub mod Straight
 pub use Rattle.mold_rounds.specs.Rounds

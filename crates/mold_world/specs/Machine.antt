@@ -12,7 +12,7 @@ use Rattle.mold_wire.specs.declared.session.Session.{Session}
 
 -- a receiver as the world sees it: the messages that it handed on, from message 1 on, and whether it
 -- reports the end of the session
-pub record Standing : Type 0 where
+pub record ReceiverLog : Type 0 where
   pub book : List (List ℕ)
   pub ended : Bool
 
@@ -23,7 +23,7 @@ pub record Machine : Type 0 where
   pub published : List (List ℕ)
   pub closed : Bool
   pub sent : List (List ℕ)
-  pub standings : ℕ → Standing
+  pub logs : ℕ → ReceiverLog
 
 -- a step, with the choices that it makes
 pub data Step : Type 0 where
@@ -78,15 +78,15 @@ IsAllowed machine Close = Unit {0}
 IsAllowed machine (Send bytes) = IsSaid machine bytes
 IsAllowed machine (Deliver receiver messages ended) =
     ((place : ℕ) (message : List ℕ) → slice_get messages place ≡ Some message →
-    IsSentAs machine.sent (length (machine.standings receiver).book + 1 + place) message)
+    IsSentAs machine.sent (length (machine.logs receiver).book + 1 + place) message)
     × (ended ≡ true →
-    IsEndSent machine.sent machine.session (length ((machine.standings receiver).book ++ messages) + 1))
-IsAllowed machine (Restart receiver next) = (1 ≤ next) × (next ≤ length (machine.standings receiver).book + 1)
+    IsEndSent machine.sent machine.session (length ((machine.logs receiver).book ++ messages) + 1))
+IsAllowed machine (Restart receiver next) = (1 ≤ next) × (next ≤ length (machine.logs receiver).book + 1)
 IsAllowed machine Nothing = Unit {0}
 
 -- the receivers, one of which stands so
-abbrev pub standing_at : (ℕ → Standing) → ℕ → Standing → ℕ → Standing
-standing_at standings receiver standing other = if other == receiver then standing else standings other
+abbrev pub with_log : (ℕ → ReceiverLog) → ℕ → ReceiverLog → ℕ → ReceiverLog
+with_log logs receiver log other = if other == receiver then log else logs other
 
 -- the machine after a step
 abbrev pub after : Machine → Step → Machine
@@ -94,12 +94,12 @@ after machine (Publish message) = record machine { published = machine.published
 after machine Close = record machine { closed = true }
 after machine (Send bytes) = record machine { sent = machine.sent ++ bytes ∷ [] }
 after machine (Deliver receiver messages ended) = record machine {
-  standings = standing_at machine.standings receiver
-      (record { book = (machine.standings receiver).book ++ messages; ended = ended });
+  logs = with_log machine.logs receiver
+      (record { book = (machine.logs receiver).book ++ messages; ended = ended });
 }
 after machine (Restart receiver next) = record machine {
-  standings = standing_at machine.standings receiver
-      (record { book = take (next - 1) (machine.standings receiver).book; ended = false });
+  logs = with_log machine.logs receiver
+      (record { book = take (next - 1) (machine.logs receiver).book; ended = false });
 }
 after machine Nothing = machine
 
@@ -110,7 +110,7 @@ start session = record {
   published = [];
   closed = false;
   sent = [];
-  standings = λ _. record { book = []; ended = false };
+  logs = λ _. record { book = []; ended = false };
 }
 
 -- the machine after some steps

@@ -4,23 +4,23 @@ use Rattle.std.specs.Prelude.{if◌then◌else◌, slice_get, position}
 use Rattle.std.specs.Option.{option_map}
 use Rattle.mold_receiver.specs.Receive.{IsCopied}
 use Rattle.mold_receiver.specs.Wanted.{wanted}
-use Rattle.mold_receiver.specs.declared.receiver.TheConstants.{MAX_WINDOW}
+use Rattle.mold_wire.specs.declared.limits.TheConstants.{MAX_WINDOW}
 use Rattle.mold_wire.specs.declared.limits.TheConstants.{MAX_LIMIT, MIN_LIMIT}
 use Rattle.mold_wire.specs.declared.request.Request.{Request as Asked}
 use Rattle.mold_world.specs.Event.{Happening}
 use Rattle.mold_world.specs.Effect.{effect}
 use Rattle.mold_world.specs.declared.event.EventOf.TheVariants.{Publish, Datagram, Heartbeat, Close, End}
 use Rattle.mold_world.specs.declared.event.EventOf.TheVariants.{Request, Ask, Deliver, Noise, Restart}
-use Rattle.mold_world.specs.World.{PlaceState, WorldState}
+use Rattle.mold_world.specs.World.{SubscriberState, WorldState}
 use Rattle.mold_session.specs.Publisher.{next_end, next_heartbeat}
-use Rattle.mold_session.specs.declared.server.TheConstants.{MAX_BURST}
+use Rattle.mold_wire.specs.declared.limits.TheConstants.{MAX_BURST}
 use Rattle.mold_session.specs.declared.error.AppendError.{AppendError}
 use Rattle.mold_session.specs.declared.error.AppendError.TheVariants as append
 use Rattle.mold_world.specs.declared.report.Report.{Report}
 use Rattle.mold_session.specs.declared.error.SessionError.TheVariants as session
 use Rattle.mold_world.specs.declared.report.WorldError.{WorldError}
 use Rattle.mold_world.specs.declared.report.WorldError.TheVariants.{Memory, BadLimit, BadBurst, BadWindow}
-use Rattle.mold_world.specs.declared.report.WorldError.TheVariants.{Layer as Refused}
+use Rattle.mold_world.specs.declared.report.WorldError.TheVariants.{Layer as Refusal}
 
 -- a datagram's limit, a burst and a window that there may be
 abbrev pub is_limit : ℕ → Bool
@@ -42,17 +42,17 @@ world_refusal limit server_limit burst windows =
 
 -- a datagram that was sent comes to a receiver, which hands something on of it or stores something
 pub record IsCopying (w : WorldState) (receiver sent : ℕ) : Type 0 where
-  pub place : PlaceState
+  pub place : SubscriberState
   pub bytes : List ℕ
-  pub here : slice_get w.places receiver ≡ Some place
+  pub here : slice_get w.subscribers receiver ≡ Some place
   pub found : slice_get w.sent sent ≡ Some bytes
   pub copied : IsCopied place.arbitration.view bytes
 
 -- a receiver lacks messages, for which it asks
 pub record IsAsking (w : WorldState) (receiver : ℕ) : Type 0 where
-  pub place : PlaceState
+  pub place : SubscriberState
   pub request : Asked
-  pub here : slice_get w.places receiver ≡ Some place
+  pub here : slice_get w.subscribers receiver ≡ Some place
   pub lacks : wanted place.arbitration.view ≡ Some request
 
 -- where memory may be wanting: in place of a message's publication, before new messages are sent, in place of a
@@ -82,6 +82,6 @@ Applies old happening (Err error) new = Refuses old happening error × (new ≡ 
 -- what the publisher's and the server's refusals are to the world
 abbrev pub append_error : AppendError → WorldError
 append_error append.Memory = Memory
-append_error append.Closed = Refused (session.Append append.Closed)
-append_error (append.TooLong len) = Refused (session.Append (append.TooLong len))
-append_error append.Full = Refused (session.Append append.Full)
+append_error append.Closed = Refusal (session.Append append.Closed)
+append_error (append.TooLong len) = Refusal (session.Append (append.TooLong len))
+append_error append.Full = Refusal (session.Append append.Full)

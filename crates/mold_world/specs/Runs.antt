@@ -4,7 +4,7 @@ use Rattle.mold_world.specs.Event.{Happening}
 use Rattle.mold_world.specs.Effect.{run_events}
 use Rattle.mold_world.specs.Headline.{IsPrefix}
 use Rattle.mold_world.specs.Refusals.{MayWant}
-use Rattle.mold_world.specs.World.{PlaceState, WorldState}
+use Rattle.mold_world.specs.World.{SubscriberState, WorldState}
 use Rattle.mold_world.specs.declared.stopped.Stopped.{Stopped}
 
 -- the events of a run that were applied: all, or those before the one at which it stopped
@@ -21,8 +21,8 @@ pub record IsStopped (w : WorldState) (happenings : List Happening) (at : ℕ) :
 -- the headline of a world: each book is a prefix of what was published, and all of the closed session where
 -- the receiver's end is its next number
 pub record IsHeadline (w : WorldState) : Type 0 where
-  pub books : (receiver : ℕ) (place : PlaceState) → slice_get w.places receiver ≡ Some place →
+  pub books : (receiver : ℕ) (place : SubscriberState) → slice_get w.subscribers receiver ≡ Some place →
       IsPrefix place.book.messages w.publisher.journal.messages
-  pub whole : (receiver : ℕ) (place : PlaceState) → slice_get w.places receiver ≡ Some place →
+  pub whole : (receiver : ℕ) (place : SubscriberState) → slice_get w.subscribers receiver ≡ Some place →
       place.arbitration.view.ended ≡ Some place.arbitration.view.next →
       (w.publisher.journal.closed ≡ true) × (place.book.messages ≡ w.publisher.journal.messages)

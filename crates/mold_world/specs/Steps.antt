@@ -9,9 +9,9 @@ use Rattle.mold_world.specs.declared.event.EventOf.TheVariants.{Close as CloseEv
 use Rattle.mold_world.specs.declared.event.EventOf.TheVariants.{Deliver as DeliverEvent, Noise, Restart as RestartEvent}
 use Rattle.mold_world.specs.HandOns.{handed_by, handed_by_all}
 use Rattle.mold_world.specs.Headline.{all_handed}
-use Rattle.mold_world.specs.Machine.{AreAllowed, Machine, Standing, Step, run}
+use Rattle.mold_world.specs.Machine.{AreAllowed, Machine, ReceiverLog, Step, run}
 use Rattle.mold_world.specs.Machine.Step.{Publish, Close, Send, Deliver, Restart}
-use Rattle.mold_world.specs.World.{PlaceState, WorldState}
+use Rattle.mold_world.specs.World.{SubscriberState, WorldState}
 
 -- an end that is known is the number to be handed on next
 abbrev pub is_end : Option ℕ → ℕ → Bool
@@ -24,9 +24,9 @@ is_finished view = is_end view.ended view.next
 
 -- what the machine sees of a receiver: its book, and whether it reports the end; where there is none, an empty
 -- book
-abbrev pub standing_of : Option PlaceState → Standing
-standing_of None = record { book = []; ended = false }
-standing_of (Some place) = record { book = place.book.messages; ended = is_finished place.arbitration.view }
+abbrev pub log_of : Option SubscriberState → ReceiverLog
+log_of None = record { book = []; ended = false }
+log_of (Some place) = record { book = place.book.messages; ended = is_finished place.arbitration.view }
 
 abbrev pub machine_of : WorldState → Machine
 machine_of w = record {
@@ -34,7 +34,7 @@ machine_of w = record {
   published = w.publisher.journal.messages;
   closed = w.publisher.journal.closed;
   sent = w.sent;
-  standings = λ receiver. standing_of (slice_get w.places receiver);
+  logs = λ receiver. log_of (slice_get w.subscribers receiver);
 }
 
 -- datagrams are sent one after the other, no more than so many

@@ -5,7 +5,7 @@ use Rattle.mold_world.specs.Event.{Happening}
 use Rattle.mold_world.specs.Effect.{effect, run_events}
 use Rattle.mold_world.specs.declared.event.EventOf.TheVariants.{Datagram, Deliver, Restart}
 use Rattle.mold_world.specs.Headline.{IsPrefix}
-use Rattle.mold_world.specs.World.{PlaceState, WorldState}
+use Rattle.mold_world.specs.World.{SubscriberState, WorldState}
 use Rattle.mold_world.specs.declared.report.Report.{Report}
 use Rattle.mold_world.specs.declared.report.Report.TheVariants as report
 use Rattle.mold_world.specs.declared.way.Way.{Way}
@@ -26,6 +26,6 @@ pub record IsStraight (w : WorldState) (receiver : ℕ) (happenings : List Happe
 
 -- the receiver's book begins with all messages that were put in datagrams
 pub record HasSent (w : WorldState) (receiver : ℕ) : Type 0 where
-  pub place : PlaceState
-  pub here : slice_get w.places receiver ≡ Some place
+  pub place : SubscriberState
+  pub here : slice_get w.subscribers receiver ≡ Some place
   pub front : IsPrefix (take w.publisher.sent w.publisher.journal.messages) place.book.messages

@@ -9,7 +9,7 @@ use Rattle.mold_wire.specs.Packer.{IsLimit}
 use Rattle.mold_wire.specs.declared.session.Session.{Session}
 
 -- a receiver behind its arbiter, and its book
-pub record PlaceState : Type 0 where
+pub record SubscriberState : Type 0 where
   pub arbitration : Arbitration
   pub book : Handed
 
@@ -20,11 +20,11 @@ pub record WorldState : Type 0 where
   pub server_limit : ℕ
   pub burst : ℕ
   pub sent : List (List ℕ)
-  pub places : List PlaceState
+  pub subscribers : List SubscriberState
 
 -- a receiver that begins with the session's first message
-abbrev pub place_at : Session → ℕ → PlaceState
-place_at session window = record {
+abbrev pub subscriber_at : Session → ℕ → SubscriberState
+subscriber_at session window = record {
   arbitration = fresh_arbitration session 1 window;
   book = record { first = 0; messages = [] };
 }
@@ -36,7 +36,7 @@ beginning session limit server_limit burst windows = record {
   server_limit = server_limit;
   burst = burst;
   sent = [];
-  places = map (place_at session) windows;
+  subscribers = map (subscriber_at session) windows;
 }
 
 -- the limits that a world may have, and a session's name of ten bytes

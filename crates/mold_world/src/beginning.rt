@@ -3,10 +3,10 @@
 ghost use Rattle.std.specs.Prelude.{◌≡◌, ◌≤◌, None, Some, IfErr, IfOk, OnOk, length, map, not, position};
 ghost use Rattle.mold_wire.specs.Packer.{IsLimit};
 ghost use Rattle.mold_world.specs.Refusals.{is_window, world_refusal};
-ghost use Rattle.mold_world.specs.World.{place_at};
+ghost use Rattle.mold_world.specs.World.{subscriber_at};
 
-use crate::place::Place;
 use crate::report::WorldError;
+use crate::subscriber::Subscriber;
 use mold_receiver::MAX_WINDOW;
 use mold_session::MAX_BURST;
 use mold_wire::{MAX_LIMIT, MIN_LIMIT, Session};
@@ -51,18 +51,18 @@ pub(crate) fn check_world(
 
 /// A receiver from message 1 on for each window. An error comes where a growth is refused, and where no
 /// receiver may have a window.
-pub(crate) fn make_places(
+pub(crate) fn make_subscribers(
     alloc: Global,
     session: Session,
     windows: &[u32],
-) -> Result<Vec<Place>, AllocError>
-    ensures { IfOk result (λ places. places.items ≡ map (place_at session) windows.now) }
+) -> Result<Vec<Subscriber>, AllocError>
+    ensures { IfOk result (λ subscribers. subscribers.items ≡ map (subscriber_at session) windows.now) }
 {
-    let mut places = Vec::with_capacity(alloc, windows.len())?;
+    let mut subscribers = Vec::with_capacity(alloc, windows.len())?;
     for window in windows {
-        places.push(Place::new(alloc, session, *window)?)?;
+        subscribers.push(Subscriber::new(alloc, session, *window)?)?;
     }
-    Ok(places)
+    Ok(subscribers)
 }
 
 /// A session's name has ten bytes.

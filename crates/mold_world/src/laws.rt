@@ -5,19 +5,19 @@ ghost use Rattle.mold_receiver.specs.Honest.{IsHonest, IsTakenHonestly};
 ghost use Rattle.mold_receiver.specs.View.{View};
 ghost use Rattle.mold_wire.specs.Block.{IsBytes};
 ghost use Rattle.mold_wire.specs.Packet.{Spells};
-ghost use Rattle.mold_wire.specs.Truth.{AreStrange, IsTruePacket};
+ghost use Rattle.mold_wire.specs.Truth.{AreForeign, IsTruePacket};
 ghost use Rattle.mold_wire.specs.declared.packet.Packet.{Packet};
 ghost use Rattle.mold_wire.specs.declared.session.Session.{Session};
 ghost use Rattle.mold_world.specs.Event.{Happening};
 ghost use Rattle.mold_world.specs.Effect.{effect, run_events};
 ghost use Rattle.mold_world.specs.HandOns.{handed_by_all};
 ghost use Rattle.mold_world.specs.Headline.{ArePublished, HasAll, IsPrefix, all_handed};
-ghost use Rattle.mold_world.specs.Hearing.{Hears, IsUnmoved};
+ghost use Rattle.mold_world.specs.Deliveries.{HasReceived, IsUnmoved};
 ghost use Rattle.mold_world.specs.Kept.{IsWorld};
 ghost use Rattle.mold_world.specs.Steps.{AreSteps, machine_of};
 ghost use Rattle.mold_world.specs.Machine.{AreAllowed, Step, run, start};
 ghost use Rattle.mold_world.specs.Straight.{HasSent, IsStraight};
-ghost use Rattle.mold_world.specs.World.{MayBegin, PlaceState, WorldState, beginning};
+ghost use Rattle.mold_world.specs.World.{MayBegin, SubscriberState, WorldState, beginning};
 ghost use Rattle.mold_world.specs.declared.report.Report.{Report};
 ghost use Rattle.mold_world.specs.declared.way.Way.{Way};
 
@@ -39,11 +39,11 @@ use mold_wire::laws::{one_spelling_law, reading_law, true_packet_law, true_stays
 /// stays so, and hands on what was published (but for want of memory, of which a law can't speak).
 pub fn safety_law()
     ensures books { (session : Session) (steps : List Step) (receiver : ℕ) → AreAllowed (start session) steps →
-        IsPrefix ((run (start session) steps).standings receiver).book (run (start session) steps).published }
+        IsPrefix ((run (start session) steps).logs receiver).book (run (start session) steps).published }
     ensures handed { (session : Session) (steps : List Step) → AreAllowed (start session) steps →
         ArePublished (run (start session) steps).published (all_handed (start session) steps) }
     ensures whole { (session : Session) (steps : List Step) (receiver : ℕ) → AreAllowed (start session) steps →
-        ((run (start session) steps).standings receiver).ended ≡ true →
+        ((run (start session) steps).logs receiver).ended ≡ true →
         HasAll (run (start session) steps) receiver }
     ensures honest { (view : View) (packet : Packet) (bytes : List ℕ) (published : List (List ℕ)) (closed : Bool) →
         IsHonest view published closed → Spells packet bytes → packet.session ≡ view.session →
@@ -71,10 +71,10 @@ pub fn run_law()
     ensures kept { (w new : WorldState) (happening : Happening) (report : Report) → IsWorld w →
         effect w happening ≡ Ok (report, new) → IsWorld new }
     ensures run { (w : WorldState) (happenings : List Happening) → IsWorld w → IsWorld (run_events w happenings) }
-    ensures books { (w : WorldState) (receiver : ℕ) (place : PlaceState) → IsWorld w →
-        slice_get w.places receiver ≡ Some place → IsPrefix place.book.messages w.publisher.journal.messages }
-    ensures whole { (w : WorldState) (receiver : ℕ) (place : PlaceState) → IsWorld w →
-        slice_get w.places receiver ≡ Some place →
+    ensures books { (w : WorldState) (receiver : ℕ) (place : SubscriberState) → IsWorld w →
+        slice_get w.subscribers receiver ≡ Some place → IsPrefix place.book.messages w.publisher.journal.messages }
+    ensures whole { (w : WorldState) (receiver : ℕ) (place : SubscriberState) → IsWorld w →
+        slice_get w.subscribers receiver ≡ Some place →
         place.arbitration.view.ended ≡ Some place.arbitration.view.next →
         (w.publisher.journal.closed ≡ true) × (place.book.messages ≡ w.publisher.journal.messages) }
     ensures handed { (w : WorldState) (happenings : List Happening) → IsWorld w →
@@ -102,15 +102,15 @@ pub fn run_law()
 /// packet of the session, and its view and its book stay. So a delivery is never told as refused, and noise
 /// always is, with every view and every book as they were (but for want of memory, of which a law can't
 /// speak).
-pub fn hearing_law()
-    ensures sent { (w : WorldState) (receiver at : ℕ) (place : PlaceState) (bytes : List ℕ) → IsWorld w →
-        slice_get w.places receiver ≡ Some place → slice_get w.sent at ≡ Some bytes →
+pub fn delivery_law()
+    ensures sent { (w : WorldState) (receiver at : ℕ) (place : SubscriberState) (bytes : List ℕ) → IsWorld w →
+        slice_get w.subscribers receiver ≡ Some place → slice_get w.sent at ≡ Some bytes →
         IsTakenHonestly place.arbitration.view bytes w.publisher.journal.messages w.publisher.journal.closed }
-    ensures strange { (w : WorldState) (receiver : ℕ) (place : PlaceState) (way : Way) (bytes : List ℕ) →
-        IsWorld w → slice_get w.places receiver ≡ Some place → IsBytes bytes →
-        AreStrange w.publisher.journal.session bytes → IsUnmoved place way bytes }
+    ensures strange { (w : WorldState) (receiver : ℕ) (place : SubscriberState) (way : Way) (bytes : List ℕ) →
+        IsWorld w → slice_get w.subscribers receiver ≡ Some place → IsBytes bytes →
+        AreForeign w.publisher.journal.session bytes → IsUnmoved place way bytes }
     ensures heard { (w new : WorldState) (happening : Happening) (report : Report) → IsWorld w →
-        effect w happening ≡ Ok (report, new) → Hears happening report w new }
+        effect w happening ≡ Ok (report, new) → HasReceived happening report w new }
 {
     reading_law();
     honest_take_law();

@@ -5,11 +5,11 @@ mod beginning;
 mod burst;
 mod event;
 pub mod laws;
-mod parts;
-mod place;
+mod participants;
 mod refusal;
 mod report;
 mod stopped;
+mod subscriber;
 mod way;
 mod world;
 

@@ -1,6 +1,6 @@
 //! What became of an event.
 
-use mold_receiver::{Refused, Taken};
+use mold_receiver::{Refusal, Taken};
 use mold_session::SessionError;
 use thiserror::Error;
 
@@ -20,7 +20,7 @@ pub enum Report {
     /// A receiver took a datagram.
     Delivered(Taken),
     /// A receiver refused a datagram.
-    NoiseRefused(Refused),
+    NoiseRefused(Refusal),
     /// A receiver begins anew at this number.
     Restarted { next: u64 },
 }

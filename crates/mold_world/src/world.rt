@@ -7,7 +7,7 @@ ghost use Rattle.mold_receiver.specs.Arbiter.{report_on};
 ghost use Rattle.mold_world.specs.Effect.{after_event, effect, run_events};
 ghost use Rattle.mold_world.specs.HandOns.{handed_by_all};
 ghost use Rattle.mold_world.specs.Headline.{ArePublished};
-ghost use Rattle.mold_world.specs.Hearing.{Hears};
+ghost use Rattle.mold_world.specs.Deliveries.{HasReceived};
 ghost use Rattle.mold_world.specs.Kept.{IsWorld};
 ghost use Rattle.mold_world.specs.Refusals.{MayWant, Refuses, world_refusal};
 ghost use Rattle.mold_world.specs.Runs.{IsHeadline, IsStopped, applied};
@@ -17,10 +17,10 @@ ghost use Rattle.mold_world.specs.Straight.{HasSent, IsStraight};
 ghost use Rattle.mold_world.specs.World.{beginning};
 ghost use Rattle.mold_world.specs.declared.report.WorldError.{WorldError};
 
-use crate::beginning::{check_world, has_name, make_places};
+use crate::beginning::{check_world, has_name, make_subscribers};
 use crate::event::Event;
-use crate::laws::{hearing_law, run_law, straight_law};
-use crate::parts::Parts;
+use crate::laws::{delivery_law, run_law, straight_law};
+use crate::participants::Participants;
 use crate::report::{Report, WorldError};
 use crate::stopped::Stopped;
 use mold_messages::{MessageIterator, MessageList};
@@ -34,7 +34,7 @@ use std::marker::Model;
 /// each of which may come to any receiver at any time and any number of times.
 #[derive(Debug, Drop)]
 pub struct World {
-    parts: Parts,
+    parts: Participants,
 }
 
 impl Model for World {
@@ -80,12 +80,12 @@ impl World {
         let Ok(server) = Server::new(alloc, server_limit, max_message, burst) else {
             return Err(WorldError::Memory);
         };
-        let parts = Parts {
+        let parts = Participants {
             alloc,
             publisher,
             server,
             sent: MessageList::new(alloc),
-            places: make_places(alloc, session, windows)?,
+            subscribers: make_subscribers(alloc, session, windows)?,
         };
         Ok(World { parts })
     }
@@ -99,10 +99,10 @@ impl World {
         ensures done { IfOk result (λ report. effect self.old (seen event.now) ≡ Ok (report, self.new)) }
         ensures refused { IfErr result (λ error. Refuses self.old (seen event.now) error) }
         ensures same { OnErr result (self.new ≡ self.old) }
-        ensures heard { IfOk result (λ report. Hears (seen event.now) report self.old self.new) }
+        ensures heard { IfOk result (λ report. HasReceived (seen event.now) report self.old self.new) }
         ensures step { OnOk result (AreSteps self.old (seen event.now) self.new) }
     {
-        hearing_law();
+        delivery_law();
         run_law();
         self.parts.change(event)
     }
@@ -197,39 +197,40 @@ impl World {
 
     /// How many receivers there are.
     pub fn receivers(&self) -> usize
-        ensures { result ≡ length self.now.places }
+        ensures { result ≡ length self.now.subscribers }
     {
-        self.parts.places.len()
+        self.parts.subscribers.len()
     }
 
     /// What receiver `r` handed on, from message 1 on; of its last life where it began anew, and what it had
     /// before that. None where there is no such receiver.
     pub fn book(&self, r: usize) -> Option<&Batch>
-        ensures { option_copied result ≡ option_map (λ place. place.book) (slice_get self.now.places r) }
+        ensures { option_copied result ≡ option_map (λ place. place.book) (slice_get self.now.subscribers r) }
     {
-        Some(self.parts.places.get(r)?.book())
+        Some(self.parts.subscribers.get(r)?.book())
     }
 
     /// Whether receiver `r` handed on every message up to the session's end, which it knows. None where there
     /// is no such receiver.
     pub fn finished(&self, r: usize) -> Option<bool>
-        ensures { result ≡ option_map (λ place. is_finished place.arbitration.view) (slice_get self.now.places r) }
+        ensures { result ≡ option_map (λ place. is_finished place.arbitration.view) (slice_get self.now.subscribers r) }
     {
-        Some(self.parts.places.get(r)?.receiver().finished())
+        Some(self.parts.subscribers.get(r)?.receiver().finished())
     }
 
     /// Receiver `r`; none where there is no such receiver.
     pub fn receiver(&self, r: usize) -> Option<&Receiver>
-        ensures { option_copied result ≡ option_map (λ place. place.arbitration.view) (slice_get self.now.places r) }
+        ensures { option_copied result
+            ≡ option_map (λ place. place.arbitration.view) (slice_get self.now.subscribers r) }
     {
-        Some(self.parts.places.get(r)?.receiver())
+        Some(self.parts.subscribers.get(r)?.receiver())
     }
 
     /// What came to receiver `r` on a line since it began; none where there is no such receiver.
     pub fn report(&self, r: usize, line: Line) -> Option<LineReport>
         ensures { result ≡
-            option_map (λ place. report_on line place.arbitration.reports) (slice_get self.now.places r) }
+            option_map (λ place. report_on line place.arbitration.reports) (slice_get self.now.subscribers r) }
     {
-        Some(self.parts.places.get(r)?.report(line))
+        Some(self.parts.subscribers.get(r)?.report(line))
     }
 }

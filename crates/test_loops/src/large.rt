@@ -3,6 +3,7 @@
 use crate::comparisons::same_size;
 use mold_devices::{IntoWrite, MemorySink, Sink};
 use mold_text::Word;
+use mold_turns::Outgoing;
 use std::alloc::AllocError;
 use std::process::Abort;
 use std::test::Fail;

@@ -63,8 +63,8 @@ pub fn port(
     failure: Option<usize>,
 ) -> Result<MemoryPort, AllocError> {
     let mut script = Vec::new(alloc);
-    for (place, datagram) in datagrams.iter().enumerate() {
-        if failure == Some(place) {
+    for (buffer, datagram) in datagrams.iter().enumerate() {
+        if failure == Some(buffer) {
             script.push(Step::Fail)?;
         }
         script.push(step(alloc, datagram)?)?;
@@ -242,9 +242,9 @@ fn expect_failure_counted(
 
 #[test]
 fn failure_at_each_receive(rt: HostRuntime) -> Result<(), Fail> {
-    for place in 0..4 {
-        expect_failure_counted(&rt, rt.alloc(), Some(place), None)?;
-        expect_failure_counted(&rt, rt.alloc(), None, Some(place))?;
+    for buffer in 0..4 {
+        expect_failure_counted(&rt, rt.alloc(), Some(buffer), None)?;
+        expect_failure_counted(&rt, rt.alloc(), None, Some(buffer))?;
     }
     Ok(())
 }
@@ -318,9 +318,9 @@ fn failure_at_each_send(rt: HostRuntime) -> Result<(), Fail> {
 
 #[test]
 fn failure_at_each_receive_of_an_answer(rt: HostRuntime) -> Result<(), Fail> {
-    for place in 0..2 {
+    for buffer in 0..2 {
         let text = b"1 41\n2 42\n3 43\nfinished next 4 failed 1\n";
-        expect_filled(&rt, rt.alloc(), Some(place), 5, text, 3)?;
+        expect_filled(&rt, rt.alloc(), Some(buffer), 5, text, 3)?;
     }
     Ok(())
 }

@@ -8,7 +8,7 @@ use crate::comparisons::{same_bytes, same_outcome, same_size};
 use crate::listen::port;
 use crate::publish::expect_sent;
 use mold_devices::{CommandFault, MemorySink, MemorySource};
-use mold_listen::Report;
+use mold_listen::Printer;
 use mold_loop::{Drops, Listener, LoopOptions, LoopParts, LoopPeers, LoopPorts, session_loop};
 use mold_ports::MemoryPort;
 use mold_receiver::{Arbiter, Receiver};
@@ -81,7 +81,7 @@ fn new_parts(alloc: Global) -> Result<LoopParts, Fail>
         server: new_server(alloc)?,
         listener: Listener {
             arbiter: Arbiter::new(Receiver::new(alloc, SESSION, 1, 4)?),
-            report: Report::new(alloc),
+            printer: Printer::new(alloc),
         },
     })
 }
@@ -110,11 +110,7 @@ fn silent_ports(alloc: Global) -> LoopPorts<MemoryPort> {
 
 // Line A gives these datagrams, line B all that is sent there, and the server and the answers what a request
 // of messages 3 and 4 brings.
-fn give(
-    alloc: Global,
-    ports: &mut LoopPorts<MemoryPort>,
-    a: &[&[u8]],
-) -> Result<(), AllocError> {
+fn give(alloc: Global, ports: &mut LoopPorts<MemoryPort>, a: &[&[u8]]) -> Result<(), AllocError> {
     ports.server = port(alloc, &[REQUEST, REQUEST], None)?;
     ports.a = port(alloc, a, None)?;
     ports.b = port(alloc, &[ONE_AND_TWO, FIVE, END], None)?;
@@ -122,20 +118,15 @@ fn give(
     Ok(())
 }
 
-fn silent_fixture(alloc: Global) -> Result<Fixture, Fail> {
-    let receiver = Receiver::new(alloc, SESSION, 1, 4)?;
-    Ok(Fixture {
+fn silent_fixture(alloc: Global) -> Fixture {
+    Fixture {
         ports: silent_ports(alloc),
-        listener: Listener {
-            arbiter: Arbiter::new(receiver),
-            report: Report::new(alloc),
-        },
         sink: MemorySink::new(alloc),
-    })
+    }
 }
 
 fn make_fixture(alloc: Global, a: &[&[u8]]) -> Result<Fixture, Fail> {
-    let mut fixture = silent_fixture(alloc)?;
+    let mut fixture = silent_fixture(alloc);
     give(alloc, &mut fixture.ports, a)?;
     Ok(fixture)
 }

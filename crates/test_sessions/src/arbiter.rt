@@ -4,7 +4,7 @@ use crate::comparisons::same_number;
 use crate::reception::{
     DATA_1_3, DATA_2_3, END_4, SESSION, expect_batch, handed_kept_beyond, same_outcome,
 };
-use mold_receiver::{Arbiter, Batch, Line, Receiver, Refused, Taken};
+use mold_receiver::{Arbiter, Batch, Line, Receiver, Refusal, Taken};
 use mold_wire::DecodeError;
 use std::alloc::Global;
 use std::process::Abort;
@@ -32,7 +32,7 @@ impl Arbitration {
         rt: &impl Abort,
         line: Option<Line>,
         packet: &[u8],
-    ) -> Result<Taken, Refused> {
+    ) -> Result<Taken, Refusal> {
         assert!(rt; self.batch.follows(self.arbiter.receiver().next()));
         match line {
             Some(line) => self.arbiter.take(line, packet, &mut self.batch),
@@ -41,8 +41,8 @@ impl Arbitration {
     }
 
     /// Takes messages 1 to 3 of line A, once more if memory is refused: neither line has a datagram then.
-    fn take_again(&mut self, rt: &impl Abort) -> Result<(), Refused> {
-        if self.take(rt, Some(Line::A), DATA_1_3) == Err(Refused::Memory) {
+    fn take_again(&mut self, rt: &impl Abort) -> Result<(), Refusal> {
+        if self.take(rt, Some(Line::A), DATA_1_3) == Err(Refusal::Memory) {
             self.expect_lines(rt, (0, 0, 1), (0, 0, 1));
             self.take(rt, Some(Line::A), DATA_1_3)?;
         }
@@ -69,7 +69,7 @@ impl Arbitration {
             }
             Step::Short(line, packet) => {
                 let fault = DecodeError::Short { len: packet.len() };
-                let wanted = Err(Refused::Malformed(fault));
+                let wanted = Err(Refusal::Malformed(fault));
                 same_outcome(rt, self.take(rt, line, packet), wanted);
             }
             Step::Lines(a, b) => self.expect_lines(rt, a, b),

@@ -2,7 +2,7 @@
 //! refused: `tests/out-of-memory` refuses each growth of the tests that are made for it. Each kind of comparison stands
 //! once, and what is owned is lent: the proof of a test grows with both.
 
-use mold_capture::{Checker, Memory, Range, Reason, Verdict, check};
+use mold_capture::{Checker, Memory, Range, Refusal, Verdict, check};
 use mold_wire::DecodeError;
 use std::alloc::{AllocError, Global};
 use std::process::Abort;
@@ -69,7 +69,7 @@ fn expect<'w, 'd>(
     rt: &impl Abort,
     alloc: Global,
     list: &'w [&'d [u8]],
-    wanted: Result<Verdict, (usize, Reason)>,
+    wanted: Result<Verdict, (usize, Refusal)>,
 ) {
     let found = check(alloc, list);
     assert!(rt; found == wanted, "another verdict");
@@ -92,7 +92,7 @@ fn expect_whole<'w, 'd>(rt: &impl Abort, alloc: Global, list: &'w [&'d [u8]], me
 }
 
 /// The last datagram of the list is refused.
-fn expect_refused<'w, 'd>(rt: &impl Abort, alloc: Global, list: &'w [&'d [u8]], reason: Reason) {
+fn expect_refused<'w, 'd>(rt: &impl Abort, alloc: Global, list: &'w [&'d [u8]], reason: Refusal) {
     let index = list.len().saturating_sub(1);
     expect(rt, alloc, list, Err((index, reason)));
 }
@@ -103,7 +103,7 @@ fn lists_and_their_answers(rt: HostRuntime) -> Result<(), Fail> {
     expect_incomplete(&rt, alloc, &[DATA_1_TO_2, END_4], &[(3, 3)], Some(4))?;
     let greatest = b"SESSION001\xff\xff\xff\xff\xff\xff\xff\xff\0\0";
     expect_incomplete(&rt, alloc, &[greatest], &[(1, MAX - 1)], None)?;
-    expect_refused(&rt, alloc, &[BEAT_5, END_3], Reason::EndBelow { known: 5 });
+    expect_refused(&rt, alloc, &[BEAT_5, END_3], Refusal::EndBelow { known: 5 });
     expect_whole(&rt, alloc, &[END_1, END_1], 0);
     Ok(())
 }
@@ -117,7 +117,7 @@ fn check_folders(rt: HostRuntime) -> Result<(), Fail> {
     expect_incomplete(&rt, alloc, &[DATA_1, END_3], &[(2, 2)], Some(3))?;
     let x = b"SESSION001\0\0\0\0\0\0\0\x02\0\x01\0\x01X";
     let y = b"SESSION001\0\0\0\0\0\0\0\x02\0\x01\0\x01Y";
-    expect_refused(&rt, alloc, &[x, y], Reason::Conflict { number: 2 });
+    expect_refused(&rt, alloc, &[x, y], Refusal::Conflict { number: 2 });
     Ok(())
 }
 
@@ -131,14 +131,14 @@ fn holes_are_told(rt: HostRuntime) -> Result<(), Fail> {
     expect_whole(&rt, alloc, &list, 6);
     let other = b"SESSION001\0\0\0\0\0\0\0\x03\0\x03\0\x01C\0\x01x\0\x01E".as_slice();
     let list = [DATA_2, DATA_1_TO_6, other];
-    expect_refused(&rt, alloc, &list, Reason::Conflict { number: 4 });
+    expect_refused(&rt, alloc, &list, Refusal::Conflict { number: 4 });
     Ok(())
 }
 
 #[test]
 fn bytes_that_spell_no_packet(rt: HostRuntime) -> Result<(), Fail> {
     let cut = b"SESSION001\0\0\0\0\0\0\0\0\0";
-    let reason = Reason::Malformed(DecodeError::Short { len: 19 });
+    let reason = Refusal::Malformed(DecodeError::Short { len: 19 });
     expect_refused(&rt, rt.alloc(), &[BEAT_1, cut.as_slice()], reason);
     Ok(())
 }
@@ -156,10 +156,10 @@ fn another_session_comes_first(rt: HostRuntime) -> Result<(), Fail> {
     ];
     for other in others {
         let list = [DATA_1, END_3, other];
-        expect_refused(&rt, alloc, &list, Reason::WrongSession);
+        expect_refused(&rt, alloc, &list, Refusal::WrongSession);
     }
     let below = b"SESSION002\0\0\0\0\0\0\0\x01\xff\xff".as_slice();
-    expect_refused(&rt, alloc, &[DATA_1, below], Reason::WrongSession);
+    expect_refused(&rt, alloc, &[DATA_1, below], Refusal::WrongSession);
     Ok(())
 }
 
@@ -171,10 +171,10 @@ fn number_zero_comes_second(rt: HostRuntime) -> Result<(), Fail> {
     let behind = b"SESSION001\0\0\0\0\0\0\0\0\0\x03\0\0\0\x01A\0\x01B".as_slice();
     let differs = b"SESSION001\0\0\0\0\0\0\0\0\0\x02\0\0\0\x01x".as_slice();
     for last in [other, behind] {
-        expect_refused(&rt, alloc, &[DATA_1, END_2, last], Reason::SequenceZero);
+        expect_refused(&rt, alloc, &[DATA_1, END_2, last], Refusal::SequenceZero);
     }
     for last in [other, differs] {
-        expect_refused(&rt, alloc, &[DATA_1, last], Reason::SequenceZero);
+        expect_refused(&rt, alloc, &[DATA_1, last], Refusal::SequenceZero);
     }
     Ok(())
 }
@@ -183,10 +183,10 @@ fn number_zero_comes_second(rt: HostRuntime) -> Result<(), Fail> {
 #[test]
 fn past_the_last_number_comes_third(rt: HostRuntime) -> Result<(), Fail> {
     let alloc = rt.alloc();
-    expect_refused(&rt, alloc, &[DATA_1, END_2, PAST_LAST], Reason::PastLast);
+    expect_refused(&rt, alloc, &[DATA_1, END_2, PAST_LAST], Refusal::PastLast);
     let last = b"SESSION001\xff\xff\xff\xff\xff\xff\xff\xfe\0\x01\0\x01A";
     let differs = b"SESSION001\xff\xff\xff\xff\xff\xff\xff\xfe\0\x02\0\x01x\0\x01B";
-    expect_refused(&rt, alloc, &[last, differs], Reason::PastLast);
+    expect_refused(&rt, alloc, &[last, differs], Refusal::PastLast);
     Ok(())
 }
 
@@ -196,11 +196,11 @@ fn ends_come_in_order(rt: HostRuntime) -> Result<(), Fail> {
     let alloc = rt.alloc();
     for other in [END_1, END_4] {
         let list = [DATA_1, END_3, other];
-        expect_refused(&rt, alloc, &list, Reason::EndConflict { end: 3 });
+        expect_refused(&rt, alloc, &list, Refusal::EndConflict { end: 3 });
     }
     let behind = b"SESSION001\0\0\0\0\0\0\0\x01\0\x03\0\x01x\0\x01B\0\x01C".as_slice();
     let list = [DATA_1, END_3, behind];
-    expect_refused(&rt, alloc, &list, Reason::PastEnd { end: 3 });
+    expect_refused(&rt, alloc, &list, Refusal::PastEnd { end: 3 });
     Ok(())
 }
 
@@ -222,12 +222,12 @@ fn verdict_again(rt: &impl Abort, checker: &Checker, wanted: &Verdict) -> Result
     }
 }
 
-fn same_answer(rt: &impl Abort, found: Result<(), Reason>, wanted: Result<(), Reason>) {
+fn same_answer(rt: &impl Abort, found: Result<(), Refusal>, wanted: Result<(), Refusal>) {
     assert!(rt; found == wanted, "another answer");
 }
 
 /// Adds a datagram, with this answer.
-fn add(rt: &impl Abort, checker: &mut Checker, bytes: &[u8], wanted: Result<(), Reason>) {
+fn add(rt: &impl Abort, checker: &mut Checker, bytes: &[u8], wanted: Result<(), Refusal>) {
     let answer = checker.add(bytes);
     same_answer(rt, answer, wanted);
 }
@@ -240,7 +240,7 @@ fn add_again(
     before: &Verdict,
 ) -> Result<(), Fail> {
     let answer = checker.add(bytes);
-    if !matches!(answer, Err(Reason::Memory)) {
+    if !matches!(answer, Err(Refusal::Memory)) {
         same_answer(rt, answer, Ok(()));
         return Ok(());
     }
@@ -289,7 +289,7 @@ fn a_refused_growth_adds_nothing(rt: HostRuntime) -> Result<(), Fail> {
 fn a_refused_growth_is_told_by_a_check(rt: HostRuntime) -> Result<(), Fail> {
     let wanted = incomplete(rt.alloc(), &[(1, 1), (3, 4)], None)?;
     if let Err((index, reason)) = expect_check(&rt, rt.alloc(), &wanted) {
-        same_answer(&rt, Err(reason), Err(Reason::Memory));
+        same_answer(&rt, Err(reason), Err(Refusal::Memory));
         assert!(rt; index == 1 || index == 3, "refused at {index}");
         expect_check(&rt, rt.alloc(), &wanted)?;
     }
@@ -297,7 +297,7 @@ fn a_refused_growth_is_told_by_a_check(rt: HostRuntime) -> Result<(), Fail> {
 }
 
 /// Message 2, twice, of four messages that a heartbeat announces.
-fn expect_check(rt: &impl Abort, alloc: Global, wanted: &Verdict) -> Result<(), (usize, Reason)> {
+fn expect_check(rt: &impl Abort, alloc: Global, wanted: &Verdict) -> Result<(), (usize, Refusal)> {
     let verdict = check(alloc, &[BEAT_5, DATA_2, DATA_2])?;
     same_verdict(rt, &verdict, wanted);
     Ok(())
@@ -320,8 +320,8 @@ fn expect_nothing_new(rt: &impl Abort, checker: &mut Checker, empty: &Verdict) -
         add(rt, checker, datagram, Ok(()));
     }
     let differs = b"SESSION001\0\0\0\0\0\0\0\x03\0\x02\0\x01C\0\x01x";
-    add(rt, checker, differs, Err(Reason::Conflict { number: 4 }));
-    add(rt, checker, DATA_5, Err(Reason::PastEnd { end: 5 }));
+    add(rt, checker, differs, Err(Refusal::Conflict { number: 4 }));
+    add(rt, checker, DATA_5, Err(Refusal::PastEnd { end: 5 }));
     verdict_again(rt, checker, &Verdict::Whole { messages: 4 })?;
     Ok(())
 }
@@ -346,7 +346,7 @@ fn no_growth_without_messages(rt: HostRuntime) {
         &rt,
         &mut checker,
         END_3,
-        Err(Reason::EndConflict { end: 5 }),
+        Err(Refusal::EndConflict { end: 5 }),
     );
-    add(&rt, &mut checker, DATA_5, Err(Reason::PastEnd { end: 5 }));
+    add(&rt, &mut checker, DATA_5, Err(Refusal::PastEnd { end: 5 }));
 }

@@ -6,7 +6,7 @@ use crate::reception::{
     DATA_1, DATA_1_2, DATA_1_3, DATA_2, DATA_2_3, DATA_3, END_3, END_4, Reception, SESSION, State,
     Step, expect_batch, expect_each, expect_steps, same_maybe,
 };
-use mold_receiver::{Batch, Receiver, ReceiverError, Refused};
+use mold_receiver::{Batch, Receiver, ReceiverError, Refusal};
 use mold_wire::{DecodeError, Packer};
 use std::alloc::Global;
 use std::process::Abort;
@@ -15,24 +15,24 @@ use std::test::Fail;
 /// Packets that are refused by a receiver that delivered messages 1 to 3 and stored 5; the last two once the end
 /// is known.
 const REFUSED: &[Step] = &[
-    Step::Refused(b"", Refused::Malformed(DecodeError::Short { len: 0 })),
-    Step::Refused(b"SESSION002\0\0\0\0\0\0\0\x01\0\0", Refused::WrongSession),
-    Step::Refused(b"SESSION001\0\0\0\0\0\0\0\0\0\0", Refused::SequenceZero),
+    Step::Refused(b"", Refusal::Malformed(DecodeError::Short { len: 0 })),
+    Step::Refused(b"SESSION002\0\0\0\0\0\0\0\x01\0\0", Refusal::WrongSession),
+    Step::Refused(b"SESSION001\0\0\0\0\0\0\0\0\0\0", Refusal::SequenceZero),
     Step::Refused(
         b"SESSION001\xff\xff\xff\xff\xff\xff\xff\xff\0\x01\0\x01A",
-        Refused::PastLast,
+        Refusal::PastLast,
     ),
-    Step::Refused(END_4, Refused::EndBelow { known: 6 }),
+    Step::Refused(END_4, Refusal::EndBelow { known: 6 }),
     Step::Refused(
         b"SESSION001\0\0\0\0\0\0\0\x04\0\x02\0\x01D\0\x01X",
-        Refused::Conflict { number: 5 },
+        Refusal::Conflict { number: 5 },
     ),
     Step::Taken(b"SESSION001\0\0\0\0\0\0\0\x06\xff\xff", (0, 0, 0)),
     Step::Refused(
         b"SESSION001\0\0\0\0\0\0\0\x06\0\x01\0\x01F",
-        Refused::PastEnd { end: 6 },
+        Refusal::PastEnd { end: 6 },
     ),
-    Step::Refused(END_4, Refused::EndConflict { end: 6 }),
+    Step::Refused(END_4, Refusal::EndConflict { end: 6 }),
 ];
 
 fn same_error(rt: &impl Abort, found: Option<ReceiverError>, wanted: ReceiverError) {
@@ -98,7 +98,7 @@ fn packet_longer_than_window(rt: HostRuntime) -> Result<(), Fail> {
 const TOP: &[Step] = &[
     Step::Refused(
         b"SESSION001\xff\xff\xff\xff\xff\xff\xff\xff\0\x01\0\x01A",
-        Refused::PastLast,
+        Refusal::PastLast,
     ),
     Step::Taken(b"SESSION001\xff\xff\xff\xff\xff\xff\xff\xff\0\0", (0, 0, 0)),
     Step::Numbers(1, 18446744073709551615, 0),
@@ -114,7 +114,7 @@ const CONFLICT: &[Step] = &[
     Step::Taken(b"SESSION001\0\0\0\0\0\0\0\x03\0\x01\0\x01X", (0, 1, 0)),
     Step::Refused(
         b"SESSION001\0\0\0\0\0\0\0\x03\0\x01\0\x01Y",
-        Refused::Conflict { number: 3 },
+        Refusal::Conflict { number: 3 },
     ),
 ];
 
@@ -125,7 +125,7 @@ fn conflict(rt: HostRuntime) -> Result<(), Fail> {
 
 const FORGED: &[Step] = &[
     Step::Taken(b"SESSION001\0\0\0\0\0\0\0\x03\0\x01\0\x01Z", (0, 1, 0)),
-    Step::Refused(DATA_1_3, Refused::Conflict { number: 3 }),
+    Step::Refused(DATA_1_3, Refusal::Conflict { number: 3 }),
     Step::Taken(DATA_1_2, (3, 0, 0)),
     Step::Batch(1, &[b"A", b"B", b"Z"]),
 ];
@@ -154,12 +154,12 @@ const BOUNDED: &[Step] = &[
     Step::Numbers(1, 3, 0),
     Step::Ended(Some(3), false),
     Step::Wanted(Some((1, 2))),
-    Step::Refused(END_4, Refused::EndConflict { end: 3 }),
+    Step::Refused(END_4, Refusal::EndConflict { end: 3 }),
     Step::Refused(
         b"SESSION001\0\0\0\0\0\0\0\x04\0\0",
-        Refused::PastEnd { end: 3 },
+        Refusal::PastEnd { end: 3 },
     ),
-    Step::Refused(DATA_2_3, Refused::PastEnd { end: 3 }),
+    Step::Refused(DATA_2_3, Refusal::PastEnd { end: 3 }),
     Step::Taken(DATA_1_2, (2, 0, 0)),
     Step::Numbers(3, 3, 0),
     Step::Ended(Some(3), true),
@@ -171,13 +171,13 @@ fn the_end_bounds_what_comes(rt: HostRuntime) -> Result<(), Fail> {
 }
 
 const IN_ORDER: &[Step] = &[
-    Step::Refused(END_3, Refused::EndBelow { known: 5 }),
+    Step::Refused(END_3, Refusal::EndBelow { known: 5 }),
     Step::Refused(
         b"SESSION001\0\0\0\0\0\0\0\0\0\x01\0\x01A",
-        Refused::SequenceZero,
+        Refusal::SequenceZero,
     ),
-    Step::Refused(b"", Refused::Malformed(DecodeError::Short { len: 0 })),
-    Step::Refused(b"SESSION002\0\0\0\0\0\0\0\0\0\0", Refused::WrongSession),
+    Step::Refused(b"", Refusal::Malformed(DecodeError::Short { len: 0 })),
+    Step::Refused(b"SESSION002\0\0\0\0\0\0\0\0\0\0", Refusal::WrongSession),
 ];
 
 #[test]
@@ -225,7 +225,7 @@ fn take_five(
     rt: &impl Abort,
     packer: &mut Packer,
     reception: &mut Reception,
-) -> Result<(), Refused> {
+) -> Result<(), Refusal> {
     let mut first = 2u64;
     for _ in 0..5u8 {
         fill(packer, first);
@@ -262,7 +262,7 @@ fn expect_full_window(
     rt: &impl Abort,
     packer: &mut Packer,
     reception: &mut Reception,
-) -> Result<(), Refused> {
+) -> Result<(), Refusal> {
     reception.expect_steps(rt, LAST_OF_WINDOW);
     take_five(rt, packer, reception)?;
     reception.expect_steps(rt, WHOLE_WINDOW);
@@ -301,7 +301,7 @@ fn a_refused_growth_takes_nothing(rt: HostRuntime) -> Result<(), Fail> {
     Ok(())
 }
 
-fn take_backwards(rt: &impl Abort, reception: &mut Reception) -> Result<(), Refused> {
+fn take_backwards(rt: &impl Abort, reception: &mut Reception) -> Result<(), Refusal> {
     reception.take_again(rt, DATA_3, (0, 1, 0), (1, 1, 0, 0, None))?;
     reception.take_again(rt, DATA_2, (0, 1, 0), (1, 4, 1, 0, None))?;
     reception.take_again(rt, DATA_1, (3, 0, 0), (1, 4, 2, 0, None))
@@ -344,7 +344,7 @@ fn take_never_empty(
     packer: &mut Packer,
     reception: &mut Reception,
     message: &[u8],
-) -> Result<(), Refused> {
+) -> Result<(), Refusal> {
     for (number, counts, state) in NEVER_EMPTY {
         packer.start(SESSION, number);
         packer.add(message);
@@ -364,7 +364,7 @@ fn with_three_and_five(rt: &impl Abort, alloc: Global) -> Result<Reception, Fail
     Ok(reception)
 }
 
-fn take_three_and_five(rt: &impl Abort, reception: &mut Reception) -> Result<(), Refused> {
+fn take_three_and_five(rt: &impl Abort, reception: &mut Reception) -> Result<(), Refusal> {
     reception.take(rt, DATA_1_3)?;
     reception.take(rt, b"SESSION001\0\0\0\0\0\0\0\x05\0\x01\0\x01E")?;
     Ok(())

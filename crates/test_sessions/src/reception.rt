@@ -1,7 +1,7 @@
 //! Packets of one session, and a receiver beside its batch: what tests of receivers and arbiters share.
 
 use crate::comparisons::{same_message, same_number, same_truth};
-use mold_receiver::{Batch, Receiver, Refused, Taken};
+use mold_receiver::{Batch, Receiver, Refusal, Taken};
 use mold_wire::Session;
 use std::alloc::Global;
 use std::process::Abort;
@@ -33,13 +33,13 @@ pub fn same_maybe(rt: &impl Abort, found: Option<u64>, wanted: Option<u64>) {
 
 pub fn same_outcome(
     rt: &impl Abort,
-    found: Result<Taken, Refused>,
-    wanted: Result<Taken, Refused>,
+    found: Result<Taken, Refusal>,
+    wanted: Result<Taken, Refusal>,
 ) {
     assert!(rt; found == wanted, "another outcome");
 }
 
-pub fn handed_kept_beyond(counts: (u32, u32, u32)) -> Result<Taken, Refused> {
+pub fn handed_kept_beyond(counts: (u32, u32, u32)) -> Result<Taken, Refusal> {
     let (handed, kept, beyond) = counts;
     Ok(Taken {
         handed,
@@ -83,7 +83,7 @@ pub enum Step {
     /// A packet is taken: how many of its messages are delivered, stored and beyond the window.
     Taken(&'static [u8], (u32, u32, u32)),
     /// A packet is refused, and nothing changes.
-    Refused(&'static [u8], Refused),
+    Refused(&'static [u8], Refusal),
     /// The next message, the greatest number that is known, and how many messages are stored.
     Numbers(u64, u64, u32),
     /// The request for what is missing: its first number and its count.
@@ -124,7 +124,7 @@ impl Reception {
         assert!(rt; self.state() == wanted, "another state");
     }
 
-    pub fn take(&mut self, rt: &impl Abort, packet: &[u8]) -> Result<Taken, Refused> {
+    pub fn take(&mut self, rt: &impl Abort, packet: &[u8]) -> Result<Taken, Refusal> {
         assert!(rt; self.batch.follows(self.receiver.next()));
         self.receiver.take(packet, &mut self.batch)
     }
@@ -133,7 +133,7 @@ impl Reception {
         same_outcome(rt, self.take(rt, packet), handed_kept_beyond(counts));
     }
 
-    pub fn expect_refused(&mut self, rt: &impl Abort, packet: &[u8], refused: Refused) {
+    pub fn expect_refused(&mut self, rt: &impl Abort, packet: &[u8], refused: Refusal) {
         let (before, ended) = (self.state(), self.receiver.ended());
         same_outcome(rt, self.take(rt, packet), Err(refused));
         self.expect_state(rt, before);
@@ -147,9 +147,9 @@ impl Reception {
         packet: &[u8],
         counts: (u32, u32, u32),
         state: State,
-    ) -> Result<(), Refused> {
+    ) -> Result<(), Refusal> {
         let found = self.take(rt, packet);
-        if found != Err(Refused::Memory) {
+        if found != Err(Refusal::Memory) {
             same_outcome(rt, found, handed_kept_beyond(counts));
             return Ok(());
         }

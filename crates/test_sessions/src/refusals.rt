@@ -1,7 +1,7 @@
 //! Each public call on its happy path, with the line that it writes.
 
 use crate::comparisons::same_bytes;
-use mold_receiver::Refused;
+use mold_receiver::Refusal;
 use mold_refusals::{push_answer_refusal, push_append_refusal};
 use mold_session::{AnswerError, AppendError};
 use mold_text::{Word, push_refusal};
@@ -24,6 +24,6 @@ fn push_refusals(out: &mut Vec<u8>) -> Result<(), AllocError> {
     let refused = [Word::Text(b"refused")];
     push_answer_refusal(out, &refused, AnswerError::Ahead { next: 6 })?;
     let fault = DecodeError::Short { len: 1 };
-    push_refusal(out, &[Word::Text(b"noise")], Refused::Malformed(fault))?;
-    push_refusal(out, &[], Refused::Conflict { number: 3 })
+    push_refusal(out, &[Word::Text(b"noise")], Refusal::Malformed(fault))?;
+    push_refusal(out, &[], Refusal::Conflict { number: 3 })
 }

@@ -4,7 +4,7 @@
 ghost use Rattle.std.specs.Prelude.{IsTrue};
 
 use crate::comparisons::same_number;
-use mold_receiver::{Batch, Receiver, Refused};
+use mold_receiver::{Batch, Receiver, Refusal};
 use mold_rounds::{Memory, catch_up};
 use mold_session::{AppendError, Journal, Server};
 use mold_wire::Session;
@@ -82,7 +82,7 @@ fn holds(rt: &impl Abort, fact: bool)
 fn hear(rt: &impl Abort, parts: &mut Parts, packet: &[u8]) -> Result<(), Memory> {
     holds(rt, parts.batch.follows(parts.receiver.next()));
     match parts.receiver.take(packet, &mut parts.batch) {
-        Err(Refused::Memory) => Err(Memory),
+        Err(Refusal::Memory) => Err(Memory),
         taken => {
             holds(rt, taken.is_ok());
             Ok(())

@@ -1,6 +1,6 @@
 //! Events of worlds, what they are answered, and what they publish and send.
 
-use mold_receiver::{Line, Refused, Taken};
+use mold_receiver::{Line, Refusal, Taken};
 use mold_session::{AppendError, Unsent};
 use mold_wire::{DecodeError, Session};
 use mold_world::{Event, Report, SessionError, Way, WorldError};
@@ -132,7 +132,7 @@ pub const TWO_ANSWERS: [Answer; 16] = [
     Ok(Report::Burst { first: 3, count: 1 }),
     ONE_HANDED,
     NONE_HANDED,
-    Ok(Report::NoiseRefused(Refused::Malformed(DecodeError::Short { len: 1 }))),
+    Ok(Report::NoiseRefused(Refusal::Malformed(DecodeError::Short { len: 1 }))),
 ];
 
 /// The messages that these events publish.
@@ -348,8 +348,8 @@ pub const WITHOUT_MEMORY: [Event<'static>; 6] = [
 
 /// And what they are answered.
 pub const WITHOUT_MEMORY_ANSWERS: [Answer; 6] = [
-    Ok(Report::NoiseRefused(Refused::Malformed(DecodeError::Short { len: 1 }))),
-    Ok(Report::NoiseRefused(Refused::WrongSession)),
+    Ok(Report::NoiseRefused(Refusal::Malformed(DecodeError::Short { len: 1 }))),
+    Ok(Report::NoiseRefused(Refusal::WrongSession)),
     Err(WorldError::NotNoise),
     Err(WorldError::NoReceiver),
     Ok(Report::Closed),

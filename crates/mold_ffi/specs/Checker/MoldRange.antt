@@ -1,6 +1,6 @@
 -- A range of sequence numbers as the fields of a struct, and an array of them that is filled.
 use Rattle.std.specs.Prelude.{◌≡◌, min, List, length, map, take, drop}
-use Rattle.mold_ranges.specs.Ranges as missing
+use Rattle.mold_rule.specs.Ranges as missing
 use Rattle.mold_ffi.specs.declared.checker.mold_range.MoldRange.{MoldRange}
 
 abbrev pub range_of : MoldRange → missing.Range

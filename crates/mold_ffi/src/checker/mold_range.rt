@@ -3,7 +3,7 @@
 ghost use Rattle.std.specs.Prelude.{◌≡◌};
 ghost use Rattle.mold_capture.specs.Verdict.{ranges_of};
 ghost use Rattle.mold_ffi.specs.Checker.MoldRange.{AreFilled, range_of};
-ghost use Rattle.mold_ranges.specs.Ranges.{range as numbers};
+ghost use Rattle.mold_rule.specs.Ranges.{range as numbers};
 
 use mold_capture::Range;
 

@@ -6,7 +6,7 @@ ghost use Rattle.mold_receiver.specs.View.{IsWellFormed, IsWindow};
 ghost use Rattle.mold_receiver.specs.declared.error.ReceiverError.TheVariants.{NextZero, Window, Memory};
 
 use mold_receiver::laws::{followed_law, taken_law};
-use mold_receiver::{Arbiter, Batch, Origin, Receiver, ReceiverError, Refused, Taken};
+use mold_receiver::{Arbiter, Batch, Origin, Receiver, ReceiverError, Refusal, Taken};
 use mold_wire::Session;
 use std::alloc::Global;
 use std::marker::Model;
@@ -54,7 +54,7 @@ impl BatchedArbiter {
 
     /// Takes a datagram. The messages that are delivered join the batch.
     #[tactic(auto, using(crate::proofs::ListenerLemmas::datagram_received))]
-    pub(crate) fn take(&mut self, origin: Origin, bytes: &[u8]) -> Result<Taken, Refused>
+    pub(crate) fn take(&mut self, origin: Origin, bytes: &[u8]) -> Result<Taken, Refusal>
         ensures { HasReceived origin bytes.now self.old self.new result }
     {
         taken_law();

@@ -4,7 +4,7 @@ ghost use Rattle.std.specs.Prelude.{◌≡◌};
 ghost use Rattle.mold_ffi.specs.Code.Refusal.{refusal_code, refusal_number};
 
 use crate::code::refusal::code_of_refusal;
-use mold_receiver::{Refused, Taken};
+use mold_receiver::{Refusal, Taken};
 
 /// What a listener made of a datagram. If it was taken, `detail` is 0; if it was refused, the counts are 0.
 #[repr(C)]
@@ -41,7 +41,7 @@ impl MoldTold {
     }
 
     /// Writes the number that goes with a refusal, and returns its code.
-    pub(crate) fn write_refused(&mut self, refused: Refused) -> u32
+    pub(crate) fn write_refused(&mut self, refused: Refusal) -> u32
         ensures code { result ≡ refusal_code refused }
         ensures told { self.new ≡ record {
           detail = refusal_number refused;

@@ -1,6 +1,6 @@
 use Rattle.std.proofs.Common.{◌∙◌, ◌++◌, ap}
 use Rattle.std.proofs.lemmas.Result.{on_ok_weaker}
-use Rattle.mold_check.specs.declared.line_check.LineRefusal.TheVariants.{NotHex, NotAccepted}
+use Rattle.mold_check.specs.declared.line_check.CheckedLineRefusal.TheVariants.{NotHex, NotAccepted}
 use Rattle.mold_check.proofs.LineLemmas.{refused_named}
 use Rattle.mold_check.proofs.line_check.push_refused_line.Goals as goal
 

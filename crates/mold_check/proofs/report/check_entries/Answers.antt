@@ -49,11 +49,11 @@ returns-in-Ok-clause-whole g c =
     let checked = checked_of c.args.entries.now (lent order) _ (outcome_in v) c.in_ok-order.ensures list
     (verdict_outcome _ v c.in-Ok.ensures.verdict)
     in
-    told_whole _ _ c.args.entries.now checked c.tell_verdict.result _ _
+    told_whole _ _ c.args.entries.now checked c.print_verdict.result _ _
     (report_text c.args.entries.now order _ _ _ _ (outcome_text [] (outcome_in v)) (outcome_in v) c.new-text.ensures.items
     c.in_ok-push_counts.ensures (c.len.ensures ∙ c.in_ok-order.order.ok.0) (c.len-2.ensures ∙ c.in_ok-order.order.ok.0)
     (verdict_text (map name_of (lent order)) v))
-    refl c.tell_verdict.ensures.whole
+    refl c.print_verdict.ensures.whole
 
 pub returns-in-Ok-clause-front : goal.returns-in-Ok-clause-front
 returns-in-Ok-clause-front g c =
@@ -67,7 +67,7 @@ returns-in-Ok-clause-front g c =
     (report_text c.args.entries.now order _ _ _ _ (outcome_text [] (outcome_in v)) (outcome_in v) c.new-text.ensures.items
     c.in_ok-push_counts.ensures (c.len.ensures ∙ c.in_ok-order.order.ok.0) (c.len-2.ensures ∙ c.in_ok-order.order.ok.0)
     (verdict_text (map name_of (lent order)) v))
-    c.tell_verdict.ensures.front
+    c.print_verdict.ensures.front
 
 pub returns : goal.returns
 returns g c =
@@ -89,7 +89,7 @@ returns g c =
     (ap (λ n. refused_line (n ∷ refusal_words why)) name)
     in
     record {
-      whole = told_whole _ _ c.args.entries.now checked c.tell_refusal.result _ _ text refl c.tell_refusal.ensures.whole;
-      front = told_front _ _ c.outcome_law.ensures.one c.args.entries.now checked _ text c.tell_refusal.ensures.front;
-      failures = c.tell_refusal.ensures.failures;
+      whole = told_whole _ _ c.args.entries.now checked c.print_refusal.result _ _ text refl c.print_refusal.ensures.whole;
+      front = told_front _ _ c.outcome_law.ensures.one c.args.entries.now checked _ text c.print_refusal.ensures.front;
+      failures = c.print_refusal.ensures.failures;
     }

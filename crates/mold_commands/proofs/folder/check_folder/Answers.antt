@@ -3,7 +3,7 @@ use Rattle.std.specs.Prelude.{Option, Result, Ok, Err, IfOk}
 use Rattle.std.specs.Io.KnownBytes.{Appends}
 use Rattle.mold_check.specs.Report.{Checked, outcome_status, report}
 use Rattle.mold_check.specs.declared.entry.Entry.{Entry}
-use Rattle.mold_commands.specs.Folder.{TellsEntries}
+use Rattle.mold_commands.specs.Folder.{PrintsEntries}
 use Rattle.mold_devices.specs.declared.fault.CommandFault.{CommandFault}
 use Rattle.mold_commands.proofs.folder.check_folder.Goals as goal
 
@@ -11,7 +11,7 @@ use Rattle.mold_commands.proofs.folder.check_folder.Goals as goal
 told_of : (entries : List Entry) (old new : Option (List ℕ)) (answer : Result ℕ CommandFault)
     → IfOk answer (λ status. (checked : Checked entries)
     × (Appends old new (report checked) × (status ≡ outcome_status checked.outcome)))
-    → IfOk answer (TellsEntries old new)
+    → IfOk answer (PrintsEntries old new)
 told_of entries old new (Ok status) whole = record {
   entries = entries;
   checked = whole.0;

@@ -1,5 +1,5 @@
-use Rattle.mold_feed.proofs.HeardTakingLemmas.{HearingLaws}
-use Rattle.mold_feed.proofs.HeardTurnLemmas.{run_finished, run_listened, run_plain}
+use Rattle.mold_feed.proofs.TakingLemmas.{HearingLaws}
+use Rattle.mold_feed.proofs.ReceivedTurnLemmas.{run_finished, run_listened, run_plain}
 use Rattle.mold_feed.proofs.laws.listened_law.Given.{Over}
 use Rattle.mold_feed.proofs.laws.listened_law.Goals.{After-reading_law}
 use Rattle.mold_feed.proofs.laws.listened_law.Goals as goal
@@ -12,8 +12,8 @@ laws g c = record {
   fault = c.reading_law.ensures.fault;
 }
 
-pub returns-clause-heard : goal.returns-clause-heard
-returns-clause-heard g c = run_listened (laws g c)
+pub returns-clause-received : goal.returns-clause-received
+returns-clause-received g c = run_listened (laws g c)
 
 pub returns-clause-plain : goal.returns-clause-plain
 returns-clause-plain g c = run_plain (laws g c)

@@ -17,7 +17,7 @@ laws g c = record {
   published = c.published_law.ensures.sent;
   before = c.published_law.ensures.before;
   served = c.served_law.ensures;
-  heard = c.listened_law.ensures.heard;
+  received = c.listened_law.ensures.received;
   plain = c.listened_law.ensures.plain;
   finished = c.listened_law.ensures.finished;
 }

@@ -7,8 +7,8 @@ use Rattle.mold_loop.proofs.LoopEndLemmas.{loop_unbegun}
 use Rattle.mold_loop.proofs.PassingLemmas.{loop_sends}
 use Rattle.mold_loop.proofs.looping.session_loop.Goals as goal
 
-pub returns-in_err-place-clause-run : goal.returns-in_err-place-clause-run
-returns-in_err-place-clause-run g c tells =
+pub returns-in_err-buffer-clause-run : goal.returns-in_err-buffer-clause-run
+returns-in_err-buffer-clause-run g c modeled =
     let options = c.args.options.now in
     let peers = options.peers in
     let port = g.D.Datagrams.port in
@@ -18,7 +18,7 @@ returns-in_err-place-clause-run g c tells =
     c.from_residual.ensures.0
 
 pub returns-clause-run : goal.returns-clause-run
-returns-clause-run g c tells =
+returns-clause-run g c modeled =
     let options = c.args.options.now in
     let peers = options.peers in
     let port = g.D.Datagrams.port in
@@ -34,30 +34,30 @@ returns-clause-run g c tells =
     (search (rules, ends_b)) (search (rules, ends_arbiter)) (search (rules, ends_outgoing)))
     (rounds_so port feed.ports.now c.run.new.server feed.listener.now _ _ _ _ (search (rules, ends_server))
     (search (rules, ends_requests)) (search (rules, ends_arbiter)) (search (rules, ends_outgoing)))
-    (c.run.ensures.run tells)
+    (c.run.ensures.run modeled)
 
 pub returns-clause-a : goal.returns-clause-a
-returns-clause-a g c tells =
+returns-clause-a g c modeled =
     sent_so g.D.Datagrams.port c.args.ports.now.a c.run.new.self.ports.now.a _
-    (let same = sym c.run.ensures.same.ports in search (rules, ends_a)) (c.run.ensures.a tells)
+    (let same = sym c.run.ensures.same.ports in search (rules, ends_a)) (c.run.ensures.a modeled)
 
 pub returns-clause-b : goal.returns-clause-b
-returns-clause-b g c tells =
+returns-clause-b g c modeled =
     sent_so g.D.Datagrams.port c.args.ports.now.b c.run.new.self.ports.now.b _
-    (let same = sym c.run.ensures.same.ports in search (rules, ends_b)) (c.run.ensures.b tells)
+    (let same = sym c.run.ensures.same.ports in search (rules, ends_b)) (c.run.ensures.b modeled)
 
-pub returns-in_err-place-clause-sends : goal.returns-in_err-place-clause-sends
-returns-in_err-place-clause-sends g c tells =
+pub returns-in_err-buffer-clause-sends : goal.returns-in_err-buffer-clause-sends
+returns-in_err-buffer-clause-sends g c modeled =
     let options = c.args.options.now in
     let peers = options.peers in
     loop_sends options.reporting options.drops peers.a peers.b peers.server options.turns
     c.args.parts.now.publisher c.args.parts.now.server _ _ _ c.from_residual.result _ _ _ _
-    (returns-in_err-place-clause-run g c tells)
+    (returns-in_err-buffer-clause-run g c modeled)
 
 pub returns-clause-sends : goal.returns-clause-sends
-returns-clause-sends g c tells =
+returns-clause-sends g c modeled =
     let options = c.args.options.now in
     let peers = options.peers in
     loop_sends options.reporting options.drops peers.a peers.b peers.server options.turns
     c.args.parts.now.publisher c.args.parts.now.server _ _ _ c.run.result _ _ _ _
-    (returns-clause-run g c tells)
+    (returns-clause-run g c modeled)

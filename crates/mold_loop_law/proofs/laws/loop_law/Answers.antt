@@ -1,6 +1,6 @@
 use Rattle.std.proofs.Common.{sym, ◌∙◌}
 use Rattle.std.proofs.lemmas.Option.{none-some}
-use Rattle.mold_feed.proofs.HeardTakingLemmas.{HearingLaws}
+use Rattle.mold_feed.proofs.TakingLemmas.{HearingLaws}
 use Rattle.mold_loop_law.proofs.LoopLawLemmas.{LoopLaws, loop_prints_lines, loop_prints_refused, server_may}
 use Rattle.mold_feed.proofs.OpeningLemmas.{OpeningLaws, lines_within, messages_within}
 use Rattle.mold_loop_law.proofs.laws.loop_law.Given.{Over}
@@ -14,8 +14,8 @@ opening_laws g c = record {
   begins = c.honest_stays_law.ensures.fresh;
 }
 
-hearing : (g : Over) → After-reading_law g → HearingLaws
-hearing g c = record {
+progress : (g : Over) → After-reading_law g → HearingLaws
+progress g c = record {
   take = c.honest_take_law.ensures;
   taken = c.taken_law.ensures;
   spelled = c.reading_law.ensures.spelled;
@@ -28,7 +28,7 @@ laws g c = record {
   served = c.served_law.ensures;
   offered = c.published_law.ensures.offered;
   before = c.published_law.ensures.before;
-  hearing = hearing g c;
+  progress = progress g c;
 }
 
 pub returns-clause-printed : goal.returns-clause-printed

@@ -3,4 +3,4 @@ use Rattle.mold_sim.proofs.report.push_receivers.Given as goal
 
 -- the lines of the receivers so far stand behind what was there
 abbrev pub invariant-receivers : goal.invariant-receivers
-invariant-receivers l = AreShown l.fn.out.items l.out.items l.world.places l.r
+invariant-receivers l = AreShown l.fn.out.items l.out.items l.world.subscribers l.r

@@ -2,7 +2,7 @@ use Rattle.std.proofs.Common.{List, arith, map, refl, subst}
 use Rattle.std.proofs.lemmas.List.{length-set, take_all}
 use Rattle.std.specs.List.{flat_map}
 use Rattle.mold_digits.specs.Writing.{IsWritten}
-use Rattle.mold_text.specs.Line.{behind_space, word_text}
+use Rattle.mold_text.specs.Line.{after_space, word_text}
 use Rattle.mold_text.specs.declared.word.Word.{Word}
 use Rattle.mold_text.specs.declared.word.Word.TheVariants.{Number}
 use Rattle.mold_text.proofs.LineLemmas.{spaced_more}
@@ -45,7 +45,7 @@ loop-word-preserved c = record {
 pub returns-clause-written : goal.returns-clause-written
 returns-clause-written c =
     subst (λ (words : List Word). IsWritten c.args.out.now c.loop-word.out c.args.at c.loop-word.end
-    (flat_map behind_space (map word_text words)))
+    (flat_map after_space (map word_text words)))
     (take_all c.loop-word.word-index c.args.words.now c.loop-word-test.false) c.loop-word.invariant.told
 
 pub returns-clause-most : goal.returns-clause-most

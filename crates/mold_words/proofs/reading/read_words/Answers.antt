@@ -2,7 +2,7 @@ use Rattle.std.proofs.Common.{◌∙◌, Bool, ap, inl, refl, string_bytes, sym}
 use Rattle.clap.specs.Words.{app_of, is_simple_and_free}
 use Rattle.mold_words.proofs.FaultLemmas.{gives-none, says-none, tells-none, tells-nothing, tells-parse}
 use Rattle.mold_words.proofs.OrderLemmas.{mold_is_free, none-order, none-taken, order_of-matches, taken-by}
-use Rattle.mold_words.specs.Faults.{value_told}
+use Rattle.mold_words.specs.Faults.{value_fault}
 use Rattle.mold_words.proofs.reading.read_words.Goals as goal
 
 pub returns-then-is_empty-clause-taken : goal.returns-then-is_empty-clause-taken
@@ -32,14 +32,14 @@ returns-in-Ok-clause-refused c =
     let gives = gives-none _ (app_of c.in_ok-command.command) c.in-Ok.matches c.in-Err-order_from.none c.text.result
     c.in_ok-command.ensures c.in-Ok.ensures.matches c.in-Err-order_from.ensures c.text.ensures in
     λ wanted say. says-none _ c.in-Err-order_from.none _ c.text.result c.value_fault.result wanted gives
-    (c.value_fault.ensures ∙ ap (λ (b : Bool). value_told b c.text.result) c.is_address.ensures) say
+    (c.value_fault.ensures ∙ ap (λ (b : Bool). value_fault b c.text.result) c.is_address.ensures) say
 
 pub returns-in-Ok-clause-fault : goal.returns-in-Ok-clause-fault
 returns-in-Ok-clause-fault c =
     let gives = gives-none _ (app_of c.in_ok-command.command) c.in-Ok.matches c.in-Err-order_from.none c.text.result
     c.in_ok-command.ensures c.in-Ok.ensures.matches c.in-Err-order_from.ensures c.text.ensures in
     tells-none _ c.in-Err-order_from.none _ c.text.result c.value_fault.result gives
-    (c.value_fault.ensures ∙ ap (λ (b : Bool). value_told b c.text.result) c.is_address.ensures)
+    (c.value_fault.ensures ∙ ap (λ (b : Bool). value_fault b c.text.result) c.is_address.ensures)
 
 pub returns-clause-fault : goal.returns-clause-fault
 returns-clause-fault c =

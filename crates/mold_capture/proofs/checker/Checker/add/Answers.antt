@@ -26,12 +26,12 @@ returns-in_err-join_messages-clause-refused c =
 
 -- the checker's parts are those before, and the packet
 joined_parts : (c : goal.After-ended-1) → Joins c.self.inside.session c.or-self-inside.result c.self.inside.known
-    c.max-self-inside.result c.self.inside.ended c.told_end-ended.result c.self.inside.carried
+    c.max-self-inside.result c.self.inside.ended c.known_end-ended.result c.self.inside.carried
     c.join_messages.new.carried c.in-Ok.packet
 joined_parts c = record {
   session_is = c.or-self-inside.ensures;
   known_is = c.max-self-inside.ensures ∙ ap (max c.self.inside.known) c.in_ok-top.ensures.top;
-  ended_is = c.told_end-ended.ensures;
+  ended_is = c.known_end-ended.ensures;
   pairs_is = c.in_ok-join_messages.ensures.ok;
 }
 

@@ -2,7 +2,7 @@ use Rattle.std.proofs.Common.{◌<◌, ◌∙◌, length, get_or, ap, sym, arith
 use Rattle.mold_ffi.proofs.LoanLemmas.{told_at, behind_less}
 use Rattle.mold_capture.specs.declared.verdict.Range.{Range}
 use Rattle.mold_ffi.specs.Checker.MoldRange.{range_of}
-use Rattle.mold_ranges.specs.Ranges.{range as numbers}
+use Rattle.mold_rule.specs.Ranges.{range as numbers}
 use Rattle.mold_ffi.proofs.checker.mold_range.fill_places.Goals as goal
 
 pub loop-range-preserved : goal.loop-range-preserved

@@ -19,16 +19,16 @@ loop-turn-preserved g c = record {
       let laws = is_loop c.args.options.server c.args.options.burst in
       let turned = c.in_ok-take_turn.ensures.turned t in
       let made = state g.D.Datagrams.port c.take_turn.new.self in
-      let after = listener made.a made.b made.requests made.hearing.arbitration c.send_large.new.self in
+      let after = listener made.a made.b made.requests made.progress.arbitration c.send_large.new.self in
       let on = finished_is c.finished.result c.receiver.result.now c.take_turn.new.self.arbiter.now.view c.finished.ensures
       c.receiver.ensures ∙ c.if-finished.false in
       let moves = c.in_ok-send_large.ensures.moved in
       going_sent laws after (going_on laws turned.fails made (c.loop-turn.invariant.going t) turned.whole on) moves
-      (moved_same _ _ _ _ c.take_turn.new.self.report.now.outgoing c.send_large.new.self moves.front moves.parts
+      (moved_same _ _ _ _ c.take_turn.new.self.printer.now.outgoing c.send_large.new.self moves.front moves.parts
       c.in_ok-send_large.ensures.failures);
   same =
       let same = same_twice c.loop-turn.invariant.same c.in_ok-take_turn.ensures.same in
-      record { a = same.a; b = same.b; requests = same.requests; arbiter = same.arbiter; report = same.report };
+      record { a = same.a; b = same.b; requests = same.requests; arbiter = same.arbiter; printer = same.printer };
   sink = c.in_ok-send_large.ensures.sink ∙ c.loop-turn.invariant.sink;
 }
 
@@ -74,7 +74,7 @@ returns-in_err-send_large-clause-run g c = λ t.
 pub returns-in_err-send_large-clause-same : goal.returns-in_err-send_large-clause-same
 returns-in_err-send_large-clause-same g c =
     let same = same_twice c.loop-turn.invariant.same c.in_ok-take_turn.ensures.same in
-    record { a = same.a; b = same.b; requests = same.requests; arbiter = same.arbiter; report = same.report }
+    record { a = same.a; b = same.b; requests = same.requests; arbiter = same.arbiter; printer = same.printer }
 
 pub returns-in_err-send_large-clause-sink : goal.returns-in_err-send_large-clause-sink
 returns-in_err-send_large-clause-sink g c =

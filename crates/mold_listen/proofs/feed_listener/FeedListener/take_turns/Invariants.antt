@@ -6,7 +6,7 @@ use Rattle.mold_listen.proofs.feed_listener.FeedListener.take_turns.Given as goa
 -- so many turns were made, and the run goes on from here; the sink didn't fail
 abbrev pub invariant-loop-turn : goal.invariant-loop-turn
 invariant-loop-turn g l = record {
-  going : g.D.Datagrams.tells ≡ true → Going (listening l.options.0 l.options.1.0) put_before
+  going : g.D.Datagrams.modeled ≡ true → Going (listening l.options.0 l.options.1.0) put_before
       (state g.D.Datagrams.port l.fn.self)
       (g.K.Sink.held l.fn.sink) (g.K.Sink.held l.sink) l._turn
       (state g.D.Datagrams.port l.self);

@@ -28,11 +28,11 @@ pub lines-init : goal.lines-init
 lines-init g c = record {
   room = c.requires.room;
   few = omega arith;
-  heard = λ tells.
+  received = λ modeled.
       let feed = c.args.self.now in
       so_far_begun feed.options.now.drops feed.options.now.peers.a feed.options.now.peers.b c.args.publisher.now
       (g.S.Source.left c.args.source.now) c.in_ok-lines.lines.rest _ _ c.in_ok-lines.ensures;
-  only = passes_at_first g.D.Datagrams.tells g.D.Datagrams.port c.args.self.now;
+  only = passes_at_first g.D.Datagrams.modeled g.D.Datagrams.port c.args.self.now;
   limit = refl;
   source = refl;
   sink = refl;
@@ -50,26 +50,26 @@ lines-preserved g c =
     record {
       room = went.0;
       few = went.1;
-      heard = λ tells.
+      received = λ modeled.
           let made = lines port c.pass_next.new.self in
-          let after = line_state made.publisher made.a made.b made.hearing.arbitration c.send_large.new.self in
+          let after = line_state made.publisher made.a made.b made.progress.arbitration c.send_large.new.self in
           let has = next_passed port (c.lines.number + 1) (spelled_some (next_datagram c.fill.new.publisher)) _
-          c.pass_next.new.self c.lines.invariant.only.same (c.in_ok-pass_next-in-Full.ensures.passed tells) in
+          c.pass_next.new.self c.lines.invariant.only.same (c.in_ok-pass_next-in-Full.ensures.passed modeled) in
           let moves = c.in_ok-send_large.ensures.moved in
           so_far_moved feed.options.now.drops feed.options.now.peers.a feed.options.now.peers.b c.args.publisher.now c.pass_next.new.publisher
           _ _ _ made _ _ _ c.pass_next.new.number _ after
           (so_far_full known feed.options.now.drops feed.options.now.peers.a feed.options.now.peers.b c.args.publisher.now c.lines.publisher
           c.fill.new.publisher c.pass_next.new.publisher _ _ _ _ _ made _ _ c.lines.number c.pass_next.new.number
-          c.in_ok-pass_next-in-Full.field-0 (c.lines.invariant.heard tells) filled c.pass_next.ensures.sent
+          c.in_ok-pass_next-in-Full.field-0 (c.lines.invariant.received modeled) filled c.pass_next.ensures.sent
           has c.pass_next.ensures.counted)
           moves
-          (lines_moved _ _ _ _ c.pass_next.new.self.listener.now.report.outgoing c.send_large.new.self moves.front
+          (lines_moved _ _ _ _ c.pass_next.new.self.listener.now.printer.outgoing c.send_large.new.self moves.front
           moves.parts c.in_ok-send_large.ensures.failures);
       only = record {
         same = record {
           ports = only.same.ports;
           options = only.same.options;
-          place = only.same.place;
+          buffer = only.same.buffer;
           listener = only.same.listener;
         };
         server = only.server;
@@ -88,78 +88,78 @@ returns-in-End-clause-all g c none =
     rw c.pass_next-in-End.ensures.sent
     (all_sent (laws g (goal.at.returns-in-End-clause-all g c).After-packing_law) c.fill.new.publisher filled.room)
 
-pub returns-in_err-lines-clause-heard : goal.returns-in_err-lines-clause-heard
-returns-in_err-lines-clause-heard g c tells =
+pub returns-in_err-lines-clause-received : goal.returns-in_err-lines-clause-received
+returns-in_err-lines-clause-received g c modeled =
     let feed = c.args.self.now in
     hears_none feed.options.now.drops feed.options.now.peers.a feed.options.now.peers.b c.args.publisher.now c.args.publisher.now _
     c.from_residual.result _ _ c.from_residual.ensures.0
 
-pub returns-in_err-fill-clause-heard : goal.returns-in_err-fill-clause-heard
-returns-in_err-fill-clause-heard g c tells =
+pub returns-in_err-fill-clause-received : goal.returns-in_err-fill-clause-received
+returns-in_err-fill-clause-received g c modeled =
     let feed = c.args.self.now in
     hears_still feed.options.now.drops feed.options.now.peers.a feed.options.now.peers.b c.args.publisher.now c.lines.publisher
     c.fill.new.publisher _ _
-    c.from_residual-in_err-fill.result _ _ _ _ c.lines.number (c.lines.invariant.heard tells)
+    c.from_residual-in_err-fill.result _ _ _ _ c.lines.number (c.lines.invariant.received modeled)
     c.from_residual-in_err-fill.ensures.0
 
-pub returns-in_err-pass_next-in-Full-clause-heard : goal.returns-in_err-pass_next-in-Full-clause-heard
-returns-in_err-pass_next-in-Full-clause-heard g c tells =
+pub returns-in_err-pass_next-in-Full-clause-received : goal.returns-in_err-pass_next-in-Full-clause-received
+returns-in_err-pass_next-in-Full-clause-received g c modeled =
     let feed = c.args.self.now in
-    hears_full (laws g (goal.at.returns-in_err-pass_next-in-Full-clause-heard g c).After-packing_law) feed.options.now.drops
+    hears_full (laws g (goal.at.returns-in_err-pass_next-in-Full-clause-received g c).After-packing_law) feed.options.now.drops
     feed.options.now.peers.a feed.options.now.peers.b c.args.publisher.now c.lines.publisher c.fill.new.publisher
     c.pass_next.new.publisher _ _ _ _ _ _ _ _ c.lines.number c.pass_next.result
-    c.from_residual-in_err-pass_next-in-Full.result (c.lines.invariant.heard tells)
+    c.from_residual-in_err-pass_next-in-Full.result (c.lines.invariant.received modeled)
     (rw c.in-Full.is at c.in_ok-fill.ensures.filled)
     (next_passed g.D.Datagrams.port (c.lines.number + 1) (spelled_some (next_datagram c.fill.new.publisher)) _
-    c.pass_next.new.self c.lines.invariant.only.same (c.pass_next.ensures.passed tells))
+    c.pass_next.new.self c.lines.invariant.only.same (c.pass_next.ensures.passed modeled))
     c.from_residual-in_err-pass_next-in-Full.ensures.0
 
-pub returns-in_err-send_large-clause-heard : goal.returns-in_err-send_large-clause-heard
-returns-in_err-send_large-clause-heard g c tells =
+pub returns-in_err-send_large-clause-received : goal.returns-in_err-send_large-clause-received
+returns-in_err-send_large-clause-received g c modeled =
     let feed = c.args.self.now in
     let port = g.D.Datagrams.port in
     let filled = rw c.in-Full.is at c.in_ok-fill.ensures.filled in
-    let known = laws g (goal.at.returns-in_err-send_large-clause-heard g c).After-packing_law in
+    let known = laws g (goal.at.returns-in_err-send_large-clause-received g c).After-packing_law in
     let made = lines port c.pass_next.new.self in
     let has = next_passed port (c.lines.number + 1) (spelled_some (next_datagram c.fill.new.publisher)) _
-    c.pass_next.new.self c.lines.invariant.only.same (c.in_ok-pass_next-in-Full.ensures.passed tells) in
+    c.pass_next.new.self c.lines.invariant.only.same (c.in_ok-pass_next-in-Full.ensures.passed modeled) in
     hears_unwritten feed.options.now.drops feed.options.now.peers.a feed.options.now.peers.b c.args.publisher.now c.pass_next.new.publisher
     c.pass_next.new.publisher _ _ c.from_residual-in_err-send_large.result _ made _ _ _ _ c.pass_next.new.number
     (so_far_full known feed.options.now.drops feed.options.now.peers.a feed.options.now.peers.b c.args.publisher.now c.lines.publisher
     c.fill.new.publisher c.pass_next.new.publisher _ _ _ _ _ made _ _ c.lines.number c.pass_next.new.number
-    c.in_ok-pass_next-in-Full.field-0 (c.lines.invariant.heard tells) filled c.pass_next.ensures.sent
+    c.in_ok-pass_next-in-Full.field-0 (c.lines.invariant.received modeled) filled c.pass_next.ensures.sent
     has c.pass_next.ensures.counted)
     refl c.send_large.ensures.front c.from_residual-in_err-send_large.ensures.0
 
-pub returns-in_err-pass_next-in-End-clause-heard : goal.returns-in_err-pass_next-in-End-clause-heard
-returns-in_err-pass_next-in-End-clause-heard g c tells =
+pub returns-in_err-pass_next-in-End-clause-received : goal.returns-in_err-pass_next-in-End-clause-received
+returns-in_err-pass_next-in-End-clause-received g c modeled =
     let feed = c.args.self.now in
-    hears_last (laws g (goal.at.returns-in_err-pass_next-in-End-clause-heard g c).After-packing_law) feed.options.now.drops
+    hears_last (laws g (goal.at.returns-in_err-pass_next-in-End-clause-received g c).After-packing_law) feed.options.now.drops
     feed.options.now.peers.a feed.options.now.peers.b c.args.publisher.now c.lines.publisher c.fill.new.publisher
     c.pass_next-in-End.new.publisher _ _ _ _ _ _ _ _ c.lines.number c.pass_next-in-End.result
-    c.from_residual-in_err-pass_next-in-End.result (c.lines.invariant.heard tells)
+    c.from_residual-in_err-pass_next-in-End.result (c.lines.invariant.received modeled)
     (rw c.in-End.is at c.in_ok-fill.ensures.filled)
     (next_passed g.D.Datagrams.port (c.lines.number + 1) (spelled_some (next_datagram c.fill.new.publisher)) _
-    c.pass_next-in-End.new.self c.lines.invariant.only.same (c.pass_next-in-End.ensures.passed tells))
+    c.pass_next-in-End.new.self c.lines.invariant.only.same (c.pass_next-in-End.ensures.passed modeled))
     c.from_residual-in_err-pass_next-in-End.ensures.0
 
-pub returns-in-End-clause-heard : goal.returns-in-End-clause-heard
-returns-in-End-clause-heard g c tells =
+pub returns-in-End-clause-received : goal.returns-in-End-clause-received
+returns-in-End-clause-received g c modeled =
     let feed = c.args.self.now in
-    hears_end (laws g (goal.at.returns-in-End-clause-heard g c).After-packing_law) feed.options.now.drops
+    hears_end (laws g (goal.at.returns-in-End-clause-received g c).After-packing_law) feed.options.now.drops
     feed.options.now.peers.a feed.options.now.peers.b c.args.publisher.now c.lines.publisher c.fill.new.publisher
     c.pass_next-in-End.new.publisher _ _ _ _ _ _ _ _ c.lines.number c.in_ok-pass_next-in-End.field-0
-    (c.lines.invariant.heard tells) (rw c.in-End.is at c.in_ok-fill.ensures.filled)
+    (c.lines.invariant.received modeled) (rw c.in-End.is at c.in_ok-fill.ensures.filled)
     (next_passed g.D.Datagrams.port (c.lines.number + 1) (spelled_some (next_datagram c.fill.new.publisher)) _
-    c.pass_next-in-End.new.self c.lines.invariant.only.same (c.in_ok-pass_next-in-End.ensures.passed tells))
+    c.pass_next-in-End.new.self c.lines.invariant.only.same (c.in_ok-pass_next-in-End.ensures.passed modeled))
     c.pass_next-in-End.ensures.sent
 
-pub returns-in-Refused-clause-heard : goal.returns-in-Refused-clause-heard
-returns-in-Refused-clause-heard g c tells =
+pub returns-in-Refused-clause-received : goal.returns-in-Refused-clause-received
+returns-in-Refused-clause-received g c modeled =
     let feed = c.args.self.now in
-    hears_refused (laws g (goal.at.returns-in-Refused-clause-heard g c).After-packing_law) feed.options.now.drops
+    hears_refused (laws g (goal.at.returns-in-Refused-clause-received g c).After-packing_law) feed.options.now.drops
     feed.options.now.peers.a feed.options.now.peers.b c.args.publisher.now c.lines.publisher c.fill.new.publisher _ _ _
-    c.in-Refused.why _ _ _ _ c.lines.number (c.lines.invariant.heard tells)
+    c.in-Refused.why _ _ _ _ c.lines.number (c.lines.invariant.received modeled)
     (rw c.in-Refused.is at c.in_ok-fill.ensures.filled)
 
 pub returns-in_err-fill-clause-only : goal.returns-in_err-fill-clause-only

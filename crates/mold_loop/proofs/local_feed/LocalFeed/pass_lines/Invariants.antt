@@ -12,13 +12,13 @@ abbrev pub invariant-lines : goal.invariant-lines
 invariant-lines g l = record {
   room : HasRoom l.publisher;
   few : l.number ≤ l.publisher.sent;
-  heard :
-      g.D.Datagrams.tells ≡ true →
+  received :
+      g.D.Datagrams.modeled ≡ true →
       HeardSoFar l.fn.self.options.now.drops l.fn.self.options.now.peers.a l.fn.self.options.now.peers.b l.fn.publisher l.publisher
       (g.S.Source.left l.fn.source) (prepend_known l.lines.rest (g.S.Source.left l.source))
       (lines g.D.Datagrams.port l.fn.self) (lines g.D.Datagrams.port l.self)
       (g.K.Sink.held l.fn.sink) (g.K.Sink.held l.sink) l.number;
-  only : OnlyPasses g.D.Datagrams.tells g.D.Datagrams.port l.fn.self l.self;
+  only : OnlyPasses g.D.Datagrams.modeled g.D.Datagrams.port l.fn.self l.self;
   limit : l.publisher.limit ≡ l.fn.publisher.limit;
   source : g.S.Source.failed l.source ≡ g.S.Source.failed l.fn.source;
   sink : g.K.Sink.failed l.sink ≡ g.K.Sink.failed l.fn.sink;

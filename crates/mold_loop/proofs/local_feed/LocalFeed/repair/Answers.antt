@@ -1,5 +1,5 @@
 use Rattle.std.proofs.Common.{◌∙◌, ℕ, ap, refl, rules, sym}
-use Rattle.mold_listen.specs.Listening.{hearing}
+use Rattle.mold_listen.specs.Listening.{progress}
 use Rattle.mold_loop.specs.LocalFeed.{rounds}
 use Rattle.mold_turns.specs.Outgoing.{failed_often}
 use Rattle.mold_serve.specs.Serving.{service_of, state}
@@ -25,7 +25,7 @@ returns-clause-repaired g c = λ t.
     let reached = turn_from _ service turned.0 (known feed.ports.now.server) c.args.server.now _ c.new-tally.ensures
     turned.1 in
     let responder = state known c.take_turn.new.self in
-    let mid = hearing feed.listener.now.arbiter c.count_failures.new.self in
+    let mid = progress feed.listener.now.arbiter c.count_failures.new.self in
     let end = rounds known c.take_turn.new.self.server.now c.take_answers.new.self in (
       turned.0,
       repaired_so c.take_answers.result _ _ c.take_turn.new.self.server.now.answered _ _ _
@@ -34,9 +34,9 @@ returns-clause-repaired g c = λ t.
           (rounds known c.args.server.now feed)
           end
           responder mid c.take_turn.new.self.tally.now.answered reached.whole
-          (ap (hearing feed.listener.now.arbiter)
-          (c.count_failures.ensures ∙ ap (λ (n : ℕ). failed_often n feed.listener.now.report.outgoing)
+          (ap (progress feed.listener.now.arbiter)
+          (c.count_failures.ensures ∙ ap (λ (n : ℕ). failed_often n feed.listener.now.printer.outgoing)
           c.failures-failures.ensures))
           refl (ap known c.take_answers.ensures.server) refl (c.take_answers.ensures.sent t)
-          (c.take_answers.ensures.heard t)),
+          (c.take_answers.ensures.received t)),
     )

@@ -37,7 +37,7 @@ loop-turn-preserved g c = record {
       same_service c.args.journal.now c.loop-turn.server c.args.server.now _ c.loop-turn.invariant.server in
       let before = rounds known c.loop-turn.server c.loop-turn.self in
       let made = rounds known c.round.new.server c.round.new.self in
-      let after = repair_state made.server made.requests c.round.new.server made.hearing.arbitration c.send_large.new.self in
+      let after = repair_state made.server made.requests c.round.new.server made.progress.arbitration c.send_large.new.self in
       let done = c.in_ok-round.ensures.requested t in
       let has = round_is _ to (service_of c.args.journal.now c.loop-turn.server) c.in-Some.request done.0 before made
       (ap wanted (sym c.receiver.ensures) ∙ sym c.in-Some.ensures.wanted)
@@ -48,7 +48,7 @@ loop-turn-preserved g c = record {
       (going_on (rounds_are to service) done.0 made (c.loop-turn.invariant.going t)
       (has.whole ∙ ap (λ (s : Service). round to s done.0 before) same) refl)
       moves
-      (text_moved _ _ _ _ c.round.new.self.listener.now.report.outgoing c.send_large.new.self moves.front moves.parts
+      (text_moved _ _ _ _ c.round.new.self.listener.now.printer.outgoing c.send_large.new.self moves.front moves.parts
       c.in_ok-send_large.ensures.failures);
   server =
       c.round.ensures.server
@@ -59,7 +59,7 @@ loop-turn-preserved g c = record {
         same = record {
           ports = only.same.ports;
           options = only.same.options;
-          place = only.same.place;
+          buffer = only.same.buffer;
           listener = only.same.listener;
         };
         publisher = only.publisher;
@@ -113,7 +113,7 @@ returns-in_err-send_large-clause-rests g c = λ t.
     done.0 before made (ap wanted (sym c.receiver.ensures) ∙ sym c.in-Some.ensures.wanted)
     (request_from _ (Some c.in-Some.request) (service_of c.args.journal.now c.loop-turn.server) done.0 before made
     c.loop-turn.invariant.only.same done.1) in
-    let left = repair_state made.server made.requests c.round.new.server made.hearing.arbitration c.send_large.new.self in
+    let left = repair_state made.server made.requests c.round.new.server made.progress.arbitration c.send_large.new.self in
     two_cut (rounds_are to service) answers_sent (λ front s. refl) (round_answers to service)
     c.from_residual-in_err-send_large.result c.args.self.now.options.now.turns done.0 made left (c.loop-turn.invariant.going t)
     c.loop-turn-test.true (has.whole ∙ ap (λ (s : Service). round to s done.0 before) same)

@@ -11,7 +11,7 @@ invariant-loop-turn g l =
     let known = g.D.Datagrams.port in
     record {
       going :
-          g.D.Datagrams.tells ≡ true →
+          g.D.Datagrams.modeled ≡ true →
           Going (repairing l.fn.self.options.now.peers.server (service_of l.journal l.fn.server)) text_before
           (rounds known l.fn.server l.fn.self) (g.K.Sink.held l.fn.sink) (g.K.Sink.held l.sink) l._turn
           (rounds known l.server l.self);

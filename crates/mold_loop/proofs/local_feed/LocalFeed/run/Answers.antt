@@ -19,7 +19,7 @@ returns-in-Some-clause-failures g c =
     c.in_ok-refused.ensures.failures.1 c.print_refused.ensures.sink
 
 pub returns-in_err-refused-clause-run : goal.returns-in_err-refused-clause-run
-returns-in_err-refused-clause-run g c tells =
+returns-in_err-refused-clause-run g c modeled =
     let port = g.D.Datagrams.port in
     let feed = c.args.self.now in
     let peers = feed.options.now.peers in
@@ -28,23 +28,23 @@ returns-in_err-refused-clause-run g c tells =
     c.pass_lines.result c.from_residual.result _ _ (lines port c.pass_lines.new.self)
     (rounds port c.args.server.now c.pass_lines.new.self) c.from_residual.ensures.0
     (ap port c.pass_lines.ensures.only.server) (ap port c.pass_lines.ensures.only.requests)
-    (c.pass_lines.ensures.heard tells)
+    (c.pass_lines.ensures.received modeled)
 
 pub returns-in-Some-clause-run : goal.returns-in-Some-clause-run
-returns-in-Some-clause-run g c tells =
+returns-in-Some-clause-run g c modeled =
     let port = g.D.Datagrams.port in
     let feed = c.args.self.now in
     let peers = feed.options.now.peers in
     let here = lines port c.pass_lines.new.self in
-    let here_left = line_state here.publisher here.a here.b here.hearing.arbitration c.print_refused.new.outgoing in
+    let here_left = line_state here.publisher here.a here.b here.progress.arbitration c.print_refused.new.outgoing in
     let behind = rounds port c.args.server.now c.pass_lines.new.self in
-    let left = repair_state behind.server behind.requests c.args.server.now here.hearing.arbitration
+    let left = repair_state behind.server behind.requests c.args.server.now here.progress.arbitration
     c.print_refused.new.outgoing in
     loop_stopped feed.options.now.reporting feed.options.now.drops peers.a peers.b peers.server feed.options.now.turns c.args.publisher.now
     c.pass_lines.new.publisher c.args.server.now (lines port feed) (rounds port c.args.server.now feed) _
     c.in-Some.why c.next-number.result c.print_refused.result
     _ _ _ here here_left left
-    (rw c.in-Some.is at (c.in_ok-refused.ensures.heard tells))
+    (rw c.in-Some.is at (c.in_ok-refused.ensures.received modeled))
     (rw c.journal.ensures at c.next-number.ensures.value)
     c.print_refused.ensures.front c.print_refused.ensures.whole
     (record {
@@ -59,7 +59,7 @@ returns-in-Some-clause-run g c tells =
     c.print_refused.ensures.left
 
 pub returns-in_err-pass_end-clause-run : goal.returns-in_err-pass_end-clause-run
-returns-in_err-pass_end-clause-run g c tells =
+returns-in_err-pass_end-clause-run g c modeled =
     let port = g.D.Datagrams.port in
     let feed = c.args.self.now in
     let peers = feed.options.now.peers in
@@ -67,15 +67,15 @@ returns-in_err-pass_end-clause-run g c tells =
     c.pass_lines.new.publisher c.args.server.now (lines port feed) (rounds port c.args.server.now feed) _
     c.pass_end.result c.from_residual-in_err-pass_end.result _ _ (lines port c.pass_lines.new.self)
     (lines port c.pass_end.new.self) (rounds port c.args.server.now c.pass_end.new.self)
-    (rw c.in_default.is at (c.in_ok-refused.ensures.heard tells))
+    (rw c.in_default.is at (c.in_ok-refused.ensures.received modeled))
     (passed_from port (routed_end c.pass_lines.new.publisher.journal None) c.pass_end.result c.pass_end.new.self
-    c.pass_lines.ensures.only.same (c.pass_end.ensures.passed tells))
+    c.pass_lines.ensures.only.same (c.pass_end.ensures.passed modeled))
     c.from_residual-in_err-pass_end.ensures.0
     (ap port (c.pass_end.ensures.only.server ∙ c.pass_lines.ensures.only.server))
     (ap port (c.pass_end.ensures.only.requests ∙ c.pass_lines.ensures.only.requests))
 
 pub returns-in_err-repair_all-clause-run : goal.returns-in_err-repair_all-clause-run
-returns-in_err-repair_all-clause-run g c tells =
+returns-in_err-repair_all-clause-run g c modeled =
     let port = g.D.Datagrams.port in
     let feed = c.args.self.now in
     let peers = feed.options.now.peers in
@@ -85,10 +85,10 @@ returns-in_err-repair_all-clause-run g c tells =
     c.pass_lines.new.publisher c.args.server.now (lines port feed) (rounds port c.args.server.now feed) _
     c.in_ok-pass_end.field-0 c.repair_all.result c.from_residual-in_err-repair_all.result _ _ _
     (lines port c.pass_lines.new.self) there (lines port c.repair_all.new.self) left
-    (rw c.in_default.is at (c.in_ok-refused.ensures.heard tells))
+    (rw c.in_default.is at (c.in_ok-refused.ensures.received modeled))
     (passed_from port (routed_end c.pass_lines.new.publisher.journal None) _ c.pass_end.new.self
-    c.pass_lines.ensures.only.same (c.in_ok-pass_end.ensures.passed tells))
-    (rests_from peers.server c.args.server.now feed.options.now.turns _ _ _ _ there.hearing.arbitration there.hearing.outgoing
+    c.pass_lines.ensures.only.same (c.in_ok-pass_end.ensures.passed modeled))
+    (rests_from peers.server c.args.server.now feed.options.now.turns _ _ _ _ there.progress.arbitration there.progress.outgoing
     (rounds port c.args.server.now feed) c.repair_all.result _ _ left
     (c.journal-journal.ensures ∙ ap (λ (p : PublisherState). p.journal) c.pass_end.ensures.closed)
     (ap port (c.pass_end.ensures.only.server ∙ c.pass_lines.ensures.only.server))
@@ -96,11 +96,11 @@ returns-in_err-repair_all-clause-run g c tells =
     refl
     (rounds_from (service_of c.journal-journal.result.now c.args.server.now)
     (same_twice c.pass_lines.ensures.only.same c.pass_end.ensures.only.same)
-    (c.repair_all.ensures.rests tells)))
+    (c.repair_all.ensures.rests modeled)))
     c.from_residual-in_err-repair_all.ensures.0 (ap port c.repair_all.ensures.only.publisher)
 
 pub returns-clause-run : goal.returns-clause-run
-returns-clause-run g c tells =
+returns-clause-run g c modeled =
     let port = g.D.Datagrams.port in
     let feed = c.args.self.now in
     let peers = feed.options.now.peers in
@@ -108,17 +108,17 @@ returns-clause-run g c tells =
     let behind = rounds port c.repair_all.new.server c.repair_all.new.self in
     let after = lines port c.repair_all.new.self in
     let there_left = line_state after.publisher after.a after.b c.print_last.new.listener.arbiter
-    c.print_last.new.listener.report.outgoing in
+    c.print_last.new.listener.printer.outgoing in
     let left = repair_state behind.server behind.requests c.repair_all.new.server c.print_last.new.listener.arbiter
-    c.print_last.new.listener.report.outgoing in
+    c.print_last.new.listener.printer.outgoing in
     loop_done feed.options.now.reporting feed.options.now.drops peers.a peers.b peers.server feed.options.now.turns c.args.publisher.now
     c.pass_lines.new.publisher c.args.server.now (lines port feed) (rounds port c.args.server.now feed) _
     c.in_ok-pass_end.field-0 c.in_ok-repair_all.field-0 c.print_last.result _ _ _ _
     (lines port c.pass_lines.new.self) there there_left behind left
-    (rw c.in_default.is at (c.in_ok-refused.ensures.heard tells))
+    (rw c.in_default.is at (c.in_ok-refused.ensures.received modeled))
     (passed_from port (routed_end c.pass_lines.new.publisher.journal None) _ c.pass_end.new.self
-    c.pass_lines.ensures.only.same (c.in_ok-pass_end.ensures.passed tells))
-    (rests_from peers.server c.args.server.now feed.options.now.turns _ _ _ _ there.hearing.arbitration there.hearing.outgoing
+    c.pass_lines.ensures.only.same (c.in_ok-pass_end.ensures.passed modeled))
+    (rests_from peers.server c.args.server.now feed.options.now.turns _ _ _ _ there.progress.arbitration there.progress.outgoing
     (rounds port c.args.server.now feed) _ _ _ behind
     (c.journal-journal.ensures ∙ ap (λ (p : PublisherState). p.journal) c.pass_end.ensures.closed)
     (ap port (c.pass_end.ensures.only.server ∙ c.pass_lines.ensures.only.server))
@@ -126,7 +126,7 @@ returns-clause-run g c tells =
     refl
     (rounds_from (service_of c.journal-journal.result.now c.args.server.now)
     (same_twice c.pass_lines.ensures.only.same c.pass_end.ensures.only.same)
-    (c.in_ok-repair_all.ensures.rests tells)))
+    (c.in_ok-repair_all.ensures.rests modeled)))
     c.print_last.ensures.front c.print_last.ensures.whole
     (record {
       publisher_left = ap port c.repair_all.ensures.only.publisher;
@@ -140,18 +140,18 @@ returns-clause-run g c tells =
     c.print_last.ensures.left
 
 pub returns-in-Some-clause-journal : goal.returns-in-Some-clause-journal
-returns-in-Some-clause-journal g c tells =
+returns-in-Some-clause-journal g c modeled =
     let feed = c.args.self.now in
     on_ok c.print_refused.result
     (journal_left feed.options.now.drops feed.options.now.peers.a feed.options.now.peers.b c.args.publisher.now c.pass_lines.new.publisher _
-    (Some c.in-Some.why) _ _ _ _ _ (rw c.in-Some.is at (c.in_ok-refused.ensures.heard tells)) refl)
+    (Some c.in-Some.why) _ _ _ _ _ (rw c.in-Some.is at (c.in_ok-refused.ensures.received modeled)) refl)
 
 pub returns-clause-journal : goal.returns-clause-journal
-returns-clause-journal g c tells =
+returns-clause-journal g c modeled =
     let feed = c.args.self.now in
     on_ok c.print_last.result
     (journal_left feed.options.now.drops feed.options.now.peers.a feed.options.now.peers.b c.args.publisher.now c.pass_lines.new.publisher _
-    None _ _ _ _ _ (rw c.in_default.is at (c.in_ok-refused.ensures.heard tells))
+    None _ _ _ _ _ (rw c.in_default.is at (c.in_ok-refused.ensures.received modeled))
     (ap (λ (p : PublisherState). p.journal) c.pass_end.ensures.closed))
 
 pub returns-in-Some-clause-limit : goal.returns-in-Some-clause-limit
@@ -163,34 +163,34 @@ returns-clause-limit g c =
     (ap (λ (p : PublisherState). p.limit) c.pass_end.ensures.closed ∙ c.in_ok-refused.ensures.limit)
 
 pub returns-in_err-pass_end-clause-a : goal.returns-in_err-pass_end-clause-a
-returns-in_err-pass_end-clause-a g c tells = c.pass_end.ensures.only.a tells ∙ c.pass_lines.ensures.only.a tells
+returns-in_err-pass_end-clause-a g c modeled = c.pass_end.ensures.only.a modeled ∙ c.pass_lines.ensures.only.a modeled
 
 pub returns-in_err-repair_all-clause-a : goal.returns-in_err-repair_all-clause-a
-returns-in_err-repair_all-clause-a g c tells =
+returns-in_err-repair_all-clause-a g c modeled =
     ap (λ (p : Port _). p.sent) (ap g.D.Datagrams.port c.repair_all.ensures.only.a)
-    ∙ c.pass_end.ensures.only.a tells
-    ∙ c.pass_lines.ensures.only.a tells
+    ∙ c.pass_end.ensures.only.a modeled
+    ∙ c.pass_lines.ensures.only.a modeled
 
 pub returns-clause-a : goal.returns-clause-a
-returns-clause-a g c tells =
+returns-clause-a g c modeled =
     ap (λ (p : Port _). p.sent) (ap g.D.Datagrams.port c.repair_all.ensures.only.a)
-    ∙ c.pass_end.ensures.only.a tells
-    ∙ c.pass_lines.ensures.only.a tells
+    ∙ c.pass_end.ensures.only.a modeled
+    ∙ c.pass_lines.ensures.only.a modeled
 
 pub returns-in_err-pass_end-clause-b : goal.returns-in_err-pass_end-clause-b
-returns-in_err-pass_end-clause-b g c tells = c.pass_end.ensures.only.b tells ∙ c.pass_lines.ensures.only.b tells
+returns-in_err-pass_end-clause-b g c modeled = c.pass_end.ensures.only.b modeled ∙ c.pass_lines.ensures.only.b modeled
 
 pub returns-in_err-repair_all-clause-b : goal.returns-in_err-repair_all-clause-b
-returns-in_err-repair_all-clause-b g c tells =
+returns-in_err-repair_all-clause-b g c modeled =
     ap (λ (p : Port _). p.sent) (ap g.D.Datagrams.port c.repair_all.ensures.only.b)
-    ∙ c.pass_end.ensures.only.b tells
-    ∙ c.pass_lines.ensures.only.b tells
+    ∙ c.pass_end.ensures.only.b modeled
+    ∙ c.pass_lines.ensures.only.b modeled
 
 pub returns-clause-b : goal.returns-clause-b
-returns-clause-b g c tells =
+returns-clause-b g c modeled =
     ap (λ (p : Port _). p.sent) (ap g.D.Datagrams.port c.repair_all.ensures.only.b)
-    ∙ c.pass_end.ensures.only.b tells
-    ∙ c.pass_lines.ensures.only.b tells
+    ∙ c.pass_end.ensures.only.b modeled
+    ∙ c.pass_lines.ensures.only.b modeled
 
 pub returns-in_err-refused-clause-same : goal.returns-in_err-refused-clause-same
 returns-in_err-refused-clause-same g c = c.pass_lines.ensures.only.same
@@ -201,7 +201,7 @@ returns-in-Some-clause-same g c =
     record {
       ports = same.ports;
       options = same.options;
-      place = same.place;
+      buffer = same.buffer;
       listener = same.listener;
     }
 
@@ -219,6 +219,6 @@ returns-clause-same g c =
     record {
       ports = same.ports;
       options = same.options;
-      place = same.place;
+      buffer = same.buffer;
       listener = same.listener;
     }

@@ -1,15 +1,15 @@
 use Rattle.std.proofs.Common.{◌≡◌, true, ◌-◌}
-use Rattle.mold_listen.specs.Listening.{hear_answers}
+use Rattle.mold_listen.specs.Listening.{receive_responses}
 use Rattle.mold_loop.specs.LocalFeed.{OnlyRepairs, asking_state}
 use Rattle.mold_loop.proofs.local_feed.LocalFeed.take_answers.Given as goal
 
 -- what is heard of all answers is what is heard of those left, from here on; nothing is sent, nor received on other ports
 abbrev pub invariant-loop-answer : goal.invariant-loop-answer
 invariant-loop-answer g l = record {
-  heard : g.D.Datagrams.tells ≡ true →
-      hear_answers (l.count - l._answer) (asking_state g.D.Datagrams.port l.self)
-      ≡ hear_answers l.count (asking_state g.D.Datagrams.port l.fn.self);
-  sent : g.D.Datagrams.tells ≡ true →
+  received : g.D.Datagrams.modeled ≡ true →
+      receive_responses (l.count - l._answer) (asking_state g.D.Datagrams.port l.self)
+      ≡ receive_responses l.count (asking_state g.D.Datagrams.port l.fn.self);
+  sent : g.D.Datagrams.modeled ≡ true →
       (g.D.Datagrams.port l.self.ports.now.requests).sent ≡ (g.D.Datagrams.port l.fn.self.ports.now.requests).sent;
   server : l.self.ports.now.server ≡ l.fn.self.ports.now.server;
   only : OnlyRepairs l.fn.self l.self;

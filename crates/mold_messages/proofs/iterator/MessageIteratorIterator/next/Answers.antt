@@ -1,6 +1,6 @@
 use Rattle.std.proofs.Common.{◌≡◌, ◌≤◌, ℕ, List, [], ◌∷◌, length, sym, ap, ◌∙◌}
 use Rattle.std.proofs.Common.{rules}
-use Rattle.mold_messages.specs.Places.{IsRising, pieces}
+use Rattle.mold_messages.specs.Offsets.{IsRising, pieces}
 use Rattle.mold_messages.proofs.PlaceLemmas.{pieces_none, rising_first, rising_within, pieces_first}
 use Rattle.mold_messages.proofs.iterator.MessageIteratorIterator.next.Goals.{In_ok-end}
 use Rattle.mold_messages.proofs.iterator.MessageIteratorIterator.next.Goals as goal

@@ -1,5 +1,5 @@
 use Rattle.std.proofs.Common.{◌≡◌, [], refl, rules}
-use Rattle.mold_messages.specs.Places.{pieces, IsRising}
+use Rattle.mold_messages.specs.Offsets.{pieces, IsRising}
 use Rattle.mold_messages.proofs.list.MessageList.new.Goals as goal
 
 pub invariant_of-result : goal.invariant_of-result

@@ -2,7 +2,7 @@ use Rattle.std.proofs.Common.{length, IsOk, subst}
 use Rattle.std.proofs.Common.{arith}
 use Rattle.std.proofs.lemmas.Result.{on_ok_weaker}
 use Rattle.mold_messages.specs.Listed.{Listed, HasRoom}
-use Rattle.mold_messages.specs.Places.{IsRising}
+use Rattle.mold_messages.specs.Offsets.{IsRising}
 use Rattle.mold_messages.proofs.PlaceLemmas.{length-pieces, joined_all}
 use Rattle.mold_messages.proofs.list.MessageList.reserve.Goals as goal
 

@@ -1,24 +1,24 @@
 use Rattle.std.proofs.Common.{ℕ, List, length, sym, ap, ◌∙◌, arith, rules}
 use Rattle.std.proofs.lemmas.List.{take_all}
 use Rattle.mold_messages.specs.Listed.{Listed}
-use Rattle.mold_messages.specs.Places.{place}
+use Rattle.mold_messages.specs.Offsets.{place}
 use Rattle.mold_messages.proofs.PlaceLemmas.{length-pieces, cut}
 use Rattle.mold_messages.proofs.list.MessageList.truncate.Goals as goal
 
 pub invariant_of-self : goal.invariant_of-self
 invariant_of-self c =
     let f = c.self.inside in
-    (cut f.ends.items f.bytes.items c.args.keep c.place_of-end.result c.truncate.new.self.items
+    (cut f.ends.items f.bytes.items c.args.keep c.offset_of-end.result c.truncate.new.self.items
     c.truncate-then-keep-len.new.self.items c.self.invariant
-    (c.place_of-end.ensures ∙ ap (λ (t : List ℕ). place 0 t c.args.keep) c.deref.ensures.value)
+    (c.offset_of-end.ensures ∙ ap (λ (t : List ℕ). place 0 t c.args.keep) c.deref.ensures.value)
     c.truncate.ensures.items c.truncate-then-keep-len.ensures.items).rising
 
 pub returns-then-keep-len : goal.returns-then-keep-len
 returns-then-keep-len c =
     let f = c.self.inside in
-    let fewer = (cut f.ends.items f.bytes.items c.args.keep c.place_of-end.result c.truncate.new.self.items
+    let fewer = (cut f.ends.items f.bytes.items c.args.keep c.offset_of-end.result c.truncate.new.self.items
     c.truncate-then-keep-len.new.self.items c.self.invariant
-    (c.place_of-end.ensures ∙ ap (λ (t : List ℕ). place 0 t c.args.keep) c.deref.ensures.value)
+    (c.offset_of-end.ensures ∙ ap (λ (t : List ℕ). place 0 t c.args.keep) c.deref.ensures.value)
     c.truncate.ensures.items c.truncate-then-keep-len.ensures.items).messages
     in
     rw (← c.self.view_is) (search (rules, fewer))

@@ -1,7 +1,7 @@
 use Rattle.std.proofs.Common.{◌≡◌, sym, ap, ◌∙◌, refl, inl, Option}
 use Rattle.std.specs.Prelude.{Ok}
 use Rattle.mold_wire.specs.Reading.{reading}
-use Rattle.mold_rule.specs.declared.refusal.Refusal.{Refusal as Refused}
+use Rattle.mold_rule.specs.declared.refusal.Refusal.{Refusal}
 use Rattle.mold_receiver.specs.Receive.{receive_read, decide, reception}
 use Rattle.mold_receiver.proofs.receiver.Receiver.accept.Goals as goal
 
@@ -13,7 +13,7 @@ returns-in-Ok-take_packet-clause-taken c =
     record {
       reception = reception v p;
       received = ap (receive_read v) read
-          ∙ ap (λ (o : Option Refused). decide o (reception v p)) (rw c.in_ok-top.was at c.check.ensures.taken);
+          ∙ ap (λ (o : Option Refusal). decide o (reception v p)) (rw c.in_ok-top.was at c.check.ensures.taken);
       view = c.in-Ok-take_packet.ensures.taken.0;
       batch = c.in-Ok-take_packet.ensures.handed;
       told = c.in-Ok-take_packet.ensures.taken.1;
@@ -29,7 +29,7 @@ returns-in-Err-take_packet-clause-refused c =
       record {
         reception = reception v p;
         received = ap (receive_read v) read
-            ∙ ap (λ (o : Option Refused). decide o (reception v p)) (rw c.in_ok-top.was at c.check.ensures.taken);
+            ∙ ap (λ (o : Option Refusal). decide o (reception v p)) (rw c.in_ok-top.was at c.check.ensures.taken);
         some = c.in-Err-take_packet.ensures.needed;
       },
     )

@@ -31,9 +31,9 @@ returns-clause-taken c =
     let nothing = at_fields p.sequence c.args.top a.next (messages_of p.body) c.requires.top
     (subst (λ (v : View). (c.args.top ≤ v.next) ⊎ (messages_of p.body ≡ [])) (sym c.self.view_is) c.requires.nothing) in (
       subst (λ (w : View).
-          view_over a.session a.next c.max-self-inside.result c.told_end-self-inside.result a.slots ≡ view_after w p)
+          view_over a.session a.next c.max-self-inside.result c.known_end-self-inside.result a.slots ≡ view_after w p)
           c.self.view_is
-          ((λ i. view_over a.session a.next (c.max-self-inside.ensures i) (c.told_end-self-inside.ensures i) a.slots)
+          ((λ i. view_over a.session a.next (c.max-self-inside.ensures i) (c.known_end-self-inside.ensures i) a.slots)
           ∙ sym (nothing_view v p c.args.top c.self.invariant c.requires.top
           (nothing_there a.next p.sequence (messages_of p.body) nothing))),
       subst (λ (w : View). ◌≡◌ {A = Taken} (record { handed = 0; kept = 0; beyond = 0 })

@@ -21,7 +21,7 @@ pub lines-init : goal.lines-init
 lines-init g c = record {
   room = c.requires.room;
   few = omega (arith, c.requires.none);
-  sends = λ tells.
+  sends = λ modeled.
       sent_begun c.args.self.now.lines.a.now c.args.self.now.lines.b.now c.args.self.now.publisher.now
       (g.S.Source.left c.args.source.now) c.in_ok-lines.lines.rest _ _ c.in_ok-lines.ensures c.requires.none;
   same = same_at_first c.args.self.now;
@@ -38,12 +38,12 @@ lines-preserved g c =
     record {
       room = went.0;
       few = went.1;
-      sends = λ tells.
+      sends = λ modeled.
           sent_full known c.args.self.now.lines.a.now c.args.self.now.lines.b.now c.args.self.now.publisher.now
           c.lines.self.publisher.now c.fill.new.publisher _ _ _ _ _ _ _
-          c.lines.self.datagrams _ (c.lines.invariant.sends tells) filled c.send_next.ensures.sent
+          c.lines.self.datagrams _ (c.lines.invariant.sends modeled) filled c.send_next.ensures.sent
           (sends_same g.D.Datagrams.port _ c.args.self.now.lines c.lines.self.lines c.send_next.new.self.lines
-          c.lines.invariant.same.lines (c.send_next.ensures.sends tells))
+          c.lines.invariant.same.lines (c.send_next.ensures.sends modeled))
           c.send_next.ensures.counted;
       same = record {
         publisher = c.send_next.ensures.same.publisher ∙ c.lines.invariant.same.publisher;
@@ -53,18 +53,18 @@ lines-preserved g c =
     }
 
 pub returns-in_err-lines-clause-sends : goal.returns-in_err-lines-clause-sends
-returns-in_err-lines-clause-sends g c tells =
+returns-in_err-lines-clause-sends g c modeled =
     sent_not c.args.self.now.lines.a.now c.args.self.now.lines.b.now c.args.self.now.publisher.now _ _ c.from_residual.result _ _
     c.from_residual.ensures.0
 
 pub returns-in-End-clause-sends : goal.returns-in-End-clause-sends
-returns-in-End-clause-sends g c tells =
+returns-in-End-clause-sends g c modeled =
     sent_end (laws g (goal.at.returns-in-End-clause-sends g c).After-packing_law) c.args.self.now.lines.a.now
     c.args.self.now.lines.b.now c.args.self.now.publisher.now c.lines.self.publisher.now c.fill.new.publisher
     _ _ _ _ _ _ _ c.lines.self.datagrams _
-    (c.lines.invariant.sends tells) (rw c.in-End.is at c.in_ok-fill.ensures.filled) c.send_next-in-End.ensures.sent
+    (c.lines.invariant.sends modeled) (rw c.in-End.is at c.in_ok-fill.ensures.filled) c.send_next-in-End.ensures.sent
     (sends_same g.D.Datagrams.port _ c.args.self.now.lines c.lines.self.lines c.send_next-in-End.new.self.lines
-    c.lines.invariant.same.lines (c.send_next-in-End.ensures.sends tells))
+    c.lines.invariant.same.lines (c.send_next-in-End.ensures.sends modeled))
     c.send_next-in-End.ensures.counted
 
 pub returns-in-End-clause-all : goal.returns-in-End-clause-all
@@ -80,11 +80,11 @@ returns-in-End-clause-same g c = record {
 }
 
 pub returns-in-Refused-clause-sends : goal.returns-in-Refused-clause-sends
-returns-in-Refused-clause-sends g c tells =
+returns-in-Refused-clause-sends g c modeled =
     sent_refused (laws g (goal.at.returns-in-Refused-clause-sends g c).After-packing_law) c.args.self.now.lines.a.now
     c.args.self.now.lines.b.now c.args.self.now.publisher.now c.lines.self.publisher.now c.fill.new.publisher
     _ _ _ c.in-Refused.why _ _ c.lines.self.datagrams
-    (c.lines.invariant.sends tells) (rw c.in-Refused.is at c.in_ok-fill.ensures.filled)
+    (c.lines.invariant.sends modeled) (rw c.in-Refused.is at c.in_ok-fill.ensures.filled)
 
 pub returns-in-Refused-clause-same : goal.returns-in-Refused-clause-same
 returns-in-Refused-clause-same g c =

@@ -12,7 +12,7 @@ invariant-lines g l = record {
   room : HasRoom l.self.publisher.now;
   few : l.self.datagrams ≤ l.self.publisher.now.sent;
   sends :
-      g.D.Datagrams.tells ≡ true →
+      g.D.Datagrams.modeled ≡ true →
       SentSoFar l.fn.self.lines.a.now l.fn.self.lines.b.now l.fn.self.publisher.now l.self.publisher.now
       (g.S.Source.left l.fn.source) (prepend_known l.lines.rest (g.S.Source.left l.source))
       (lines_state g.D.Datagrams.port l.fn.self.lines) (lines_state g.D.Datagrams.port l.self.lines)

@@ -6,7 +6,7 @@ use Rattle.mold_send.proofs.sending.TwoLines.send_often.Given as goal
 abbrev pub invariant-loop-time : goal.invariant-loop-time
 invariant-loop-time g l = record {
   sends :
-      g.D.Datagrams.tells ≡ true →
+      g.D.Datagrams.modeled ≡ true →
       SendsBoth g.D.Datagrams.port (replicate l._time l.fn.datagram) l.fn.self l.self;
   same : IsSameLines l.fn.self l.self;
 }

@@ -3,8 +3,8 @@ use Rattle.mold_serve.proofs.AnsweringLemmas.{answered_so, refused_so}
 use Rattle.mold_serve.proofs.responder.Responder.answer.Goals as goal
 
 pub returns-in-Ok-clause-replied : goal.returns-in-Ok-clause-replied
-returns-in-Ok-clause-replied g c tells =
-    let offered = c.offer_all.ensures.offered tells in (
+returns-in-Ok-clause-replied g c modeled =
+    let offered = c.offer_all.ensures.offered modeled in (
       offered.0,
       answered_so c.offer_all.result c.args.from c.args.self.now.journal.now c.args.request.now c.in-Ok.plan offered.0 _
           c.args.self.now.tally.now c.args.self.now.server.now c.plan.new.self _
@@ -17,7 +17,7 @@ returns-in-Ok-clause-replied g c tells =
     )
 
 pub returns-in-Err-clause-replied : goal.returns-in-Err-clause-replied
-returns-in-Err-clause-replied g c tells = (
+returns-in-Err-clause-replied g c modeled = (
   [],
   refused_so c.add_refused.result c.args.from c.args.self.now.journal.now c.args.request.now c.in-Err.why _ c.args.self.now.tally.now _
       c.args.self.now.server.now _ c.in-Err.ensures.planned c.in-Err.ensures.counted c.add_refused.ensures,

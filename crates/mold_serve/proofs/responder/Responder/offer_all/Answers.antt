@@ -7,28 +7,28 @@ pub offer_next-requires-clause-longest : goal.offer_next-requires-clause-longest
 offer_next-requires-clause-longest g c = may_answer c.packets.invariant.same c.requires.longest
 
 pub returns-in_err-offer_next-clause-offered : goal.returns-in_err-offer_next-clause-offered
-returns-in_err-offer_next-clause-offered g c tells =
-    let offering = c.packets.invariant.offered tells in
+returns-in_err-offer_next-clause-offered g c modeled =
+    let offering = c.packets.invariant.offered modeled in
     let one =
     offers_of _ _ true true _ _ c.packets.plan c.offer_next.new.plan _ _ (service_is c.packets.invariant.same) refl
-    (c.in_err-offer_next.ensures.offered tells) in
+    (c.in_err-offer_next.ensures.offered modeled) in
     (offering.fails ++ one.fails ∷ [], offering_cut _ c.from_residual.result _ offering one c.from_residual.ensures.0)
 
 pub packets-preserved : goal.packets-preserved
 packets-preserved g c = record {
-  offered = λ tells.
-      offering_step _ (c.packets.invariant.offered tells)
+  offered = λ modeled.
+      offering_step _ (c.packets.invariant.offered modeled)
       (offers_of _ _ c.in_ok-offer_next.field-0 true _ _ c.packets.plan c.offer_next.new.plan _ _
-      (service_is c.packets.invariant.same) c.if-branch.true (c.in_ok-offer_next.ensures.offered tells));
+      (service_is c.packets.invariant.same) c.if-branch.true (c.in_ok-offer_next.ensures.offered modeled));
   session = c.in_ok-offer_next.ensures.session ∙ c.packets.invariant.session;
   to = c.in_ok-offer_next.ensures.to ∙ c.packets.invariant.to;
   same = same_twice c.packets.invariant.same c.in_ok-offer_next.ensures.same;
 }
 
 pub returns-clause-offered : goal.returns-clause-offered
-returns-clause-offered g c tells =
-    let offering = c.packets.invariant.offered tells in
+returns-clause-offered g c modeled =
+    let offering = c.packets.invariant.offered modeled in
     let none =
     offers_of _ _ c.in_ok-offer_next.field-0 false _ _ c.packets.plan c.offer_next.new.plan _ _
-    (service_is c.packets.invariant.same) c.if-branch.false (c.in_ok-offer_next.ensures.offered tells) in
+    (service_is c.packets.invariant.same) c.if-branch.false (c.in_ok-offer_next.ensures.offered modeled) in
     (offering.fails ++ [], offering_done _ offering none.0 none.1)

@@ -8,7 +8,7 @@ use Rattle.mold_serve.proofs.responder.Responder.offer_all.Given as goal
 abbrev pub invariant-packets : goal.invariant-packets
 invariant-packets g l = record {
   offered :
-      g.D.Datagrams.tells ≡ true →
+      g.D.Datagrams.modeled ≡ true →
       Offering l.fn.to
       (left_of (service l.fn.self) l.fn.plan)
       (left_of (service l.fn.self) l.plan)

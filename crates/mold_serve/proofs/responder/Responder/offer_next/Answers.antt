@@ -18,7 +18,7 @@ next g c =
     c.in-Some.ensures.more
 
 pub returns-in_err-add_answered-in-Ok-clause-offered : goal.returns-in_err-add_answered-in-Ok-clause-offered
-returns-in_err-add_answered-in-Ok-clause-offered g c tells =
+returns-in_err-add_answered-in-Ok-clause-offered g c modeled =
     MatchResult-from_err c.from_residual.result _ _ c.from_residual.ensures.0
     (λ refused. offered_unprinted c.args.to c.from_residual.result (service c.args.self.now)
     c.args.plan.now c.datagram.new.plan c.in-Some.datagram.now _ _ c.args.self.now.tally.now _ c.args.self.now.server.now _
@@ -26,11 +26,11 @@ returns-in_err-add_answered-in-Ok-clause-offered g c tells =
     c.in-Some.ensures.moved
     c.in-Some.ensures.spelled
     c.datagram.follows.holds-at-none
-    (c.in-Ok.ensures.sent tells)
+    (c.in-Ok.ensures.sent modeled)
     c.from_residual.ensures.0)
 
 pub returns-in_ok-add_answered-in-Ok-clause-offered : goal.returns-in_ok-add_answered-in-Ok-clause-offered
-returns-in_ok-add_answered-in-Ok-clause-offered g c tells =
+returns-in_ok-add_answered-in-Ok-clause-offered g c modeled =
     offered_well c.args.to _ (service c.args.self.now) c.args.plan.now c.datagram.new.plan c.in-Some.datagram.now _ _ c.args.self.now.tally.now _
     c.args.self.now.server.now _
     (next g (goal.at.returns-in_ok-add_answered-in-Ok-clause-offered g c).In-Some)
@@ -41,11 +41,11 @@ returns-in_ok-add_answered-in-Ok-clause-offered g c tells =
     c.from.result
     c.from-sequence.ensures.value
     c.from.ensures.value
-    (c.in-Ok.ensures.sent tells)
+    (c.in-Ok.ensures.sent modeled)
     c.in_ok-add_answered-in-Ok.ensures
 
 pub returns-in-Err-clause-offered : goal.returns-in-Err-clause-offered
-returns-in-Err-clause-offered g c tells =
+returns-in-Err-clause-offered g c modeled =
     offered_in_vain c.args.to _ (service c.args.self.now) c.args.plan.now
     c.datagram.new.plan c.in-Some.datagram.now _ _ c.args.self.now.tally.now _
     c.args.self.now.server.now _
@@ -53,5 +53,5 @@ returns-in-Err-clause-offered g c tells =
     c.in-Some.ensures.moved
     c.in-Some.ensures.spelled
     c.datagram.follows.holds-at-none
-    (c.in-Err.ensures.sent tells)
+    (c.in-Err.ensures.sent modeled)
     c.add_failed.ensures

@@ -5,31 +5,31 @@ use Rattle.mold_serve.proofs.ServingLemmas.{reached, tally_is, turn_met}
 use Rattle.mold_serve.proofs.responder.Responder.take_turn.Goals as goal
 
 pub returns-in-Ok-Some-clause-turn : goal.returns-in-Ok-Some-clause-turn
-returns-in-Ok-Some-clause-turn g c tells =
-    let replied = c.answer.ensures.replied tells in
-    let came = rw c.in-Ok-Some.field-0-is at (c.in-Ok-Some.ensures.came tells) in (
+returns-in-Ok-Some-clause-turn g c modeled =
+    let replied = c.answer.ensures.replied modeled in
+    let came = rw c.in-Ok-Some.field-0-is at (c.in-Ok-Some.ensures.came modeled) in (
       replied.0,
       turn_met _ (service c.args.self.now) replied.0 (state g.D.Datagrams.port c.args.self.now) _
-          (Datagram c.in-Ok-Some.from (take c.in-Ok-Some.len c.receive.new.place)) _ _
-          (c.receive.auto.place ∙ c.requires.place) came (c.receive.ensures.left tells) replied.1,
+          (Datagram c.in-Ok-Some.from (take c.in-Ok-Some.len c.receive.new.buffer)) _ _
+          (c.receive.auto.buffer ∙ c.requires.buffer) came (c.receive.ensures.left modeled) replied.1,
     )
 
 pub returns-in-Ok-None-clause-turn : goal.returns-in-Ok-None-clause-turn
-returns-in-Ok-None-clause-turn g c tells = (
+returns-in-Ok-None-clause-turn g c modeled = (
   [],
   turn_met _ (service c.args.self.now) [] (state g.D.Datagrams.port c.args.self.now) _ Quiet _ _
-      (c.receive.auto.place ∙ c.requires.place)
-      (rw c.in-Ok-None.field-0-is at (c.in-Ok-None.ensures.came tells))
-      (c.receive.ensures.left tells)
+      (c.receive.auto.buffer ∙ c.requires.buffer)
+      (rw c.in-Ok-None.field-0-is at (c.in-Ok-None.ensures.came modeled))
+      (c.receive.ensures.left modeled)
       (reached (tally_is _ _ c.add_quiet.ensures)),
 )
 
 pub returns-in-Err-clause-turn : goal.returns-in-Err-clause-turn
-returns-in-Err-clause-turn g c tells = (
+returns-in-Err-clause-turn g c modeled = (
   [],
   turn_met _ (service c.args.self.now) [] (state g.D.Datagrams.port c.args.self.now) _ Failure _ _
-      (c.receive.auto.place ∙ c.requires.place)
-      (c.in-Err.ensures.came tells)
-      (c.receive.ensures.left tells)
+      (c.receive.auto.buffer ∙ c.requires.buffer)
+      (c.in-Err.ensures.came modeled)
+      (c.receive.ensures.left modeled)
       (reached (tally_is _ _ c.add_failed.ensures)),
 )

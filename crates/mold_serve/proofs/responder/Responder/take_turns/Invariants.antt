@@ -8,7 +8,7 @@ use Rattle.mold_wire.specs.declared.limits.TheConstants.{MAX_LIMIT}
 abbrev pub invariant-loop-turn : goal.invariant-loop-turn
 invariant-loop-turn g l = record {
   going :
-      g.D.Datagrams.tells ≡ true →
+      g.D.Datagrams.modeled ≡ true →
       Going (serving (service l.fn.self)) behind
       (state g.D.Datagrams.port l.fn.self)
       (g.K.Sink.held l.fn.sink)
@@ -16,6 +16,6 @@ invariant-loop-turn g l = record {
       l._turn
       (state g.D.Datagrams.port l.self);
   same : IsSame l.fn.self l.self;
-  place : length l.place ≡ MAX_LIMIT;
+  buffer : length l.buffer ≡ MAX_LIMIT;
   sink : g.K.Sink.failed l.sink ≡ g.K.Sink.failed l.fn.sink;
 }

@@ -1,7 +1,7 @@
 use Rattle.std.proofs.Common.{◌≡◌, ℕ, ◌+◌, None, Some, refl, sym, ap, subst, ◌∙◌, arith}
 use Rattle.mold_session.specs.Publisher.{PublisherState, Lends, next_datagram, after_datagram}
 use Rattle.mold_session.proofs.PublisherLemmas.{IsNext, stays_idle, is_next, lends_next, still_publisher}
-use Rattle.mold_session.specs.Truthful.{TellsTruth}
+use Rattle.mold_session.specs.Truthful.{IsTrueDatagram}
 use Rattle.mold_session.proofs.TruthLemmas.{datagram_true}
 use Rattle.mold_session.proofs.publisher.Publisher.datagram.Goals.{After-pack_front-count}
 use Rattle.mold_session.proofs.publisher.Publisher.datagram.Goals as goal
@@ -69,6 +69,6 @@ returns c =
         lent = subst (λ (p : PublisherState). Lends (next_datagram p) (Some c.bytes.result.now)) c.self.view_is lent;
         idle = tt;
         within = omega (arith, c.bytes.ensures.within, next.limit, c.self.invariant.0, ap (λ (p : PublisherState). p.limit) c.self.view_is);
-        truth = subst (λ (p : PublisherState). TellsTruth p.journal c.bytes.result.now) c.self.view_is truth;
+        truth = subst (λ (p : PublisherState). IsTrueDatagram p.journal c.bytes.result.now) c.self.view_is truth;
       },
     )

@@ -2,7 +2,7 @@ use Rattle.std.proofs.Common.{ℕ, Some, refl, sym, ap, subst, ◌∙◌, arith}
 use Rattle.mold_wire.specs.declared.session.Session.{Session}
 use Rattle.mold_wire.specs.Packer.{PackerState, Ended}
 use Rattle.mold_session.specs.Publisher.{PublisherState, Lends, next_end}
-use Rattle.mold_session.specs.Truthful.{TellsTruth}
+use Rattle.mold_session.specs.Truthful.{IsTrueDatagram}
 use Rattle.mold_session.proofs.PublisherLemmas.{lends_end}
 use Rattle.mold_session.proofs.TruthLemmas.{end_true}
 use Rattle.mold_session.proofs.publisher.Publisher.end.Goals as goal
@@ -32,6 +32,6 @@ returns c =
           c.self.invariant.0,
           ap (λ (p : PublisherState). p.limit) c.self.view_is,
         );
-        truth = subst (λ (p : PublisherState). TellsTruth p.journal bytes) c.self.view_is truth;
+        truth = subst (λ (p : PublisherState). IsTrueDatagram p.journal bytes) c.self.view_is truth;
       },
     )

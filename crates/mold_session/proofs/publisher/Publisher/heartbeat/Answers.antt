@@ -2,7 +2,7 @@ use Rattle.std.proofs.Common.{◌+◌, [], Some, refl, sym, ap, subst, ◌∙◌
 use Rattle.mold_wire.specs.declared.session.Session.{Session}
 use Rattle.mold_wire.specs.Packer.{PackerState, Open}
 use Rattle.mold_session.specs.Publisher.{PublisherState, Lends, next_heartbeat}
-use Rattle.mold_session.specs.Truthful.{TellsTruth}
+use Rattle.mold_session.specs.Truthful.{IsTrueDatagram}
 use Rattle.mold_session.proofs.PublisherLemmas.{lends_heartbeat}
 use Rattle.mold_session.proofs.TruthLemmas.{heartbeat_true}
 use Rattle.mold_session.proofs.publisher.Publisher.heartbeat.Goals as goal
@@ -31,6 +31,6 @@ returns c =
           c.self.invariant.0,
           ap (λ (p : PublisherState). p.limit) c.self.view_is,
         );
-        truth = subst (λ (p : PublisherState). TellsTruth p.journal bytes) c.self.view_is truth;
+        truth = subst (λ (p : PublisherState). IsTrueDatagram p.journal bytes) c.self.view_is truth;
       },
     )

@@ -21,7 +21,7 @@ returns-then-not-branch-clause-told g c =
       gives = rw c.if-not-branch.true at c.in_ok-advance.ensures.line;
       written =
           c.in_ok-push_receivers.ensures.text
-          ∙ ap (λ (s : SimState). c.args.out.now.items ++ receiver_lines 0 s.world.places) c.self.view_is;
+          ∙ ap (λ (s : SimState). c.args.out.now.items ++ receiver_lines 0 s.world.subscribers) c.self.view_is;
       status_is = status ∙ ap (λ (s : SimState). cond s.refused 2 0) c.self.view_is;
     })
 
@@ -30,7 +30,7 @@ returns-clause-told g c =
     let inside = c.self.inside in
     let s : SimState = record { world = inside.world; refused = inside.refused } in
     rw (← c.self.view_is)
-    (told_line s c.tell_line.new.world c.in_ok-self-inside.field-0
+    (told_line s c.print_line.new.world c.in_ok-self-inside.field-0
     {left = prepend_known c.advance.new.self.rest (g.S.Source.left c.advance.new.source)}
     (record {
       line = c.advance.new.self.line;

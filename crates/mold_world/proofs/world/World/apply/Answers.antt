@@ -37,7 +37,7 @@ returns-clause-same c =
 pub returns-clause-heard : goal.returns-clause-heard
 returns-clause-heard c =
     rw (← c.self.view_is)
-    (applied_heard c.hearing_law.ensures.heard (world_of c.self.inside.parts) (world_of c.change.new.self)
+    (applied_heard c.delivery_law.ensures.heard (world_of c.self.inside.parts) (world_of c.change.new.self)
     (seen c.args.event.now) c.change.result c.self.invariant.world c.change.ensures.applied)
 
 pub returns-clause-step : goal.returns-clause-step

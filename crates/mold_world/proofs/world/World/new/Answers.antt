@@ -20,7 +20,7 @@ invariant_of-result c =
         server_limit = (server j).limit;
         burst = (server j).burst;
         sent = (c.new-3.ensures j).messages;
-        places = c.in_ok-make_places.ensures j;
+        subscribers = c.in_ok-make_subscribers.ensures j;
       })) is;
       serves =
           let told = ap (λ (t : ServerState). t.max_message) server in

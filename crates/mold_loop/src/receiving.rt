@@ -1,0 +1,31 @@
+//! One receive of a listener.
+
+ghost use Rattle.std.specs.Prelude.{◌≡◌, true, length, OnOk};
+ghost use Rattle.mold_listen.specs.Listening.{with_next_receipt, progress};
+ghost use Rattle.mold_ports.specs.Ports.{received};
+ghost use Rattle.mold_receiver.specs.Origin.{line_of};
+ghost use Rattle.mold_wire.specs.declared.limits.TheConstants.{MAX_LIMIT};
+
+use crate::loop_parts::Listener;
+use mold_listen::receive_on;
+use mold_ports::Datagrams;
+use mold_receiver::Origin;
+use std::alloc::AllocError;
+
+/// As `receive_on`: the listener's arbiter and report take what comes.
+pub(crate) fn receive_once<D: Datagrams>(
+    port: &mut D,
+    origin: Origin,
+    buffer: &mut [u8],
+    listener: &mut Listener,
+) -> Result<bool, AllocError>
+    requires { length buffer.old ≡ MAX_LIMIT }
+    ensures port { D.modeled ≡ true → D.port port.new ≡ received (D.port port.old) }
+    ensures received { D.modeled ≡ true →
+        OnOk result (progress listener.new.arbiter listener.new.printer.outgoing
+        ≡ with_next_receipt (line_of origin) (D.port port.old)
+        (progress listener.old.arbiter listener.old.printer.outgoing)) }
+{
+    let Listener { arbiter, printer } = listener;
+    receive_on(port, origin, buffer, arbiter, printer)
+}

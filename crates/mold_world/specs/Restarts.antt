@@ -1,0 +1,18 @@
+-- A receiver that begins anew, and why it doesn't.
+use Rattle.std.specs.Prelude.{◌≡◌, ◌⊎◌, ℕ, ◌≤◌, Result, Ok, Err}
+use Rattle.mold_world.specs.Effect.{restarted_at}
+use Rattle.mold_world.specs.World.{SubscriberState}
+use Rattle.mold_world.specs.declared.report.Report.{Report}
+use Rattle.mold_world.specs.declared.report.Report.TheVariants as report
+use Rattle.mold_world.specs.declared.report.WorldError.{WorldError}
+use Rattle.mold_world.specs.declared.report.WorldError.TheVariants.{Memory, NotReached}
+
+-- a number that the receiver had reached
+abbrev pub HasReached : SubscriberState → ℕ → Type 0
+HasReached place next = (1 ≤ next) × (next ≤ place.arbitration.view.next)
+
+-- a receiver begins anew at a number that it had reached; else it stays, and so it does where memory is wanting
+abbrev pub Restarts : SubscriberState → ℕ → Result Report WorldError → SubscriberState → Type 0
+Restarts old next (Ok told) new = HasReached old next × (told ≡ report.Restarted next) × (new ≡ restarted_at old next)
+Restarts old next (Err error) new = (new ≡ old) × ((HasReached old next × (error ≡ Memory))
+    ⊎ ((HasReached old next → ⊥) × (error ≡ NotReached old.arbitration.view.next)))
