@@ -1,4 +1,4 @@
--- Whole blocks at the front of some bytes, and the messages read from them.
+-- Whole blocks at the start of the bytes, and the messages read from them.
 use Rattle.std.proofs.Common.{◌≡◌, ℕ, suc, ◌+◌, ◌-◌, ◌<◌, ◌^◌, List, [], ◌∷◌, ◌++◌, length, length-append, take, drop}
 use Rattle.std.proofs.Common.{refl, sym, ap, subst, ◌∙◌, append_assoc, arith}
 use Rattle.std.specs.Prelude.{◌==◌}
@@ -10,7 +10,7 @@ use Rattle.byteorder.specs.Endian.{big_number}
 use Rattle.mold_wire.specs.Block.{be16, IsMessage, block, blocks, messages_at, AreBlocks}
 use Rattle.mold_wire.specs.Block.{IsBlockAndRest, AreBlocksAndRest, BeginsNoBlock, AreCutBlocks}
 
--- two bytes read back as the number that they were written from
+-- The two bytes of a number read as that number.
 pub big_number-be16 : (number : ℕ) (rest : List ℕ) → number < 2 ^ 16 → big_number 2 (be16 number ++ rest) ≡ number
 big_number-be16 number rest fits = omega arith
 
@@ -26,11 +26,11 @@ pub each-append :
 each-append [] message each one = (one, tt)
 each-append (first ∷ front) message each one = (each.0, each-append front message each.1 one)
 
--- before any block the rest is all of the bytes
+-- If no block was skipped, the rest is all of the bytes.
 pub blocks_none : (bytes : List ℕ) → AreBlocksAndRest 0 bytes bytes
 blocks_none bytes = record { messages = []; counted = refl; each = tt; parts = refl }
 
--- one more block joins those at the front
+-- One more block extends the whole blocks at the start.
 pub blocks_more :
     (number : ℕ) (bytes rest message more : List ℕ) → AreBlocksAndRest number bytes rest →
     IsBlockAndRest rest message more → AreBlocksAndRest (number + 1) bytes more
@@ -53,7 +53,7 @@ pub cut_behind :
     AreCutBlocks number bytes
 cut_behind number bytes rest found cut = record { rest = rest; whole = found; cut = cut }
 
--- the first message read is that of the block at the front
+-- The first message read is that of the first block.
 pub messages_at-block :
     (number : ℕ) (message rest : List ℕ) → IsMessage message →
     messages_at (suc number) (block message ++ rest) ≡ message ∷ messages_at number rest
@@ -64,7 +64,7 @@ messages_at-block number message rest fits =
     in
     rw (len, take_at message rest (length message) refl, drop_at message rest (length message) refl) refl
 
--- what was spelled is read back, whatever follows it
+-- The blocks of some messages read as these messages, whatever bytes follow.
 pub messages_at-blocks :
     (messages : List (List ℕ)) (rest : List ℕ) → AllByRecursion IsMessage messages →
     messages_at (length messages) (blocks messages ++ rest) ≡ messages
@@ -75,7 +75,7 @@ messages_at-blocks (message ∷ messages) rest each =
     ∙ messages_at-block (length messages) message (blocks messages ++ rest) each.0
     ∙ ap (λ (t : List (List ℕ)). message ∷ t) (messages_at-blocks messages rest each.1)
 
--- whole blocks with nothing behind them are all of the bytes
+-- Whole blocks that nothing follows are all of the bytes.
 pub are_blocks :
     (number : ℕ) (bytes rest : List ℕ) → AreBlocksAndRest number bytes rest → rest ≡ [] → AreBlocks number bytes
 are_blocks number bytes rest found none =
@@ -93,7 +93,7 @@ are_blocks number bytes rest found none =
       each = subst (λ (t : List (List ℕ)). AllByRecursion IsMessage t) (sym read) found.each;
     }
 
--- the first of the blocks that are left, and those behind it
+-- The first of the remaining blocks, and the blocks after it.
 pub record FirstBlock (left number : ℕ) (bytes message rest : List ℕ) : Type 0 where
   pub first : messages_at left bytes ≡ message ∷ messages_at number rest
   pub others : AreBlocks number rest
@@ -137,13 +137,13 @@ begins_of_more number bytes whole none =
     whole.each.0
     whole.spelled
 
--- where a whole block is owed, one begins
+-- If whole blocks remain, the bytes start with a whole block.
 pub block_begins : (left : ℕ) (bytes : List ℕ) → 0 < left → AreBlocks left bytes → BeginsNoBlock bytes → ⊥
 block_begins left bytes more whole none =
     let e : left ≡ suc (left - 1) = omega arith in
     begins_of_more (left - 1) bytes (subst (λ (n : ℕ). AreBlocks n bytes) e whole) none
 
--- blocks of as many messages are the same bytes exactly where the messages are the same
+-- The blocks of two lists with the same number of messages are equal exactly when the messages are equal.
 pub same_blocks :
     (count number : ℕ) (one other : List ℕ) → count ≡ number → AreBlocks count one → AreBlocks number other →
     pointwise ◌==◌ one other ≡ pointwise (pointwise ◌==◌) (messages_at count one) (messages_at number other)

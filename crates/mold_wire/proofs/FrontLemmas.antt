@@ -1,4 +1,4 @@
--- The longest front of some messages that fits.
+-- The longest prefix of a list of messages that fits.
 use Rattle.std.proofs.Common.{◌≡◌, ℕ, zero, suc, ◌+◌, ◌-◌, ◌<◌, ◌≤◌, leb, List, [], ◌∷◌, ◌++◌, length, length-append}
 use Rattle.std.proofs.Common.{take, drop, refl, sym, ap, subst, ◌∙◌, append_assoc, inl, inr, arith}
 use Rattle.std.proofs.lemmas.Bool.{cond_both, cond-true, cases_lt, leb-true, le-leb}
@@ -7,7 +7,8 @@ use Rattle.mold_wire.specs.Packing.{packet_length, Fits, IsFront, front}
 use Rattle.mold_wire.proofs.PackingLemmas.{packet_length_of_none, packet_length-more, packet_length-append}
 use Rattle.mold_wire.proofs.PackingLemmas.{packet_length_alone, least_packet_length}
 
--- where the first message fits alone, it is in front of what fits behind it
+-- If the first message fits alone, the longest prefix is that message and the longest prefix of the rest that
+-- fits in the remaining bytes.
 pub front-more :
     (limit : ℕ) (message : List ℕ) (messages : List (List ℕ)) (most : ℕ) → Fits limit (message ∷ []) →
     front limit (message ∷ messages) (suc most) ≡ message ∷ front (limit - (2 + length message)) messages most
@@ -15,7 +16,7 @@ unfolding front
 front-more limit message messages most fits =
     cond-true (leb (packet_length (message ∷ [])) limit) _ _ (le-leb (packet_length (message ∷ [])) limit fits)
 
--- the front is at the front
+-- The result of `front` is a prefix of the messages.
 front-parts :
     (limit : ℕ) (messages : List (List ℕ)) (most : ℕ) →
     messages ≡ front limit messages most ++ drop (length (front limit messages most)) messages
@@ -52,7 +53,7 @@ front-fits limit (message ∷ messages) (suc most) room =
     omega (arith, packet_length-more message (front left messages most), packet_length_alone message))
     (λ _. omega (arith, packet_length_of_none))
 
--- no number of messages that fits is more than the front has
+-- A prefix that fits is at most as long as the result of `front`.
 front-longest :
     (limit : ℕ) (messages : List (List ℕ)) (most number : ℕ) → number ≤ most → number ≤ length messages →
     Fits limit (take number messages) → number ≤ length (front limit messages most)
@@ -74,7 +75,7 @@ front-longest limit (message ∷ messages) (suc most) (suc number) few short fit
     subst (λ (t : List (List ℕ)). suc number ≤ length t) (sym (front-more limit message messages most alone))
     (omega arith)
 
--- a front of a list is its first so many
+-- A prefix of length n is the first n elements of the list.
 front_taken :
     (messages found behind : List (List ℕ)) → messages ≡ found ++ behind → found ≡ take (length found) messages
 front_taken messages found behind parts =
@@ -97,7 +98,7 @@ front_is limit messages most room = record {
       (subst (λ (t : List (List ℕ)). Fits limit t) (front_taken messages other more parts) fits);
 }
 
--- two longest fronts are one
+-- There is only one longest prefix.
 pub one_front :
     (limit : ℕ) (messages : List (List ℕ)) (most : ℕ) (one other : List (List ℕ)) → IsFront limit messages most one →
     IsFront limit messages most other → one ≡ other
@@ -120,11 +121,11 @@ front_only limit messages most found is =
     one_front limit messages most found (front limit messages most) is
     (front_is limit messages most (omega (arith, is.fits, least_packet_length found)))
 
--- a front of a list takes no more than the list
+-- A packet with a prefix of the messages is at most as long as a packet with all of them.
 front_within : (one more : List (List ℕ)) → packet_length one ≤ packet_length (one ++ more)
 front_within one more = omega (arith, packet_length-append one more, least_packet_length more)
 
--- the message behind a front, if there is one and it may be counted, does not fit
+-- The message after a prefix does not fit, if there is one and the prefix has fewer than `most` messages.
 abbrev Stops : ℕ → ℕ → List (List ℕ) → List (List ℕ) → Type 0
 Stops limit most found behind =
     (next : List ℕ) (more : List (List ℕ)) →
@@ -165,7 +166,7 @@ longest_of limit messages most found (next ∷ behind) parts stops other more ot
       | inr not_shorter ↦ not_shorter
     ]
 
--- a front is the longest where the message behind it, if there is one and it may be counted, fits no more
+-- A prefix that fits is the longest one if the next message, if any, is one too many or does not fit.
 pub front_stops :
     (limit : ℕ) (messages : List (List ℕ)) (most : ℕ) (found behind : List (List ℕ)) → messages ≡ found ++ behind →
     length found ≤ most → Fits limit found →
@@ -180,13 +181,13 @@ front_stops limit messages most found behind parts few fits stops = record {
       longest_of limit messages most found behind parts stops other more others few_others fits_others;
 }
 
--- where a message may be asked for and the first one fits alone, there is one
+-- If at least one message is allowed and the first one fits alone, the longest prefix is not empty.
 pub front_some :
     (limit : ℕ) (message : List ℕ) (messages found : List (List ℕ)) (most : ℕ) →
     IsFront limit (message ∷ messages) most found → 0 < most → Fits limit (message ∷ []) → 0 < length found
 front_some limit message messages found most is some fits = is.longest (message ∷ []) messages refl some fits
 
--- where all messages may be asked for and fit, they are the longest front
+-- If all messages are allowed and fit, they are the longest prefix.
 pub front_whole :
     (limit : ℕ) (messages : List (List ℕ)) (most : ℕ) → length messages ≤ most → Fits limit messages →
     IsFront limit messages most messages

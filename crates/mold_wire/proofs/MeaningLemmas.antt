@@ -1,4 +1,4 @@
--- What bytes read as is right of them: they spell the packet or the request, or have the fault.
+-- The reading of any bytes is correct: they encode the packet or the request, or they have the fault.
 use Rattle.std.proofs.Common.{◌≡◌, ℕ, zero, suc, ◌+◌, ◌<◌, ◌≤◌, eqb, leb, ltb, List, [], ◌∷◌, ◌++◌, length}
 use Rattle.std.proofs.Common.{length-append, length-drop, take, drop, refl, sym, ap, subst, ◌∙◌, append_assoc, arith}
 use Rattle.std.specs.Prelude.{Result, Ok, Err}
@@ -23,7 +23,7 @@ use Rattle.mold_wire.proofs.BlockLemmas.{big_number-be16, blocks_none}
 use Rattle.mold_wire.proofs.PacketLemmas.{body_of_is, cut_in, spells_whole, trailing_behind}
 use Rattle.mold_wire.proofs.ReadingLemmas.{IsBytes-drop, be16-read, be64-read, block_stands}
 
--- what blocks were found to be is right of the bytes
+-- The reading of the blocks is correct.
 abbrev IsFound : ℕ → List ℕ → Result (List (List ℕ) × List ℕ) ℕ → Type 0
 IsFound number bytes (Ok found) = (whole : AreBlocksAndRest number bytes found.1) × (whole.messages ≡ found.0)
 IsFound number bytes (Err index) = (index < number) × AreCutBlocks index bytes
@@ -61,7 +61,7 @@ found_behind number bytes message rest (Err index) first is = (
   },
 )
 
--- a block has no more bytes than there are
+-- A block that is longer than the bytes is not whole.
 too_short : (bytes : List ℕ) → length bytes < 2 + big_number 2 bytes → BeginsNoBlock bytes
 too_short bytes short message more fits parts =
     let laid : bytes ≡ be16 (length message) ++ (message ++ more) =
@@ -93,7 +93,7 @@ blocks_at_is (suc number) bytes fits =
       record { rest = bytes; whole = blocks_none bytes; cut = too_short bytes (omega (arith, leb-false _ _ short)) },
     ))
 
--- what was read from bytes is right of them
+-- The reading of a packet is correct.
 abbrev IsRead : List ℕ → Result Packet DecodeError → Type 0
 IsRead bytes (Ok packet) = Spells packet bytes
 IsRead bytes (Err error) = FaultAt error bytes
@@ -125,7 +125,7 @@ packet_from_is header bytes behind (Ok found) stands is =
     trailing_behind header bytes behind found.1 stands whole (omega arith))
 packet_from_is header bytes behind (Err index) stands is = cut_in header index bytes behind stands is.0 is.1
 
--- the header that the first 20 bytes read as
+-- The header that the first 20 bytes encode.
 abbrev header_at : List ℕ → Header
 header_at bytes = record {
   session = record { 0 = take 10 bytes };
@@ -133,7 +133,7 @@ header_at bytes = record {
   count = big_number 2 (drop 18 bytes);
 }
 
--- at least 20 bytes begin with a header
+-- Any 20 or more bytes start with a header.
 header_stands :
     (bytes : List ℕ) → IsBytes bytes → 20 ≤ length bytes →
     IsHeaderAndRest (header_at bytes) bytes (drop 20 bytes)

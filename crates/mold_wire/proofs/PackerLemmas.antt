@@ -1,4 +1,4 @@
--- What a packer's fields stand for, and how a header and a block that are written change it.
+-- What the fields of a packer represent, and how writing a header or a block changes it.
 use Rattle.std.proofs.Common.{◌≡◌, ℕ, ◌+◌, ◌<◌, ◌≤◌, Bool, true, false, List, [], ◌∷◌, ◌++◌, length, length-append}
 use Rattle.std.proofs.Common.{take, drop, refl, sym, ap, subst, ◌∙◌, append_assoc, arith, lit<}
 use Rattle.std.specs.List.{AllByRecursion}
@@ -24,14 +24,14 @@ messages_with : (messages : List (List ℕ)) → messages_of (body_with messages
 messages_with [] = refl
 messages_with (message ∷ messages) = refl
 
--- nothing is read from no bytes
+-- If no bytes are used, nothing is begun.
 reads_nothing :
     (is_open : Bool) (bytes : List ℕ) → is_open ≡ false → bytes ≡ [] → begun_of is_open (reading bytes) ≡ Nothing
 unfolding reading
 reads_nothing is_open bytes closed none =
     ap (λ (b : Bool). begun_of b (reading bytes)) closed ∙ ap (λ (t : List ℕ). begun_of false (reading t)) none
 
--- what was begun is what the bytes that spell it read as
+-- The used bytes read as the packet that was begun.
 reads_begun :
     (is_open : Bool) (count : ℕ) (bytes : List ℕ) (begun : Begun) → IsTold is_open count begun →
     SpellsBegun begun bytes → begun_of is_open (reading bytes) ≡ begun
@@ -47,12 +47,12 @@ reads_begun is_open count bytes (Ended session sequence) told spells =
 abbrev pub state : ℕ → Begun → PackerState
 state limit begun = record { limit = limit; begun = begun }
 
--- the fields hold what their bytes read as, and are seen as this state
+-- The fields represent what their bytes read as, and users see this state.
 pub record Shows (fields : Fields) (seen_as : PackerState) : Type 0 where
   pub holds : Holds fields (begun_in fields)
   pub seen : state_of fields ≡ seen_as
 
--- fields that hold what was begun are seen so
+-- Users see the packet that the fields represent.
 pub shows :
     (fields : Fields) (limit : ℕ) (begun : Begun) → length fields.items ≡ limit → Holds fields begun →
     Shows fields (state limit begun)
@@ -70,7 +70,7 @@ shows fields limit begun long holds =
 limit_shown : (fields : Fields) (seen_as : PackerState) → Shows fields seen_as → IsLimit seen_as.limit
 limit_shown fields seen_as shown = subst (λ (s : PackerState). IsLimit s.limit) shown.seen shown.holds.limit
 
--- a packer that was made has begun nothing
+-- A new packer has begun nothing.
 pub made :
     (items : List ℕ) (limit : ℕ) → length items ≡ limit → IsLimit limit →
     Shows (over items 0 0 false) (state limit Nothing)
@@ -83,15 +83,15 @@ made items limit long is_limit =
       spelled = refl;
     })
 
--- a buffer of this length after it was written from its front
+-- The buffer of this length after `new` was written at its start.
 abbrev pub written_over : ℕ → List ℕ → List ℕ → List ℕ
 written_over len new old = take len (new ++ drop (length new) old)
 
--- is what was written, where that is as long
+-- If `new` is as long as the buffer, the buffer is `new`.
 all_written : (len : ℕ) (new old : List ℕ) → length new ≡ len → written_over len new old ≡ new
 all_written len new old long = take_at new (drop (length new) old) len long
 
--- a buffer that was written over holds what was written
+-- A buffer that was overwritten represents what was written.
 pub shows_over :
     (used count : ℕ) (is_open : Bool) (begun : Begun) (fields : Fields) (seen_as : PackerState) (len : ℕ)
     (new : List ℕ) → Shows fields seen_as → length fields.items ≡ len → length new ≡ len →
@@ -107,7 +107,7 @@ shows_over used count is_open begun fields seen_as len new shown whole long hold
 abbrev pub header_of : Session → ℕ → ℕ → Header
 header_of session sequence count = record { session = session; sequence = sequence; count = count }
 
--- what stands behind a header
+-- The bytes after a header.
 pub behind_header :
     (header : Header) (items rest : List ℕ) → IsHeaderAndRest header items rest → drop 20 items ≡ rest
 behind_header header items rest stands =
@@ -115,7 +115,7 @@ behind_header header items rest stands =
     ap (λ (t : List ℕ). drop 20 t) stands.parts
     ∙ drop_at head rest 20 (length-header_bytes header.session.0 header.sequence header.count stands.session)
 
--- a header alone spells a packet without messages
+-- A header alone encodes a packet without messages.
 header_spells :
     (session : Session) (sequence : ℕ) (body : Body) (items rest : List ℕ) →
     IsHeaderAndRest (header_of session sequence (count_of body)) items rest → IsBody body → messages_of body ≡ [] →
@@ -131,7 +131,7 @@ header_spells session sequence body items rest stands is_body none =
           ∙ ap (λ (t : List (List ℕ)). head ++ blocks t) (sym none);
     }
 
--- a header without messages is an open packet
+-- A header with message count 0 is an open packet.
 pub started :
     (session : Session) (sequence : ℕ) (items rest : List ℕ) → IsLimit (length items) →
     IsHeaderAndRest (header_of session sequence 0) items rest →
@@ -143,7 +143,7 @@ started session sequence items rest is_limit stands = record {
   spelled = header_spells session sequence Heartbeat items rest stands tt refl;
 }
 
--- and with the message count that ends a session it is an end packet
+-- A header with the message count of an end packet is an end packet.
 pub ended :
     (session : Session) (sequence count : ℕ) (items rest : List ℕ) → IsLimit (length items) →
     IsHeaderAndRest (header_of session sequence 65535) items rest →
@@ -155,7 +155,7 @@ ended session sequence count items rest is_limit stands = record {
   spelled = header_spells session sequence End items rest stands tt refl;
 }
 
--- the bytes that are used are as many as the open packet's messages take
+-- The number of used bytes is the length of a packet with the open packet's messages.
 used_by :
     (fields : Fields) (session : Session) (sequence : ℕ) (messages : List (List ℕ)) →
     Holds fields (Open session sequence messages) → packet_length messages ≡ fields.used
@@ -173,7 +173,7 @@ has_room fields (Open session sequence messages) len holds is_open room =
 has_room fields (Ended session sequence) len holds is_open room =
     let shut : fields.is_open ≡ false = holds.told in cc
 
--- what a packet that has room for one more message is like
+-- The properties of a packet that has room for one more message.
 pub record Room (fields : Fields) (len : ℕ) : Type 0 where
   pub is_open : fields.is_open ≡ true
   pub header : 20 ≤ fields.used
@@ -206,7 +206,7 @@ pub shown_room :
 shown_room fields seen_as len shown room =
     room_left fields (begun_in fields) len shown.holds (room_held fields seen_as len shown room)
 
--- the numbers of a packer that holds what was begun are some that it may have
+-- The fields of a packer satisfy `CanHold`.
 pub can_hold_begun :
     (fields : Fields) (begun : Begun) → Holds fields begun →
     CanHold (length fields.items) fields.used fields.count fields.is_open
@@ -239,7 +239,7 @@ each_with : (messages : List (List ℕ)) → IsBody (body_with messages) → All
 each_with [] is = tt
 each_with (message ∷ messages) is = is.2
 
--- the body of an open packet with a message behind the others
+-- The body of an open packet with one more message.
 body_pushed :
     (messages : List (List ℕ)) (message : List ℕ) → length messages < 65534 →
     AllByRecursion IsMessage (messages ++ message ∷ []) → IsBody (body_with (messages ++ message ∷ []))
@@ -253,7 +253,7 @@ count_pushed :
 count_pushed [] message = refl
 count_pushed (first ∷ messages) message = omega (arith, length-append messages (message ∷ []))
 
--- a packet with another message count in its header has the same blocks
+-- Changing the message count in the header does not change the blocks.
 recounted_is :
     (session : Session) (sequence count old : ℕ) (packet behind : List ℕ) → length session.0 ≡ 10 →
     packet ≡ header_bytes session.0 sequence old ++ behind →
@@ -273,7 +273,7 @@ recounted_is session sequence count old packet behind ten was =
     ∙ ap (λ (t : List ℕ). front ++ (be16 count ++ t)) carried
     ∙ sym (header_counted session.0 sequence count behind)
 
--- the block behind a packet, and the count in its header, make it the packet with the message
+-- A packet becomes the packet with one more message if the block follows it and the count grows by one.
 packet_pushed :
     (session : Session) (sequence count : ℕ) (messages : List (List ℕ)) (message packet rest items : List ℕ) →
     Spells (open_packet session sequence messages) packet → count ≡ length messages → length messages < 65534 →
@@ -332,7 +332,7 @@ packet_pushed session sequence count messages message packet rest items spells c
       spelled = ap (λ (t : List ℕ). take size t) parts ∙ take_at (head ++ blocks all) rest size whole_length ∙ whole;
     }
 
--- what stands behind a message that was written into a buffer is what stood there
+-- Adding a message does not change the bytes after it.
 pub behind_added :
     (used count : ℕ) (old new message : List ℕ) → 20 ≤ used → used ≤ length old →
     new ≡ recounted count (take used old) ++ (block message ++ drop (length message) (drop 2 (drop used old))) →
@@ -358,7 +358,7 @@ behind_added used count old new message header within laid =
     ∙ drop-drop (length message) 2 (drop used old)
     ∙ drop-drop (2 + length message) used old
 
--- a message that was written behind an open packet is added to it
+-- A message that was written after an open packet is added to it.
 pub added :
     (used count : ℕ) (old new rest message : List ℕ) (begun : Begun) → Holds (over old used count true) begun →
     used + (2 + length message) ≤ length old → length new ≡ length old →
@@ -381,7 +381,7 @@ added used count old new rest message (Open session sequence messages) holds roo
 added used count old new rest message (Ended session sequence) holds room long laid =
     absurd (has_room (over old used count true) (Ended session sequence) (length message) holds refl room)
 
--- the same of a packer, to whose buffer the message was added
+-- The same for the packer whose buffer the message was written into.
 pub shows_added :
     (size : ℕ) (fields : Fields) (seen_as : PackerState) (len : ℕ) (old new message : List ℕ) → Shows fields seen_as →
     length fields.items ≡ len → length new ≡ len → old ≡ fields.items →

@@ -1,4 +1,4 @@
--- From the parts that the decoder found to the packet that the bytes spell, or to their fault.
+-- From the parts that the decoder finds to the packet that the bytes encode, or to their fault.
 use Rattle.std.proofs.Common.{◌≡◌, ℕ, ◌-◌, ◌<◌, ◌^◌, cond, eqb, List, [], ◌++◌, length, length-append, refl, sym, ap}
 use Rattle.std.proofs.Common.{◌∙◌, append_assoc, arith}
 use Rattle.std.specs.List.{AllByRecursion}
@@ -69,7 +69,7 @@ body_of_is count messages number each fits =
 abbrev pub packet_of : Header → Body → Packet
 packet_of header body = record { session = header.session; sequence = header.sequence; body = body }
 
--- a header and the blocks that it states, with nothing behind them, spell the packet
+-- A header and the blocks that it states encode the packet if nothing follows them.
 pub spells_whole :
     (header : Header) (bytes behind : List ℕ) (messages : List (List ℕ)) (body : Body) →
     IsHeaderAndRest header bytes behind → behind ≡ blocks messages → BodyIs header.count messages body →

@@ -1,4 +1,4 @@
--- How long packets are, and the longest front that fits.
+-- The lengths of packets and the offsets of their messages.
 use Rattle.std.proofs.Common.{◌≡◌, ℕ, ◌+◌, ◌*◌, ◌≤◌, List, [], ◌∷◌, ◌++◌, length, length-append}
 use Rattle.std.proofs.Common.{take, drop, refl, sym, ap, ◌∙◌, append_assoc, arith}
 use Rattle.std.proofs.lemmas.List.{take_at, drop_at}
@@ -49,13 +49,13 @@ length-blocks (message ∷ messages) =
       length-append (be16 (length message)) message,
     )
 
--- each message takes at least the two bytes of its block's length
+-- Each message takes at least the two bytes of its length field.
 pub least_packet_length : (messages : List (List ℕ)) → 20 + 2 * length messages ≤ packet_length messages
 least_packet_length [] = omega (arith, packet_length_of_none)
 least_packet_length (message ∷ messages) =
     omega (arith, packet_length-more message messages, least_packet_length messages)
 
--- a packet takes a header, and for each message two bytes and its data
+-- The encoding of a packet is a header, and two bytes plus the data for each message.
 pub spelling_length :
     (packet : Packet) (bytes : List ℕ) → Spells packet bytes → length bytes ≡ packet_length (messages_of packet.body)
 spelling_length packet bytes spells =
@@ -74,12 +74,12 @@ pub spelling_fits :
     length bytes ≤ limit
 spelling_fits packet bytes limit spells fits = omega (arith, spelling_length packet bytes spells)
 
--- the greatest payload of a datagram holds at most 32,743 messages
+-- The greatest datagram holds at most 32,743 messages.
 pub most_messages :
     (limit : ℕ) (messages : List (List ℕ)) → limit ≤ 65507 → Fits limit messages → length messages ≤ 32743
 most_messages limit messages small fits = omega (arith, least_packet_length messages)
 
--- a message's data stand behind the header, the blocks before it and its own length
+-- A message's data follow the header, the blocks before it and its own length field.
 pub message_place :
     (packet : Packet) (bytes : List ℕ) (front behind : List (List ℕ)) (message : List ℕ) → Spells packet bytes →
     messages_of packet.body ≡ front ++ message ∷ behind →

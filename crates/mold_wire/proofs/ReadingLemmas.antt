@@ -1,5 +1,5 @@
--- What is spelled is read, and each fault is read as itself. So no bytes spell two packets, have two
--- faults, or a packet and a fault.
+-- Bytes that encode a packet read as that packet, and bytes with a fault read as that fault. So no bytes
+-- encode two packets, have two faults, or encode a packet and have a fault.
 use Rattle.std.proofs.Common.{◌≡◌, ℕ, zero, suc, ◌+◌, ◌-◌, ◌<◌, ◌≤◌, ◌^◌, true, cond, eqb, leb, ltb, List, [], ◌∷◌}
 use Rattle.std.proofs.Common.{◌++◌, length, length-append, take, drop, refl, sym, ap, subst, ◌∙◌}
 use Rattle.std.proofs.Common.{append_assoc, inl, inr, length-drop, arith, lit<}
@@ -44,7 +44,7 @@ IsBytes-behind front bytes fits i =
 pub IsBytes-drop : (n : ℕ) (bytes : List ℕ) → IsBytes bytes → IsBytes (drop n bytes)
 IsBytes-drop n bytes fits i = rw (get_or-drop n bytes i 0) (fits (n + i))
 
--- the first two bytes, and the first eight, are those of the number that they read as
+-- The first two bytes are the encoding of the number that they read as. The same holds for the first eight.
 pub be16-read : (bytes : List ℕ) → IsBytes bytes → 2 ≤ length bytes → be16 (big_number 2 bytes) ≡ take 2 bytes
 be16-read bytes fits long =
     be_bytes_2 (take 2 bytes) (big_number 2 bytes) (length-take-le 2 bytes long) (IsBytes-take 2 bytes fits)
@@ -65,7 +65,7 @@ be64-read bytes fits long =
       get_or-take 8 bytes 7 0,
     ))
 
--- a block at the front is read first
+-- If the bytes start with a block, it is read first.
 pub blocks_at-block :
     (number : ℕ) (message rest : List ℕ) → IsMessage message →
     blocks_at (suc number) (block message ++ rest) ≡ behind_first message (blocks_at number rest)
@@ -79,7 +79,7 @@ blocks_at-block number message rest fits =
     in
     rw (len, whole, take_at message rest (length message) refl, drop_at message rest (length message) refl) refl
 
--- whole blocks are read, whatever follows them
+-- Whole blocks are read, whatever bytes follow them.
 pub blocks_at-blocks :
     (messages : List (List ℕ)) (rest : List ℕ) → AllByRecursion IsMessage messages →
     blocks_at (length messages) (blocks messages ++ rest) ≡ Ok (messages, rest)
@@ -90,7 +90,7 @@ blocks_at-blocks (message ∷ messages) rest each =
     ∙ blocks_at-block (length messages) message (blocks messages ++ rest) each.0
     ∙ ap (behind_first message) (blocks_at-blocks messages rest each.1)
 
--- bytes that hold as much as their first two say begin with that block
+-- The bytes start with a whole block if they are as long as its length field states.
 pub block_stands :
     (bytes : List ℕ) → IsBytes bytes → 2 + big_number 2 bytes ≤ length bytes →
     IsBlockAndRest bytes (take (big_number 2 bytes) (drop 2 bytes)) (drop (big_number 2 bytes) (drop 2 bytes))
@@ -110,7 +110,7 @@ block_stands bytes fits long =
           ∙ ap (λ (n : ℕ). be16 n ++ (message ++ drop number behind)) (sym message_length);
     }
 
--- the first block that is cut is told by its index
+-- The index of the first cut block is reported.
 pub blocks_at-cut :
     (whole : List (List ℕ)) (rest : List ℕ) (number : ℕ) → AllByRecursion IsMessage whole → length whole < number →
     IsBytes rest → BeginsNoBlock rest → blocks_at number (blocks whole ++ rest) ≡ Err (length whole)
@@ -129,11 +129,11 @@ blocks_at-cut (message ∷ whole) rest (suc number) each below fits cut =
     ∙ blocks_at-block number message (blocks whole ++ rest) each.0
     ∙ ap (behind_first message) (blocks_at-cut whole rest number each.1 (omega arith) fits cut)
 
--- eight bytes read back as the number that they were written from
+-- The eight bytes of a number read as that number.
 pub big_number-be64 : (number : ℕ) (rest : List ℕ) → number < 2 ^ 64 → big_number 8 (be64 number ++ rest) ≡ number
 big_number-be64 number rest fits = omega arith
 
--- a message count at its place, and what follows the header
+-- The message count at its offset, and the bytes after the header.
 pub record CountRead (bytes : List ℕ) (count : ℕ) (behind : List ℕ) : Type 0 where
   pub read : big_number 2 (drop 18 bytes) ≡ count
   pub rest : drop 20 bytes ≡ behind
@@ -152,7 +152,7 @@ count_read front bytes count behind len fits parts =
       long = omega (arith, ap (λ (t : List ℕ). length t) parts, length-append front (be16 count ++ behind), len);
     }
 
--- a header at its place, and what follows it
+-- The header fields at their offsets, and the bytes after the header.
 pub record HeaderRead (bytes session : List ℕ) (sequence count : ℕ) (behind : List ℕ) : Type 0 where
   pub name : take 10 bytes ≡ session
   pub number : big_number 8 (drop 10 bytes) ≡ sequence
@@ -179,7 +179,8 @@ header_read session sequence count bytes behind ten sequence_fits count_fits par
 not_end : (count : ℕ) → count < 65535 → stated_blocks count ≡ count
 not_end count below = cond-false (eqb count 65535) 0 count (ne_eqb count 65535 (λ e. omega (arith, below, e)))
 
--- a message count states as many blocks as there are messages, and gives the body back
+-- The message count of a valid body states as many blocks as there are messages. The count and the messages
+-- give the body.
 stated-count_of : (body : Body) → IsBody body → stated_blocks (count_of body) ≡ length (messages_of body)
 stated-count_of (Data messages) is = not_end (length messages) is.1
 stated-count_of Heartbeat is = refl
@@ -204,7 +205,7 @@ each-messages_of (Data messages) is = is.2
 each-messages_of Heartbeat is = tt
 each-messages_of End is = tt
 
--- a packet with any bytes behind it gives its parts and these bytes
+-- A packet followed by any bytes reads as its parts and these bytes.
 reading-parts :
     (packet : Packet) (front more bytes : List ℕ) → Spells packet front → bytes ≡ front ++ more →
     reading bytes
@@ -276,7 +277,7 @@ reading-fault (Short len) bytes fits is =
 reading-fault (BlockCut index) bytes fits is = reading-cut index bytes fits is
 reading-fault (Trailing at) bytes fits is = reading-trailing at bytes is
 
--- an answer that is spelled, or a refusal that is the fault, is what the bytes read as
+-- A result is the reading of the bytes if they encode the returned packet or have the returned fault.
 pub reading_answer :
     (result : Result Packet DecodeError) (bytes : List ℕ) → IsBytes bytes →
     IfOk result (λ packet. Spells packet bytes) → IfErr result (λ error. FaultAt error bytes) → result ≡ reading bytes

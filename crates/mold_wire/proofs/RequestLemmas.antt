@@ -1,5 +1,5 @@
--- What spells a request is read as that request, and no other length is read at all. So no bytes spell
--- two requests, or spell one and are refused.
+-- Bytes that encode a request read as that request, and bytes of any other length have a fault. So no bytes
+-- encode two requests, or encode a request and have a fault.
 use Rattle.std.proofs.Common.{◌≡◌, ℕ, eqb, List, [], length, sym, ap, ◌∙◌}
 use Rattle.std.proofs.Common.{refl}
 use Rattle.std.specs.Prelude.{Result, Ok, Err, IfOk, IfErr}
@@ -16,7 +16,7 @@ use Rattle.mold_wire.proofs.ReadingLemmas.{HeaderRead, header_read}
 abbrev refusal : RequestError → Result Request RequestError
 refusal error = Err error
 
--- a request is spelled in 20 bytes
+-- The encoding of a request has 20 bytes.
 pub request_length : (request : Request) (bytes : List ℕ) → SpellsRequest request bytes → length bytes ≡ 20
 request_length request bytes spells =
     ap (λ (t : List ℕ). length t) spells.spelled
@@ -42,7 +42,7 @@ request_reading-fault (RequestLength len) bytes is =
     cond-false (eqb (length bytes) 20) _ _ (ne_eqb (length bytes) 20 is.0)
     ∙ ap (λ (n : ℕ). refusal (RequestLength n)) (sym is.1)
 
--- an answer that is spelled, or a refusal that is the fault, is what the bytes read as
+-- A result is the reading of the bytes if they encode the returned request or have the returned fault.
 pub request_answer :
     (result : Result Request RequestError) (bytes : List ℕ) → IfOk result (λ request. SpellsRequest request bytes) →
     IfErr result (λ error. RequestFaultAt error bytes) → result ≡ request_reading bytes

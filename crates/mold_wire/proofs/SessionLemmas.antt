@@ -1,11 +1,12 @@
--- Ten bytes are told apart by the numbers that their first eight and their last two read as.
+-- Two ten-byte names are equal exactly when the numbers in their first eight and in their last two bytes are
+-- equal.
 use Rattle.std.proofs.Common.{◌≡◌, ℕ, List, ◌++◌, length, length-drop, drop, sym, ap, ◌∙◌, arith}
 use Rattle.std.proofs.lemmas.List.{take_all, take-append-drop}
 use Rattle.byteorder.specs.Endian.{big_number}
 use Rattle.mold_wire.specs.Block.{IsBytes, be16, be64}
 use Rattle.mold_wire.proofs.ReadingLemmas.{IsBytes-drop, be16-read, be64-read}
 
--- ten bytes are those of two numbers
+-- Ten bytes are the encodings of the numbers that their first eight and last two bytes read as.
 in_numbers : (name : List ℕ) → IsBytes name → length name ≡ 10 →
     name ≡ be64 (big_number 8 name) ++ be16 (big_number 2 (drop 8 name))
 in_numbers name fits ten =

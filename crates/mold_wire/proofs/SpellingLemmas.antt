@@ -1,4 +1,4 @@
--- A value has one spelling, and no two values share one.
+-- A value has exactly one encoding, and different values have different encodings.
 use Rattle.std.proofs.Common.{◌≡◌, ℕ, List, refl, sym, ◌∙◌}
 use Rattle.std.specs.Prelude.{Result, Ok}
 use Rattle.mold_wire.specs.declared.packet.Packet.{Packet}

@@ -1,4 +1,4 @@
--- What packets say of a session, and that it stays so while the session goes on.
+-- What packets state about a session, and why it stays true as the session goes on.
 use Rattle.std.proofs.Common.{◌≡◌, ℕ, zero, suc, ◌+◌, ◌-◌, ◌<◌, ◌≤◌, leb, List, [], ◌∷◌, ◌++◌, length, length-append}
 use Rattle.std.proofs.Common.{take, drop, refl, sym, ap, subst, ◌∙◌, inl, inr, arith, get_or}
 use Rattle.std.specs.Prelude.{Option, Some, None, Bool, true, false, slice_get}
@@ -11,7 +11,7 @@ use Rattle.mold_wire.specs.declared.packet.Packet.{Packet}
 use Rattle.mold_wire.specs.declared.packet.Body.{Body}
 use Rattle.mold_wire.specs.declared.packet.Body.TheVariants.{Data, Heartbeat, End}
 
--- from the first number on, the messages stand one behind the other
+-- The messages of a list have consecutive numbers, from `first` on.
 pub message_at-from :
     (first : ℕ) (messages : List (List ℕ)) (number place : ℕ) → number ≡ first + place →
     message_at first messages number ≡ slice_get messages place
@@ -19,7 +19,7 @@ message_at-from first messages number place is =
     cond-true (leb first number) (slice_get messages (number - first)) None (le-leb first number (omega (arith, is)))
     ∙ ap (λ (t : ℕ). slice_get messages t) (omega (arith, is))
 
--- what stands in a list stands there with more behind it
+-- An element of a list keeps its index when the list gets longer.
 slice_get-longer :
     {X : Type 0} (front behind : List X) (place : ℕ) (element : X) → slice_get front place ≡ Some element →
     slice_get (front ++ behind) place ≡ Some element
@@ -27,7 +27,7 @@ slice_get-longer [] behind place element is = absurd (none-some element is)
 slice_get-longer (first ∷ front) behind zero element is = is
 slice_get-longer (first ∷ front) behind (suc place) element is = slice_get-longer front behind place element is
 
--- what was published stays published with more behind it
+-- A published message keeps its number when more messages are published.
 pub published_at-longer :
     (published behind : List (List ℕ)) (number : ℕ) (message : List ℕ) → published_at published number ≡ Some message →
     published_at (published ++ behind) number ≡ Some message
@@ -37,7 +37,7 @@ published_at-longer published behind (suc place) message is =
     message_at-from 1 (published ++ behind) (suc place) place next
     ∙ slice_get-longer published behind place message (sym (message_at-from 1 published (suc place) place next) ∙ is)
 
--- what is true of an open session is true when one more message is published
+-- What is true of an open session stays true when one more message is published.
 true_longer :
     (body : Body) (sequence : ℕ) (published : List (List ℕ)) (message : List ℕ) →
     IsTrueBody body sequence published false → IsTrueBody body sequence (published ++ message ∷ []) false
@@ -65,7 +65,7 @@ true_of_closed (Data messages) sequence published is = is
 true_of_closed Heartbeat sequence published is = is
 true_of_closed End sequence published is = absurd (false≢true is.0)
 
--- what is true of an open session is true when it is closed
+-- What is true of an open session stays true when the session closes.
 pub true_closes :
     (packet : Packet) (published : List (List ℕ)) → IsTruePacket packet published false → IsTruePacket packet published true
 true_closes packet published is = record {
@@ -73,7 +73,7 @@ true_closes packet published is = record {
   said = true_of_closed packet.body packet.sequence published is.said;
 }
 
--- each message of a true data packet stands where its number says
+-- Each message of a true data packet was published with its number.
 stands_at :
     (messages published : List (List ℕ)) (sequence place : ℕ) → 1 ≤ sequence →
     ((number : ℕ) (message : List ℕ) → message_at sequence messages number ≡ Some message →
@@ -84,7 +84,7 @@ stands_at messages published sequence place first said within =
     ∙ said (sequence + place) (get_or messages place [])
     (message_at-from sequence messages (sequence + place) place refl ∙ slice_get-get_or messages place [] within)
 
--- so the last one's place is within
+-- So the number of the last message is not above that of the last published one.
 within_published :
     (messages published : List (List ℕ)) (sequence : ℕ) → 1 ≤ sequence →
     ((number : ℕ) (message : List ℕ) → message_at sequence messages number ≡ Some message →
@@ -130,7 +130,7 @@ piece_of (Data messages) sequence published closed said within =
 piece_of Heartbeat sequence published closed said within = refl
 piece_of End sequence published closed said within = refl
 
--- so a true packet's messages are a piece of what was published
+-- So a true packet's messages are consecutive published messages.
 pub true_messages :
     (packet : Packet) (published : List (List ℕ)) (closed : Bool) → IsPacket packet →
     IsTruePacket packet published closed →
@@ -147,7 +147,7 @@ slice_get-drop (suc number) (element ∷ elements) place =
     let next : suc (number + place) ≡ suc number + place = omega arith in
     slice_get-drop number elements place ∙ ap (λ (t : ℕ). slice_get (element ∷ elements) t) next
 
--- and a data packet of such a piece is true
+-- A data packet with consecutive published messages and their numbers is true.
 pub piece_is_true :
     (packet : Packet) (published behind : List (List ℕ)) (closed : Bool) →
     length published < 18446744073709551615 → 1 ≤ packet.sequence →
@@ -173,13 +173,13 @@ piece_is_true packet published behind closed few first carries parts = record {
   );
 }
 
--- no number is that of a message where there are none
+-- An empty list has no message with any number.
 message_in_none : (first number : ℕ) → message_at first [] number ≡ None
 message_in_none first number =
     cond_both (leb first number) (slice_get [] (number - first)) None (λ (t : Option (List ℕ)). t ≡ None)
     (λ _. refl) (λ _. refl)
 
--- a true packet carries what was published
+-- The messages that a true packet carries were published with their numbers.
 carried_body :
     (body : Body) (sequence : ℕ) (published : List (List ℕ)) (closed : Bool) (number : ℕ) (message : List ℕ) →
     IsTrueBody body sequence published closed → message_at sequence (messages_of body) number ≡ Some message →

@@ -1,4 +1,4 @@
--- How a packer's fields stand for what it has begun.
+-- How the fields of a packer represent the packet that it has begun.
 use Rattle.std.specs.Prelude.{◌≡◌, ℕ, ◌+◌, ◌*◌, ◌≤◌, Bool, true, false, List, length, take, Result, Ok, Err}
 use Rattle.std.specs.Box.{boxed_slice_items}
 use Rattle.mold_wire.specs.Packet.{messages_of}
@@ -9,50 +9,57 @@ use Rattle.mold_wire.specs.declared.packer.Packer.TheInside.{Inside}
 use Rattle.mold_wire.specs.declared.packet.Packet.{Packet}
 use Rattle.mold_wire.specs.declared.error.DecodeError.{DecodeError}
 
--- a packer's fields
+-- The fields of a packer, as the definitions see them.
 pub record Fields : Type 0 where
+  -- The whole buffer.
   pub items : List ℕ
+  -- The length of the current packet in bytes.
   pub used : ℕ
+  -- The number of messages of the open packet.
   pub count : ℕ
+  -- Whether a packet is open, so that messages can be added.
   pub is_open : Bool
 
--- the fields of a packer over a buffer
+-- The fields of a packer with the buffer `items`.
 abbrev pub over : List ℕ → ℕ → ℕ → Bool → Fields
 over items used count is_open = record { items = items; used = used; count = count; is_open = is_open }
 
+-- The fields of the packer `p`, whose buffer is a boxed slice.
 abbrev pub fields_of : Inside → Fields
 fields_of p = record { items = boxed_slice_items p.buffer; used = p.used; count = p.count; is_open = p.is_open }
 
--- what was begun, by what the bytes read as
+-- The packet that was begun, from the reading of the used bytes. If the bytes read as a fault, nothing was
+-- begun.
 abbrev pub begun_of : Bool → Result Packet DecodeError → Begun
 begun_of true (Ok packet) = Open packet.session packet.sequence (messages_of packet.body)
 begun_of false (Ok packet) = Ended packet.session packet.sequence
 begun_of is_open (Err error) = Nothing
 
--- what was begun, by the bytes that are used
+-- The packet that was begun, as the used bytes of the buffer encode it.
 abbrev pub begun_in : Fields → Begun
 begun_in fields = begun_of fields.is_open (reading (take fields.used fields.items))
 
--- what the packer is to its users
+-- The state of the packer that its users see. The limit is the length of the buffer.
 abbrev pub state_of : Fields → PackerState
 state_of fields = record { limit = length fields.items; begun = begun_in fields }
 
--- an open packet is told as such, with the number of its messages
+-- The fields `is_open` and `count` agree with the packet that was begun. If it is open, `count` is the number
+-- of its messages.
 abbrev pub IsTold : Bool → ℕ → Begun → Type 0
 IsTold is_open count Nothing = is_open ≡ false
 IsTold is_open count (Open session sequence messages) = (is_open ≡ true) × (count ≡ length messages)
 IsTold is_open count (Ended session sequence) = is_open ≡ false
 
--- the bytes that are used spell what was begun
+-- The used bytes of the buffer encode the packet that was begun, and the other fields agree with it.
 pub record Holds (fields : Fields) (begun : Begun) : Type 0 where
   pub limit : IsLimit (length fields.items)
   pub within : fields.used ≤ length fields.items
   pub told : IsTold fields.is_open fields.count begun
   pub spelled : SpellsBegun begun (take fields.used fields.items)
 
--- the numbers that a packer may have, whatever its bytes are: a limit, no more bytes used than it has, and in
--- an open packet as many as a header and the lengths of its messages take
+-- The values `used`, `count` and `is_open` are possible for a packer with this limit, whatever its bytes are.
 pub record CanHold (limit used count : ℕ) (is_open : Bool) : Type 0 where
   pub is_limit : IsLimit limit
   pub within : used ≤ limit
+  -- An open packet takes at least a header and the length fields of its blocks.
   pub laid : is_open ≡ true → HEADER_LENGTH + 2 * count ≤ used

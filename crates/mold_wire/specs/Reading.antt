@@ -1,5 +1,5 @@
--- What any bytes read as: a value for every list of bytes, for the layers that speak of functions of a
--- datagram. That it is the packet which the bytes spell, or their fault, is `laws::reading_law`.
+-- The reading of a datagram as a function that is defined for all bytes. `laws::reading_law` proves that the
+-- reading is the packet that the bytes encode, or their fault.
 use Rattle.std.specs.Prelude.{ℕ, zero, suc, ◌+◌, ◌-◌, List, [], ◌∷◌, length, take, drop, nat_le, nat_lt, ◌==◌}
 use Rattle.std.specs.Prelude.{if◌then◌else◌, Result, Ok, Err}
 use Rattle.byteorder.specs.Endian.{big_number}
@@ -11,12 +11,14 @@ use Rattle.mold_wire.specs.declared.packet.Body.TheVariants.{Data, Heartbeat, En
 use Rattle.mold_wire.specs.declared.error.DecodeError.{DecodeError}
 use Rattle.mold_wire.specs.declared.error.DecodeError.TheVariants.{Short, BlockCut, Trailing}
 
--- a message before those that were read behind it, or a cut that came one block later
+-- The reading of some blocks with one more block before them. A message is added to the list, or the index of
+-- the cut block grows by one.
 abbrev pub behind_first : List ℕ → Result (List (List ℕ) × List ℕ) ℕ → Result (List (List ℕ) × List ℕ) ℕ
 behind_first message (Ok found) = Ok (message ∷ found.0, found.1)
 behind_first message (Err index) = Err (suc index)
 
--- so many blocks from the front: their messages and what follows, or the index of the first that is cut
+-- The reading of the first `number` blocks: their messages and the bytes after them, or the index of the
+-- first block that is cut.
 unfoldable pub blocks_at : ℕ → List ℕ → Result (List (List ℕ) × List ℕ) ℕ
 blocks_at zero bytes = Ok ([], bytes)
 blocks_at (suc number) bytes =
@@ -25,11 +27,11 @@ blocks_at (suc number) bytes =
     (blocks_at number (drop (big_number 2 bytes) (drop 2 bytes)))
     else Err 0
 
--- what a message count makes of the messages that were read
+-- The body of a packet with this message count and these messages.
 abbrev pub body_of : ℕ → List (List ℕ) → Body
 body_of count messages = if count == 0 then Heartbeat else (if count == END_OF_SESSION then End else Data messages)
 
--- a packet of so many bytes by its header and by what its blocks gave
+-- The reading of a datagram of `len` bytes, from its header fields and from the reading of its blocks.
 abbrev pub packet_from : List ℕ → ℕ → ℕ → ℕ → Result (List (List ℕ) × List ℕ) ℕ → Result Packet DecodeError
 packet_from session sequence count len (Ok found) =
     if length found.1 == 0
@@ -37,7 +39,7 @@ packet_from session sequence count len (Ok found) =
     else Err (Trailing (len - length found.1))
 packet_from session sequence count len (Err index) = Err (BlockCut index)
 
--- the packet that the bytes spell, or their fault
+-- The packet that the bytes encode, or their fault.
 unfoldable pub reading : List ℕ → Result Packet DecodeError
 reading bytes =
     if nat_lt (length bytes) HEADER_LENGTH

@@ -1,17 +1,19 @@
-//! Message blocks at the front of some bytes.
+//! The message blocks at the start of a byte slice: reading, skipping and writing them.
 
 ghost use Rattle.std.specs.Prelude.{◌≡◌, ◌+◌, ◌≤◌, ◌<◌, ◌^◌, ◌++◌, length, drop, MatchOption, MatchResult};
 ghost use Rattle.mold_wire.specs.Block.{block, IsBlockAndRest, AreBlocksAndRest, BeginsNoBlock, AreCutBlocks};
 
 use byteorder::{BigEndian, ByteOrder};
 
-/// How many bytes say a block's length; they stand before its data and don't count themselves.
+/// The size in bytes of a block's length field. The field precedes the message and does not count its own two
+/// bytes.
 pub const LENGTH_BYTES: usize = 2;
 
-/// The longest message, in bytes: the greatest number that a block's length has room for.
+/// The greatest length of a message in bytes. It is the greatest value of a block's length field.
 pub const MAX_MESSAGE: u16 = u16::MAX;
 
-// The data of the block at the front and what follows it, or none where no whole block stands there.
+// Returns the message of the first block and the bytes after it, or `None` if `bytes` does not start with a
+// whole block.
 pub(crate) fn split_block(bytes: &[u8]) -> Option<(&[u8], &[u8])>
     ensures { MatchOption result (BeginsNoBlock bytes.now)
         (λ found. IsBlockAndRest bytes.now found.0.now found.1.now) }
@@ -27,7 +29,8 @@ pub(crate) fn split_block(bytes: &[u8]) -> Option<(&[u8], &[u8])>
     Some(behind.split_at(len))
 }
 
-// What follows so many whole blocks, or the index of the first that is not whole.
+// Skips `number` whole blocks and returns the bytes after them. The error is the index of the first block
+// that is not whole.
 #[tactic(auto, using(crate::proofs::BlockLemmas::skipped))]
 pub(crate) fn skip_blocks(number: u16, bytes: &[u8]) -> Result<&[u8], u16>
     ensures { MatchResult result (λ rest. AreBlocksAndRest number bytes.now rest.now)
@@ -43,7 +46,7 @@ pub(crate) fn skip_blocks(number: u16, bytes: &[u8]) -> Result<&[u8], u16>
     Ok(rest)
 }
 
-// Writes a block at the front of the bytes, and leaves what is behind it.
+// Writes the block of `message` at the start of `out` and leaves the bytes after it unchanged.
 pub(crate) fn put_block(out: &mut [u8], message: &[u8])
     requires fits { length message.now < 2 ^ 16 }
     requires room { 2 + length message.now ≤ length out.old }

@@ -7,9 +7,9 @@ ghost use Rattle.mold_wire.specs.declared.header.TheConstants.{END_OF_SESSION};
 use crate::messages::Messages;
 use std::marker::Model;
 
-/// The messages of a data packet, 1 to `MAX_COUNT` of them, where they lie in the datagram. Nothing is
-/// copied: a message is a slice of the datagram, and lives as long as it. There is no `is_empty`, since
-/// there is always a message.
+/// The messages of a data packet, 1 to `MAX_COUNT` of them. Nothing is copied: each message is a slice of the
+/// datagram and is valid as long as the datagram. There is no `is_empty`, since a data packet always has a
+/// message.
 #[derive(Clone, Debug, Drop)]
 pub struct Blocks<'a> {
     count: u16,
@@ -40,7 +40,7 @@ impl<'a> Blocks<'a> {
         Blocks { count, bytes }
     }
 
-    /// How many messages there are: 1 to `MAX_COUNT`.
+    /// Returns the number of messages, 1 to `MAX_COUNT`.
     pub fn len(&self) -> u16
         ensures length { result ≡ length self.now }
         ensures range { (0 < length self.now) × (length self.now < END_OF_SESSION) }
@@ -48,22 +48,22 @@ impl<'a> Blocks<'a> {
         self.count
     }
 
-    /// The message blocks as they lie in the datagram, each message behind the two bytes of its length.
+    /// Returns the message blocks as they are in the datagram: each message follows its two length bytes.
     pub fn bytes(&self) -> &'a [u8]
         ensures { result.now ≡ blocks self.now }
     {
         self.bytes
     }
 
-    /// The messages in order, from the first.
+    /// Returns an iterator over the messages, in order.
     pub fn iter(&self) -> Messages<'a>
         ensures { result ≡ self.now }
     {
         Messages::new(self.count, self.bytes)
     }
 
-    /// The message at place `i`, counted from 0; none where there are no more than `i`. It passes over
-    /// the messages before it: to visit all of them take `iter`.
+    /// Returns the message at index `i`, counted from 0, or `None` if there are at most `i` messages. It
+    /// skips the messages before index `i`, so its cost grows with `i`. To visit all messages, use `iter`.
     pub fn get(&self, i: u16) -> Option<&'a [u8]>
         ensures { option_copied result ≡ slice_get self.now i }
     {
@@ -71,8 +71,8 @@ impl<'a> Blocks<'a> {
     }
 }
 
-// The same messages in the same order, wherever they lie. They have one spelling, so it is enough to
-// compare their bytes.
+// Two values are equal if they have the same messages in the same order, wherever the bytes are. The blocks
+// of given messages have exactly one encoding, so comparing the bytes is enough.
 impl<'a> PartialEq for Blocks<'a> {
     ghost use Rattle.std.specs.Prelude.{◌==◌};
     ghost use Rattle.std.specs.Cmp.Lexicographic.{pointwise};

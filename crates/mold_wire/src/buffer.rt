@@ -1,4 +1,4 @@
-//! Packing into memory that is lent: the rules of `Packer`, over a buffer and the numbers of a packer.
+//! The rules of `Packer` for a buffer that the caller provides. The caller keeps the packer's other fields.
 
 ghost use Rattle.std.specs.Prelude.{◌≡◌, ◌↔◌, ◌+◌, ◌*◌, ◌<◌, ◌≤◌, ◌++◌, ℕ, List, Bool, true, false};
 ghost use Rattle.std.specs.Prelude.{length, take, drop, IsTrue, []};
@@ -13,22 +13,22 @@ use crate::header::{END_OF_SESSION, HEADER_LENGTH, HEARTBEAT, Header, put_count}
 use crate::limits::{MAX_LIMIT, MIN_LIMIT};
 use crate::session::Session;
 
-// What a packet takes at least: a header, and the length of each message.
+// Returns the least length of a packet with `count` messages: the header and the length field of each block.
 fn least_length(count: u16) -> usize
     ensures { result ≡ HEADER_LENGTH + 2 * count }
 {
     HEADER_LENGTH + LENGTH_BYTES * usize::from(count)
 }
 
-/// Whether a datagram's limit may be this: `MIN_LIMIT` to `MAX_LIMIT`.
+/// Returns whether `limit` is a valid datagram limit, `MIN_LIMIT` to `MAX_LIMIT` bytes.
 pub fn is_limit(limit: usize) -> bool
     ensures { IsTrue result ↔ IsLimit limit }
 {
     MIN_LIMIT <= limit && limit <= MAX_LIMIT
 }
 
-/// Whether a packer of this limit may have used so many bytes for so many messages. Where it may not, its
-/// numbers were written by somebody else.
+/// Returns whether a packer with this limit can have used `used` bytes for `count` messages. If it returns
+/// false, these values do not come from a packer.
 pub fn can_hold(limit: usize, used: usize, count: u16, is_open: bool) -> bool
     ensures exact { IsTrue result ↔ CanHold limit used count is_open }
     ensures held { (items : List ℕ) (begun : Begun) → length items ≡ limit →
@@ -37,8 +37,8 @@ pub fn can_hold(limit: usize, used: usize, count: u16, is_open: bool) -> bool
     is_limit(limit) && used <= limit && (!is_open || least_length(count) <= used)
 }
 
-/// Whether a packet is open that leaves room in the buffer, behind its `used` bytes, for one more message of
-/// so many.
+/// Returns whether a packet is open and one more message of `len` bytes fits in the buffer after its `used`
+/// bytes.
 pub fn fits_in(buffer: &[u8], used: usize, is_open: bool, len: usize) -> bool
     ensures exact { IsTrue result ↔ ((is_open ≡ true) × (used + (2 + len) ≤ length buffer.now)) }
     ensures held { (count : ℕ) (begun : Begun) → Holds (over buffer.now used count is_open) begun →
@@ -53,8 +53,8 @@ pub fn fits_in(buffer: &[u8], used: usize, is_open: bool, len: usize) -> bool
     LENGTH_BYTES <= room && len <= room - LENGTH_BYTES
 }
 
-/// Opens a packet without messages at the front of the buffer, and leaves the bytes behind it. The answer is
-/// how many it takes.
+/// Opens a packet without messages at the start of the buffer and leaves the bytes after it unchanged.
+/// Returns the packet's length in bytes.
 pub fn start_in(buffer: &mut [u8], session: Session, sequence: u64) -> usize
     requires { IsLimit (length buffer.old) }
     ensures used { result ≡ HEADER_LENGTH }
@@ -70,8 +70,8 @@ pub fn start_in(buffer: &mut [u8], session: Session, sequence: u64) -> usize
     HEADER_LENGTH
 }
 
-/// Adds a message behind the open packet of `count` messages that takes `used` bytes: its block, and one more
-/// in the header's count. The answer is how many bytes the packet takes then.
+/// Appends `message` to the open packet, which has `count` messages and takes `used` bytes. It writes the
+/// message's block and increments the count in the header. Returns the packet's new length in bytes.
 pub fn add_in(buffer: &mut [u8], used: usize, count: u16, message: &[u8]) -> usize
     requires limit { IsLimit (length buffer.old) }
     requires header { HEADER_LENGTH ≤ used }
@@ -90,7 +90,8 @@ pub fn add_in(buffer: &mut [u8], used: usize, count: u16, message: &[u8]) -> usi
     used + LENGTH_BYTES + message.len()
 }
 
-/// Makes the front of the buffer an end packet, and leaves the bytes behind it. The answer is how many it takes.
+/// Writes an end packet at the start of the buffer and leaves the bytes after it unchanged. Returns the
+/// packet's length in bytes.
 pub fn end_in(buffer: &mut [u8], session: Session, sequence: u64) -> usize
     requires { IsLimit (length buffer.old) }
     ensures used { result ≡ HEADER_LENGTH }

@@ -1,4 +1,4 @@
-//! The header that downstream packets and requests begin with.
+//! The header of downstream packets and requests: reading and writing it.
 
 ghost use Rattle.std.specs.Prelude.{◌≡◌, ◌≤◌, ◌<◌, length, drop, MatchOption};
 ghost use Rattle.mold_wire.specs.Header.{IsHeaderAndRest, recounted};
@@ -7,24 +7,25 @@ ghost use Rattle.mold_wire.specs.declared.header.TheConstants.{HEADER_LENGTH};
 use crate::session::{SESSION_LENGTH, Session};
 use byteorder::{BigEndian, ByteOrder};
 
-// The bytes of a sequence number and of a message count.
+// The sizes in bytes of the sequence number and of the message count.
 const SEQUENCE_LENGTH: usize = 8;
 
 const COUNT_LENGTH: usize = 2;
 
-// Where the message count stands.
+// The offset of the message count in a header.
 const COUNT_AT: usize = SESSION_LENGTH + SEQUENCE_LENGTH;
 
-/// The bytes of a header.
+/// The size of a header in bytes. A request consists of a header only.
 pub const HEADER_LENGTH: usize = COUNT_AT + COUNT_LENGTH;
 
 /// The message count of a heartbeat.
 pub(crate) const HEARTBEAT: u16 = 0;
 
-/// The message count of an end packet, which has no messages.
+/// The message count of an end packet. An end packet has no messages.
 pub const END_OF_SESSION: u16 = 65535;
 
-/// Session, sequence number and message count. A request says with them what it asks for.
+/// The session, the sequence number and the message count. In a request, they state which messages are
+/// requested.
 #[derive(Clone, Copy)]
 pub(crate) struct Header {
     pub(crate) session: Session,
@@ -33,7 +34,8 @@ pub(crate) struct Header {
 }
 
 impl Header {
-    // The header at the front, and what follows it; none where there is no whole header.
+    // Returns the header at the start of `bytes` and the bytes after it, or `None` if `bytes` is shorter than
+    // a header.
     pub(crate) fn split(bytes: &[u8]) -> Option<(Header, &[u8])>
         ensures { MatchOption result (length bytes.now < HEADER_LENGTH)
             (λ found. IsHeaderAndRest found.0 bytes.now found.1.now) }
@@ -54,7 +56,7 @@ impl Header {
         Some((header, rest))
     }
 
-    // Writes the header at the front of the bytes, and leaves what is behind it.
+    // Writes the header at the start of `out` and leaves the bytes after it unchanged.
     pub(crate) fn put(self, out: &mut [u8])
         requires { HEADER_LENGTH ≤ length out.old }
         ensures { IsHeaderAndRest self out.new (drop HEADER_LENGTH out.old) }
@@ -67,7 +69,7 @@ impl Header {
     }
 }
 
-// Writes the message count in a header that stands there, and leaves the rest.
+// Overwrites the message count of the header at the start of `packet` and leaves the other bytes unchanged.
 pub(crate) fn put_count(packet: &mut [u8], count: u16)
     requires { HEADER_LENGTH ≤ length packet.old }
     ensures { packet.new ≡ recounted count packet.old }

@@ -1,5 +1,5 @@
-//! What holds of the definitions alone, for all values and all bytes. Each law is a function that does
-//! nothing: its contract is the law.
+//! Theorems about the definitions alone, for all values and all bytes. Each law is a function with an empty
+//! body whose contract is the theorem.
 
 ghost use Rattle.std.specs.Prelude.{◌≡◌, ◌↔◌, ◌≤◌, ◌+◌, ◌-◌, ◌<◌, ◌++◌, ◌∷◌, [], List, ℕ, suc};
 ghost use Rattle.std.specs.Prelude.{length, take, drop, Ok, Err, Bool, true, false, Some};
@@ -22,7 +22,7 @@ ghost use Rattle.mold_wire.specs.declared.packet.Packet.{Packet};
 ghost use Rattle.mold_wire.specs.declared.request.Request.{Request};
 ghost use Rattle.mold_wire.specs.declared.session.Session.{Session};
 
-/// The numbers that the standard fixes, and the limits of datagrams, written out.
+/// The values of the constants: those of the standard, and the limits that this project sets.
 pub fn constants_law()
     ensures header { HEADER_LENGTH ≡ 20 }
     ensures alone { MESSAGE_OVERHEAD ≡ 22 }
@@ -35,7 +35,8 @@ pub fn constants_law()
     ensures burst { MAX_BURST ≡ 64 }
 {}
 
-/// Each packet and each request has one spelling, and no two of either kind share one.
+/// Each packet and each request has exactly one encoding. Two different packets, or two different requests,
+/// have different encodings.
 #[tactic(auto, using(crate::proofs::SpellingLemmas::one_spelling))]
 pub fn one_spelling_law()
     ensures packet_spelled { (packet : Packet) → IsPacket packet → Spells packet (spelling_of packet) }
@@ -52,9 +53,10 @@ pub fn one_spelling_law()
         SpellsRequest one bytes → SpellsRequest other bytes → one ≡ other }
 {}
 
-/// What bytes read as, both ways: they read as the packet that they spell and as no other, and are refused
-/// with the fault that they have and with no other. `decode` and `Request::decode` answer these readings.
-/// Where a clause has no `IsBytes`, it holds of lists of any numbers.
+/// The readings of bytes agree with the definitions of an encoding and of a fault. Bytes read as a packet
+/// exactly when they encode it, and as a fault exactly when they have it. The same holds for requests.
+/// `decode` and `Request::decode` return these readings. A clause without `IsBytes` holds for lists of
+/// arbitrary numbers.
 pub fn reading_law()
     ensures read { (packet : Packet) (bytes : List ℕ) →
         Spells packet bytes → reading bytes ≡ Ok packet }
@@ -71,8 +73,8 @@ pub fn reading_law()
         (request_reading bytes ≡ Err error) ↔ RequestFaultAt error bytes }
 {}
 
-/// How long spellings are: a header, and for each message two bytes and its data. So a packet of messages
-/// that fit keeps the limit, and the greatest datagram has at most 32,743 messages.
+/// The length of an encoding: a packet takes a header, and two bytes plus the data for each message. If the
+/// messages fit a limit, so does the packet. The greatest datagram holds at most 32,743 messages.
 #[tactic(auto, using(crate::proofs::PackingLemmas::spelling_lengths, crate::proofs::RequestLemmas::request_length))]
 pub fn spelling_length_law()
     ensures packet { (packet : Packet) (bytes : List ℕ) →
@@ -85,8 +87,8 @@ pub fn spelling_length_law()
         limit ≤ MAX_LIMIT → Fits limit messages → length messages ≤ 32743 }
 {}
 
-/// Where a message stands: its data are the bytes behind the header, the blocks before it and the two of
-/// its own length. So a message that is lent from a datagram is the slice of it that stands there.
+/// The offset of a message in a packet. Its data follow the header, the blocks before it and its own two
+/// length bytes. So a message that is borrowed from a datagram is the slice at that offset.
 #[tactic(auto, using(crate::proofs::PackingLemmas::message_place))]
 pub fn message_place_law()
     ensures { (packet : Packet) (bytes : List ℕ) (before behind : List (List ℕ)) (message : List ℕ) →
@@ -94,8 +96,9 @@ pub fn message_place_law()
         take (length message) (drop (packet_length before + 2) bytes) ≡ message }
 {}
 
-/// The bytes of a packet, message by message; what `Packer::fits` looks for is that the packet fits with
-/// the message. A message of `MESSAGE_OVERHEAD` bytes less than the limit fits alone, and no longer one does.
+/// The length of a packet, message by message. `Packer::fits` checks that the packet with the message fits
+/// the limit. A message fits alone exactly when it is at least `MESSAGE_OVERHEAD` bytes shorter than the
+/// limit.
 #[tactic(auto, using(crate::proofs::PackingLemmas::packet_lengths))]
 pub fn packet_length_law()
     ensures none { packet_length [] ≡ HEADER_LENGTH }
@@ -108,10 +111,11 @@ pub fn packet_length_law()
         (length message + MESSAGE_OVERHEAD ≤ limit) ↔ Fits limit (message ∷ []) }
 {}
 
-/// `front` is the one longest front, wherever the limit leaves room for a header. A front is the longest
-/// once the message behind it would be one too many or would not fit. The longest has a message where
-/// the first one fits alone, and is all messages where these fit. It begins with the first message that
-/// fits alone, and goes on with those behind it in the room that is left.
+/// `front` computes the longest prefix that fits, if the limit has room for a header. There is only one such
+/// prefix. A prefix is the longest if the next message is one too many or does not fit. If at least one
+/// message is allowed and the first one fits alone, the longest prefix is not empty. If all messages are
+/// allowed and fit, it is the whole list. The first message, if it fits alone, is followed by the longest
+/// prefix of the other messages that fits in the remaining bytes.
 #[tactic(auto, using(crate::proofs::FrontLemmas::front_is))]
 pub fn front_law()
     ensures front { (limit : ℕ) (messages : List (List ℕ)) (most : ℕ) →
@@ -133,9 +137,9 @@ pub fn front_law()
         ≡ message ∷ front (limit - (2 + length message)) messages most }
 {}
 
-/// What a packet says of an open session stays true when one more message is published, as long as there is
-/// a number for it, and when the session is closed. A message keeps its number, whatever is published
-/// behind it.
+/// A packet that is true of an open session stays true when the session publishes one more message or closes.
+/// The number of the new message must be below `MAX_NUMBER`. A message keeps its sequence number when more
+/// messages are published.
 pub fn true_stays_law()
     ensures published { (packet : Packet) (published : List (List ℕ)) (message : List ℕ) →
         length published < MAX_NUMBER - 1 → IsTruePacket packet published false →
@@ -147,9 +151,9 @@ pub fn true_stays_law()
         published_at (published ++ behind) number ≡ Some message }
 {}
 
-/// What a true packet is: its top is at most one more than the number of messages published, and its
-/// messages are those published from its sequence number on. And a data packet of messages that stand
-/// there is true.
+/// Properties of a true packet. Its top is at most one more than the number of published messages. Its
+/// messages are the messages published from its sequence number on. Conversely, a data packet with the
+/// messages published from its sequence number on is true.
 pub fn true_packet_law()
     ensures top { (packet : Packet) (published : List (List ℕ)) (closed : Bool) →
         IsPacket packet → IsTruePacket packet published closed → top_of packet ≤ length published + 1 }

@@ -1,5 +1,4 @@
-//! The MoldUDP64 packet codec: downstream packets and requests, read from a datagram's bytes and
-//! written into them.
+//! The MoldUDP64 packet codec: it reads downstream packets and requests from datagrams and writes them.
 #![tactic(auto)]
 
 mod block;

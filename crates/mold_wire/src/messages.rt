@@ -1,11 +1,11 @@
-//! The messages of a data packet, one after the other.
+//! The iterator over the messages of a data packet.
 
 ghost use Rattle.std.specs.Prelude.{◌≡◌};
 
 use crate::block::split_block;
 use std::marker::Model;
 
-/// An iterator of the messages of a data packet, in order. It yields each as a slice of the datagram.
+/// An iterator over the messages of a data packet, in order. Each item is a slice of the datagram.
 #[derive(Clone, Debug, Drop)]
 pub struct Messages<'a> {
     left: u16,

@@ -1,4 +1,4 @@
-//! Packing messages into downstream packets.
+//! The packer, which writes messages into downstream packets.
 
 ghost use Rattle.std.specs.Prelude.{◌≡◌, ◌↔◌, ◌≤◌, length, IfOk, IsOk, IsTrue, []};
 ghost use Rattle.std.specs.Bool.{OnTrue, OnFalse};
@@ -10,15 +10,15 @@ use std::alloc::Global;
 use std::boxed::BoxedSlice;
 use std::marker::Model;
 
-/// Packs messages into one downstream packet after the other, in a buffer of its own that is made once.
-/// No call but `new` takes memory: a boxed slice can't grow.
+/// Writes downstream packets, one after another, into one buffer. Only `new` allocates: the buffer is a boxed
+/// slice, so it cannot grow.
 #[derive(Debug, Drop)]
 pub struct Packer {
-    // As many bytes as the limit.
+    // Its length is the limit.
     buffer: BoxedSlice<u8>,
-    // The bytes of the packet that was begun.
+    // The length in bytes of the current packet.
     used: usize,
-    // The messages of the open packet.
+    // The number of messages of the open packet.
     count: u16,
     is_open: bool,
 }
@@ -40,7 +40,8 @@ impl Packer {
     ghost use Rattle.mold_wire.specs.Packer.{with_message};
     ghost use Rattle.mold_wire.specs.declared.error.PackerError.{PackerError};
 
-    /// A packer for datagrams of at most `limit` bytes, with nothing begun. It reserves the limit once.
+    /// Makes a packer for datagrams of at most `limit` bytes. No packet is begun yet. The call allocates a
+    /// buffer of `limit` bytes.
     pub fn new(alloc: Global, limit: usize) -> Result<Packer, PackerError>
         ensures made { IfOk result (λ packer. packer ≡ record { limit = limit; begun = Nothing }) }
         ensures ok { IsOk result → IsLimit limit }
@@ -61,14 +62,14 @@ impl Packer {
         })
     }
 
-    /// How many bytes a datagram may have.
+    /// Returns the greatest length of a datagram, in bytes.
     pub fn limit(&self) -> usize
         ensures { result ≡ self.now.limit }
     {
         self.buffer.len()
     }
 
-    /// Opens a packet without messages, in place of what was there. A packet without messages is a
+    /// Opens a packet without messages and discards the current packet. A packet without messages is a
     /// heartbeat.
     pub fn start(&mut self, session: Session, sequence: u64)
         ensures { self.new ≡ record self.old { begun = Open session sequence [] } }
@@ -78,14 +79,15 @@ impl Packer {
         self.is_open = true;
     }
 
-    /// Whether a packet is open that has room for one more message of so many bytes.
+    /// Returns whether a packet is open that has room for one more message of `len` bytes.
     pub fn fits(&self, len: usize) -> bool
         ensures { IsTrue result ↔ HasRoom self.now.limit self.now.begun len }
     {
         fits_in(&self.buffer, self.used, self.is_open, len)
     }
 
-    /// Adds a message behind those of the open packet, where it fits; else changes nothing.
+    /// Appends a message to the open packet and returns true if it fits. Otherwise it changes nothing and
+    /// returns false.
     pub fn add(&mut self, message: &[u8]) -> bool
         ensures fits { IsTrue result ↔ HasRoom self.old.limit self.old.begun (length message.now) }
         ensures added { OnTrue result
@@ -100,7 +102,7 @@ impl Packer {
         true
     }
 
-    /// Makes the bytes an end packet, in place of what was there, and closes it.
+    /// Writes an end packet and discards the current packet. No packet is open afterwards.
     pub fn end(&mut self, session: Session, sequence: u64)
         ensures { self.new ≡ record self.old { begun = Ended session sequence } }
     {
@@ -108,7 +110,7 @@ impl Packer {
         self.is_open = false;
     }
 
-    /// The bytes of what was begun last; none before the first `start` or `end`.
+    /// Returns the bytes of the current packet. They are empty before the first call of `start` or `end`.
     pub fn bytes(&self) -> &[u8]
         ensures spelled { SpellsBegun self.now.begun result.now }
         ensures within { length result.now ≤ self.now.limit }

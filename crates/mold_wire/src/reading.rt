@@ -1,4 +1,4 @@
-//! Reading a downstream packet.
+//! The decoder of downstream packets.
 
 ghost use Rattle.std.specs.Prelude.{◌≡◌, IfOk, IfErr};
 ghost use Rattle.mold_wire.specs.Block.{AreBlocks, messages_at};
@@ -14,14 +14,14 @@ use crate::error::DecodeError;
 use crate::header::{END_OF_SESSION, HEARTBEAT, Header};
 use crate::packet::{Body, Packet};
 
-// How many blocks a message count states.
+// Returns how many blocks follow a header with this message count.
 fn stated(count: u16) -> u16
     ensures { result ≡ stated_blocks count }
 {
     if count == END_OF_SESSION { 0 } else { count }
 }
 
-// What the message count makes of the blocks that it states.
+// Returns the body of a packet with this message count and these blocks.
 fn body_from(count: u16, blocks: &[u8]) -> Body<'_>
     requires { AreBlocks (stated_blocks count) blocks.now }
     ensures { BodyIs count (messages_at (stated_blocks count) blocks.entry.now) result }
@@ -55,15 +55,15 @@ fn read_packet(bytes: &[u8]) -> Result<Packet<'_>, DecodeError>
     })
 }
 
-/// Reads the packet that the bytes of a datagram spell, in one pass over them and without copying or
-/// taking memory. The bytes may be more than a datagram can hold. Bytes behind the last stated block
-/// are refused, and so are those behind the header of a heartbeat or an end packet.
+/// Decodes the packet that a datagram encodes, in one pass, without a copy or an allocation. The bytes may be
+/// longer than any datagram. Bytes after the last stated block are a fault, and so are bytes after the header
+/// of a heartbeat or an end packet.
 pub fn decode(bytes: &[u8]) -> Result<Packet<'_>, DecodeError>
-    // What is read is spelled so, and what is refused has the fault.
+    // The bytes encode the packet that is returned, or they have the fault that is returned.
     ensures spelled { IfOk result (λ packet. Spells packet bytes.now) }
     ensures fault { IfErr result (λ error. FaultAt error bytes.now) }
 
-    // What is spelled so is read, and each fault is the one refusal.
+    // If the bytes encode a packet, that packet is returned. If they have a fault, that fault is returned.
     ensures only { (packet : Packet) → Spells packet bytes.now → result ≡ Ok packet }
     ensures refused { (error : DecodeError) → FaultAt error bytes.now → result ≡ Err error }
     ensures exact { result ≡ reading bytes.now }

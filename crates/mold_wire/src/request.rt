@@ -1,4 +1,4 @@
-//! A request packet.
+//! The request packet: its type, decoding and encoding.
 
 ghost use Rattle.std.specs.Prelude.{◌≡◌, IfOk, IfErr};
 ghost use Rattle.mold_wire.specs.Request.{SpellsRequest, RequestFaultAt, request_reading};
@@ -9,14 +9,14 @@ use crate::error::RequestError;
 use crate::header::{HEADER_LENGTH, Header};
 use crate::session::Session;
 
-/// A request for messages of a session, as it goes to a re-request server.
+/// A request for messages of a session. A receiver sends it to a re-request server.
 #[derive(Clone, Copy, Debug, PartialEq, Eq, Hash)]
 pub struct Request {
     /// The session that the messages belong to.
     pub session: Session,
-    /// The number of the first message that is asked for. The codec takes 0 like any other number.
+    /// The sequence number of the first requested message. The codec accepts 0 like any other number.
     pub sequence: u64,
-    /// How many messages are asked for, all of 0 to 65,535; no number of them has a meaning of its own.
+    /// The number of requested messages, 0 to 65,535. No value has a special meaning.
     pub count: u16,
 }
 
@@ -35,13 +35,15 @@ fn read_request(bytes: &[u8]) -> Result<Request, RequestError>
 }
 
 impl Request {
-    /// Reads the request that the bytes of a datagram spell. Any bytes as long as a header spell one.
+    /// Decodes the request that a datagram encodes. Every datagram of `HEADER_LENGTH` bytes encodes a
+    /// request.
     pub fn decode(bytes: &[u8]) -> Result<Request, RequestError>
-        // What is read is spelled so, and what is refused has the fault.
+        // The bytes encode the request that is returned, or they have the fault that is returned.
         ensures spelled { IfOk result (λ request. SpellsRequest request bytes.now) }
         ensures fault { IfErr result (λ error. RequestFaultAt error bytes.now) }
 
-        // What is spelled so is read, and the fault is the one refusal.
+        // If the bytes encode a request, that request is returned. If they have a fault, that fault is
+        // returned.
         ensures only { (request : Request) → SpellsRequest request bytes.now → result ≡ Ok request }
         ensures refused { (error : RequestError) → RequestFaultAt error bytes.now → result ≡ Err error }
         ensures exact { result ≡ request_reading bytes.now }
@@ -49,7 +51,7 @@ impl Request {
         read_request(bytes)
     }
 
-    /// The bytes that spell the request.
+    /// Returns the encoding of the request.
     pub fn encode(&self) -> [u8; 20]
         ensures { SpellsRequest self.now result }
     {

@@ -5,16 +5,16 @@ ghost use Rattle.std.specs.Str.{bytes_eq};
 
 use byteorder::{BigEndian, ByteOrder};
 
-/// The bytes of a session's name.
+/// The size of a session's name in bytes.
 pub const SESSION_LENGTH: usize = 10;
 
-/// The ten bytes that name a session: any bytes, compared byte for byte. (Header field at offset 0 of
-/// a downstream packet and of a request packet.)
+/// The ten bytes that name a session. Any bytes are valid, and names are compared byte by byte. The field is
+/// at offset 0 of a downstream packet and of a request packet.
 #[derive(Clone, Copy, Debug, PartialEq, Eq, Hash)]
 pub struct Session(pub [u8; SESSION_LENGTH]);
 
-// Whether ten bytes are ten others. It compares two numbers in place of them. Inlined, since a call costs more than
-// both comparisons.
+// Returns whether two ten-byte names are equal. It compares them as two numbers, which is faster than byte by
+// byte. It is inlined, since a call costs more than both comparisons.
 #[inline(always)]
 fn same_name(name: &[u8], other: &[u8]) -> bool
     requires name { length name.now ≡ 10 }
@@ -28,8 +28,9 @@ fn same_name(name: &[u8], other: &[u8]) -> bool
 }
 
 impl Session {
-    /// Whether another session has the same name, as `==` says, in less time: it is asked of each datagram.
-    // Inlined, as `same_name` is.
+    /// Returns whether `other` has the same name. The result is that of `==`, but it takes less time. It is
+    /// called for each datagram.
+    // Inlined for the same reason as `same_name`.
     #[inline(always)]
     pub fn is_same(&self, other: &Session) -> bool
         ensures { result ≡ bytes_eq self.now.0 other.now.0 }

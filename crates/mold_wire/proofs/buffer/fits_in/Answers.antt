@@ -15,7 +15,7 @@ returns-then-room-ge-LENGTH_BYTES-clause-held c count begun holds = (
       le-leb _ _ (omega (arith, room.fits)),
 )
 
--- not even the length of a block has room
+-- There is no room even for a block's length field.
 pub returns-else-room-ge-LENGTH_BYTES-clause-held : goal.returns-else-room-ge-LENGTH_BYTES-clause-held
 returns-else-room-ge-LENGTH_BYTES-clause-held c count begun holds = (
   λ long. absurd (omega (arith, leb-true _ _ long)),

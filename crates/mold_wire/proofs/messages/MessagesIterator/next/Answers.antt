@@ -3,7 +3,7 @@ use Rattle.mold_wire.specs.Block.{messages_at}
 use Rattle.mold_wire.proofs.BlockLemmas.{first_block, block_begins}
 use Rattle.mold_wire.proofs.messages.MessagesIterator.next.Goals as goal
 
--- a block is owed, so one begins
+-- A message remains, so the bytes start with a whole block.
 pub returns-in_err-message-clause-steps : goal.returns-in_err-message-clause-steps
 returns-in_err-message-clause-steps c =
     let more : 0 < c.self.inside.left = omega arith in
