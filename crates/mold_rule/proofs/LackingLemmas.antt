@@ -1,4 +1,4 @@
--- How many numbers are lacking, counted in parts.
+-- How many numbers are missing, counted in parts.
 use Rattle.std.proofs.Common.{◌≡◌, ℕ, zero, suc, ◌+◌, ◌<◌, ◌≤◌, Bool, true, false, cond, refl, ap, ◌∙◌, arith}
 use Rattle.mold_rule.specs.Ranges.{lacking}
 

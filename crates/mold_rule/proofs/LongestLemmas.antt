@@ -11,7 +11,7 @@ none_some e = cc
 some_same : {r s : Range} → ◌≡◌ {A = Option Range} (Some r) (Some s) → r ≡ s
 some_same e = cc
 
--- one of the ranges has the number
+-- One of the ranges contains the number.
 pub record IsIn (rs : List Range) (number : ℕ) : Type 0 where
   pub place : ℕ
   pub range : Range
@@ -19,15 +19,16 @@ pub record IsIn (rs : List Range) (number : ℕ) : Type 0 where
   pub low : range.first ≤ number
   pub high : number ≤ range.last
 
--- the ranges are longest ones, with a number between each two, and have every number that is lacking
+-- The ranges are longest ones, at least one number lies between any two of them, and they contain every
+-- missing number.
 pub record AreLongest (lacks : ℕ → Bool) (low high : ℕ) (rs : List Range) : Type 0 where
   pub each : (i : ℕ) (r : Range) → slice_get rs i ≡ Some r → IsLongest lacks low high r
   pub cover : (number : ℕ) → low ≤ number → number < high → lacks number ≡ true → IsIn rs number
   pub ascend : (i j : ℕ) (r s : Range) → slice_get rs i ≡ Some r → slice_get rs j ≡ Some s → i < j →
       r.last + 1 < s.first
 
--- a range that is longest among the numbers from the second on is so from the first on, unless it could
--- go on there
+-- A range that is longest from the second number on is longest from the first on, unless it can be extended
+-- by the first.
 wider : (lacks : ℕ → Bool) (low high : ℕ) (r : Range) → IsLongest lacks (suc low) high r →
     (r.first ≡ suc low → lacks low ≡ false) → IsLongest lacks low high r
 wider lacks low high r longest here = record {
@@ -44,7 +45,7 @@ wider lacks low high r longest here = record {
   behind = longest.behind;
 }
 
--- the first number isn't lacking
+-- The first number is present.
 passed : (lacks : ℕ → Bool) (low high : ℕ) (rs : List Range) → lacks low ≡ false →
     AreLongest lacks (suc low) high rs → AreLongest lacks low high rs
 passed lacks low high rs there are = record {
@@ -58,7 +59,7 @@ passed lacks low high rs there are = record {
   ascend = are.ascend;
 }
 
--- a number that no range has is there
+-- A number that is in no range is present.
 not_in : (lacks : ℕ → Bool) (low high : ℕ) (rs : List Range) → AreLongest lacks low high rs → (number : ℕ) →
     low ≤ number → number < high → (IsIn rs number → ⊥) → lacks number ≡ false
 not_in lacks low high rs are number from below never =
@@ -76,7 +77,7 @@ in_front r rs number is = record {
   high = is.high;
 }
 
--- the first number is lacking and the one behind it isn't
+-- The first number is missing and the next one is present.
 alone : (lacks : ℕ → Bool) (low high : ℕ) (rs : List Range) → low < high → lacks low ≡ true →
     AreLongest lacks (suc low) high rs
     → ((i : ℕ) (r : Range) → slice_get rs i ≡ Some r → suc low < r.first)
@@ -122,7 +123,7 @@ alone lacks low high rs within lacked are apart = record {
       ] before at;
 }
 
--- the first number is lacking, and so is the one behind it, with which the first range begins
+-- The first number is missing, and so is the next one, at which the first range starts.
 joins : (lacks : ℕ → Bool) (low high : ℕ) (r : Range) (rs : List Range) → lacks low ≡ true →
     r.first ≡ suc low → AreLongest lacks (suc low) high (r ∷ rs)
     → AreLongest lacks low high (range low r.last ∷ rs)
@@ -233,7 +234,7 @@ pub ranges_ascend : (lacks : ℕ → Bool) (low count i j : ℕ) (r s : Range) �
     → slice_get (ranges lacks low count) j ≡ Some s → i < j → r.last + 1 < s.first
 ranges_ascend lacks low count i j r s is at before = (are_longest lacks low count).ascend i j r s is at before
 
--- two longest ranges with a number in both have the same first and the same last number
+-- Two longest ranges that share a number have the same first number and the same last number.
 not_before : (lacks : ℕ → Bool) (low high : ℕ) (r s : Range) → IsLongest lacks low high r →
     IsLongest lacks low high s → s.first ≤ r.first → r.first ≤ s.last → s.first ≡ r.first
 not_before lacks low high r s one other from to =

@@ -1,4 +1,4 @@
--- The ranges that are found by walking over the numbers, and their sizes.
+-- The ranges that iterating over the numbers finds, and their sizes.
 use Rattle.std.proofs.Common.{◌≡◌, ◌⊎◌, ℕ, zero, suc, ◌+◌, ◌-◌, ◌<◌, ◌≤◌, Bool, true, false, cond, eqb, List, [], ◌∷◌}
 use Rattle.std.proofs.Common.{refl, sym, ap, subst, ◌∙◌, inl, inr, arith}
 use Rattle.std.specs.Prelude.{Some, slice_get}
@@ -38,7 +38,7 @@ ranges_skip lacks low (suc count) more there =
     (λ number from below. there number (omega (arith, from)) (omega (arith, below)))
     ∙ ap (λ (n : ℕ). ranges lacks n more) at
 
--- no range begins at a number that is there
+-- No range starts at a number that is present.
 joined_alone : (number : ℕ) (rs : List Range) → ((r : Range) → slice_get rs 0 ≡ Some r → r.first ≡ suc number → ⊥) →
     joined number rs ≡ range number number ∷ rs
 joined_alone number [] apart = refl

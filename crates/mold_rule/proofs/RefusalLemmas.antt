@@ -1,4 +1,4 @@
--- Nothing is refused exactly where nothing speaks against the packet, and memory is never the cause.
+-- A packet is not refused exactly when it is admissible and has no conflict. Memory is never the reason.
 use Rattle.std.proofs.Common.{◌≡◌, ℕ, ◌+◌, ◌≤◌, Bool, true, false, eqb, List, [], ◌∷◌, length, refl, sym, ap}
 use Rattle.std.proofs.Common.{subst, ◌∙◌, inl, inr, arith}
 use Rattle.std.specs.Prelude.{Option, None, Some}
@@ -17,7 +17,7 @@ use Rattle.mold_rule.specs.declared.refusal.Refusal.TheVariants.{EndConflict, En
 use Rattle.mold_rule.specs.Refusals.{IsAdmitted, conflict_at, end_below, end_conflict, first_some, past_end, refusal_of}
 use Rattle.mold_rule.specs.Refusals.{refusals, refuse_if, wrong_session}
 
--- each of some refusals is none
+-- None of the refusals in the list is present.
 abbrev AllNone : List (Option Refusal) → Type 0
 AllNone [] = Unit {0}
 AllNone (r ∷ rs) = (r ≡ None) × AllNone rs
@@ -75,7 +75,7 @@ above_from (Data ms) n known above = refl
 above_from Heartbeat n known above = refl
 above_from End n known above = none_refuse _ _ (le-ltb n known (above refl))
 
--- an end packet that tells the known end doesn't go behind it
+-- The top of an end packet that reports the known end is not above that end.
 within_to : (ended : Option ℕ) (body : Body) (n : ℕ) → past_end ended body (n + length (messages_of body)) ≡ None →
     (body ≡ End → (number : ℕ) → ended ≡ Some number → n ≡ number) →
     (number : ℕ) → ended ≡ Some number → n + length (messages_of body) ≤ number
@@ -100,7 +100,7 @@ conflict_none : (differs : Option ℕ) → conflict_at differs ≡ None → diff
 conflict_none None none = refl
 conflict_none (Some number) none = absurd (none-some (Conflict number) (sym none))
 
--- what nothing refuses is admitted, and none of its messages differs
+-- A packet that is not refused is admissible, and none of its messages differs.
 pub none_admitted : (session : Option (List ℕ)) (known : ℕ) (ended differs : Option ℕ) (p : Packet) →
     refusal_of session known ended differs p ≡ None → IsAdmitted session known ended p
 none_admitted session known ended differs p none =
@@ -120,7 +120,7 @@ pub none_differs : (session : Option (List ℕ)) (known : ℕ) (ended differs : 
 none_differs session known ended differs p none =
     conflict_none differs (all_none (refusals session known ended differs p) none).1.1.1.1.1.1.0
 
--- what is admitted, and has no message that differs, is refused by nothing
+-- An admissible packet without a message that differs is not refused.
 pub none_refused : (session : Option (List ℕ)) (known : ℕ) (ended : Option ℕ) (p : Packet) →
     IsAdmitted session known ended p → refusal_of session known ended None p ≡ None
 none_refused session known ended p is =
@@ -131,7 +131,7 @@ none_refused session known ended p is =
     (none_first _ _ (above_from p.body p.sequence known is.above)
     (none_first _ _ (within_from ended p.body (top_of p) is.within) refl)))))
 
--- a refusal for another cause than memory
+-- The reason of the refusal is not memory.
 abbrev is_other : Refusal → Bool
 is_other (Malformed error) = true
 is_other WrongSession = true

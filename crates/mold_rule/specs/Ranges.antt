@@ -1,37 +1,41 @@
--- Ranges of consecutive numbers that are lacking. Which numbers are lacking is told by a test of them.
+-- Ranges of consecutive missing numbers. A test of each number states whether it is missing.
 use Rattle.std.specs.Prelude.{◌≡◌, ℕ, zero, suc, ◌+◌, ◌-◌, ◌<◌, ◌≤◌, Bool, true, false, List, [], ◌∷◌, ◌==◌}
 use Rattle.std.specs.Prelude.{if◌then◌else◌}
 
--- the numbers from the first to the last, both among them
+-- The numbers from `first` to `last`, both included.
 pub record Range : Type 0 where
   pub first : ℕ
   pub last : ℕ
 
+-- The range from `first` to `last`.
 abbrev pub range : ℕ → ℕ → Range
 range first last = record { first = first; last = last }
 
--- how many numbers there are in it
+-- How many numbers the range has.
 abbrev pub size : Range → ℕ
 size r = suc r.last - r.first
 
--- a number before some ranges: it joins the first of them where that begins right behind it
+-- The ranges with `number` added before them. If the first range starts at the next number, it is extended.
+-- Otherwise a range of one number is added.
 abbrev pub joined : ℕ → List Range → List Range
 joined number [] = range number number ∷ []
 joined number (r ∷ rs) =
     if r.first == suc number then range number r.last ∷ rs else range number number ∷ r ∷ rs
 
--- the longest ranges of lacking numbers, ascending, among so many numbers from the lowest on
+-- The longest ranges of missing numbers among the `count` numbers from `low` on, in ascending order. `lacks`
+-- states which numbers are missing.
 unfoldable pub ranges : (ℕ → Bool) → ℕ → ℕ → List Range
 ranges lacks low zero = []
 ranges lacks low (suc count) =
     if lacks low then joined low (ranges lacks (suc low) count) else ranges lacks (suc low) count
 
--- how many of so many numbers from the lowest on are lacking
+-- How many of the `count` numbers from `low` on are missing.
 unfoldable pub lacking : (ℕ → Bool) → ℕ → ℕ → ℕ
 lacking lacks low zero = 0
 lacking lacks low (suc count) = (if lacks low then 1 else 0) + lacking lacks (suc low) count
 
--- all of the range is lacking, and the numbers next to it, where they are from `low` to below `high`, are not
+-- All numbers of the range are missing and are from `low` to below `high`. The numbers next to the range are
+-- present or are outside these bounds.
 pub record IsLongest (lacks : ℕ → Bool) (low high : ℕ) (r : Range) : Type 0 where
   pub begins : low ≤ r.first
   pub ordered : r.first ≤ r.last

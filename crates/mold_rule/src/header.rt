@@ -1,4 +1,4 @@
-//! Which refusal a packet meets by its header and its number of messages, before its messages are compared.
+//! The refusal of a packet by its header and its number of messages, before its messages are compared.
 
 ghost use Rattle.std.specs.Prelude.{◌≡◌, ◌<◌, ◌^◌, ◌∷◌, [], ℕ, Option, Some, IfOk, IfErr, OnOk};
 ghost use Rattle.std.specs.Option.{option_map};
@@ -11,7 +11,7 @@ ghost use Rattle.mold_rule.specs.declared.refusal.Refusal.TheVariants.{Memory, W
 use crate::refusal::Refusal;
 use mold_wire::{Body, Packet, Session};
 
-// The refusal of an end packet.
+// Returns the refusal of an end packet by the known end of the session and the greatest top.
 fn refuse_end(sequence: u64, known: u64, ended: Option<u64>) -> Option<Refusal>
     ensures { result ≡ first_some (end_conflict End sequence ended ∷ end_below End sequence known ∷ []) }
 {
@@ -26,7 +26,7 @@ fn refuse_end(sequence: u64, known: u64, ended: Option<u64>) -> Option<Refusal>
     None
 }
 
-// The refusal of a data packet or a heartbeat with this top.
+// Returns the refusal of a data packet or a heartbeat with this top, by the known end of the session.
 fn refuse_past(top: u64, ended: Option<u64>) -> Option<Refusal>
     ensures { result ≡ past_end ended Heartbeat top }
 {
@@ -36,7 +36,7 @@ fn refuse_past(top: u64, ended: Option<u64>) -> Option<Refusal>
     }
 }
 
-// The refusal of a packet by what is known of the session's end.
+// Returns the refusal of a packet by what is known of the session's end.
 fn refuse_by_end(packet: &Packet<'_>, top: u64, known: u64, ended: Option<u64>) -> Option<Refusal>
     ensures { result ≡ first_some (end_conflict packet.now.body packet.now.sequence ended
         ∷ end_below packet.now.body packet.now.sequence known ∷ past_end ended packet.now.body top ∷ []) }
@@ -47,7 +47,7 @@ fn refuse_by_end(packet: &Packet<'_>, top: u64, known: u64, ended: Option<u64>) 
     }
 }
 
-// Whether the packet is of another session than the one that is known.
+// Returns whether the packet belongs to another session than the known one.
 fn is_foreign(packet: &Packet<'_>, session: Option<Session>) -> bool
     ensures { refuse_if result WrongSession ≡
         wrong_session (option_map (λ s. s.0) session) packet.now.session.0 }
@@ -58,8 +58,10 @@ fn is_foreign(packet: &Packet<'_>, session: Option<Session>) -> bool
     }
 }
 
-/// The packet's top, or the first refusal that its header and its number of messages meet, where the session,
-/// the greatest top heard of and the end are known to be these. Behind that only a message that differs refuses it.
+/// Returns the packet's top, or the first refusal that its header and its number of messages cause. `session`
+/// and `ended` are the session and its end, if they are known. `known` is the greatest top of the packets
+/// accepted so far, and at least the number at which the caller started. If this function returns a top, only
+/// a conflict of its messages can still refuse the packet.
 pub fn check_header(
     packet: &Packet<'_>,
     session: Option<Session>,

@@ -1,5 +1,5 @@
-//! What holds of the rule for all packets, and of the ranges for any missing numbers. Each law is a function
-//! that does nothing: its contract is the law.
+//! Theorems about the rule for all packets, and about the ranges of missing numbers. Each law is a function
+//! with an empty body whose contract is the theorem.
 
 ghost use Rattle.std.specs.Prelude.{◌≡◌, ◌⊎◌, ◌+◌, ◌<◌, ◌≤◌, ◌∷◌, [], true, false, Bool, ℕ, suc, List, Option};
 ghost use Rattle.std.specs.Prelude.{None, Some, slice_get};
@@ -9,8 +9,7 @@ ghost use Rattle.mold_rule.specs.Ranges.{Range, IsLongest, lacking, range, range
 ghost use Rattle.mold_rule.specs.Refusals.{IsAdmitted, refusal_of};
 ghost use Rattle.mold_rule.specs.declared.refusal.Refusal.TheVariants.{Memory};
 
-/// A packet is refused by nothing exactly where nothing in its header speaks against it, and none of its messages
-/// differs.
+/// A packet is accepted exactly when `IsAdmitted` holds and none of its messages differs from the stored one.
 pub fn refusal_law()
     ensures none { (session : Option (List ℕ)) (known : ℕ) (ended : Option ℕ) (p : Packet) →
         IsAdmitted session known ended p → refusal_of session known ended None p ≡ None }
@@ -20,14 +19,14 @@ pub fn refusal_law()
         refusal_of session known ended differs p ≡ None → differs ≡ None }
 {}
 
-/// The rule never answers that memory is wanting.
+/// The rule never returns `Memory`.
 pub fn cause_law()
     ensures { (session : Option (List ℕ)) (known : ℕ) (ended differs : Option ℕ) (p : Packet) →
         refusal_of session known ended differs p ≡ Some Memory → ⊥ }
 {}
 
-/// The ranges are just the longest ones of lacking numbers, in ascending order, with a number between each
-/// two of them.
+/// The ranges are exactly the longest ranges of missing numbers, in ascending order. At least one present
+/// number lies between any two of them.
 pub fn ranges_law()
     ensures longest { (lacks : ℕ → Bool) (low count i : ℕ) (r : Range) →
         slice_get (ranges lacks low count) i ≡ Some r → IsLongest lacks low (low + count) r }
@@ -38,9 +37,9 @@ pub fn ranges_law()
         i < j → r.last + 1 < s.first }
 {}
 
-/// How the ranges are found by walking over the numbers: those that are there are passed over, and those
-/// that are lacking, up to one that is there or to the end, are the first range. What else is lacking
-/// doesn't matter.
+/// Iterating over the numbers finds the ranges. Numbers that are present are skipped. The missing numbers up
+/// to the next present number, or up to the end, are the next range. The ranges depend only on which of the
+/// given numbers are missing.
 pub fn ranges_walk_law()
     ensures none { (lacks : ℕ → Bool) (low : ℕ) → ranges lacks low 0 ≡ [] }
     ensures skip { (lacks : ℕ → Bool) (low count more : ℕ) →
@@ -55,14 +54,16 @@ pub fn ranges_walk_law()
         ranges lacks low count ≡ ranges other low count }
 {}
 
-/// The sizes of the ranges are together how many numbers are lacking.
+/// The sizes of the ranges add up to the count of missing numbers.
 #[tactic(auto, using(crate::proofs::RangeLemmas::ranges_size))]
 pub fn ranges_size_law()
     ensures { (lacks : ℕ → Bool) (low count : ℕ) →
         sum_by size (ranges lacks low count) ≡ lacking lacks low count }
 {}
 
-/// How many numbers are lacking is counted in parts: all where each is lacking, none where each is there.
+/// The counts of missing numbers in two adjacent parts add up to the count of both. The count of a part is
+/// `count` if all its numbers are missing, and 0 if none is. It depends only on which of its numbers are
+/// missing.
 pub fn lacking_law()
     ensures parts { (lacks : ℕ → Bool) (low count more : ℕ) →
         lacking lacks low (count + more) ≡ lacking lacks low count + lacking lacks (low + count) more }

@@ -1,36 +1,39 @@
-//! Why a datagram is refused.
+//! The reasons why a datagram is refused.
 
 use mold_wire::DecodeError;
 use thiserror::Error;
 
-/// Why a datagram is refused. Where several refusals apply, the first in this order is answered.
+/// The reason why a datagram is refused. If several reasons apply, the first one in this order is returned.
 #[derive(Clone, Copy, Debug, PartialEq, Eq, Hash, Error)]
 pub enum Refusal {
-    /// The bytes spell no packet.
+    /// The bytes do not encode a packet.
     #[error("{0}")]
     Malformed(DecodeError),
-    /// The packet is of another session.
+    /// The packet belongs to another session.
     #[error("the packet is of another session")]
     WrongSession,
     /// The sequence number is 0, which no message has.
     #[error("the sequence number is 0")]
     SequenceZero,
-    /// The packet's top is above `MAX_NUMBER`.
+    /// The packet's top is above `MAX_NUMBER`. A packet whose last message has the number `MAX_NUMBER` is
+    /// therefore refused too. The greatest usable sequence number of a message is 18446744073709551614.
     #[error("the packet's numbers end above 18446744073709551615")]
     PastLast,
-    /// An end packet whose number isn't the end that an earlier one told.
+    /// The number of an end packet is not the end that an earlier end packet reported. `end` is that earlier
+    /// end.
     #[error("the session ends at {end}, and the packet tells another end")]
     EndConflict { end: u64 },
-    /// An end packet whose number is below `known`, the greatest top that was heard of.
+    /// The number of an end packet is below `known`, the greatest top of the packets accepted so far.
     #[error("the packet ends the session below {known}")]
     EndBelow { known: u64 },
-    /// A data packet or a heartbeat that goes behind the session's end.
+    /// The top of a data packet or a heartbeat is above the session's end. `end` is the session's end.
     #[error("the session ends at {end}, and the packet goes on behind it")]
     PastEnd { end: u64 },
-    /// The packet has another message at this number than the one that is held; the least such number.
+    /// A message of the packet differs from the message stored with the same number. `number` is the least
+    /// such number.
     #[error("message {number} differs from the one that came before")]
     Conflict { number: u64 },
-    /// The memory for what the packet brings was refused.
+    /// An allocation for the packet's messages failed.
     #[error("out of memory")]
     Memory,
 }
