@@ -9,7 +9,7 @@ use Rattle.std.specs.Option.{option_map}
 use Rattle.mold_messages.specs.Parts.{AreWithin, Marked, end_of, marked_by, part_of, parts}
 use Rattle.mold_messages.proofs.PlaceLemmas.{part_of_front}
 
--- the parts begin and end between the first place and the last
+-- The last part does not end before the first offset.
 end_later : (from : ℕ) (spans : List (ℕ × ℕ)) (total : ℕ) → AreWithin from spans total → from ≤ end_of from spans
 unfolding AreWithin end_of
 end_later from [] total within = omega arith
@@ -29,7 +29,7 @@ within_more from [] total more within later = omega (arith, within)
 within_more from (span ∷ spans) total more within later =
     (within.0, within.1, within_more span.1 spans total more within.2 later)
 
--- one part more
+-- The parts with one more appended.
 pub within_push :
     (from : ℕ) (spans : List (ℕ × ℕ)) (total start end : ℕ) → AreWithin from spans total → end_of from spans ≤ start →
     start ≤ end → end ≤ total → AreWithin from (spans ++ (start, end) ∷ []) total
@@ -50,7 +50,7 @@ parts_push [] bytes start end = refl
 parts_push (span ∷ spans) bytes start end =
     ap (λ (t : List (List ℕ)). part_of span bytes ∷ t) (parts_push spans bytes start end)
 
--- bytes behind the parts don't count
+-- Bytes after the parts do not change them.
 pub parts_front :
     (from : ℕ) (spans : List (ℕ × ℕ)) (bytes more : List ℕ) → AreWithin from spans (length bytes) →
     parts spans (bytes ++ more) ≡ parts spans bytes
@@ -63,7 +63,7 @@ parts_front from (span ∷ spans) bytes more within =
     ap (λ (t : List ℕ). t ∷ parts spans (bytes ++ more)) (part_of_front span.0 span.1 bytes more within.1 stops)
     ∙ ap (λ (t : List (List ℕ)). part_of span bytes ∷ t) (parts_front span.1 spans bytes more within.2)
 
--- a part at its place
+-- The part at an index.
 pub part_at :
     (spans : List (ℕ × ℕ)) (bytes : List ℕ) (i : ℕ) (span : ℕ × ℕ) → slice_get spans i ≡ Some span →
     slice_get (parts spans bytes) i ≡ Some (part_of span bytes)
@@ -83,7 +83,7 @@ within_at from (first ∷ spans) total zero span within is =
     )
 within_at from (first ∷ spans) total (suc i) span within is = within_at first.1 spans total i span within.2 is
 
--- where the last part ends
+-- The offset at which the last part ends.
 pub last_end :
     (from : ℕ) (spans : List (ℕ × ℕ)) (span : ℕ × ℕ) → Some span ≡ slice_get spans (length spans - 1) →
     span.1 ≡ end_of from spans
@@ -102,7 +102,7 @@ no_end from [] is = refl
 no_end from (first ∷ spans) is =
     let some = slice_get-get_or (first ∷ spans) (length (first ∷ spans) - 1) first (omega arith) in cc (is ∙ some)
 
--- fewer parts
+-- The parts after some were cut off.
 within_fewer :
     (from : ℕ) (spans : List (ℕ × ℕ)) (total n : ℕ) → AreWithin from spans total → AreWithin from (take n spans) total
 unfolding AreWithin
@@ -132,7 +132,7 @@ parts-take (span ∷ spans) bytes zero = refl
 parts-take (span ∷ spans) bytes (suc n) =
     ap (λ (t : List (List ℕ)). part_of span bytes ∷ t) (parts-take spans bytes n)
 
--- what fewer parts and bytes stand for
+-- The messages after parts and bytes were cut off.
 pub record IsCut (spans : List (ℕ × ℕ)) (bytes : List ℕ) (keep : ℕ) (new_spans : List (ℕ × ℕ)) (new_bytes : List ℕ) : Type 0 where
   pub within : AreWithin 0 new_spans (length new_bytes)
   pub messages : parts new_spans new_bytes ≡ take keep (parts spans bytes)
@@ -163,7 +163,7 @@ cut_parts spans bytes keep end new_spans new_bytes within fewer stops shorter =
           ∙ parts-take spans bytes keep;
     }
 
--- more bytes behind the others
+-- The list after bytes were appended.
 pub marked_append :
     (spans : List (ℕ × ℕ)) (bytes more new_bytes : List ℕ) (old : Marked) → marked_by spans bytes ≡ old →
     AreWithin 0 spans (length bytes) → new_bytes ≡ bytes ++ more →
@@ -174,12 +174,12 @@ marked_append spans bytes more new_bytes old seen within joined =
     ∙ ap (λ (t : List (List ℕ)). record (marked_by spans (bytes ++ more)) { messages = t })
     (parts_front 0 spans bytes more within))
 
--- what is said of an error, where there is one
+-- A property of the error holds if the result is an error.
 pub said_of_error : {T E P : Type 0} → (result : Result T E) → is_err result ≡ true → OnErr result P → P
 said_of_error (Ok value) some said = absurd (cc some)
 said_of_error (Err error) some said = said
 
--- the bytes behind the parts taken away again
+-- The list after the appended bytes were removed.
 pub record IsBack (old : Marked) (spans : List (ℕ × ℕ)) (new_bytes : List ℕ) : Type 0 where
   pub within : AreWithin 0 spans (length new_bytes)
   pub marked : marked_by spans new_bytes ≡ old
@@ -210,7 +210,7 @@ back_parts spans bytes more new_bytes old seen within fits shorter =
           ∙ ap (λ (n : ℕ). record { messages = old.messages; end = n; bytes = old.bytes }) ends;
     }
 
--- one part more
+-- The list with one more part.
 pub marked_push :
     (spans new_spans : List (ℕ × ℕ)) (bytes : List ℕ) (start end : ℕ) (old : Marked) → marked_by spans bytes ≡ old →
     new_spans ≡ spans ++ (start, end) ∷ [] →
@@ -233,7 +233,7 @@ marked_push spans new_spans bytes start end old seen more =
       end = n;
     }) (end_push 0 spans start end))
 
--- nothing
+-- The empty list.
 pub marked_none :
     (spans : List (ℕ × ℕ)) (bytes : List ℕ) → spans ≡ [] → bytes ≡ [] →
     marked_by spans bytes ≡ record { messages = []; end = 0; bytes = [] }
@@ -244,7 +244,7 @@ pub within_none : (spans : List (ℕ × ℕ)) (bytes : List ℕ) → spans ≡ [
 unfolding AreWithin
 within_none spans bytes none = rw none (omega arith)
 
--- parts one after the other: none, or the first of those that are left and the others
+-- Iterating over parts: there are none, or there is a first one and the rest.
 pub parts_none : (spans : List (ℕ × ℕ)) (bytes : List ℕ) → length spans ≡ 0 → parts spans bytes ≡ []
 parts_none [] bytes none = refl
 parts_none (span ∷ spans) bytes none = absurd (omega arith)

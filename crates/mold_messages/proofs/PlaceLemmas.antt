@@ -1,4 +1,4 @@
--- Messages by the places where they end.
+-- Messages by the offsets at which they end.
 use Rattle.std.proofs.Common.{◌≡◌, ℕ, zero, suc, ◌+◌, ◌-◌, ◌<◌, ◌≤◌, List, [], ◌∷◌, ◌++◌, length, length-append}
 use Rattle.std.proofs.Common.{get_or, take, drop, min, refl, sym, ap, subst, ◌∙◌, Some, arith, slice_get}
 use Rattle.std.proofs.Common.{add-one, set}
@@ -13,13 +13,13 @@ unfolding pieces
 length-pieces start [] bytes = refl
 length-pieces start (end ∷ ends) bytes = ap suc (length-pieces end ends bytes)
 
--- the places lie between the first one and the last
+-- The first offset is at most the last one.
 pub rising_within : (start : ℕ) (ends : List ℕ) (total : ℕ) → IsRising start ends total → start ≤ total
 unfolding IsRising
 rising_within start [] total rising = omega (arith, rising)
 rising_within start (end ∷ ends) total rising = omega (arith, rising.0, rising_within end ends total rising.1)
 
--- a message ends where the next one begins
+-- A message ends where the next one starts.
 pub place_behind : (start : ℕ) (ends : List ℕ) (i d : ℕ) → i < length ends → place start ends (suc i) ≡ get_or ends i d
 unfolding place
 place_behind start [] i d within = absurd (omega arith)
@@ -31,7 +31,7 @@ unfolding place
 place_first start [] = refl
 place_first start (end ∷ ends) = refl
 
--- the messages from one of them on
+-- The messages from an index on.
 pub pieces-drop :
     (start : ℕ) (ends bytes : List ℕ) (i : ℕ) →
     drop i (pieces start ends bytes) ≡ pieces (place start ends i) (drop i ends) bytes
@@ -61,7 +61,7 @@ place-drop start (end ∷ ends) (suc i) n within =
     let e : suc i + n ≡ suc (i + n) = omega arith in
     place-drop end ends i n (omega arith) ∙ sym (ap (place start (end ∷ ends)) e)
 
--- a later message begins no earlier
+-- A later message does not start before an earlier one.
 pub place_later : (start : ℕ) (ends : List ℕ) (total i : ℕ) → IsRising start ends total → start ≤ place start ends i
 unfolding IsRising place
 place_later start [] total zero rising = omega arith
@@ -88,7 +88,7 @@ place_ordered start ends total i j rising ordered within =
           (rising-drop start ends total i rising),
     )
 
--- the message at a place of the list
+-- The message at an index of the list.
 pub piece_at :
     (start : ℕ) (ends bytes : List ℕ) (i : ℕ) → i < length ends →
     slice_get (pieces start ends bytes) i ≡ Some
@@ -99,7 +99,7 @@ piece_at start (end ∷ ends) bytes zero within = ap (λ (n : ℕ). Some (take (
     (sym (place_first end ends))
 piece_at start (end ∷ ends) bytes (suc i) within = piece_at end ends bytes i (omega arith)
 
--- a part of the bytes is the same where more bytes follow
+-- A part of the bytes stays the same if more bytes follow.
 pub part_of_front :
     (start end : ℕ) (bytes more : List ℕ) → start ≤ end → end ≤ length bytes →
     take (end - start) (drop start (bytes ++ more)) ≡ take (end - start) (drop start bytes)
@@ -107,7 +107,7 @@ part_of_front start end bytes more ordered within =
     ap (λ (t : List ℕ). take (end - start) t) (drop-append-le start bytes more (omega arith))
     ∙ take-append-le (end - start) (drop start bytes) more (omega (arith, length-drop start bytes))
 
--- bytes behind the last message don't count
+-- Bytes after the last message do not change the messages.
 pub pieces_front :
     (start : ℕ) (ends bytes more : List ℕ) → IsRising start ends (length bytes) →
     pieces start ends (bytes ++ more) ≡ pieces start ends bytes
@@ -120,7 +120,7 @@ pieces_front start (end ∷ ends) bytes more rising =
     ap (λ (t : List ℕ). t ∷ pieces end ends (bytes ++ more)) same
     ∙ ap (λ (t : List (List ℕ)). take (end - start) (drop start bytes) ∷ t) (pieces_front end ends bytes more rising.1)
 
--- one more message behind the last
+-- The messages with one more appended.
 pub pieces_push :
     (start : ℕ) (ends bytes message : List ℕ) (end : ℕ) → IsRising start ends (length bytes) →
     length bytes + length message ≡ end →
@@ -147,7 +147,7 @@ unfolding IsRising
 rising_push start [] total end rising more = (omega (arith, rising), refl)
 rising_push start (first ∷ ends) total end rising more = (rising.0, rising_push first ends total end rising.1 more)
 
--- the first so many messages
+-- The first `n` messages.
 pieces-take :
     (start : ℕ) (ends bytes : List ℕ) (n : ℕ) → take n (pieces start ends bytes) ≡ pieces start (take n ends) bytes
 unfolding pieces
@@ -183,7 +183,7 @@ pieces_cut start ends bytes n rising =
     ∙ ap (λ (t : List ℕ). pieces start (take n ends) t) (take-append-drop (place start ends n) bytes)
     ∙ sym (pieces-take start ends bytes n)
 
--- the first messages together are as long as what lies before the next one
+-- The length of the first messages together is the offset of the next one.
 joined_front :
     (start : ℕ) (ends bytes : List ℕ) (n : ℕ) → IsRising start ends (length bytes) →
     start + byte_count (take n (pieces start ends bytes)) ≡ place start ends n
@@ -203,7 +203,7 @@ joined_front start (end ∷ ends) bytes (suc n) rising =
     in
     omega (arith, long, more, rising.0, joined_front end ends bytes n rising.1)
 
--- the messages from one place of the list to another
+-- The length of the messages from one index to another together.
 pub joined_between :
     (start : ℕ) (ends bytes : List ℕ) (i j : ℕ) → IsRising start ends (length bytes) → i ≤ j → j ≤ length ends →
     place start ends i + byte_count (take (j - i) (drop i (pieces start ends bytes))) ≡ place start ends j
@@ -220,7 +220,7 @@ unfolding IsRising place
 place_last start [] total rising = rising
 place_last start (end ∷ ends) total rising = place_last end ends total rising.1
 
--- all messages together are all bytes
+-- The length of all messages together is the number of bytes.
 pub joined_all :
     (ends bytes : List ℕ) → IsRising 0 ends (length bytes) → byte_count (pieces 0 ends bytes) ≡ length bytes
 joined_all ends bytes rising =
@@ -232,13 +232,13 @@ joined_all ends bytes rising =
     in
     sym (ap byte_count all) ∙ omega (arith, e)
 
--- no message is left
+-- No message remains.
 pub pieces_none : (start : ℕ) (ends bytes : List ℕ) → length ends ≡ 0 → pieces start ends bytes ≡ []
 unfolding pieces
 pieces_none start [] bytes none = refl
 pieces_none start (end ∷ ends) bytes none = absurd (omega arith)
 
--- the first message that is left, and the places behind it
+-- The first remaining message, and the offsets after it.
 pub rising_first :
     (start : ℕ) (left : List ℕ) (end : ℕ) (ends : List ℕ) (total : ℕ) → left ≡ end ∷ ends →
     IsRising start left total → (start ≤ end) × IsRising end ends total
@@ -251,7 +251,7 @@ pub pieces_first :
 unfolding pieces
 pieces_first start left end ends bytes some = ap (λ (t : List ℕ). pieces start t bytes) some
 
--- the part of the bytes from where a message begins to where it ends is that message
+-- The bytes from the offset where a message starts to the offset where it ends are that message.
 pub piece_is :
     (ends bytes lent part : List ℕ) (messages : List (List ℕ)) (i start end : ℕ) → i < length ends →
     start ≡ place 0 ends i → end ≡ place 0 ends (i + 1) → lent ≡ bytes → part ≡ take (end - start) (drop start lent) →
@@ -264,7 +264,7 @@ piece_is ends bytes lent part messages i start end within begins stops same is s
     in
     cc
 
--- the places and messages from one of them on
+-- The offsets and messages from an index on.
 pub rising_from :
     (ends bytes lent : List ℕ) (first start total : ℕ) → lent ≡ ends → start ≡ place 0 ends first →
     total ≡ length bytes → IsRising 0 ends (length bytes) →
@@ -282,7 +282,7 @@ pieces_from ends bytes lent shared messages i first start same all begins least 
     (sym (pieces-drop 0 ends bytes first) ∙ ap (λ (n : ℕ). drop n (pieces 0 ends bytes)) cut ∙ drop_min i
     (pieces 0 ends bytes))
 
--- what one more place and more bytes stand for
+-- The messages after an offset and bytes were appended.
 pub record Pushed (ends bytes message new_ends new_bytes : List ℕ) : Type 0 where
   pub rising : IsRising 0 new_ends (length new_bytes)
   pub messages : pieces 0 new_ends new_bytes ≡ pieces 0 ends bytes ++ message ∷ []
@@ -299,7 +299,7 @@ pushed ends bytes message new_ends new_bytes end rising more joined stops =
       messages = rw (more, joined) (pieces_push 0 ends bytes message end rising sum);
     }
 
--- what fewer places and bytes stand for
+-- The messages after offsets and bytes were cut off.
 pub record Cut (ends bytes : List ℕ) (keep : ℕ) (new_ends new_bytes : List ℕ) : Type 0 where
   pub rising : IsRising 0 new_ends (length new_bytes)
   pub messages : pieces 0 new_ends new_bytes ≡ take keep (pieces 0 ends bytes)
@@ -313,7 +313,7 @@ cut ends bytes keep end new_ends new_bytes rising stops fewer shorter = record {
   messages = rw (fewer, shorter, stops) (pieces_cut 0 ends bytes keep rising);
 }
 
--- more bytes behind the last message
+-- The bytes are appended to the last message.
 pieces_extend :
     (start : ℕ) (ends bytes more : List ℕ) (end i : ℕ) → length ends ≡ suc i → IsRising start ends (length bytes) →
     length bytes + length more ≡ end →
@@ -352,7 +352,7 @@ rising_extend start (first ∷ second ∷ ends) total end zero last rising more 
 rising_extend start (first ∷ second ∷ ends) total end (suc i) last rising more =
     (rising.0, rising_extend first (second ∷ ends) total end i (omega arith) rising.1 more)
 
--- what a later last place and more bytes stand for
+-- The messages after the last offset moved and bytes were appended.
 pub record Extended (ends bytes more new_ends new_bytes : List ℕ) : Type 0 where
   pub rising : IsRising 0 new_ends (length new_bytes)
   pub messages : pieces 0 new_ends new_bytes ≡ extended (pieces 0 ends bytes) more

@@ -1,15 +1,15 @@
-//! The messages of a list, one after the other.
+//! The iterator over the messages of a `MessageList`.
 
 use crate::part::part;
 use std::marker::Model;
 
-/// The messages of a list from one of them on, in order. A message is lent, and lives as long as the
-/// list is borrowed.
+/// An iterator over the messages of a list, in order. Each item is a slice of the list's bytes and is valid
+/// as long as the list is borrowed.
 #[derive(Debug, Drop)]
 pub struct MessageIterator<'a> {
-    // Where the next message begins.
+    // The offset of the next message.
     start: usize,
-    // Where the messages that are left end.
+    // The offsets at which the remaining messages end.
     ends: &'a [usize],
     // The bytes of all messages of the list.
     bytes: &'a [u8],

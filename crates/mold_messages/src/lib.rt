@@ -1,4 +1,4 @@
-//! Messages in one buffer: a list of byte strings that takes no memory of its own for each of them.
+//! Lists of messages in one buffer, without a separate allocation for each message.
 #![tactic(auto)]
 
 mod iterator;

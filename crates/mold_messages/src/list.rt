@@ -1,4 +1,4 @@
-//! A list of messages.
+//! A list of messages that are joined in one buffer.
 
 ghost use Rattle.std.specs.Prelude.{◌≡◌, ◌-◌, ◌<◌, ◌≤◌, ◌++◌, ◌∷◌, ◌^◌, [], length, take, drop, slice_get, IsOk, OnOk};
 ghost use Rattle.std.specs.Prelude.{OnErr, ◌==◌};
@@ -11,7 +11,8 @@ use crate::part::part;
 use std::alloc::{AllocError, Global};
 use std::marker::Model;
 
-// Where the message at place `i` begins; behind the last message, where that ends.
+// Returns the offset at which the message at index `i` starts. If `i` is the number of messages, it returns
+// the offset at which the last one ends.
 fn offset_of(ends: &[usize], i: usize) -> usize
     requires { i ≤ length ends.now }
     ensures { result ≡ place 0 ends.now i }
@@ -19,12 +20,12 @@ fn offset_of(ends: &[usize], i: usize) -> usize
     if i == 0 { 0 } else { ends[i - 1] }
 }
 
-/// Messages of any lengths, kept joined in one buffer. A message costs its bytes and the 8 of the place
-/// where it ends. Memory is taken by `push`, `extend_last` and `reserve` alone, mostly for more than is asked,
-/// and is kept until the list is let go.
+/// Messages of any lengths, joined in one buffer. A message takes its bytes and 8 more for the offset at
+/// which it ends. Only `push`, `extend_last` and `reserve` allocate. They mostly allocate more than is
+/// requested, and the list keeps its memory until it is dropped.
 #[derive(Debug, Drop)]
 pub struct MessageList {
-    // Where each message ends in the bytes.
+    // The offset at which each message ends in the bytes.
     ends: Vec<usize>,
     // The bytes of the messages, joined.
     bytes: Vec<u8>,
@@ -47,7 +48,7 @@ impl Model for MessageList {
 }
 
 impl MessageList {
-    /// An empty list, which takes no memory yet.
+    /// Makes an empty list. It does not allocate.
     pub fn new(alloc: Global) -> MessageList
         ensures { result ≡ record { messages = []; message_room = 0; byte_room = 0 } }
     {
@@ -57,21 +58,22 @@ impl MessageList {
         }
     }
 
-    /// How many messages there are.
+    /// Returns the number of messages.
     pub fn len(&self) -> usize
         ensures { result ≡ length self.now.messages }
     {
         self.ends.len()
     }
 
-    /// Whether there is no message.
+    /// Returns whether the list has no message.
     pub fn is_empty(&self) -> bool
         ensures { result ≡ (length self.now.messages == 0) }
     {
         self.ends.is_empty()
     }
 
-    /// The message at place `i`, counted from 0, in constant time; none where there are no more than `i`.
+    /// Returns the message at index `i`, counted from 0, or `None` if there are at most `i` messages. It
+    /// takes constant time.
     pub fn get(&self, i: usize) -> Option<&[u8]>
         ensures { option_copied result ≡ slice_get self.now.messages i }
     {
@@ -83,7 +85,8 @@ impl MessageList {
         Some(part(&self.bytes, start, end))
     }
 
-    /// How many bytes the messages at the places `from` to below `to` have together, in constant time.
+    /// Returns the length in bytes of all messages from index `from` to before index `to` together. It takes
+    /// constant time.
     pub fn joined_length(&self, from: usize, to: usize) -> usize
         requires ordered { from ≤ to }
         requires within { to ≤ length self.now.messages }
@@ -92,27 +95,28 @@ impl MessageList {
         offset_of(&self.ends, to) - offset_of(&self.ends, from)
     }
 
-    /// How many bytes the messages have together, in constant time. They are less than 2 ^ 63 and the
-    /// messages less than 2 ^ 60, since all of them lie in memory.
+    /// Returns the length in bytes of all messages together. It takes constant time. The length is below 2^63
+    /// and there are fewer than 2^60 messages, since all of them are in memory.
     pub fn total_length(&self) -> usize
         ensures value { result ≡ byte_count self.now.messages }
         ensures bound { result < 2 ^ 63 }
         ensures few { length self.now.messages < 2 ^ 60 }
     {
-        // A slice's length is bounded by its bytes.
+        // A slice's size in bytes bounds its length, so taking the slice of `ends` proves that there are few
+        // messages.
         let _ends = self.ends.as_slice();
         self.bytes.as_slice().len()
     }
 
-    /// The messages in order, from the first.
+    /// Returns an iterator over the messages, in order.
     pub fn iter(&self) -> MessageIterator<'_>
         ensures { result ≡ self.now.messages }
     {
         MessageIterator::new(0, &self.ends, &self.bytes)
     }
 
-    /// The messages in order, from the one at place `i` on, without passing over those before it; none
-    /// where there are no more than `i`.
+    /// Returns an iterator over the messages from index `i` on, in order. It is empty if there are at most
+    /// `i` messages. The earlier messages are not visited.
     pub fn iter_from(&self, i: usize) -> MessageIterator<'_>
         ensures { result ≡ drop i self.now.messages }
     {
@@ -121,8 +125,8 @@ impl MessageList {
         MessageIterator::new(start, &self.ends[first..], &self.bytes)
     }
 
-    /// Makes room for so many more messages with so many bytes together. An error comes where a growth
-    /// is refused, and never where the room is there.
+    /// Makes room for `messages` more messages with `bytes` bytes in total. It fails if an allocation fails,
+    /// and never if the room is there already.
     pub fn reserve(&mut self, messages: usize, bytes: usize) -> Result<(), AllocError>
         ensures room { OnOk result (HasRoom self.new messages bytes) }
         ensures same { self.new.messages ≡ self.old.messages }
@@ -133,8 +137,8 @@ impl MessageList {
         self.bytes.reserve(bytes)
     }
 
-    /// Adds a message behind the last one. An error comes where a growth is refused, and never where the
-    /// message has room; the messages are then as before.
+    /// Appends a message. It fails if an allocation fails, and never if there is room for the message. The
+    /// messages are unchanged after an error.
     pub fn push(&mut self, message: &[u8]) -> Result<(), AllocError>
         ensures added { OnOk result (self.new.messages ≡ self.old.messages ++ message.now ∷ []) }
         ensures same { OnErr result (self.new.messages ≡ self.old.messages) }
@@ -148,8 +152,8 @@ impl MessageList {
         Ok(())
     }
 
-    /// Adds bytes to the last message, so that a message may come in parts. An error comes where a growth
-    /// is refused, and never where the bytes have room; the messages are then as before.
+    /// Appends bytes to the last message, so a message can be added in parts. It fails if an allocation
+    /// fails, and never if there is room for the bytes. The messages are unchanged after an error.
     pub fn extend_last(&mut self, bytes: &[u8]) -> Result<(), AllocError>
         requires { 0 < length self.old.messages }
         ensures added { OnOk result (self.new.messages ≡ extended self.old.messages bytes.now) }
@@ -163,7 +167,8 @@ impl MessageList {
         Ok(())
     }
 
-    /// Keeps the first `keep` messages, all where there are no more, and the room of all.
+    /// Keeps the first `keep` messages and discards the others. It keeps all messages if there are at most
+    /// `keep`. The allocated room is kept.
     pub fn truncate(&mut self, keep: usize)
         ensures { self.new ≡ record self.old { messages = take keep self.old.messages } }
     {
@@ -174,7 +179,7 @@ impl MessageList {
         }
     }
 
-    /// Takes all messages away and keeps their room.
+    /// Removes all messages and keeps the allocated room.
     pub fn clear(&mut self)
         ensures { self.new ≡ record self.old { messages = [] } }
     {

@@ -1,8 +1,8 @@
-//! A part of the joined bytes.
+//! A slice of a list's bytes, by two offsets.
 
 ghost use Rattle.std.specs.Prelude.{◌≡◌, ◌-◌, ◌≤◌, length, take, drop};
 
-/// The bytes from one place up to another.
+/// Returns the bytes from offset `start` to before offset `end`.
 pub fn part(bytes: &[u8], start: usize, end: usize) -> &[u8]
     requires ordered { start ≤ end }
     requires within { end ≤ length bytes.now }

@@ -1,14 +1,15 @@
-//! Messages that are parts of bytes, one after the other.
+//! The iterator over the messages of a `PartList`.
 
 use crate::part::part;
 use std::marker::Model;
 
-/// The messages of a list of parts, in order. A message is lent, and lives as long as the list is borrowed.
+/// An iterator over the messages of a list of parts, in order. Each item is a slice of the list's bytes and
+/// is valid as long as the list is borrowed.
 #[derive(Debug, Drop)]
 pub struct PartIterator<'a> {
-    // Where each message that is left begins and ends.
+    // The offsets at which each remaining message starts and ends.
     spans: &'a [(usize, usize)],
-    // The bytes of which they are parts.
+    // The bytes that contain the messages.
     bytes: &'a [u8],
 }
 

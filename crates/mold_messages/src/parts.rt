@@ -1,4 +1,4 @@
-//! Messages as parts of bytes that were copied together.
+//! A list of messages in a buffer whose bytes are copied in larger pieces.
 
 ghost use Rattle.std.specs.Prelude.{◌≡◌, ◌+◌, ◌-◌, ◌<◌, ◌≤◌, ◌^◌, ◌++◌, ◌∷◌, [], length, take, drop, slice_get, IfOk};
 ghost use Rattle.std.specs.Prelude.{OnOk, OnErr, ◌==◌};
@@ -10,7 +10,7 @@ use crate::part_iterator::PartIterator;
 use std::alloc::{AllocError, Global};
 use std::marker::Model;
 
-// Where the last of the parts ends.
+// Returns the offset at which the last part ends, or 0 if there is no part.
 fn end_after(spans: &[(usize, usize)]) -> usize
     ensures { result ≡ end_of 0 spans.now }
 {
@@ -20,12 +20,12 @@ fn end_after(spans: &[(usize, usize)]) -> usize
     }
 }
 
-/// Messages of any lengths as parts of one buffer, in order, with other bytes between them. So what many
-/// messages came in is copied at once, and each is marked where it lies. A message costs its bytes and the 16
-/// of the places where it begins and ends. Memory is kept until the list is let go.
+/// Messages of any lengths as parts of one buffer, in order, with other bytes between them. The bytes of many
+/// messages are copied at once, and each message is then marked where it is. A message takes its bytes and 16
+/// more for the two offsets. The list keeps its memory until it is dropped.
 #[derive(Debug, Drop)]
 pub struct PartList {
-    // Where each message begins and ends in the bytes.
+    // The offsets at which each message starts and ends in the bytes.
     spans: Vec<(usize, usize)>,
     bytes: Vec<u8>,
 }
@@ -42,7 +42,7 @@ impl Model for PartList {
 }
 
 impl PartList {
-    /// An empty list, which takes no memory yet.
+    /// Makes an empty list. It does not allocate.
     pub fn new(alloc: Global) -> PartList
         ensures { result ≡ record { messages = []; end = 0; bytes = [] } }
     {
@@ -52,21 +52,22 @@ impl PartList {
         }
     }
 
-    /// How many messages there are.
+    /// Returns the number of messages.
     pub fn len(&self) -> usize
         ensures { result ≡ length self.now.messages }
     {
         self.spans.len()
     }
 
-    /// Whether there is no message.
+    /// Returns whether the list has no message.
     pub fn is_empty(&self) -> bool
         ensures { result ≡ (length self.now.messages == 0) }
     {
         self.spans.is_empty()
     }
 
-    /// The message at place `i`, counted from 0, in constant time; none where there are no more than `i`.
+    /// Returns the message at index `i`, counted from 0, or `None` if there are at most `i` messages. It
+    /// takes constant time.
     pub fn get(&self, i: usize) -> Option<&[u8]>
         ensures { option_copied result ≡ slice_get self.now.messages i }
     {
@@ -77,17 +78,17 @@ impl PartList {
         Some(part(&self.bytes, start, end))
     }
 
-    /// The messages in order, from the first.
+    /// Returns an iterator over the messages, in order.
     pub fn iter(&self) -> PartIterator<'_>
         ensures { result ≡ self.now.messages }
     {
         PartIterator::new(&self.spans, &self.bytes)
     }
 
-    /// Copies bytes behind the others, of which `mark` makes messages, and tells where they begin. An error
-    /// comes where a growth is refused; all is then as before.
-    // Inlined, as `mark` is: both are called for each packet that a receiver delivers, and return through memory
-    // otherwise.
+    /// Appends bytes to the buffer and returns the offset at which they start. A call of `mark` makes a
+    /// message of some of them. It fails if an allocation fails, and then nothing changes.
+    // Inlined, like `mark`: both are called for each packet that a receiver delivers. Without inlining, they
+    // return their results through memory.
     #[inline(always)]
     pub fn append(&mut self, bytes: &[u8]) -> Result<usize, AllocError>
         ensures begin { IfOk result (λ begin. begin ≡ length self.old.bytes) }
@@ -101,9 +102,10 @@ impl PartList {
         Ok(begin)
     }
 
-    /// Makes the bytes from `start` up to `end` a message behind the last one, in whose bytes it must not
-    /// begin. An error comes where a growth is refused; all is then as before.
-    // Inlined: see `append`.
+    /// Appends a message that consists of the bytes from offset `start` to before offset `end`. It must not
+    /// start before the end of the last message. The call fails if an allocation fails, and then nothing
+    /// changes.
+    // Inlined for the same reason as `append`.
     #[inline(always)]
     pub fn mark(&mut self, start: usize, end: usize) -> Result<(), AllocError>
         requires behind { self.old.end ≤ start }
@@ -121,7 +123,7 @@ impl PartList {
         Ok(())
     }
 
-    /// Adds a message behind the last one. An error comes where a growth is refused; all is then as before.
+    /// Appends a message. It fails if an allocation fails, and then nothing changes.
     pub fn push(&mut self, message: &[u8]) -> Result<(), AllocError>
         ensures added { OnOk result (self.new ≡ record {
           messages = self.old.messages ++ message.now ∷ [];
@@ -139,8 +141,8 @@ impl PartList {
         marked
     }
 
-    /// Keeps the first `keep` messages, all where there are no more, and the room of all. What stands behind
-    /// the last of them is let go.
+    /// Keeps the first `keep` messages and discards the others. It keeps all messages if there are at most
+    /// `keep`. The bytes after the last message that is kept are discarded, and the allocated room is kept.
     pub fn truncate(&mut self, keep: usize)
         ensures messages { self.new.messages ≡ take keep self.old.messages }
         ensures bytes { self.new.bytes ≡ take self.new.end self.old.bytes }
@@ -150,7 +152,7 @@ impl PartList {
         self.bytes.truncate(end);
     }
 
-    /// Takes all messages and bytes away and keeps their room.
+    /// Removes all messages and bytes and keeps the allocated room.
     pub fn clear(&mut self)
         ensures { self.new ≡ record { messages = []; end = 0; bytes = [] } }
     {

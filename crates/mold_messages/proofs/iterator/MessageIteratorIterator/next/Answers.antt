@@ -12,7 +12,7 @@ returns-in_err-end-clause-steps c =
     c.in_err-end.ensures.cases in
     rw c.from_residual.ensures (search (rules, none))
 
--- the first message ends at or behind its beginning, and the others rise from there
+-- The first message ends at or after its start, and the offsets do not decrease from there on.
 first_end : (c : In_ok-end) → (c.self.inside.start ≤ c.in_ok-end.end.now)
     × IsRising c.in_ok-end.end.now c.in_ok-end.ends.now (length c.self.inside.bytes.now)
 first_end c =

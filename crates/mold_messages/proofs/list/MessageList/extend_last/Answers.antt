@@ -4,7 +4,7 @@ use Rattle.mold_messages.proofs.PlaceLemmas.{length-pieces, joined_all, extends}
 use Rattle.mold_messages.proofs.list.MessageList.extend_last.Goals.{After-len-last}
 use Rattle.mold_messages.proofs.list.MessageList.extend_last.Goals as goal
 
--- as many places as messages
+-- There are as many offsets as messages.
 some_places : (list : Listed) (ends bytes : List ℕ) (messages : List (List ℕ)) → messages ≡ list.messages →
     0 < length list.messages → length messages ≡ length ends → 0 < length ends
 some_places list ends bytes messages same some counted =
@@ -22,7 +22,7 @@ returns-in_err-extend_from_slice-clause-succeeds c =
       joined_all f.ends.items f.bytes.items c.self.invariant,
     )))
 
--- there is a last place
+-- There is a last offset.
 some_last : (c : After-len-last) → 0 < length c.self.inside.ends.items
 some_last c =
     let f = c.self.inside in

@@ -12,7 +12,7 @@ returns-in_err-span-clause-steps c =
     c.in_err-span.ensures.cases in
     rw c.from_residual.ensures (search (rules, none))
 
--- the first span lies in the bytes, and the others behind it
+-- The first span is in the bytes, and the others follow it.
 first_span : (c : In_ok-span) → IsFirst c.in_ok-span.span.now c.in_ok-span.spans.now (length c.self.inside.bytes.now)
 first_span c =
     let f = c.self.inside in
