@@ -1,10 +1,10 @@
--- What a beginning of a text is, once more was written or is to come.
+-- A prefix of a text stays a prefix when more text was written or follows.
 use Rattle.std.proofs.Common.{ℕ, List, ◌++◌, Option, sym, ap, ◌∙◌, append_assoc}
 use Rattle.std.specs.Io.KnownBytes.{Appends}
 use Rattle.std.proofs.KnownBytes.{Appends-trans}
 use Rattle.mold_devices.specs.Devices.{AppendsPrefix}
 
--- a front of a text is a front of the text and more
+-- A prefix of a text is a prefix of a longer text.
 pub front_more : (old new : Option (List ℕ)) (text more : List ℕ) → AppendsPrefix old new text →
     AppendsPrefix old new (text ++ more)
 front_more old new text more p =
@@ -15,7 +15,7 @@ front_more old new text more p =
       appended = p.appended;
     }
 
--- a whole text and then a front of the rest are a front of both
+-- A whole text followed by a prefix of the rest is a prefix of both together.
 pub front_after : (old mid new : Option (List ℕ)) (text more : List ℕ) → Appends old mid text →
     AppendsPrefix mid new more → AppendsPrefix old new (text ++ more)
 front_after old mid new text more p q = record {

@@ -1,4 +1,4 @@
--- Where lines are cut, and what a reader of lines has read.
+-- Where lines end, and what a reader of lines has read.
 use Rattle.std.proofs.Common.{◌≡◌, ℕ, zero, suc, ◌+◌, ◌-◌, ◌<◌, ◌≤◌, Bool, true, false, not, eqb, List, [], ◌∷◌, ◌++◌}
 use Rattle.std.proofs.Common.{length, length-append, take, drop, get_or, Option, None, Some, refl, sym, ap, subst, ◌∙◌}
 use Rattle.std.proofs.Common.{append-nil, add-one, inl, inr, arith, Result, Ok, Err}
@@ -11,11 +11,11 @@ use Rattle.std.specs.Io.KnownBytes.{Consumes, IsAtEnd, Keeps, prepend_known}
 use Rattle.std.proofs.KnownBytes.{Consumes-kept, prepend_known-nil}
 use Rattle.mold_devices.specs.Lines.{onto_first, lines_of, GivesLine, HasNoEnd}
 
--- the byte at this place ends a line
+-- The byte at this index ends a line.
 abbrev pub IsEnd : List ℕ → ℕ → Type 0
 IsEnd bytes at = eqb (get_or bytes at 0) 10 ≡ true
 
--- the first place of the bytes where a line ends
+-- The first index of the bytes at which a line ends.
 pub record FirstEnd (bytes : List ℕ) (at : ℕ) : Type 0 where
   pub within : at < length bytes
   pub here : IsEnd bytes at
@@ -24,7 +24,7 @@ pub record FirstEnd (bytes : List ℕ) (at : ℕ) : Type 0 where
 not_end : (byte : ℕ) → (eqb byte 10 ≡ true → ⊥) → eqb byte 10 ≡ false
 not_end byte none = elim (cases_Bool (eqb byte 10)) [ inl is ↦ absurd (none is) | inr is ↦ is ]
 
--- without an end the bytes are one line
+-- Bytes without an end of line are one line.
 pub one_line : (bytes : List ℕ) → 0 < length bytes → HasNoEnd bytes → lines_of bytes ≡ bytes ∷ []
 one_line [] some none = absurd (omega arith)
 one_line (byte ∷ []) some none =
@@ -33,7 +33,7 @@ one_line (byte ∷ next ∷ bytes) some none =
     cond-false (eqb byte 10) _ _ (not_end byte (none 0 (omega arith)))
     ∙ ap (onto_first byte) (one_line (next ∷ bytes) (omega arith) (λ k lt is. none (suc k) (omega arith) is))
 
--- the first end cuts off the first line
+-- The first end of line ends the first line.
 first_line : (bytes : List ℕ) (at : ℕ) → at < length bytes → IsEnd bytes at → ((k : ℕ) → k < at → IsEnd bytes k → ⊥) →
     lines_of bytes ≡ take at bytes ∷ lines_of (drop (suc at) bytes)
 first_line [] at lt is none = absurd (omega arith)
@@ -42,7 +42,7 @@ first_line (byte ∷ bytes) (suc at) lt is none =
     cond-false (eqb byte 10) _ _ (not_end byte (none 0 (omega arith)))
     ∙ ap (onto_first byte) (first_line bytes at (omega arith) is (λ k below end. none (suc k) (omega arith) end))
 
--- the line that begins in what was joined goes on to the first end of the piece
+-- The line that starts in the joined bytes continues to the first end of line in the piece.
 joined_line : (joined piece more : List ℕ) (at : ℕ) → HasNoEnd joined → FirstEnd piece at →
     lines_of (joined ++ (piece ++ more)) ≡ (joined ++ take at piece) ∷ lines_of (drop (at + 1) piece ++ more)
 joined_line [] piece more at none end =
@@ -67,7 +67,7 @@ HasNoEnd-append front back first second k lt is =
           (subst (λ (b : ℕ). eqb b 10 ≡ true) (get_or-append_right front back (length front) k 0 refl above) is)
     ]
 
--- what was read stands before what is left
+-- The bytes that were read come before the remaining bytes.
 pub consumes_prepended : (piece : List ℕ) (known : Option (List ℕ)) → Consumes (prepend_known piece known) known piece
 consumes_prepended piece None = tt
 consumes_prepended piece (Some xs) = refl
@@ -76,7 +76,7 @@ pub on_err : {T E : Type 0} (result : Result T E) {P : Type 0} → P → OnErr r
 on_err (Ok _) p = tt
 on_err (Err _) p = p
 
--- of what was known, so much was joined, and the piece that was read behind it is left
+-- The joined bytes were taken from the input, and the piece read after them is what remains.
 pub begun_line : (known mid left : Option (List ℕ)) (joined piece : List ℕ) → Consumes known mid joined →
     Consumes mid left piece → Consumes known (prepend_known piece left) joined
 begun_line None mid left joined piece begun read = tt
@@ -84,7 +84,7 @@ begun_line (Some xs) None left joined piece begun read = absurd begun
 begun_line (Some xs) (Some ys) None joined piece begun read = absurd read
 begun_line (Some xs) (Some ys) (Some zs) joined piece begun read = begun ∙ ap (λ (t : List ℕ). joined ++ t) read
 
--- or it couldn't be read, and nothing is left of it
+-- If the read failed, the piece is empty.
 pub begun_unread : (known mid left : Option (List ℕ)) (joined piece : List ℕ) → Consumes known mid joined →
     Keeps mid left → piece ≡ [] → Consumes known (prepend_known piece left) joined
 begun_unread known mid left joined piece begun kept none =
@@ -92,14 +92,13 @@ begun_unread known mid left joined piece begun kept none =
     (sym (ap (λ (t : List ℕ). prepend_known t left) none ∙ prepend_known-nil left))
     (Consumes-kept known mid left joined begun kept)
 
--- a line that comes in pieces: of what was known, so much was joined, in which it doesn't end, and then
--- a piece more was read
+-- A line that spans several reads. It does not end in the joined bytes, and then one more piece was read.
 pub record InPieces (known mid left : Option (List ℕ)) (joined piece : List ℕ) : Type 0 where
   pub begun : Consumes known mid joined
   pub no_end : HasNoEnd joined
   pub read : Consumes mid left piece
 
--- the last piece is empty, and nothing is left behind it
+-- The last piece is empty, and nothing remains after it.
 pub record IsOver (left : Option (List ℕ)) (piece : List ℕ) : Type 0 where
   pub empty : length piece ≡ 0
   pub at_end : IsAtEnd left
@@ -114,23 +113,23 @@ joined_gives (Some xs) (Some ys) (Some zs) joined piece at line end =
     ap lines_of (line.begun ∙ ap (λ (t : List ℕ). joined ++ t) line.read)
     ∙ joined_line joined piece zs at line.no_end end
 
--- an end in the piece gives the line that was joined so far and goes on to it
+-- An end of line in the piece gives the joined bytes followed by the piece up to that end.
 pub gives_joined : {known mid left : Option (List ℕ)} {joined piece : List ℕ} {at : ℕ} →
     InPieces known mid left joined piece → FirstEnd piece at →
     GivesLine known (prepend_known (drop (at + 1) piece) left) true (joined ++ take at piece)
 gives_joined {known} {mid} {left} {joined} {piece} {at} = joined_gives known mid left joined piece at
 
--- an end in what was read before gives the line up to it
+-- An end of line in the bytes read before gives the line up to it.
 pub gives_read : (known : Option (List ℕ)) (piece : List ℕ) (at : ℕ) → FirstEnd piece at →
     GivesLine (prepend_known piece known) (prepend_known (drop (at + 1) piece) known) true (take at piece)
 gives_read None piece at end = tt
 gives_read (Some xs) piece at end = joined_line [] piece xs at (λ k lt is. absurd (omega arith)) end
 
--- at the end of the source nothing stands behind what was joined
+-- At the end of the source, nothing follows the joined bytes.
 nothing_behind : (piece rest : List ℕ) → IsOver (Some rest) piece → piece ++ rest ≡ []
 nothing_behind piece rest over = ap (λ (t : List ℕ). t ++ rest) (nil_from_length piece over.empty) ∙ over.at_end
 
--- there what was joined is the last line
+-- At the end of the source, the joined bytes are the last line.
 gives_last : (known mid left : Option (List ℕ)) (joined piece : List ℕ) →
     InPieces known mid left joined piece → IsOver left piece → 0 < length joined →
     GivesLine known (prepend_known piece left) true joined
@@ -146,7 +145,7 @@ gives_last (Some xs) (Some ys) (Some zs) joined piece line over some =
     ∙ one_line joined some line.no_end
     ∙ ap (λ (t : List ℕ). joined ∷ lines_of t) (sym nothing)
 
--- and with nothing joined, nothing was left
+-- If nothing was joined there, no input remained.
 gives_none : (known mid left : Option (List ℕ)) (joined piece found : List ℕ) →
     InPieces known mid left joined piece → IsOver left piece → length joined ≡ 0 →
     GivesLine known (prepend_known piece left) false found
@@ -159,7 +158,7 @@ gives_none (Some xs) (Some ys) (Some zs) joined piece found line over none =
     ∙ line.read
     ∙ nothing_behind piece zs over
 
--- a part of a buffer, without its first bytes
+-- A part of a buffer without its first bytes.
 pub skipped : (bytes : List ℕ) (start end n : ℕ) → n + start ≤ end →
     take (end - (start + n)) (drop (start + n) bytes) ≡ drop n (take (end - start) (drop start bytes))
 skipped bytes start end n within =
@@ -171,14 +170,14 @@ skipped bytes start end n within =
     ∙ ap (take left) (drop-drop n start bytes)
     )
 
--- the first byte 0A that a search found is the first end
+-- The first byte 0A that a search found is the first end of line.
 pub found_end : (bytes piece : List ℕ) (at : ℕ) → bytes ≡ piece →
     NoneBefore (Passes (is_byte 10) bytes) 0 (length bytes) at × Passes (is_byte 10) bytes at → FirstEnd piece at
 found_end bytes piece at same found =
     subst (λ (t : List ℕ). FirstEnd t at) same
     (record { within = found.0.high; here = found.1; before = λ k lt is. found.0.before k (omega arith) lt is })
 
--- where a search found none, no line ends
+-- If a search found no byte 0A, no line ends.
 pub none_found : (bytes piece : List ℕ) → bytes ≡ piece → Nowhere (Passes (is_byte 10) bytes) 0 (length bytes)
     → HasNoEnd piece
 none_found bytes piece same none = subst HasNoEnd same (λ k lt is. none k (omega arith) lt is)
@@ -192,7 +191,7 @@ end_gives known mid left joined piece false line over is =
     let some = eqb-false (length joined) 0 (sym is) in
     gives_last known mid left joined piece line over (omega arith)
 
--- at the end of the source there is a line exactly where something was joined
+-- At the end of the source, there is a line exactly when some bytes were joined.
 pub gives_end : {known mid left : Option (List ℕ)} {joined piece : List ℕ} {empty : Bool} →
     InPieces known mid left joined piece → IsOver left piece → empty ≡ eqb (length joined) 0 →
     GivesLine known (prepend_known piece left) (not empty) joined

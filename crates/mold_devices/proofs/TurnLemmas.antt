@@ -1,4 +1,4 @@
--- What was printed so far, while a command goes on turn by turn.
+-- The text that a command has written so far, turn by turn.
 use Rattle.std.proofs.Common.{◌≡◌, ℕ, List, ◌++◌, [], Option, None, Some, length, take, sym, ap, subst, ◌∙◌}
 use Rattle.std.proofs.Common.{append_assoc, append-nil}
 use Rattle.std.specs.Prelude.{IfSome}
@@ -10,23 +10,23 @@ use Rattle.mold_devices.specs.declared.turn.Turn.{Turn}
 use Rattle.mold_devices.specs.declared.turn.Turn.TheVariants.{More, Done}
 use Rattle.mold_devices.proofs.DeviceLemmas.{front_after, front_more}
 
--- a moment of a run: what is printed from here on, for which input, what the sink holds, and the text
--- that it is still to take
+-- A moment of a run: what the command writes from here on, for which input, what the sink holds, and the text
+-- that is still to be sent.
 pub record Moment : Type 0 where
   pub prints : Printing
   pub left : Option (List ℕ)
   pub held : Option (List ℕ)
   pub text : List ℕ
 
--- the text of all input is what was written since the start, the text that is still to be written, and
--- what is printed from now on
+-- The text for the whole input is what was written since the start, the text that is still to be sent, and
+-- what the command writes later.
 pub record TellsOver (start now : Moment) (input left : List ℕ) : Type 0 where
   pub written : List ℕ
   pub sent : Appends start.held now.held written
   pub parts : start.prints.text input ≡ written ++ (now.text ++ now.prints.text left)
   pub ends : start.prints.status input ≡ now.prints.status left
 
--- the same where the source tells its bytes, and nothing where it doesn't
+-- The same if the source exposes its bytes. Otherwise the relation states nothing.
 abbrev pub Tells : Moment → Moment → Option (List ℕ) → Option (List ℕ) → Type 0
 Tells start now None left = Unit {0}
 Tells start now (Some input) None = ⊥
@@ -35,16 +35,16 @@ Tells start now (Some input) (Some left) = TellsOver start now input left
 pub record Told (start now : Moment) : Type 0 where
   pub tells : Tells start now start.left now.left
 
--- a command that has said all: it prints nothing more, and ends with the status
+-- A command that has written everything: it writes nothing more and ends with the status.
 abbrev pub ended : ℕ → Printing
 ended status = record { text = λ input. []; status = λ input. status }
 
--- what is printed after a turn
+-- What the command writes after a turn.
 abbrev pub printed_after : Printing → Turn → Printing
 printed_after next More = next
 printed_after next (Done status) = ended status
 
--- what a turn adds is the text of the input that it takes
+-- A turn adds the text for the input that it reads.
 turn_goes : (before after : Printing) (input left added : List ℕ) (turn : Turn) →
     Goes before after input left added turn →
     (before.text input ≡ added ++ (printed_after after turn).text left)
@@ -73,7 +73,7 @@ turn_tells start now after (Some input) (Some xs) (Some ys) next added turn told
       ends = told.ends ∙ whole.1;
     }
 
--- one turn more
+-- One more turn.
 pub told_turn : {start now : Moment} {after : Printing} {left : Option (List ℕ)} {text : List ℕ} {turn : Turn} →
     Told start now → IsTurn now.prints after now.left left now.text text turn →
     Told start (record { prints = printed_after after turn; left = left; held = now.held; text = text })
@@ -96,7 +96,7 @@ sent_tells start now (Some input) (Some xs) held text told sent empty = record {
   ends = told.ends;
 }
 
--- the text is written, and begins anew
+-- The text is written, and the buffer is empty again.
 pub told_sent : {start now : Moment} (held : Option (List ℕ)) (text : List ℕ) → Told start now →
     Appends now.held held now.text → text ≡ [] →
     Told start (record { prints = now.prints; left = now.left; held = held; text = text })
@@ -115,7 +115,7 @@ front_tells start now (Some input) (Some xs) held told sent =
     (front_after start.held now.held held told.written (now.text ++ more) told.sent
     (front_more now.held held now.text more sent))
 
--- a front of the text is written
+-- A prefix of the text is written.
 pub told_front : {start now : Moment} {held : Option (List ℕ)} {text : List ℕ} → Told start now → text ≡ now.text →
     AppendsPrefix now.held held text →
     IfSome start.left (λ input. AppendsPrefix start.held held (start.prints.text input))
@@ -123,7 +123,7 @@ told_front {start} {now} {held} {text} told same sent =
     front_tells start now start.left now.left held told.tells
     (subst (λ (t : List ℕ). AppendsPrefix now.held held t) same sent)
 
--- the text that a turn found is there again once what it added is cut off
+-- The text before a turn is restored when the text that the turn added is cut off.
 pub restored : (found added cut : List ℕ) (len : ℕ) → cut ≡ take len added → len ≡ length found →
     take (length found) added ≡ found → cut ≡ found
 restored found added cut len is long kept = is ∙ ap (λ (n : ℕ). take n added) long ∙ kept
@@ -142,7 +142,7 @@ whole_tells start status (Some input) (Some xs) mid held text told sent = (
   sym told.ends,
 )
 
--- the last turn's text is written
+-- The last turn's text is written.
 pub told_whole : {start : Moment} {left mid : Option (List ℕ)} {text : List ℕ} (status : ℕ) (held : Option (List ℕ)) →
     Told start (record { prints = ended status; left = left; held = mid; text = text }) → Appends mid held text →
     IfSome start.left (λ input.

@@ -1,52 +1,63 @@
--- What sources and sinks of bytes do, in words that their contracts share.
+-- What sources and sinks of bytes do: the definitions that their contracts share.
 use Rattle.std.specs.Prelude.{◌≡◌, ℕ, ◌+◌, Bool, List, ◌++◌, Option, None, Some, Result, MatchResult}
 use Rattle.std.specs.Io.Iter.{u64_saturate}
 use Rattle.std.specs.Io.KnownBytes.{Appends}
 
--- a count that rose by one, or stands at its limit
+-- The number `n` increased by one, or `u64::MAX` if it is already there.
 abbrev pub one_more : ℕ → ℕ
 one_more n = u64_saturate (n + 1)
 
--- the failures stay where the call succeeds, and are one more where it fails
+-- The count of failures is unchanged if the call succeeds, and increases by one if it fails.
 abbrev pub Counts : {T E : Type 0} → ℕ → ℕ → Result T E → Type 0
 Counts old new result = MatchResult result (λ _. new ≡ old) (λ _. new ≡ one_more old)
 
--- known bytes grew by a front of the text
+-- The bytes held grew by a prefix of the text, if these bytes are known.
 pub record AppendsPrefix (old new : Option (List ℕ)) (text : List ℕ) : Type 0 where
+  -- The prefix that was appended.
   pub front : List ℕ
+  -- The rest of the text.
   pub rest : List ℕ
   pub parts : text ≡ front ++ rest
   pub appended : Appends old new front
 
--- a reader that stands as a source: the calls that it still allows, and its failures
+-- The model of a reader that is used as a source.
 pub record ReaderState (R : Type 0) : Type 0 where
   pub reader : R
+  -- The calls that the source still passes to the reader.
   pub calls_left : ℕ
   pub failures : ℕ
 
--- a writer that stands as a sink, its failures, and whether text is written to it as soon as it is there
+-- The model of a writer that is used as a sink.
 pub record WriterState (W : Type 0) : Type 0 where
   pub writer : W
   pub failures : ℕ
+  -- Whether text is written to it as soon as it is available.
   pub live : Bool
 
--- what a file holds that is not made yet, or tells its bytes or doesn't
+-- The bytes of a file, if they are known. They are not known if the file is not created yet or does not
+-- expose its bytes.
 abbrev pub held_by : {F : Type 0} → (F → Option (List ℕ)) → Option F → Option (List ℕ)
 held_by held None = None
 held_by held (Some file) = held file
 
--- a source in memory: the bytes left, which call from now on fails (0 where none does),
--- the most bytes that a call moves, and its failures
+-- The model of a source in memory.
 pub record MemoryLeft : Type 0 where
+  -- The remaining bytes.
   pub left : List ℕ
+  -- The call that fails, counted from 1 for the next call. 0 means that no call fails.
   pub fails_at : ℕ
+  -- The greatest number of bytes that a call moves.
   pub most : ℕ
   pub failures : ℕ
 
--- a sink in memory: the bytes held, how many it holds before it asks for memory, and the rest as in a source
+-- The model of a sink in memory.
 pub record MemoryHeld : Type 0 where
+  -- The bytes that the sink has taken.
   pub held : List ℕ
+  -- The number of bytes that the sink can hold without allocating.
   pub room : ℕ
+  -- The call that fails, counted from 1 for the next call. 0 means that no call fails.
   pub fails_at : ℕ
+  -- The greatest number of bytes that a call moves.
   pub most : ℕ
   pub failures : ℕ

@@ -1,4 +1,4 @@
--- Which counts of failures stand behind which faults.
+-- How the counts of failures of devices relate to faults.
 use Rattle.std.specs.Prelude.{◌≡◌, ◌⊎◌, ℕ, List, codes, Result, Ok, Err}
 use Rattle.mold_devices.specs.Devices.{one_more}
 use Rattle.mold_devices.specs.declared.fault.ReadFault.{ReadFault}
@@ -6,34 +6,36 @@ use Rattle.mold_devices.specs.declared.fault.ReadFault.TheVariants as reading
 use Rattle.mold_devices.specs.declared.fault.CommandFault.{CommandFault}
 use Rattle.mold_devices.specs.declared.fault.CommandFault.TheVariants as command
 
--- the source failed once more where that is the fault, and else it didn't
+-- The source's count of failures increases by one with the fault `Read`, and is unchanged with `Memory`.
 abbrev pub CountsReadFault : ℕ → ℕ → ReadFault → Type 0
 CountsReadFault old new reading.Read = new ≡ one_more old
 CountsReadFault old new reading.Memory = new ≡ old
 
+-- The same for a result: the count is unchanged if there is no fault.
 abbrev pub CountsRead : {T : Type 0} → ℕ → ℕ → Result T ReadFault → Type 0
 CountsRead old new (Ok _) = new ≡ old
 CountsRead old new (Err fault) = CountsReadFault old new fault
 
--- of what reads nothing: the sink failed once more with `Write`, and not with `Memory`; `Read` never comes
+-- The fault of a command that reads no input. The sink's count of failures increases by one with `Write`, and
+-- is unchanged with `Memory`. `Read` does not occur.
 abbrev pub CountsSinkFault : ℕ → ℕ → CommandFault → Type 0
 CountsSinkFault old new command.Read = ⊥
 CountsSinkFault old new command.Write = new ≡ one_more old
 CountsSinkFault old new command.Memory = new ≡ old
 
--- nor with an answer
+-- The same for a result: the count is unchanged if there is no fault.
 abbrev pub CountsSink : {T : Type 0} → ℕ → ℕ → Result T CommandFault → Type 0
 CountsSink old new (Ok _) = new ≡ old
 CountsSink old new (Err fault) = CountsSinkFault old new fault
 
--- the fault of a command whose reading ended with this fault
+-- The fault of a command that corresponds to a fault of reading.
 abbrev pub from_read_fault : ReadFault → CommandFault
 from_read_fault reading.Read = command.Read
 from_read_fault reading.Memory = command.Memory
 
--- which counts rise with which fault: one failure more of the source with `Read`, one more of the sink
--- with `Write`, and none with `Memory`; what could not be written may be the text from before a read
--- that failed
+-- The source's count of failures increases by one with `Read`, the sink's with `Write`, and neither with
+-- `Memory`. With `Write`, the source's count may have increased too, since the text of earlier turns is
+-- written after a failed read.
 abbrev pub CountsFault : ℕ → ℕ → ℕ → ℕ → CommandFault → Type 0
 CountsFault source_old source_new sink_old sink_new command.Read =
     (source_new ≡ one_more source_old) × (sink_new ≡ sink_old)
@@ -42,13 +44,13 @@ CountsFault source_old source_new sink_old sink_new command.Write =
 CountsFault source_old source_new sink_old sink_new command.Memory =
     (source_new ≡ source_old) × (sink_new ≡ sink_old)
 
--- no count rises with an answer
+-- The same for a result: both counts are unchanged if there is no fault.
 abbrev pub CountsCommand : {T : Type 0} → ℕ → ℕ → ℕ → ℕ → Result T CommandFault → Type 0
 CountsCommand source_old source_new sink_old sink_new (Ok _) = (source_new ≡ source_old) × (sink_new ≡ sink_old)
 CountsCommand source_old source_new sink_old sink_new (Err fault) =
     CountsFault source_old source_new sink_old sink_new fault
 
--- the word that the program prints behind `fault`
+-- The word that the program prints after `fault`.
 abbrev pub fault_word : CommandFault → List ℕ
 fault_word command.Read = codes "Read"
 fault_word command.Write = codes "Write"

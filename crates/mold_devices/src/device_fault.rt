@@ -1,8 +1,8 @@
-//! A failed call of a device.
+//! The fault of a device.
 
 use thiserror::Error;
 
-/// A device failed. Its count of failures tells how often.
+/// A call of a device failed. The device's count of failures states how often.
 #[derive(Clone, Copy, Debug, PartialEq, Eq, Error)]
 #[error("a device failed")]
 pub struct DeviceFault;

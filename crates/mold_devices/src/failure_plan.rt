@@ -1,23 +1,24 @@
-//! Which call of a device in memory fails, and how much a call moves.
+//! The failures and the transfer limit of a device in memory.
 
 ghost use Rattle.std.specs.Prelude.{◌≡◌, ◌-◌, ◌<◌, ◌↔◌, IsErr};
 ghost use Rattle.mold_devices.specs.Devices.{Counts, one_more};
 
 use crate::device_fault::DeviceFault;
 
-/// How the calls of a device in memory go: which one fails, and how much one moves.
+/// The plan for the calls of a device in memory: which one fails, and how many bytes a call moves at most.
 #[derive(Clone, Copy, Debug)]
 pub struct FailurePlan {
-    /// The call that fails, counted from 1 for the next one. 0 is none.
+    /// The call that fails, counted from 1 for the next call. 0 means that no call fails.
     pub fails_at: u64,
-    /// The most bytes that a call moves.
+    /// The greatest number of bytes that a call moves.
     pub most: usize,
-    /// The calls that failed, up to `u64::MAX`.
+    /// The number of calls that failed. It stays at `u64::MAX` once it is there.
     pub failures: u64,
     ghost moves: { 0 < most },
 }
 
 impl FailurePlan {
+    /// Makes a plan in which no call fails and a call moves any number of bytes.
     pub fn new() -> FailurePlan
         ensures fails_at { result.fails_at ≡ 0 }
         ensures most { result.most ≡ usize.MAX }
@@ -30,7 +31,7 @@ impl FailurePlan {
         }
     }
 
-    /// Begins a call, and fails where it is the one that is to.
+    /// Starts a call. It returns the fault if the plan lets this call fail.
     pub fn begin(&mut self) -> Result<(), DeviceFault>
         ensures fails { IsErr result ↔ (self.old.fails_at ≡ 1) }
         ensures fails_at { self.new.fails_at ≡ self.old.fails_at - 1 }
@@ -45,7 +46,7 @@ impl FailurePlan {
         Ok(())
     }
 
-    /// Counts a failure.
+    /// Counts a failure and returns the fault.
     pub fn fail(&mut self) -> DeviceFault
         ensures fails_at { self.new.fails_at ≡ self.old.fails_at }
         ensures most { self.new.most ≡ self.old.most }

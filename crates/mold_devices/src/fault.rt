@@ -1,4 +1,4 @@
-//! Why a command ends early.
+//! The faults that end a command early.
 
 ghost use Rattle.std.specs.Prelude.{◌≡◌};
 
@@ -6,13 +6,13 @@ use crate::device_fault::DeviceFault;
 use std::alloc::AllocError;
 use thiserror::Error;
 
-/// Why lines can't be read on.
+/// The reason why reading lines stopped.
 #[derive(Clone, Copy, Debug, PartialEq, Eq, Error)]
 pub enum ReadFault {
     /// The source failed.
     #[error("a read failed")]
     Read,
-    /// Memory was refused.
+    /// An allocation failed.
     #[error("out of memory")]
     Memory,
 }
@@ -39,7 +39,7 @@ impl From<DeviceFault> for ReadFault {
     }
 }
 
-/// Why a command ends without a status.
+/// The reason why a command ended without a status.
 #[derive(Clone, Copy, Debug, PartialEq, Eq, Error)]
 pub enum CommandFault {
     /// The input could not be read to its end.
@@ -48,7 +48,7 @@ pub enum CommandFault {
     /// The output could not be written.
     #[error("the output could not be written")]
     Write,
-    /// Memory was refused.
+    /// An allocation failed.
     #[error("out of memory")]
     Memory,
 }
@@ -56,7 +56,7 @@ pub enum CommandFault {
 impl CommandFault {
     ghost use Rattle.mold_devices.specs.Faults.{fault_word};
 
-    /// The word that the program prints behind `fault`.
+    /// Returns the word that the program prints after `fault`.
     pub fn word(self) -> &'static str
         ensures { result.now ≡ fault_word self }
     {

@@ -1,4 +1,4 @@
-//! A reader as a source.
+//! A reader used as a source.
 
 ghost use Rattle.std.specs.Prelude.{◌≡◌, ◌-◌, ◌<◌, ◌≤◌, IsErr, IfOk};
 ghost use Rattle.std.specs.Io.{ReadsAtMost};
@@ -10,8 +10,8 @@ use crate::source::Source;
 use std::io::Read;
 use std::marker::Model;
 
-/// A reader as a source. Every error of the reader is a failure, also an interrupted call, and so
-/// is each call after the first `u64::MAX`.
+/// A source that reads from a reader. Every error of the reader is a failure, including an interrupted call.
+/// Each call after the first `u64::MAX` is a failure too.
 #[derive(Debug, Drop)]
 pub struct FromRead<R> {
     reader: R,
@@ -28,6 +28,7 @@ impl<R> Model for FromRead<R> {
 }
 
 impl<R> FromRead<R> {
+    /// Makes a source that reads from `reader`.
     pub fn new(reader: R) -> FromRead<R>
         ensures reader { result.reader ≡ reader }
         ensures calls_left { result.calls_left ≡ u64.MAX }
@@ -40,7 +41,7 @@ impl<R> FromRead<R> {
         }
     }
 
-    /// Gives the reader back.
+    /// Returns the reader.
     pub fn into_inner(self) -> R
         ensures { result ≡ self.reader }
     {
@@ -66,7 +67,7 @@ impl<R: Read> Source for FromRead<R> {
         ensures kept { self.new.calls_left ≤ self.old.calls_left }
         ensures failures { Counts self.old.failures self.new.failures result }
 
-        // Every call is counted, and one too many does not reach the reader.
+        // Every call is counted, and a call beyond the limit does not reach the reader.
         ensures calls_left { self.new.calls_left ≡ self.old.calls_left - 1 }
         ensures spent { self.old.calls_left ≡ 0 → IsErr result × (self.new.reader ≡ self.old.reader) }
         ensures bound { IfOk result (λ n. 0 < n → self.new.calls_left < self.old.calls_left) }

@@ -1,4 +1,4 @@
-//! A writer as a sink.
+//! A writer used as a sink.
 
 ghost use Rattle.std.specs.Prelude.{◌≡◌, false, true};
 
@@ -7,9 +7,9 @@ use crate::sink::Sink;
 use std::io::Write;
 use std::marker::Model;
 
-/// A writer as a sink. Every error of the writer is a failure, also an interrupted call, and so is
-/// a write of one byte or more that takes none. Nothing is flushed here, also where it is live: standard output
-/// gathers nothing by itself.
+/// A sink that writes to a writer. Every error of the writer is a failure, including an interrupted call. If
+/// a write of one or more bytes writes nothing, it is a failure too. The sink never flushes, even if it is
+/// live: standard output does not buffer.
 #[derive(Debug, Drop)]
 pub struct IntoWrite<W> {
     writer: W,
@@ -26,7 +26,7 @@ impl<W> Model for IntoWrite<W> {
 }
 
 impl<W> IntoWrite<W> {
-    /// A sink to which text is written in large pieces.
+    /// Makes a sink that receives text in large pieces.
     pub fn new(writer: W) -> IntoWrite<W>
         ensures writer { result.writer ≡ writer }
         ensures failures { result.failures ≡ 0 }
@@ -39,7 +39,7 @@ impl<W> IntoWrite<W> {
         }
     }
 
-    /// A sink to which text is written as soon as it is there.
+    /// Makes a live sink, which receives text as soon as it is available.
     pub fn live(writer: W) -> IntoWrite<W>
         ensures writer { result.writer ≡ writer }
         ensures failures { result.failures ≡ 0 }
@@ -50,7 +50,7 @@ impl<W> IntoWrite<W> {
         sink
     }
 
-    /// Gives the writer back, as to flush it.
+    /// Returns the writer, for example to flush it.
     pub fn into_inner(self) -> W
         ensures { result ≡ self.writer }
     {

@@ -1,5 +1,5 @@
-//! What bytes are read from and written to: sources and sinks that count their failures, so that a
-//! fault can be told from an end; lines of a source; and text that goes out in large writes.
+//! Sources and sinks of bytes. They count their failures, so that a fault can be distinguished from the end
+//! of the input. The crate also splits input into lines and writes text in large pieces.
 #![tactic(auto)]
 
 mod device_fault;

@@ -1,4 +1,4 @@
-//! Commands that read the lines of a source and print text into a sink.
+//! Commands that read the lines of a source and write text to a sink.
 
 ghost use Rattle.std.specs.Prelude.{◌≡◌, ◌<◌, length, take, IfOk, IfSome, OnErr};
 ghost use Rattle.std.specs.Io.KnownBytes.{Appends, prepend_known};
@@ -16,12 +16,12 @@ use crate::source::Source;
 use crate::turn::Turn;
 use std::alloc::Global;
 
-/// A command that prints a text for the lines of its input.
+/// A command that writes text for the lines of its input.
 pub trait LineCommand {
-    // What it prints for the input that is left, and the status that it ends with.
+    // The text that it writes for the remaining input, and the status that it ends with.
     ghost prints: { Self → Printing };
 
-    /// Takes a line of the input, or some, and writes what they print behind `out`.
+    /// Runs one turn: reads the next line or lines of the input and appends the text for them to `out`.
     fn turn<S: Source>(
         &mut self,
         lines: &mut Lines,
@@ -37,10 +37,10 @@ pub trait LineCommand {
         ensures failures { CountsRead (S.failed source.old) (S.failed source.new) result };
 }
 
-/// Runs the command over all lines of the source, and answers its status. It holds no more of the
-/// input than one read and what the command keeps, and writes the text in pieces of 65,536 bytes or
-/// more. After a fault of reading or of memory the text of the turns before is still written; where
-/// that fails, `Write` is answered.
+/// Runs the command over all lines of the source and returns its status. Of the input, it holds only the bytes
+/// of one read, the current line and what the command keeps. It writes the text in pieces of at least 65,536
+/// bytes, and the rest at the end. After a fault of reading or of memory, it still writes the text of the
+/// earlier turns. If that write fails, the fault is `Write`.
 pub fn run_lines<C: LineCommand, S: Source, K: Sink>(
     alloc: Global,
     command: &mut C,

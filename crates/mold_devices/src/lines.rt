@@ -1,4 +1,4 @@
-//! Input in lines.
+//! The lines of a source.
 
 ghost use Rattle.std.specs.Prelude.{◌≡◌, ◌<◌, ◌≤◌, ℕ, List, [], length, Bool, true, IfOk, MatchResult, OnErr};
 ghost use Rattle.std.specs.Io.KnownBytes.{Consumes, prepend_known};
@@ -12,14 +12,14 @@ use memchr::memchr;
 use std::alloc::{AllocError, Global};
 use std::marker::Model;
 
-/// How many bytes are read at once, at most.
+/// The greatest number of bytes that one read takes.
 const PIECE: usize = 65536;
 
 /// The byte that ends a line.
 const LINE_END: u8 = b'\n';
 
-/// A reader of lines. A line lies where it was read, and is copied only where it came in pieces or
-/// nothing ends it.
+/// A reader of lines. A line is borrowed from the bytes of one read, without a copy, if that read contains
+/// the whole line. It is copied only if it spans several reads, or if no end of line follows it.
 #[derive(Drop)]
 pub struct Lines {
     piece: Box<Piece<PIECE>>,
@@ -44,6 +44,7 @@ impl Model for Lines {
 }
 
 impl Lines {
+    /// Makes a reader with no line yet. It fails if the allocation of its buffer fails.
     pub fn new(alloc: Global) -> Result<Lines, AllocError>
         ensures { IfOk result (λ lines. lines.rest ≡ []) }
     {
@@ -54,7 +55,7 @@ impl Lines {
         })
     }
 
-    /// The line that `advance` found last, without the byte that ends it.
+    /// Returns the line that `advance` found last, without the byte that ends it.
     pub fn line(&self) -> &[u8]
         ensures { result.now ≡ self.now.line }
     {
@@ -64,9 +65,10 @@ impl Lines {
         }
     }
 
-    /// Goes on to the next line, and answers whether there is one. It reads only where no whole line
-    /// was read before, and takes memory only for a line that comes in pieces or that nothing ends. After a
-    /// fault `line` gives what was joined of the line until then, and what follows that is left.
+    /// Moves to the next line and returns whether there is one. It reads only if the bytes read before
+    /// contain no whole line. It allocates only for a line that spans several reads or has no end of line.
+    /// After a fault, `line` returns the part of the line that was read, and the input after that part is not
+    /// lost.
     pub fn advance<S: Source>(&mut self, source: &mut S) -> Result<bool, ReadFault>
         ensures line { IfOk result (λ found. GivesLine
             (prepend_known self.old.rest (S.left source.old))
@@ -91,8 +93,8 @@ impl Lines {
     }
 }
 
-// Joins the line that begins in the piece and goes on behind it; false where there is no byte left. After a fault
-// what was joined is a beginning of it.
+// Joins the line that starts in the piece and continues in later reads. Returns false if no byte remains.
+// After a fault, the joined bytes are a prefix of the line.
 fn join_line<S: Source>(
     piece: &mut Piece<PIECE>,
     joined: &mut Vec<u8>,

@@ -1,4 +1,4 @@
-//! Memory as a sink.
+//! A sink in memory.
 
 ghost use Rattle.std.specs.Prelude.{◌≡◌, ◌+◌, ◌-◌, ◌<◌, ◌≤◌, ◌⊎◌, ◌++◌, min, take, length, [], Some, IfOk, IsErr};
 ghost use Rattle.std.specs.Prelude.{MatchResult, false};
@@ -10,7 +10,7 @@ use crate::sink::Sink;
 use std::alloc::Global;
 use std::marker::Model;
 
-/// Memory as a sink. It fails only where `fail_at` says, or where it asks for memory and gets none.
+/// A sink that stores its bytes in memory. It fails only if `fail_at` says so or if an allocation fails.
 #[derive(Debug, Drop)]
 pub struct MemorySink {
     held: Vec<u8>,
@@ -33,7 +33,7 @@ impl Model for MemorySink {
 }
 
 impl MemorySink {
-    /// An empty sink, which takes no memory yet.
+    /// Makes an empty sink. It does not allocate.
     pub fn new(alloc: Global) -> MemorySink
         ensures { result ≡ record { held = []; room = 0; fails_at = 0; most = usize.MAX; failures = 0 } }
     {
@@ -43,21 +43,22 @@ impl MemorySink {
         }
     }
 
-    /// What the sink took.
+    /// Returns the bytes that the sink has taken.
     pub fn bytes(&self) -> &[u8]
         ensures { result.now ≡ self.now.held }
     {
         self.held.as_slice()
     }
 
-    /// Lets the `k`-th call of `write` from now on fail, counted from 1, and no other. 0 is none.
+    /// Makes the `k`-th call of `write` from now on fail, counted from 1, and no other call. 0 means that no
+    /// call fails.
     pub fn fail_at(&mut self, k: u64)
         ensures { self.new ≡ record self.old { fails_at = k } }
     {
         self.plan.fails_at = k;
     }
 
-    /// Lets no call take more than `n` bytes.
+    /// Limits each call to `n` bytes.
     pub fn at_most(&mut self, n: usize)
         requires { 0 < n }
         ensures { self.new ≡ record self.old { most = n } }
@@ -76,7 +77,7 @@ impl Sink for MemorySink {
     fn write(&mut self, bytes: &[u8]) -> Result<usize, DeviceFault>
         ensures fails { self.old.fails_at ≡ 1 → IsErr result }
 
-        // Beside the call that is to fail, only a growth is refused.
+        // Besides the call that `fail_at` names, a call fails only if an allocation fails.
         ensures refused { IsErr result → (self.old.fails_at ≡ 1)
             ⊎ (self.old.room < length self.old.held + min (length bytes.now) self.old.most) }
         ensures count { IfOk result (λ n. n ≡ min (length bytes.now) self.old.most) }

@@ -1,4 +1,4 @@
-//! Memory as a source.
+//! A source in memory.
 
 ghost use Rattle.std.specs.Prelude.{◌≡◌, ◌+◌, ◌-◌, ◌<◌, ◌≤◌, ◌↔◌, ◌++◌, min, take, drop, length, Some, IfOk, IsErr};
 ghost use Rattle.std.specs.Prelude.{OnErr};
@@ -11,7 +11,7 @@ use crate::failure_plan::FailurePlan;
 use crate::source::Source;
 use std::marker::Model;
 
-/// Bytes in memory as a source. It fails only where `fail_at` says.
+/// A source that reads bytes from memory. It fails only if `fail_at` says so.
 #[derive(Debug, Drop)]
 pub struct MemorySource<'a> {
     left: &'a [u8],
@@ -32,6 +32,7 @@ impl<'a> Model for MemorySource<'a> {
 }
 
 impl<'a> MemorySource<'a> {
+    /// Makes a source of these bytes. No call fails, and each call may return any number of bytes.
     pub fn new(bytes: &'a [u8]) -> MemorySource<'a>
         ensures { result ≡ record { left = bytes.now; fails_at = 0; most = usize.MAX; failures = 0 } }
     {
@@ -41,14 +42,15 @@ impl<'a> MemorySource<'a> {
         }
     }
 
-    /// Lets the `k`-th call of `read` from now on fail, counted from 1, and no other. 0 is none.
+    /// Makes the `k`-th call of `read` from now on fail, counted from 1, and no other call. 0 means that no
+    /// call fails.
     pub fn fail_at(&mut self, k: u64)
         ensures { self.new ≡ record self.old { fails_at = k } }
     {
         self.plan.fails_at = k;
     }
 
-    /// Lets no call give more than `n` bytes.
+    /// Limits each call to `n` bytes.
     pub fn at_most(&mut self, n: usize)
         requires { 0 < n }
         ensures { self.new ≡ record self.old { most = n } }
@@ -65,14 +67,14 @@ impl<'a> Source for MemorySource<'a> {
     ghost failed = { λ s. s.failures };
 
     fn read(&mut self, place: &mut [u8]) -> Result<usize, DeviceFault>
-        // What a source does.
+        // The contract of every source.
         ensures count { ReadsAtMost result place.new }
         ensures bytes { ReadConsumes (Some self.old.left) (Some self.new.left) result place.new }
         ensures bound { IfOk result (λ n. 0 < n → length self.new.left < length self.old.left) }
         ensures kept { length self.new.left ≤ length self.old.left }
         ensures failures { Counts self.old.failures self.new.failures result }
 
-        // Just what this one does.
+        // What this source does in addition.
         ensures fails { IsErr result ↔ (self.old.fails_at ≡ 1) }
         ensures moved { IfOk result (λ n. n ≡ min (length self.old.left) (min (length place.old) self.old.most)) }
         ensures left { IfOk result (λ n. self.new.left ≡ drop n self.old.left) }

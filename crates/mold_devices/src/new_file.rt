@@ -1,4 +1,4 @@
-//! A file that is made when something is written to it.
+//! A file that the first write creates.
 
 ghost use Rattle.std.specs.Prelude.{take, IfOk};
 ghost use Rattle.std.specs.Io.KnownBytes.{Appends, WriteAppends};
@@ -8,9 +8,9 @@ ghost use Rattle.mold_devices.specs.Devices.{held_by};
 use std::fs::{self, Files};
 use std::io::{self, Write};
 
-/// A writer over the file of a path, which its first write makes, or empties where it is there. So a file
-/// stays as it was where nothing is written. It holds what its file holds, where that tells its bytes, as a file of
-/// the system doesn't.
+/// A writer to the file at a path. Its first write creates the file, or empties it if it exists. So a file
+/// does not change if nothing is written. The contents of this writer are known to contracts only if the file
+/// exposes its bytes. A file of the operating system does not expose them.
 #[derive(Drop)]
 pub struct NewFile<'a, R: Files> {
     files: &'a R,
@@ -19,7 +19,7 @@ pub struct NewFile<'a, R: Files> {
 }
 
 impl<'a, R: Files> NewFile<'a, R> {
-    /// Names the file, and makes none.
+    /// Names the file. It does not create or open it.
     pub fn new(files: &'a R, path: &'a str) -> NewFile<'a, R> {
         NewFile {
             files,
@@ -37,7 +37,7 @@ impl<R: Files> Write for NewFile<'_, R> {
         ensures bytes { WriteAppends (held_by R.File.contents self.old.file)
             (held_by R.File.contents self.new.file) result bytes.now }
 
-        // The first write too stands in the file that it made.
+        // The first write, too, goes into the file that it creates.
         ensures kept { IfOk result (λ count. (made : R.File) × Appends (R.File.contents made)
             (held_by R.File.contents self.new.file) (take count bytes.now)) }
     {

@@ -1,4 +1,4 @@
-//! Output in large writes.
+//! Text output in large writes.
 
 ghost use Rattle.std.specs.Prelude.{◌≡◌, [], OnErr, OnOk, IfErr};
 ghost use Rattle.std.specs.Io.KnownBytes.{Appends};
@@ -7,10 +7,11 @@ ghost use Rattle.mold_devices.specs.Devices.{AppendsPrefix, Counts};
 use crate::fault::CommandFault;
 use crate::sink::{Sink, write_all};
 
-/// From how many bytes on text is written.
+/// The length in bytes from which buffered text is written to the sink.
 pub const LARGE: usize = 65536;
 
-/// Writes the text and empties it. After a fault a front of it is written, and it stands as it was.
+/// Writes the text to the sink and empties it. After a fault, a prefix of the text is written and `text` is
+/// unchanged.
 pub fn send<K: Sink>(sink: &mut K, text: &mut Vec<u8>) -> Result<(), CommandFault>
     ensures whole { OnOk result (Appends (K.held sink.old) (K.held sink.new) text.old.items) }
     ensures empty { OnOk result (text.new.items ≡ []) }

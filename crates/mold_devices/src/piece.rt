@@ -1,4 +1,4 @@
-//! What was read from a source at once.
+//! The bytes of one read from a source.
 
 ghost use Rattle.std.specs.Prelude.{◌≡◌, ◌<◌, ◌≤◌, [], drop, length, IfOk, OnErr};
 ghost use Rattle.std.specs.Io.KnownBytes.{Consumes, IsAtEnd, Keeps};
@@ -8,7 +8,8 @@ use crate::device_fault::DeviceFault;
 use crate::source::Source;
 use std::marker::Model;
 
-/// The bytes of one read, at most `N` of them, and which are not used yet. It takes no memory.
+/// A buffer for the bytes of one read, at most `N`, which tracks the bytes that are not used yet. It does not
+/// allocate.
 #[derive(Drop)]
 pub struct Piece<const N: usize> {
     bytes: [u8; N],
@@ -27,7 +28,7 @@ impl<const N: usize> Model for Piece<N> {
 }
 
 impl<const N: usize> Piece<N> {
-    /// No bytes yet.
+    /// Makes an empty piece.
     pub fn new() -> Piece<N>
         requires { 0 < N }
         ensures { result ≡ [] }
@@ -39,7 +40,7 @@ impl<const N: usize> Piece<N> {
         }
     }
 
-    /// The bytes that are not used yet.
+    /// Returns the bytes that are not used yet.
     pub fn rest(&self) -> &[u8]
         ensures value { result.now ≡ self.now }
         ensures bound { length self.now ≤ N }
@@ -48,7 +49,7 @@ impl<const N: usize> Piece<N> {
         &bytes[self.start..self.end]
     }
 
-    /// Counts `n` more bytes as used.
+    /// Marks `n` more bytes as used.
     pub fn skip(&mut self, n: usize)
         requires { n ≤ length self.old }
         ensures { self.new ≡ drop n self.old }
@@ -56,8 +57,9 @@ impl<const N: usize> Piece<N> {
         self.start += n;
     }
 
-    /// Reads once, over what was not used, and answers how many bytes came: 0 is the end. After a fault it has
-    /// none, and the source has lost none.
+    /// Reads once into the piece, discards the bytes that were not used, and returns the number of bytes
+    /// read. 0 means the end of the source. After a fault, the piece is empty, and the source has lost no
+    /// bytes.
     pub fn refill<S: Source>(&mut self, source: &mut S) -> Result<usize, DeviceFault>
         ensures len { IfOk result (λ n. length self.new ≡ n) }
         ensures most { IfOk result (λ n. n ≤ N) }

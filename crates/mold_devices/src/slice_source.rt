@@ -1,4 +1,4 @@
-//! Lent bytes as a source.
+//! A source that reads a slice.
 
 ghost use Rattle.std.specs.Prelude.{◌≡◌, ◌<◌, ◌≤◌, ◌++◌, min, take, drop, length, Some, Ok, IfOk};
 ghost use Rattle.std.specs.Io.{ReadsAtMost};
@@ -9,7 +9,7 @@ use crate::device_fault::DeviceFault;
 use crate::source::Source;
 use std::marker::Model;
 
-/// Lent bytes as a source that never fails: what is read from it can't end with a failed read.
+/// A source that reads from a slice and never fails.
 #[derive(Debug, Drop)]
 pub struct SliceSource<'a> {
     left: &'a [u8],
@@ -24,6 +24,7 @@ impl<'a> Model for SliceSource<'a> {
 }
 
 impl<'a> SliceSource<'a> {
+    /// Makes a source of these bytes.
     pub fn new(bytes: &'a [u8]) -> SliceSource<'a>
         ensures { result ≡ bytes.now }
     {
@@ -39,14 +40,14 @@ impl<'a> Source for SliceSource<'a> {
     ghost failed = { λ _. 0 };
 
     fn read(&mut self, place: &mut [u8]) -> Result<usize, DeviceFault>
-        // What a source does.
+        // The contract of every source.
         ensures count { ReadsAtMost result place.new }
         ensures bytes { ReadConsumes (Some self.old) (Some self.new) result place.new }
         ensures bound { IfOk result (λ n. 0 < n → length self.new < length self.old) }
         ensures kept { length self.new ≤ length self.old }
         ensures failures { Counts 0 0 result }
 
-        // Just what this one does.
+        // What this source does in addition.
         ensures moved { result ≡ Ok (min (length self.old) (length place.old)) }
         ensures left { self.new ≡ drop (length place.old) self.old }
         ensures place { IfOk result (λ n. place.new ≡ take n self.old ++ drop n place.old) }

@@ -1,4 +1,4 @@
-//! What bytes are read from.
+//! The trait of sources, from which bytes are read.
 
 ghost use Rattle.std.specs.Prelude.{◌≡◌, ◌<◌, ◌≤◌, ℕ, List, Option, IfOk};
 ghost use Rattle.std.specs.Io.{ReadsAtMost};
@@ -7,20 +7,20 @@ ghost use Rattle.mold_devices.specs.Devices.{Counts};
 
 use crate::device_fault::DeviceFault;
 
-/// What bytes are read from.
+/// A source of bytes.
 pub trait Source {
-    // The bytes left, where the source tells them.
+    // The remaining bytes, if the source exposes them.
     ghost left: { Self → Option (List ℕ) };
 
-    // Each read of more than 0 bytes lowers it, and none raises it, so it ends every loop that reads to
-    // the end.
+    // The bound decreases with each read of more than 0 bytes and never increases. So every loop that reads
+    // to the end terminates.
     ghost bound: { Self → ℕ };
 
-    // How often the source failed. The count stands at `u64::MAX` once it is there.
+    // The number of failures. It stays at `u64::MAX` once it is there.
     ghost failed: { Self → ℕ };
 
-    /// Reads into the front of `place`, and answers how many bytes it gave. In a place that is not
-    /// empty, 0 is the end. After a fault the contents of `place` are open.
+    /// Reads bytes into the start of `place` and returns how many. If `place` is not empty, 0 means the end
+    /// of the source. After a fault, the contents of `place` are unspecified.
     fn read(&mut self, place: &mut [u8]) -> Result<usize, DeviceFault>
         ensures count { ReadsAtMost result place.new }
         ensures bytes { ReadConsumes (left self.old) (left self.new) result place.new }
@@ -28,7 +28,7 @@ pub trait Source {
         ensures kept { bound self.new ≤ bound self.old }
         ensures failures { Counts (failed self.old) (failed self.new) result };
 
-    /// How often the source failed, up to `u64::MAX`.
+    /// Returns the number of failures. It stays at `u64::MAX` once it is there.
     fn failures(&self) -> u64
         ensures { result ≡ failed self.now };
 }

@@ -1,10 +1,10 @@
-//! How a turn of a command ends.
+//! The result of one turn of a command.
 
-/// What follows a turn of a command.
+/// What follows one turn of a command.
 #[derive(Clone, Copy, Debug, PartialEq, Eq)]
 pub enum Turn {
-    /// More may follow.
+    /// The command goes on: another turn follows.
     More,
-    /// The command has said all, and ends with this status.
+    /// The command has written everything and ends with this status.
     Done { status: u8 },
 }

@@ -4,7 +4,7 @@ use Rattle.mold_devices.specs.Lines.{work_left}
 use Rattle.mold_devices.proofs.TurnLemmas.{Moment, Told}
 use Rattle.mold_devices.proofs.line_command.run_lines.Given as goal
 
--- the turns so far are told, and no device failed
+-- The text of the turns so far is accounted for, and no device failed.
 abbrev pub invariant-turns : goal.invariant-turns
 invariant-turns g l =
     let start : Moment = record {

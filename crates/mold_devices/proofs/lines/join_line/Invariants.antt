@@ -3,7 +3,7 @@ use Rattle.std.specs.Io.KnownBytes.{Consumes, prepend_known}
 use Rattle.mold_devices.specs.Lines.{HasNoEnd, work_left}
 use Rattle.mold_devices.proofs.lines.join_line.Given as goal
 
--- what was read and not yet given is what was joined, and no line ends in it
+-- The bytes that were read and not delivered are the joined bytes, and no line ends in them.
 abbrev pub invariant-pieces : goal.invariant-pieces
 invariant-pieces g l = record {
   read : Consumes (prepend_known l.fn.piece (g.S.Source.left l.fn.source)) (g.S.Source.left l.source) l.joined.items;

@@ -5,14 +5,14 @@ use Rattle.std.proofs.lemmas.List.{take_rest}
 use Rattle.std.proofs.KnownBytes.{Appends-trans}
 use Rattle.mold_devices.proofs.sink.write_all.Goals as goal
 
--- a front of the rest that joins what is done leaves the rest behind it
+-- A prefix of the rest moves to the bytes that are done.
 moved : (all done rest : List ℕ) (n : ℕ) → all ≡ done ++ rest →
     all ≡ (done ++ take n rest) ++ take (length rest - n) (drop n rest)
 moved all done rest n e =
     e ∙ ap (λ l. done ++ l) (sym (take-append-drop n rest) ∙ ap (λ l. take n rest ++ l) (sym (take_rest rest n)))
     ∙ sym (append_assoc done (take n rest) (take (length rest - n) (drop n rest)))
 
--- where something is left, there was something
+-- If the rest is not empty, neither are all the bytes.
 some : (all done rest : List ℕ) → all ≡ done ++ rest → 0 < length rest → 0 < length all
 some all done rest e h = omega (arith, ap length e, length-append done rest)
 

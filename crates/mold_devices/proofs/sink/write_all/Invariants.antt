@@ -2,7 +2,7 @@ use Rattle.std.proofs.Common.{◌≡◌, ℕ, List, ◌++◌, length}
 use Rattle.std.specs.Io.KnownBytes.{Appends}
 use Rattle.mold_devices.proofs.sink.write_all.Given as goal
 
--- what was taken so far stands in front of the rest, and no call failed
+-- The bytes taken so far come before the rest, and no call failed.
 abbrev pub invariant-loop-rest : goal.invariant-loop-rest
 invariant-loop-rest g l = record {
   done : List ℕ;

@@ -8,7 +8,7 @@ use Rattle.mold_devices.proofs.lines.Lines.advance.Goals as goal
 use Rattle.mold_devices.proofs.lines.Lines.advance.Given.{Over}
 use Rattle.mold_devices.proofs.lines.Lines.advance.Goals.{After-clear, in-Some, in_default}
 
--- what is left of the piece behind the line before is what was left
+-- The bytes of the piece after the previous line are the remaining bytes.
 rest_is : (g : Over) → (c : After-clear g) → c.args.self.now.rest ≡ c.match-self.self-inside.piece.value
 rest_is g c =
     let shown : c.args.self.now.rest ≡ rest_in c.self.inside.inside c.self.inside.piece.value =
