@@ -12,7 +12,7 @@ use Rattle.mold_digits.specs.Lanes.{any_large, evens, odds, pair_byte, reading}
 use Rattle.mold_digits.proofs.JoiningLemmas.{chunk-append, chunk_read, chunk_refused}
 use Rattle.mold_digits.proofs.ReadingLemmas.{bad_readings, good_readings}
 
--- the readings of a block at even and at odd places
+-- The readings of a block at even and at odd indices.
 pub record IsBlockRead (c evens_of odds_of : List ℕ) : Type 0 where
   pub high : evens_of ≡ evens (map reading c)
   pub low : odds_of ≡ odds (map reading c)
@@ -41,7 +41,7 @@ pub block_bad : (i : ℕ) (c high low : List ℕ) → IsBlockRead c high low →
 block_bad i c high low read test =
     bad_readings i c read.bytes read.even (rw (read.high, read.low) at test)
 
--- what a block answered
+-- The result of a block.
 pub read_from_match : (r : Result (List ℕ) FromHexError) (P : List ℕ → Type 0) (answer : Bool)
     → MatchResult r (λ bytes. (answer ≡ true) × P bytes) (λ _. answer ≡ false) → answer ≡ true
     → (bytes : List ℕ) × (r ≡ Ok bytes) × P bytes
@@ -53,14 +53,14 @@ pub refused_from_match : (r : Result (List ℕ) FromHexError) (P : List ℕ → 
 refused_from_match (Ok bytes) P answer match denied = cc (sym match.0 ∙ denied)
 refused_from_match (Err e) P answer match denied = refl
 
--- what a block of digits answers, where `out` becomes `more`
+-- The result of a block of digits that changes `out` into `more`.
 abbrev BlockAnswers : ℕ → List ℕ → List ℕ → List ℕ → Bool → Type 0
 BlockAnswers at s out more answer =
     MatchResult (decode_pairs (2 * at) (chunk (2 * at) 32 s))
     (λ bytes. (answer ≡ true) × (take (at + 16) more ≡ take at out ++ bytes))
     (λ _. answer ≡ false)
 
--- one block more
+-- One more block.
 pub blocks_more : (s out more : List ℕ) (at : ℕ) (answer : Bool) → 2 * at + 32 ≤ length s → IsDecodedTo at s out
     → BlockAnswers at s out more answer → answer ≡ true → IsDecodedTo (at + 16) s more
 blocks_more s out more at answer fits before match accepted =

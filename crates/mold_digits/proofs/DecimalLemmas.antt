@@ -3,7 +3,7 @@ use Rattle.std.proofs.Common.{◌≡◌, ◌∙◌, ℕ, ◌+◌, ◌/◌, ◌%�
 use Rattle.std.proofs.lemmas.Fmt.{decimal_digit, decimal_step}
 use Rattle.mold_digits.specs.Decimals.{last_four}
 
--- the last two digits behind those before them
+-- The last two digits follow the digits before them.
 two_behind : (n : ℕ) → 100 ≤ n → n < 2 ^ 64 → decimal n ≡ decimal (n / 100) ++ (48 + n / 10 % 10) ∷ (48 + n % 10) ∷ []
 two_behind n high small =
     decimal_step n (omega arith) small
@@ -11,7 +11,7 @@ two_behind n high small =
     ∙ append_assoc (decimal (n / 10 / 10)) ((48 + n / 10 % 10) ∷ []) ((48 + n % 10) ∷ [])
     ∙ ap (λ (k : ℕ). decimal k ++ (48 + n / 10 % 10) ∷ (48 + n % 10) ∷ []) (omega arith)
 
--- the last four
+-- The last four digits follow the digits before them.
 four_behind : (n : ℕ) → 10000 ≤ n → n < 2 ^ 64 → decimal n ≡ decimal (n / 10000) ++ last_four n
 four_behind n high small =
     let hundreds : n / 100 / 10 ≡ n / 1000 = omega arith in
@@ -46,7 +46,7 @@ four_digits n high small =
     (two_digits (n / 100) (omega arith) (omega arith)
     ∙ ap (λ (k : ℕ). (48 + k) ∷ (48 + n / 100 % 10) ∷ []) thousands)
 
--- digits in front of the last four
+-- The digits before the last four.
 pub behind_digits : (n : ℕ) (front : List ℕ) → 10000 ≤ n → n < 100000000 → decimal (n / 10000) ≡ front →
     decimal n ≡ front ++ last_four n
 behind_digits n front high small is =

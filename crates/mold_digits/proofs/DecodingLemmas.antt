@@ -16,7 +16,7 @@ use Rattle.hex.specs.declared.error.FromHexError.TheVariants.{InvalidHexCharacte
 use Rattle.mold_digits.specs.Digits.{IsDecodedTo, value_of}
 use Rattle.mold_digits.proofs.JoiningLemmas.{chunk_read, chunk_refused}
 
--- a value below 16 is that of a digit
+-- A value below 16 is the value of a digit.
 digit_good : (c i v : ℕ) (o : Option ℕ) → v ≡ unwrap_or o 255 → v < 16 → digit_or_error c i o ≡ Ok v
 digit_good c i v (Some w) same small = ap Ok (sym same)
 digit_good c i v None same small = absurd (omega arith)
@@ -55,7 +55,7 @@ pair_bad a b i high low first second large =
           ]
     ]
 
--- a pair at the front, alone
+-- A single pair.
 pair_read : (a b i v : ℕ) → pair_value a b i ≡ Ok v → decode_pairs i (a ∷ b ∷ []) ≡ Ok (v ∷ [])
 unfolding decode_pairs
 pair_read a b i v good = rw good refl
@@ -66,7 +66,7 @@ pair_chunk s i fits =
     let b = drop_more s (i + 1) 0 (omega arith) in
     rw (a, b) refl
 
--- The loop's invariant: `seen` has every bit of the values that were seen.
+-- The loop's invariant: `seen` has every bit of the values so far.
 pub record IsReadTo (s out : List ℕ) (i seen : ℕ) : Type 0 where
   pub good : seen < 16 → IsDecodedTo i s out
   pub bad : 16 ≤ seen → is_err (decode_pairs 0 s) ≡ true
@@ -96,7 +96,7 @@ more_bad s out i high low fits first second large front =
     (ap (decode_pairs (2 * i)) (pair_chunk s (2 * i) fits) ∙ decode_pairs-err_pair (2 * i) _ _ pair.0 [] pair.1) in
     chunk_refused s (take i out) (2 * i) 2 (omega arith) refl (omega arith) front refused
 
--- one pair more
+-- One more pair.
 pub read_more : (s out : List ℕ) (i seen high low : ℕ) → 2 * i + 1 < length s → i < length out
     → high ≡ value_of (slice_index s (2 * i)) → low ≡ value_of (slice_index s (2 * i + 1)) → IsReadTo s out i seen
     → IsReadTo s (slice_set out i ((high * 16 % 256 + low) % 256)) (i + 1) (bit_or seen (bit_or high low))
@@ -127,7 +127,7 @@ pub match_err : (r : Result (List ℕ) FromHexError) (P : List ℕ → Type 0) (
 match_err (Ok bytes) P Q refused q = cc refused
 match_err (Err e) P Q refused q = q
 
--- every pair was read
+-- Every pair was decoded.
 pub read_all : (s out : List ℕ) (i seen : ℕ) → length s ≡ 2 * length out → length out ≤ i → IsReadTo s out i seen
     → MatchResult (decode_of s) (λ bytes. (ltb seen 16 ≡ true) × (out ≡ bytes)) (λ _. ltb seen 16 ≡ false)
 read_all s out i seen sized all read =

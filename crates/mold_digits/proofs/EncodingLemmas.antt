@@ -1,4 +1,4 @@
--- Digits written a vector at a time.
+-- Digits that are written one vector at a time.
 use Rattle.std.proofs.Common.{◌≡◌, ℕ, zero, suc, ◌+◌, ◌*◌, ◌/◌, ◌%◌, ◌<◌, ◌≤◌, List, [], ◌∷◌, ◌++◌, length, map, take}
 use Rattle.std.proofs.Common.{slice_index, bit_and, refl, sym, ap, ◌∙◌, append_assoc, arith}
 use Rattle.std.proofs.lemmas.List.{length-map, take-take, take_all}
@@ -11,13 +11,13 @@ use Rattle.mold_digits.specs.Lanes.{digit_of, woven}
 use Rattle.mold_digits.proofs.JoiningLemmas.{chunk-append, take-chunk}
 use Rattle.mold_digits.proofs.TableLemmas.{agree_at, agree_below}
 
--- a byte has two digits
+-- A byte has two digits.
 pub length_digits : (bytes : List ℕ) → length (encode_lower bytes) ≡ 2 * length bytes
 unfolding encode_with
 length_digits [] = refl
 length_digits (byte ∷ bytes) = omega (arith, length_digits bytes)
 
--- ---- one block
+-- ---- One block.
 
 digit_is : (v : ℕ) → v < 16 → digit_of v ≡ slice_index lower_digits v
 unfolding agree_below digit_of
@@ -46,7 +46,7 @@ length-woven [] (l ∷ x) same = absurd (omega arith)
 length-woven (h ∷ a) [] same = absurd (omega arith)
 length-woven (h ∷ a) (l ∷ x) same = let more = length-woven a x (omega arith) in omega (arith, more)
 
--- both halves of sixteen lanes
+-- Both halves of sixteen lanes.
 halves : (lanes : List ℕ) → length lanes ≡ 16 → chunk 0 8 lanes ++ chunk 8 8 lanes ≡ lanes
 halves lanes len = chunk-append 0 8 8 lanes ∙ take_all 16 lanes (omega (arith, len))
 
@@ -100,7 +100,7 @@ block_written d out high low front back at fits room bytes h l f b =
     ∙ append_assoc (take (2 * at) out) front back
     ∙ ap (λ (t : List ℕ). take (2 * at) out ++ t) (both ∙ digits)
 
--- ---- the loop
+-- ---- The loop.
 
 encode_with-append : (t a b : List ℕ) → encode_with t (a ++ b) ≡ encode_with t a ++ encode_with t b
 unfolding encode_with
@@ -117,7 +117,7 @@ take-encode_with t (suc n) (x ∷ bytes) =
     let two : 2 * suc n ≡ suc (suc (2 * n)) = omega arith in
     rw two (ap (λ (r : List ℕ). slice_index t (x / 16) ∷ slice_index t (x % 16) ∷ r) (take-encode_with t n bytes))
 
--- one block more
+-- One more block.
 pub encoded_more : (d out more : List ℕ) (at : ℕ) → at + 16 ≤ length d → IsEncodedTo at d out
     → take (2 * at + 32) more ≡ take (2 * at) out ++ encode_lower (chunk at 16 d) → IsEncodedTo (at + 16) d more
 encoded_more d out more at fits before written =
@@ -129,7 +129,7 @@ encoded_more d out more at fits before written =
     ∙ sym (encode_with-append lower_digits (take at d) (chunk at 16 d))
     ∙ ap encode_lower (sym whole)
 
--- what is written so far has the digits of fewer bytes at its front
+-- The digits of fewer bytes are a prefix of the digits written so far.
 pub encoded_front : (d out : List ℕ) (less at : ℕ) → less ≤ at → IsEncodedTo at d out → IsEncodedTo less d out
 encoded_front d out less at below written =
     sym (take-take (2 * less) (2 * at) out (omega arith))

@@ -1,4 +1,4 @@
--- Digits that are read in two parts, one behind the other.
+-- Digits that are decoded in two parts.
 use Rattle.std.proofs.Common.{add-zero, ◌≡◌, ℕ, suc, ◌+◌, ◌%◌, ◌≤◌, true, List, [], ◌∷◌, ◌++◌, length, take, drop}
 use Rattle.std.proofs.Common.{Result, Ok, Err, is_err, refl, sym, ap, ◌∙◌, arith}
 use Rattle.std.proofs.lemmas.List.{drop-drop, drop-take, length-take-le, take-append-drop, take-take}
@@ -8,7 +8,7 @@ use Rattle.hex.proofs.Pairs.{cons_byte}
 use Rattle.hex.specs.Hex.{decode_pairs, pair_value, ◌>>=◌}
 use Rattle.hex.specs.declared.error.FromHexError.{FromHexError}
 
--- the bytes of two parts
+-- The bytes of two parts.
 abbrev pub joined : Result (List ℕ) FromHexError → Result (List ℕ) FromHexError → Result (List ℕ) FromHexError
 joined (Ok front) (Ok back) = Ok (front ++ back)
 joined (Ok front) (Err e) = Err e
@@ -29,7 +29,7 @@ bind-joined : (pair : Result ℕ FromHexError) (front back : Result (List ℕ) F
 bind-joined (Ok v) front back = joined-cons_byte v front back
 bind-joined (Err e) front back = refl
 
--- what follows whole pairs is read on its own
+-- Digits after whole pairs are decoded independently.
 pub decode_pairs-append : (i : ℕ) (a b : List ℕ) → length a % 2 ≡ 0
     → decode_pairs i (a ++ b) ≡ joined (decode_pairs i a) (decode_pairs (i + length a) b)
 unfolding decode_pairs
@@ -46,11 +46,11 @@ take-chunk i n s =
     let front = take-take i (i + n) s (omega arith) in
     sym (take-append-drop i (take (i + n) s)) ∙ rw (front, drop-take i n s) refl
 
--- two chunks in a row
+-- Two consecutive chunks.
 pub chunk-append : (i m n : ℕ) (s : List ℕ) → chunk i m s ++ chunk (i + m) n s ≡ chunk i (m + n) s
 chunk-append i m n s = rw (← drop-drop m i s) (sym (take-chunk m n (drop i s)))
 
--- one part more is read
+-- One more part is decoded.
 pub chunk_read : (s front bytes : List ℕ) (i n : ℕ) → i % 2 ≡ 0 → i + n ≤ length s
     → decode_pairs 0 (take i s) ≡ Ok front → decode_pairs i (chunk i n s) ≡ Ok bytes
     → decode_pairs 0 (take (i + n) s) ≡ Ok (front ++ bytes)
@@ -66,7 +66,7 @@ joined-refused : (front : List ℕ) (bad back : Result (List ℕ) FromHexError) 
 joined-refused front (Ok bytes) back refused = cc refused
 joined-refused front (Err e) back refused = refl
 
--- one part that is refused refuses the whole
+-- If one part is refused, so is the whole.
 pub chunk_refused : (s front : List ℕ) (i n : ℕ) → i % 2 ≡ 0 → n % 2 ≡ 0 → i + n ≤ length s
     → decode_pairs 0 (take i s) ≡ Ok front → is_err (decode_pairs i (chunk i n s)) ≡ true
     → is_err (decode_pairs 0 s) ≡ true

@@ -1,4 +1,4 @@
--- What selects and shuffles leave, lane by lane.
+-- The results of selects and shuffles, lane by lane.
 use Rattle.std.proofs.Common.{◌≡◌, ℕ, zero, suc, ◌+◌, ◌*◌, ◌-◌, ◌%◌, ◌^◌, ◌<◌, ◌≤◌, Bool, true, false, not, cond}
 use Rattle.std.proofs.Common.{◌/◌, bit_and, nat_eq, ◌||◌, inl, inr, List, [], ◌∷◌, ◌++◌, length, map, replicate, get_or, bit_or, refl}
 use Rattle.std.proofs.Common.{sym, ap, ◌∙◌, arith}
@@ -13,11 +13,11 @@ use mir.Syntax.{w8}
 use Rattle.mold_digits.specs.Lanes.{any_large, digit_of, evens, larger_of, odds, pair_byte, smaller_of, woven}
 use Rattle.mold_digits.proofs.TableLemmas.{agree_at, agree_below}
 
--- the mask of a comparison
+-- The mask of a comparison.
 abbrev mask_of : List ℕ → List ℕ → List Bool
 mask_of xs ys = map (top 7) (zip2 (λ a b. cond (ltb a b) 255 0) xs ys)
 
--- ---- select
+-- ---- Select.
 
 sel_l-smaller : (t : ℕ → ℕ → Bool) (xs ys : List ℕ) → sel_l (zip2 t xs ys) xs ys ≡ zip2 (λ a b. cond (t a b) a b) xs ys
 sel_l-smaller t [] ys = refl
@@ -43,7 +43,7 @@ raised_lanes xs floor len =
     ∙ sel_l-larger ltb xs (replicate 16 floor)
     ∙ zip2_splat larger_of xs 16 floor len
 
--- ---- shuffles
+-- ---- Shuffles.
 
 abbrev even_places : ℕ → List ℕ
 even_places zero = []
@@ -90,7 +90,7 @@ picked_woven at (suc n) high low h l fits =
     let low_more = chunk_more at n low (omega arith) in
     rw (first, second, place, rest, high_more, low_more) refl
 
--- ---- the test of two vectors, and the bytes of pairs
+-- ---- The test of two vectors, and the bytes of pairs.
 
 lowest_bit : (b : Bool) (m : ℕ) → not (nat_eq (cond b 1 0 + 2 * m) 0) ≡ (b || not (nat_eq m 0))
 lowest_bit true m = ap not (ne_eqb (1 + 2 * m) 0 (omega arith))
@@ -130,7 +130,7 @@ paired_lanes high low h =
     ap (λ (t : List ℕ). zip2 (λ a b. (a + b) % 256) t low) (zip2_splat (λ (a : ℕ) (b : ℕ). a * b % 256) high 16 16 h)
     ∙ zip2-map_left (λ a b. (a + b) % 256) (λ a. a * 16 % 256) high low
 
--- ---- digits in a table
+-- ---- Digits in a table.
 
 abbrev pub digit_table : List ℕ
 digit_table = 48 ∷ 49 ∷ 50 ∷ 51 ∷ 52 ∷ 53 ∷ 54 ∷ 55 ∷ 56 ∷ 57 ∷ 97 ∷ 98 ∷ 99 ∷ 100 ∷ 101 ∷ 102 ∷ []

@@ -1,4 +1,4 @@
--- The number that some digits spell, digit by digit.
+-- The number that digits encode, digit by digit.
 use Rattle.std.proofs.Common.{◌≡◌, ℕ, zero, suc, ◌+◌, ◌-◌, ◌*◌, ◌^◌, ◌<◌, ◌≤◌, Bool, true, false, cond, List, [], ◌∷◌}
 use Rattle.std.proofs.Common.{length, take, get_or, refl, sym, ap, ◌∙◌, arith, inl, inr, Option, None, Some, take-suc}
 use Rattle.std.proofs.Common.{add-one}
@@ -15,7 +15,7 @@ use Rattle.std.proofs.lemmas.List.Folds.{list_all-append}
 use Rattle.std.proofs.lemmas.Int.Digits.{digits_value_more}
 use Rattle.mold_digits.specs.Numbers.{is_sized, decimal_of}
 
--- what a word spells, by what is found of it
+-- What a word encodes, by three tests of it.
 abbrev spelled_by : List ℕ → Bool → Bool → Bool → Option ℕ
 spelled_by word sized digits small = cond {A = Option ℕ} ((sized && digits) && small) (Some (digits_value 10 word)) None
 
@@ -32,7 +32,7 @@ no_digits : (word : List ℕ) (sized small : Bool) → spelled_by word sized fal
 no_digits word true small = refl
 no_digits word false small = refl
 
--- a word of another length spells no number
+-- A word of another length encodes no number.
 pub no_size : (word : List ℕ) → is_sized word ≡ false → None ≡ decimal_of word
 no_size word e =
     let digits = list_all is_ascii_digit word in
@@ -46,7 +46,7 @@ some_bad (d ∷ ds) zero lt e = ap (λ (b : Bool). b && list_all is_ascii_digit 
 some_bad (d ∷ ds) (suc i) lt e =
     ap (λ (b : Bool). is_ascii_digit d && b) (some_bad ds i (omega arith) e) ∙ and-false (is_ascii_digit d)
 
--- nor does one with a byte that is no digit
+-- A word with a byte that is not a digit encodes no number.
 pub no_digit : (word : List ℕ) (i : ℕ) → i < length word → is_ascii_digit (get_or word i 0) ≡ false →
     None ≡ decimal_of word
 no_digit word i lt e =
@@ -56,7 +56,7 @@ no_digit word i lt e =
     ∙ ap (λ (b : Bool). spelled_by word (is_sized word) b small) (some_bad word i lt e)
     ∙ no_digits word (is_sized word) small)
 
--- the number of digits so far
+-- The number of the digits so far.
 pub record IsNumberSoFar (word : List ℕ) (i number : ℕ) : Type 0 where
   pub value : number ≡ digits_value 10 (take i word)
   pub less : number < 10 ^ i
@@ -75,7 +75,7 @@ all_more word i lt before is =
     ∙ ap (λ (b : Bool). b && (is_ascii_digit (get_or word i 0) && true)) before
     ∙ ap (λ (b : Bool). b && true) is
 
--- one digit more
+-- One more digit.
 pub digit_more : (word : List ℕ) (i number value : ℕ) → i < length word → IsNumberSoFar word i number →
     IsAsciiDigit (get_or word i 0) → is_ascii_digit (get_or word i 0) ≡ true → value ≡ get_or word i 0 - 48 →
     IsNumberSoFar word (i + 1) (number * 10 + value)
@@ -98,7 +98,7 @@ small_is n (Err e) not = elim (cases_lt n 18446744073709551616) [
       sym (ap (λ (b : Bool). cond {A = Option ℕ} b (Some n) None) (lt-leb n 18446744073709551615 (omega (arith, large))))
 ]
 
--- the number of all digits
+-- The number of all digits.
 pub digits_done : (word : List ℕ) (i number : ℕ) {E : Type 0} (result : Result ℕ E) → is_sized word ≡ true → length word ≤ i →
     IsNumberSoFar word i number → OkIff result (number < 18446744073709551616) number →
     result_ok result ≡ decimal_of word

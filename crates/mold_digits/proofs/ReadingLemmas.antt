@@ -1,4 +1,4 @@
--- What the lanes read of a digit, and of pairs of digits.
+-- What the lanes compute for a digit and for pairs of digits.
 use Rattle.std.proofs.Common.{◌≡◌, ℕ, ◌+◌, ◌*◌, ◌%◌, ◌<◌, ◌≤◌, true, false, inl, inr, if◌then◌else◌, nat_lt, List, []}
 use Rattle.std.proofs.Common.{◌∷◌, length, map, bit_and, bit_or, Result, Ok, Err, is_err, refl, sym, ap, ◌∙◌, arith}
 use Rattle.std.proofs.lemmas.Bool.{cases_Bool, cases_lt, le-ltb, lt-ltb, ltb-false, ltb-true, or_parts}
@@ -13,7 +13,7 @@ use Rattle.mold_digits.specs.Lanes.{any_large, evens, larger_of, letter_reading,
 use Rattle.mold_digits.proofs.TableLemmas.{agree_at, agree_below}
 use Rattle.mold_digits.proofs.DecodingLemmas.{pair_bad, pair_good}
 
--- the only place where all digits are looked at
+-- Only this lemma checks all digits one by one.
 reading_is : (c : ℕ) → c < 256 → value_of c ≡ (if nat_lt (reading c) 16 then reading c else 255)
 unfolding agree_below reading
 reading_is c byte = agree_at value_of (λ (k : ℕ). if nat_lt (reading k) 16 then reading k else 255) 256 refl c byte
@@ -24,7 +24,7 @@ small_reading c byte small = let test = lt-ltb (reading c) 16 small in sym (read
 large_reading : (c : ℕ) → c < 256 → 16 ≤ reading c → value_of c ≡ 255
 large_reading c byte large = let test = le-ltb (reading c) 16 large in reading_is c byte ∙ rw test refl
 
--- the lanes of a load, operation by operation
+-- The lanes of a load, operation by operation.
 pub numerals_are : (c a b d : List ℕ) → a ≡ map (λ x. (x + 198) % 256) c → b ≡ map (λ x. larger_of x 6) a
     → d ≡ map (λ x. (x + 10) % 256) b → d ≡ map numeral_reading c
 numerals_are c a b d first second third =
@@ -56,7 +56,7 @@ pub readings_are : (c numerals letters lanes : List ℕ) → numerals ≡ map nu
 unfolding reading
 readings_are c numerals letters lanes n l both = both ∙ zip2_of_maps smaller_of numeral_reading letter_reading c n l
 
--- ---- pairs of readings
+-- ---- Pairs of readings.
 
 good_reading_pair : (a b i : ℕ) → a < 256 → b < 256 → nat_lt 15 (bit_or (reading a) (reading b)) ≡ false
     → pair_value a b i ≡ Ok (pair_byte (reading a) (reading b))

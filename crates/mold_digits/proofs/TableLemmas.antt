@@ -1,8 +1,8 @@
--- Two functions that agree at each number below a bound, by a test that computes.
+-- Two functions agree at each number below a bound if a computed test confirms it.
 use Rattle.std.proofs.Common.{◌≡◌, ℕ, zero, suc, ◌<◌, nat_eq, Bool, true, ◌&&◌, inl, inr, arith}
 use Rattle.std.proofs.lemmas.Bool.{and_parts, cases_eq, eqb-true}
 
--- whether f and g agree below n
+-- Whether f and g agree below n.
 unfoldable pub agree_below : (ℕ → ℕ) → (ℕ → ℕ) → ℕ → Bool
 agree_below f g zero = true
 agree_below f g (suc n) = nat_eq (f n) (g n) && agree_below f g n

@@ -1,4 +1,4 @@
-//! Bytes out of hexadecimal digits.
+//! Decoding hexadecimal digits into bytes.
 
 ghost use Rattle.std.specs.Prelude.{◌≡◌, ◌*◌, ◌/◌, ◌<◌, ◌≤◌, length, IfOk, OnErr, MatchResult, true, false};
 ghost use Rattle.std.specs.Prelude.{vec_capacity};
@@ -12,9 +12,9 @@ use crate::table::digit_value;
 use block::decode_blocks;
 use std::alloc::AllocError;
 
-/// Replaces what `out` holds by the bytes that the hexadecimal digits stand for, in either case, and answers
-/// whether they stand for any: an odd number of digits doesn't, nor does any other byte among them, and then
-/// `out` may hold anything. Memory is taken only where the bytes find no room in `out`.
+/// Replaces the contents of `out` with the bytes that the hexadecimal digits encode, in either case, and
+/// returns true. It returns false if the number of digits is odd or a byte is not a digit. The contents of
+/// `out` are then unspecified. It allocates only if the bytes do not fit in the capacity of `out`.
 pub fn decode(digits: &[u8], out: &mut Vec<u8>) -> Result<bool, AllocError>
     ensures value { IfOk result (λ spelled. MatchResult (decode_of digits.now)
         (λ bytes. (spelled ≡ true) × (out.new.items ≡ bytes)) (λ _. spelled ≡ false)) }
@@ -28,7 +28,8 @@ pub fn decode(digits: &[u8], out: &mut Vec<u8>) -> Result<bool, AllocError>
     Ok(decode_into(digits, out.as_mut_slice()))
 }
 
-// Fills `out` with the bytes of twice as many digits, and answers whether all of them are digits.
+// Fills `out` with the bytes of the digits, of which there are twice as many. Returns whether all of them are
+// digits.
 fn decode_into(digits: &[u8], out: &mut [u8]) -> bool
     requires { length digits.now ≡ 2 * length out.old }
     ensures { MatchResult (decode_of digits.now)
@@ -37,8 +38,8 @@ fn decode_into(digits: &[u8], out: &mut [u8]) -> bool
     decode_blocks(digits, out) && decode_rest(digits, out.len() / LANES * LANES, out)
 }
 
-// Goes on from byte `from`, digit by digit. A bad digit is looked for once, at the end, since a branch at
-// each digit would cost more than the rest of the loop.
+// Decodes the remaining digits one by one, from byte `from` on. It checks for a bad digit once, at the end,
+// since a branch for each digit would cost more than the rest of the loop.
 fn decode_rest(digits: &[u8], from: usize, out: &mut [u8]) -> bool
     requires sized { length digits.now ≡ 2 * length out.old }
     requires within { from ≤ length out.old }

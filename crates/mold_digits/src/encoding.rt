@@ -1,4 +1,4 @@
-//! Hexadecimal digits out of bytes.
+//! Encoding bytes as hexadecimal digits.
 
 ghost use Rattle.std.specs.Prelude.{◌≡◌, ◌*◌, ◌<◌, length, slice_index};
 ghost use Rattle.hex.specs.Hex.{encode_lower, lower_digits};
@@ -8,7 +8,7 @@ mod block;
 use crate::lanes::LANES;
 use block::encode_blocks;
 
-// Fills `out` with the digits of half as many bytes.
+/// Fills `out` with the digits of the bytes, two for each byte.
 #[inline(always)]
 pub fn encode_into(bytes: &[u8], out: &mut [u8])
     requires { length out.old ≡ 2 * length bytes.now }

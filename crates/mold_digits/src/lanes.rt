@@ -1,4 +1,5 @@
-//! Sixteen bytes at a time. Each operation is a function, so that what it does to a lane is one clause.
+//! Operations on sixteen bytes at once. Each operation is a separate function, so that one clause states what
+//! it does to a lane.
 
 ghost use Rattle.std.specs.Prelude.{◌≡◌, ◌++◌, ◌+◌, ◌/◌, ◌%◌, map, bit_and};
 ghost use Rattle.std.specs.Simd.Lanes.{chunk, zip2};
@@ -6,10 +7,10 @@ ghost use Rattle.mold_digits.specs.Lanes.{evens, larger_of, odds, smaller_of, wo
 
 use std::simd::prelude::*;
 
-/// How many bytes a vector has.
+/// The number of bytes in a vector.
 pub const LANES: usize = 16;
 
-/// Adds the amount to each byte, and wraps.
+/// Adds `amount` to each byte, modulo 256.
 #[inline(always)]
 pub fn plus(lanes: u8x16, amount: u8) -> u8x16
     ensures { result ≡ map (λ x. (x + amount) % 256) lanes }
@@ -17,7 +18,7 @@ pub fn plus(lanes: u8x16, amount: u8) -> u8x16
     lanes + u8x16::splat(amount)
 }
 
-/// Keeps the bits of the mask in each byte.
+/// Clears the bits of each byte that are not in `mask`.
 #[inline(always)]
 pub fn masked(lanes: u8x16, mask: u8) -> u8x16
     ensures { result ≡ map (λ x. bit_and x mask) lanes }
@@ -25,7 +26,7 @@ pub fn masked(lanes: u8x16, mask: u8) -> u8x16
     lanes & u8x16::splat(mask)
 }
 
-/// The upper four bits of each byte.
+/// Returns the upper four bits of each byte.
 #[inline(always)]
 pub fn high_halves(lanes: u8x16) -> u8x16
     ensures { result ≡ map (λ x. x / 16) lanes }
@@ -33,7 +34,7 @@ pub fn high_halves(lanes: u8x16) -> u8x16
     lanes >> u8x16::splat(4)
 }
 
-/// Raises each byte that is below the floor.
+/// Raises each byte below `floor` to `floor`.
 #[inline(always)]
 pub fn at_least(lanes: u8x16, floor: u8) -> u8x16
     ensures { result ≡ map (λ x. larger_of x floor) lanes }
@@ -42,7 +43,7 @@ pub fn at_least(lanes: u8x16, floor: u8) -> u8x16
     lanes.simd_lt(floors).select(floors, lanes)
 }
 
-/// Lowers each byte that is above the cap.
+/// Lowers each byte above `cap` to `cap`.
 #[inline(always)]
 pub fn at_most(lanes: u8x16, cap: u8) -> u8x16
     ensures { result ≡ map (λ x. smaller_of x cap) lanes }
@@ -51,7 +52,7 @@ pub fn at_most(lanes: u8x16, cap: u8) -> u8x16
     lanes.simd_lt(caps).select(lanes, caps)
 }
 
-/// The smaller byte of each two at one place.
+/// Returns, for each lane, the smaller of the two bytes.
 #[inline(always)]
 pub fn smaller(first: u8x16, second: u8x16) -> u8x16
     ensures { result ≡ zip2 smaller_of first second }
@@ -59,7 +60,7 @@ pub fn smaller(first: u8x16, second: u8x16) -> u8x16
     first.simd_lt(second).select(first, second)
 }
 
-/// Every second byte of both, from the first on.
+/// Returns the bytes at even indices of the two vectors together.
 #[inline(always)]
 pub fn at_even_places(first: u8x16, second: u8x16) -> u8x16
     ensures { result ≡ evens (first ++ second) }
@@ -70,7 +71,7 @@ pub fn at_even_places(first: u8x16, second: u8x16) -> u8x16
     )
 }
 
-/// Every second byte of both, from the second on.
+/// Returns the bytes at odd indices of the two vectors together.
 #[inline(always)]
 pub fn at_odd_places(first: u8x16, second: u8x16) -> u8x16
     ensures { result ≡ odds (first ++ second) }
@@ -81,7 +82,7 @@ pub fn at_odd_places(first: u8x16, second: u8x16) -> u8x16
     )
 }
 
-/// The front halves of both, a byte of each in turn.
+/// Interleaves the first halves of both vectors: a byte of `high`, then a byte of `low`.
 #[inline(always)]
 pub fn woven_front(high: u8x16, low: u8x16) -> u8x16
     ensures { result ≡ woven (chunk 0 8 high) (chunk 0 8 low) }
@@ -92,7 +93,7 @@ pub fn woven_front(high: u8x16, low: u8x16) -> u8x16
     )
 }
 
-/// The back halves of both, a byte of each in turn.
+/// Interleaves the second halves of both vectors: a byte of `high`, then a byte of `low`.
 #[inline(always)]
 pub fn woven_back(high: u8x16, low: u8x16) -> u8x16
     ensures { result ≡ woven (chunk 8 8 high) (chunk 8 8 low) }

@@ -1,5 +1,5 @@
-//! Hexadecimal digits and decimal numbers, read and written at full speed. What they mean is what the
-//! crate `hex` and the standard library define.
+//! Fast reading and writing of hexadecimal digits and decimal numbers. The crate `hex` and the standard
+//! library define what they mean.
 #![tactic(auto)]
 
 mod decoding;

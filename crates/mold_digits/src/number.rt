@@ -1,4 +1,4 @@
-//! Numbers in decimal digits, as people give them.
+//! Decimal numbers that users enter.
 
 ghost use Rattle.std.specs.Prelude.{◌≡◌};
 ghost use Rattle.mold_digits.specs.Numbers.{decimal_of, is_sized};
@@ -11,8 +11,8 @@ fn is_sized(word: &[u8]) -> bool
     !word.is_empty() && word.len() <= MAX_DIGITS
 }
 
-/// The number that the word spells: 1 to 20 decimal digits, leading zeros among them, and at most
-/// 18446744073709551615. None where it spells no such number.
+/// Returns the decimal number that `word` encodes, or `None` if it does not encode one. It must have 1 to 20
+/// decimal digits and be at most 18446744073709551615. Leading zeros are allowed and count as digits.
 pub fn read_number(word: &[u8]) -> Option<u64>
     ensures { result ≡ decimal_of word.now }
 {

@@ -1,9 +1,9 @@
-//! The values of digits, in a table.
+//! A table of the values of hexadecimal digits.
 
 ghost use Rattle.std.specs.Prelude.{◌≡◌};
 ghost use Rattle.mold_digits.specs.Digits.{value_of};
 
-// For each byte its value as a hexadecimal digit, and 255 where it is none.
+// The value of each byte as a hexadecimal digit. It is 255 for a byte that is not a digit.
 static VALUES: [u8; 256] = [
     255, 255, 255, 255, 255, 255, 255, 255, 255, 255, 255, 255, 255, 255, 255, 255, 255, 255, 255,
     255, 255, 255, 255, 255, 255, 255, 255, 255, 255, 255, 255, 255, 255, 255, 255, 255, 255, 255,
@@ -21,7 +21,7 @@ static VALUES: [u8; 256] = [
     255, 255, 255,
 ];
 
-/// The value of a hexadecimal digit in either case, and 255 for any other byte.
+/// Returns the value of a hexadecimal digit in either case, and 255 for any other byte.
 #[inline(always)]
 pub fn digit_value(digit: u8) -> u8
     ensures { result ≡ value_of digit }

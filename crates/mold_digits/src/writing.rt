@@ -1,4 +1,4 @@
-//! Numbers and bytes written into a slice.
+//! Writing numbers and bytes into a slice.
 
 ghost use Rattle.std.specs.Prelude.{◌≡◌, ◌+◌, ◌*◌, ◌<◌, ◌≤◌, length, drop, decimal};
 ghost use Rattle.hex.specs.Hex.{encode_lower};
@@ -8,10 +8,10 @@ ghost use Rattle.mold_digits.specs.Writing.{IsWritten};
 use crate::encoding::encode_into;
 use itoa::Buffer;
 
-/// The most decimal digits of a number of 64 bits, and of a number that is read.
+/// The greatest number of decimal digits of a 64-bit number, and of a number that `read_number` accepts.
 pub const MAX_DIGITS: usize = 20;
 
-/// The most decimal digits of a number of 128 bits.
+/// The greatest number of decimal digits of a 128-bit number.
 pub const MAX_LONG_DIGITS: usize = 39;
 
 fn digit(value: u64) -> u8
@@ -33,8 +33,7 @@ fn last_four_digits(number: u64) -> [u8; 4]
     ]
 }
 
-/// Writes the bytes as they are from the place `at` on, for which there is room, and answers the place
-/// behind them.
+/// Writes the bytes unchanged from offset `at` on and returns the offset after them.
 #[inline(always)]
 pub fn write_text(out: &mut [u8], at: usize, text: &[u8]) -> usize
     requires { at + length text.now ≤ length out.old }
@@ -45,8 +44,8 @@ pub fn write_text(out: &mut [u8], at: usize, text: &[u8]) -> usize
     end
 }
 
-/// Writes the number in decimal from the place `at` on, for which and behind which there are 20 bytes, and
-/// answers the place behind its last digit. What is behind that may change.
+/// Writes the number in decimal from offset `at` on and returns the offset after its last digit. There must
+/// be room for 20 bytes, and bytes after the last digit may change.
 #[inline(always)]
 pub fn write_number(out: &mut [u8], at: usize, number: u64) -> usize
     requires { at + 20 ≤ length out.old }
@@ -62,7 +61,7 @@ pub fn write_number(out: &mut [u8], at: usize, number: u64) -> usize
     }
 }
 
-// One to four digits.
+// Writes one to four digits.
 fn write_few_digits(out: &mut [u8], at: usize, number: u64) -> usize
     requires room { at + 4 ≤ length out.old }
     requires most { number < 10000 }
@@ -88,7 +87,7 @@ fn write_few_digits(out: &mut [u8], at: usize, number: u64) -> usize
     write_text(out, at, &last_four_digits(number))
 }
 
-// Five to eight digits.
+// Writes five to eight digits.
 fn write_more_digits(out: &mut [u8], at: usize, number: u64) -> usize
     requires room { at + 8 ≤ length out.old }
     requires least { 10000 ≤ number }
@@ -131,8 +130,8 @@ fn write_any_number(out: &mut [u8], at: usize, number: u64) -> usize
     write_text(out, at, buffer.format(number).as_bytes())
 }
 
-/// Writes the number in decimal from the place `at` on, for which and behind which there are 39 bytes, and
-/// answers the place behind its last digit. What is behind that may change.
+/// Writes the number in decimal from offset `at` on and returns the offset after its last digit. There must
+/// be room for 39 bytes, and bytes after the last digit may change.
 #[inline(always)]
 pub fn write_long_number(out: &mut [u8], at: usize, number: u128) -> usize
     requires { at + 39 ≤ length out.old }
@@ -156,8 +155,8 @@ fn write_very_long_number(out: &mut [u8], at: usize, number: u128) -> usize
     write_text(out, at, buffer.format(number).as_bytes())
 }
 
-/// Writes two lower-case hexadecimal digits for each byte from the place `at` on, for which there is room,
-/// and answers the place behind them. What else there is stays.
+/// Writes two lower-case hexadecimal digits for each byte from offset `at` on and returns the offset after
+/// them. The other bytes of `out` do not change.
 #[inline(always)]
 pub fn write_bytes(out: &mut [u8], at: usize, bytes: &[u8]) -> usize
     requires { at + 2 * length bytes.now ≤ length out.old }

@@ -1,4 +1,4 @@
-//! Thirty-two digits at a time.
+//! Decoding thirty-two digits at once.
 
 ghost use Rattle.std.specs.Prelude.{◌≡◌, ◌++◌, ◌+◌, ◌*◌, ◌/◌, ◌≤◌, length, map, take, true, false, IsErr, MatchResult};
 ghost use Rattle.std.specs.Simd.Lanes.{chunk, zip2};
@@ -11,8 +11,8 @@ use crate::lanes::{
 };
 use std::simd::prelude::*;
 
-/// Fills the front of `out` with the bytes of the digits, as far as whole vectors go, and answers whether
-/// all of these are digits.
+/// Fills the start of `out` with the bytes of the digits, as far as whole vectors go. Returns whether all of
+/// these digits are valid.
 pub fn decode_blocks(digits: &[u8], out: &mut [u8]) -> bool
     requires { length digits.now ≡ 2 * length out.old }
     ensures whole { result ≡ true → IsDecodedTo (length out.old / 16 * 16) digits.now out.new }
@@ -26,7 +26,7 @@ pub fn decode_blocks(digits: &[u8], out: &mut [u8]) -> bool
     true
 }
 
-// Writes the sixteen bytes from `place` on.
+// Writes sixteen bytes from offset `place` on. Returns whether all of their digits are valid.
 fn decode_block(digits: &[u8], place: usize, out: &mut [u8]) -> bool
     requires digits { 2 * place + 32 ≤ length digits.now }
     requires room { place + 16 ≤ length out.old }
@@ -45,8 +45,9 @@ fn decode_block(digits: &[u8], place: usize, out: &mut [u8]) -> bool
     true
 }
 
-// The value of each digit, and 16 or more where there is none. 198 takes the numerals to the greatest bytes,
-// and 223 makes letters upper case, which 191 takes to the least; 10 more, both are at their values.
+// Returns the value of each digit, and 16 or more for a byte that is not a digit. Adding 198 maps the
+// numerals to the greatest bytes. Masking with 223 makes letters upper case, and adding 191 maps A to F to
+// the least bytes. Adding 10 then maps both to their values.
 #[inline(always)]
 fn readings(digits: &[u8], at: usize) -> u8x16
     requires { at + 16 ≤ length digits.now }

@@ -1,4 +1,4 @@
-//! Sixteen bytes at a time.
+//! Encoding sixteen bytes at once.
 
 ghost use Rattle.std.specs.Prelude.{◌≡◌, ◌++◌, ◌+◌, ◌*◌, ◌<◌, ◌≤◌, length, map, take};
 ghost use Rattle.std.specs.Simd.Lanes.{Each1, chunk};
@@ -8,8 +8,8 @@ ghost use Rattle.mold_digits.specs.Lanes.{digit_of};
 use crate::lanes::{LANES, high_halves, masked, plus, woven_back, woven_front};
 use std::simd::prelude::*;
 
-/// Fills `out` with the digits of at least sixteen bytes. Where the last ones don't fill a vector, it goes
-/// over some of those before them once more.
+/// Fills `out` with the digits of at least sixteen bytes. If the last bytes do not fill a vector, the last
+/// vector overlaps the one before it.
 pub fn encode_blocks(bytes: &[u8], out: &mut [u8])
     requires sized { length out.old ≡ 2 * length bytes.now }
     requires enough { 16 ≤ length bytes.now }
@@ -22,7 +22,7 @@ pub fn encode_blocks(bytes: &[u8], out: &mut [u8])
     encode_block(bytes, bytes.len() - LANES, out);
 }
 
-// Writes the digits of the sixteen bytes from `place` on.
+// Writes the digits of the sixteen bytes from offset `place` on.
 fn encode_block(bytes: &[u8], place: usize, out: &mut [u8])
     requires bytes { place + 16 ≤ length bytes.now }
     requires room { 2 * place + 32 ≤ length out.old }
@@ -35,7 +35,7 @@ fn encode_block(bytes: &[u8], place: usize, out: &mut [u8])
     woven_back(high, low).copy_to_slice(&mut out[2 * place + LANES..]);
 }
 
-// The digits of values below sixteen.
+// Returns the digit of each value, which is below sixteen.
 #[inline(always)]
 fn lower_digits(values: u8x16) -> u8x16
     requires { Each1 (λ x. x < 16) values }
