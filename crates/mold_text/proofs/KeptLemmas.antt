@@ -1,8 +1,8 @@
--- What stands in front of a text stays there, also where writing stops in the middle.
+-- The bytes before a text stay, even if writing stops in the middle.
 use Rattle.std.proofs.Common.{◌≡◌, ℕ, ◌≤◌, List, length, take, sym, ap, ◌∙◌, arith}
 use Rattle.std.proofs.lemmas.List.{take-take, length-take}
 
--- what stood in front before more was written stands in front still
+-- The bytes before the earlier text stay when more text is written.
 pub kept_through : (old mid new : List ℕ) → take (length old) mid ≡ old → take (length mid) new ≡ mid →
     take (length old) new ≡ old
 kept_through old mid new before kept =

@@ -10,7 +10,7 @@ use Rattle.mold_text.proofs.WritingLemmas.{written_one, written_twice}
 use Rattle.mold_text.specs.Line.{after_space, joined, word_text}
 use Rattle.mold_text.specs.declared.word.Word.{Word}
 
--- some words joined, and others behind them
+-- Joined words followed by other words.
 pub joined_more : (words : List Word) (others : List (List ℕ)) → (length words == 0) ≡ false →
     joined (map word_text words) ++ flat_map after_space others ≡ joined (map word_text words ++ others)
 unfolding joined
@@ -19,7 +19,7 @@ joined_more (first ∷ words) others some =
     append_assoc (word_text first) (flat_map after_space (map word_text words)) (flat_map after_space others)
     ∙ ap (λ (t : List ℕ). word_text first ++ t) (sym (flat_map-append after_space (map word_text words) others))
 
--- of words behind spaces one more is written
+-- One more word is written after the words with spaces.
 pub spaced_more : (old mid text new : List ℕ) (words : List Word) (i at end stop : ℕ) (d : Word) → i < length words →
     IsWritten old mid at end (flat_map after_space (map word_text (take i words))) → end < length mid →
     text ≡ set mid end 32 → IsWritten text new (end + 1) stop (word_text (get_or words i d)) →

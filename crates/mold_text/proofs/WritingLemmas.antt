@@ -4,7 +4,7 @@ use Rattle.std.proofs.Common.{append_assoc, refl, ap, ◌∙◌, arith}
 use Rattle.std.proofs.lemmas.List.{length-set, take_more_set}
 use Rattle.mold_digits.specs.Writing.{IsWritten}
 
--- a byte at a place
+-- A byte at an offset.
 pub written_one :
     (old new : List ℕ) (at x : ℕ) → at < length old → new ≡ set old at x → IsWritten old new at (at + 1) (x ∷ [])
 written_one old new at x within is = record {
@@ -13,7 +13,7 @@ written_one old new at x within is = record {
   size = ap (λ (t : List ℕ). length t) is ∙ length-set old at x;
 }
 
--- one text behind another
+-- One text followed by another.
 pub written_twice :
     (old mid new : List ℕ) (at stop end : ℕ) (text more : List ℕ) → IsWritten old mid at stop text →
     IsWritten mid new stop end more → IsWritten old new at end (text ++ more)

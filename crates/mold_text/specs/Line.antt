@@ -5,12 +5,12 @@ use Rattle.hex.specs.Hex.{encode_lower}
 use Rattle.mold_text.specs.declared.word.Word.{Word}
 use Rattle.mold_text.specs.declared.word.Word.TheVariants.{Text, Number, LongNumber, Digits, Message}
 
--- a message as lower-case digits, or `-` where it is empty
+-- A message as lower-case hexadecimal digits, or `-` if it is empty.
 abbrev pub message_digits : List ℕ → List ℕ
 message_digits [] = codes "-"
 message_digits (byte ∷ bytes) = encode_lower (byte ∷ bytes)
 
--- what a word prints
+-- The text that a word prints.
 abbrev pub word_text : Word → List ℕ
 word_text (Text text) = text.now
 word_text (Number number) = decimal number
@@ -18,15 +18,15 @@ word_text (LongNumber number) = decimal number
 word_text (Digits bytes) = encode_lower bytes.now
 word_text (Message message) = message_digits message.now
 
--- a word behind a space
+-- A space followed by the word.
 abbrev pub after_space : List ℕ → List ℕ
 after_space word = codes " " ++ word
 
--- words joined by single spaces
+-- The words joined by single spaces.
 unfoldable pub joined : List (List ℕ) → List ℕ
 joined [] = []
 joined (first ∷ others) = first ++ flat_map after_space others
 
--- a line: its words joined by single spaces, and the byte 0A
+-- A line: its words joined by single spaces, and the byte 0A.
 abbrev pub line_of : List (List ℕ) → List ℕ
 line_of words = joined words ++ codes "\n"

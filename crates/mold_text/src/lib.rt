@@ -1,5 +1,5 @@
-//! How packets, requests and refusals are printed: lines of words, each function writing behind the
-//! text that is there.
+//! The text of packets, requests and refusals, which consists of lines of words. Each function appends to the
+//! existing text.
 #![tactic(auto)]
 
 mod line;

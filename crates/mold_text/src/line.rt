@@ -9,8 +9,8 @@ ghost use Rattle.mold_text.specs.Room.{counted, line_room, words_room};
 use crate::word::{Word, word_room, write_word};
 use std::alloc::AllocError;
 
-// How many bytes the words have at most, each with a space or the line's end, or the greatest number where
-// that is greater.
+// Returns the greatest length in bytes of the words, each with a space or the end of the line. It returns
+// `usize::MAX` if that length is greater.
 #[inline(always)]
 fn words_room(words: &[Word<'_>]) -> usize
     ensures { result ≡ counted (words_room words.now) }
@@ -22,7 +22,7 @@ fn words_room(words: &[Word<'_>]) -> usize
     room
 }
 
-// Writes each word behind a space, from the place `at` on, and answers the place behind them.
+// Writes each word after a space, from offset `at` on, and returns the offset after them.
 #[inline(always)]
 fn write_spaced(out: &mut [u8], at: usize, words: &[Word<'_>]) -> usize
     requires { at + words_room words.now ≤ length out.old }
@@ -37,7 +37,7 @@ fn write_spaced(out: &mut [u8], at: usize, words: &[Word<'_>]) -> usize
     end
 }
 
-// Writes the words with a space between each two, from the place `at` on, and answers the place behind them.
+// Writes the words, separated by spaces, from offset `at` on, and returns the offset after them.
 #[tactic(auto, unfolding(crate::specs::Line::joined))]
 #[inline(always)]
 fn write_joined(out: &mut [u8], at: usize, words: &[Word<'_>]) -> usize
@@ -54,7 +54,7 @@ fn write_joined(out: &mut [u8], at: usize, words: &[Word<'_>]) -> usize
     }
 }
 
-// Writes some words and others as `write_joined` does.
+// Writes the words of both lists as one list, like `write_joined`.
 #[inline(always)]
 fn write_both(out: &mut [u8], at: usize, words: &[Word<'_>], others: &[Word<'_>]) -> usize
     requires { at + (words_room words.now + words_room others.now) ≤ length out.old }
@@ -69,7 +69,7 @@ fn write_both(out: &mut [u8], at: usize, words: &[Word<'_>], others: &[Word<'_>]
     write_spaced(out, end, others)
 }
 
-// Writes a line of some words and others from the place `at` on, and answers the place behind it.
+// Writes the words of both lists as one line from offset `at` on and returns the offset after it.
 #[inline(always)]
 fn write_words(out: &mut [u8], at: usize, words: &[Word<'_>], others: &[Word<'_>]) -> usize
     requires { at + (words_room words.now + words_room others.now + 1) ≤ length out.old }
@@ -82,7 +82,7 @@ fn write_words(out: &mut [u8], at: usize, words: &[Word<'_>], others: &[Word<'_>
     end + 1
 }
 
-// Appends a line of some words and others. Room for all of it is made at once.
+// Appends the words of both lists as one line. It allocates the room for the whole line at once.
 #[inline(always)]
 fn push_words(out: &mut Vec<u8>, words: &[Word<'_>], others: &[Word<'_>]) -> Result<(), AllocError>
     ensures line { OnOk result (out.new.items ≡
@@ -90,7 +90,7 @@ fn push_words(out: &mut Vec<u8>, words: &[Word<'_>], others: &[Word<'_>]) -> Res
     ensures kept { OnErr result (take (length out.old.items) out.new.items ≡ out.old.items) }
 {
     let at = out.len();
-    // Room that doesn't fit becomes the greatest number, and growing to that is refused.
+    // A sum that does not fit saturates at the greatest number, and an allocation of that size fails.
     let room = words_room(words)
         .saturating_add(words_room(others))
         .saturating_add(1);
@@ -100,7 +100,7 @@ fn push_words(out: &mut Vec<u8>, words: &[Word<'_>], others: &[Word<'_>]) -> Res
     Ok(())
 }
 
-/// How many bytes a line of these words has at most, or the greatest number where that is greater.
+/// Returns the greatest length in bytes of a line of these words, or `usize::MAX` if that length is greater.
 #[inline(always)]
 pub fn line_room(words: &[Word<'_>]) -> usize
     ensures { result ≡ counted (line_room words.now) }
@@ -108,9 +108,9 @@ pub fn line_room(words: &[Word<'_>]) -> usize
     words_room(words).saturating_add(1)
 }
 
-/// Writes the words as a line from the place `at` on, where there is room for what they have at most, and
-/// answers the place behind it: joined by single spaces, and ended by the byte 0A. What is behind that may
-/// change.
+/// Writes the words as a line from offset `at` on and returns the offset after it. The words are joined by
+/// single spaces, and the byte 0A ends the line. There must be room for `line_room` bytes, and bytes after
+/// the line may change.
 #[inline(always)]
 pub fn write_line(out: &mut [u8], at: usize, words: &[Word<'_>]) -> usize
     requires { at + line_room words.now ≤ length out.old }
@@ -120,8 +120,8 @@ pub fn write_line(out: &mut [u8], at: usize, words: &[Word<'_>]) -> usize
     write_words(out, at, words, &[])
 }
 
-/// Appends the words as a line: joined by single spaces, and ended by the byte 0A. After an error, which is
-/// want of memory, a part of the line may stand behind what was there.
+/// Appends the words as a line. The words are joined by single spaces, and the byte 0A ends the line. If an
+/// allocation fails, a part of the line may follow the earlier text.
 #[inline(always)]
 pub fn push_line(out: &mut Vec<u8>, words: &[Word<'_>]) -> Result<(), AllocError>
     ensures line { OnOk result (out.new.items ≡ out.old.items ++ line_of (map word_text words.now)) }
@@ -130,7 +130,7 @@ pub fn push_line(out: &mut Vec<u8>, words: &[Word<'_>]) -> Result<(), AllocError
     push_words(out, words, &[])
 }
 
-/// Appends a line of some words and others, as `push_line` does.
+/// Appends the words of both lists as one line, like `push_line`.
 pub fn push_line_with(
     out: &mut Vec<u8>,
     words: &[Word<'_>],

@@ -1,4 +1,4 @@
-//! The lines of a packet.
+//! The text of a packet.
 
 ghost use Rattle.std.specs.Prelude.{◌≡◌, ◌++◌, ◌<◌, ◌^◌, length, take, OnErr, OnOk, codes};
 ghost use Rattle.mold_wire.specs.declared.header.TheConstants.{END_OF_SESSION};
@@ -24,7 +24,7 @@ fn push_message(out: &mut Vec<u8>, number: u128, message: &[u8]) -> Result<(), A
     )
 }
 
-// The messages are numbered from `first` on, beyond 64 bits too.
+// The messages are numbered from `first` on. The numbers may exceed 64 bits.
 #[tactic(auto, unfolding(crate::specs::Text::messages_text))]
 fn push_messages(out: &mut Vec<u8>, first: u64, blocks: &Blocks<'_>) -> Result<(), AllocError>
     requires { length blocks.now < END_OF_SESSION }
@@ -39,7 +39,7 @@ fn push_messages(out: &mut Vec<u8>, first: u64, blocks: &Blocks<'_>) -> Result<(
     Ok(())
 }
 
-// The line of a packet without messages.
+// Appends the line of a packet without messages.
 fn push_numbered<'a>(
     out: &mut Vec<u8>,
     kind: &'a [u8],
@@ -60,7 +60,7 @@ fn push_numbered<'a>(
     )
 }
 
-// The first line of a data packet.
+// Appends the first line of a data packet.
 fn push_data(
     out: &mut Vec<u8>,
     session: &Session,
@@ -82,8 +82,8 @@ fn push_data(
     )
 }
 
-/// Writes the packet's line, and a line for each of its messages. After an error, which is want of
-/// memory, a part of them may stand behind what was there.
+/// Appends the packet's line and a line for each of its messages. If an allocation fails, a part of them may
+/// follow the earlier text.
 pub fn push_packet(out: &mut Vec<u8>, packet: &Packet<'_>) -> Result<(), AllocError>
     ensures text { OnOk result (out.new.items ≡ out.old.items ++ packet_text packet.now) }
     ensures kept { OnErr result (take (length out.old.items) out.new.items ≡ out.old.items) }

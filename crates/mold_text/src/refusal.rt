@@ -1,4 +1,4 @@
-//! Why something is refused: a name, and the numbers that go with it.
+//! The text of refusals: a name and the numbers that belong to it.
 
 ghost use Rattle.std.specs.Prelude.{◌≡◌, ◌++◌, ◌∷◌, [], decimal, length, map, take, OnErr, OnOk};
 ghost use Rattle.mold_text.specs.Line.{line_of, word_text};
@@ -10,7 +10,7 @@ use mold_rule::Refusal;
 use mold_wire::{DecodeError, RequestError};
 use std::alloc::AllocError;
 
-/// The words of why bytes spell no packet.
+/// Returns the words for the reason why bytes do not encode a packet.
 pub fn packet_fault_words(fault: DecodeError) -> [Word<'static>; 2]
     ensures { map word_text result ≡ fault_words fault }
 {
@@ -23,7 +23,7 @@ pub fn packet_fault_words(fault: DecodeError) -> [Word<'static>; 2]
     }
 }
 
-/// The words of why bytes spell no request.
+/// Returns the words for the reason why bytes do not encode a request.
 pub fn request_fault_words(fault: RequestError) -> [Word<'static>; 2]
     ensures { map word_text result ≡ request_fault_words fault }
 {
@@ -34,8 +34,8 @@ pub fn request_fault_words(fault: RequestError) -> [Word<'static>; 2]
     }
 }
 
-/// Writes the line of what is refused, by the words of why. After an error, which is want of memory, a
-/// part of it may stand behind what was there.
+/// Appends a line that starts with `refused`, followed by the words `why`. If an allocation fails, a part of
+/// the line may follow the earlier text.
 pub fn push_refused(out: &mut Vec<u8>, why: &[Word<'_>]) -> Result<(), AllocError>
     ensures text { OnOk result (out.new.items ≡ out.old.items ++ refused_line (map word_text why.now)) }
     ensures kept { OnErr result (take (length out.old.items) out.new.items ≡ out.old.items) }
@@ -43,7 +43,7 @@ pub fn push_refused(out: &mut Vec<u8>, why: &[Word<'_>]) -> Result<(), AllocErro
     push_line_with(out, &[Word::Text(b"refused")], why)
 }
 
-// The line of a refusal that is a name.
+// Appends the line of a refusal that has a name only.
 fn push_name(out: &mut Vec<u8>, before: &[Word<'_>], name: &[u8]) -> Result<(), AllocError>
     ensures text { OnOk result (out.new.items ≡
         out.old.items ++ line_of (map word_text before.now ++ name.now ∷ [])) }
@@ -52,7 +52,7 @@ fn push_name(out: &mut Vec<u8>, before: &[Word<'_>], name: &[u8]) -> Result<(), 
     push_line_with(out, before, &[Word::Text(name)])
 }
 
-// The line of a refusal that is a name and a number.
+// Appends the line of a refusal that has a name and a number.
 fn push_numbered(
     out: &mut Vec<u8>,
     before: &[Word<'_>],
@@ -66,8 +66,8 @@ fn push_numbered(
     push_line_with(out, before, &[Word::Text(name), Word::Number(number)])
 }
 
-/// Writes a line of the words before, and why a receiver or a checker refuses a datagram. After an error,
-/// which is want of memory, a part of it may stand behind what was there.
+/// Appends a line of the words `before` and the reason why a receiver or a checker refuses a datagram. If an
+/// allocation fails, a part of the line may follow the earlier text.
 pub fn push_refusal(out: &mut Vec<u8>, before: &[Word<'_>], why: Refusal) -> Result<(), AllocError>
     ensures text { OnOk result (out.new.items ≡
         out.old.items ++ line_of (map word_text before.now ++ refusal_words why)) }

@@ -1,4 +1,4 @@
-//! The line of a request.
+//! The text of a request.
 
 ghost use Rattle.std.specs.Prelude.{◌≡◌, ◌++◌, length, take, OnErr, OnOk};
 ghost use Rattle.mold_text.specs.Text.{request_text};
@@ -8,8 +8,7 @@ use crate::word::Word;
 use mold_wire::Request;
 use std::alloc::AllocError;
 
-/// Writes the request's line. After an error, which is want of memory, a part of it may stand behind what
-/// was there.
+/// Appends the request's line. If an allocation fails, a part of the line may follow the earlier text.
 pub fn push_request(out: &mut Vec<u8>, request: &Request) -> Result<(), AllocError>
     ensures text { OnOk result (out.new.items ≡ out.old.items ++ request_text request.now) }
     ensures kept { OnErr result (take (length out.old.items) out.new.items ≡ out.old.items) }

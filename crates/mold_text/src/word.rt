@@ -1,4 +1,4 @@
-//! A word of a line.
+//! The words of a line.
 
 ghost use Rattle.std.specs.Prelude.{◌≡◌, ◌+◌, ◌*◌, ◌≤◌, length};
 ghost use Rattle.mold_digits.specs.Writing.{IsWritten};
@@ -9,22 +9,22 @@ use mold_digits::{
     MAX_DIGITS, MAX_LONG_DIGITS, write_bytes, write_long_number, write_number, write_text,
 };
 
-/// A word of a line, by how it is printed.
+/// A word of a line: its value and how it is printed.
 #[derive(Debug, Drop)]
 pub enum Word<'a> {
-    /// These bytes as they are.
+    /// The bytes, unchanged.
     Text(&'a [u8]),
-    /// The number in decimal.
+    /// A number in decimal.
     Number(u64),
-    /// The number in decimal, also where it passes 64 bits.
+    /// A number of up to 128 bits in decimal.
     LongNumber(u128),
     /// Two lower-case hexadecimal digits for each byte.
     Digits(&'a [u8]),
-    /// A message: its bytes as lower-case hexadecimal digits, and `-` where it has none.
+    /// A message: its bytes as lower-case hexadecimal digits, or `-` if it is empty.
     Message(&'a [u8]),
 }
 
-/// How many bytes the word has at most, or the greatest number where that is greater.
+/// Returns the greatest length of the word in bytes, or `usize::MAX` if that length is greater.
 #[inline(always)]
 pub(crate) fn word_room(word: &Word<'_>) -> usize
     ensures { result ≡ counted (word_room word.now) }
@@ -38,7 +38,7 @@ pub(crate) fn word_room(word: &Word<'_>) -> usize
     }
 }
 
-// Writes a message's digits, `-` for none, and answers the place behind them.
+// Writes a message's digits, or `-` if it is empty, and returns the offset after them.
 #[inline(always)]
 fn write_message(out: &mut [u8], at: usize, message: &[u8]) -> usize
     requires { at + (2 * length message.now + 1) ≤ length out.old }
@@ -52,7 +52,7 @@ fn write_message(out: &mut [u8], at: usize, message: &[u8]) -> usize
     write_bytes(out, at, message)
 }
 
-/// Writes the word, without a space, from the place `at` on, and answers the place behind it.
+/// Writes the word without a space from offset `at` on and returns the offset after it.
 #[inline(always)]
 pub(crate) fn write_word(out: &mut [u8], at: usize, word: &Word<'_>) -> usize
     requires { at + word_room word.now ≤ length out.old }

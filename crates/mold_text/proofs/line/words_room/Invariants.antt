@@ -2,7 +2,7 @@ use Rattle.std.proofs.Common.{◌≡◌, ◌+◌, ◌≤◌, drop, min}
 use Rattle.mold_text.specs.Room.{words_room}
 use Rattle.mold_text.proofs.line.words_room.Given as goal
 
--- the room so far, with that of the words left
+-- The room so far, with that of the remaining words.
 abbrev pub invariant-loop-word : goal.invariant-loop-word
 invariant-loop-word l = record {
   fits : l.room ≤ 18446744073709551615;
