@@ -1,4 +1,4 @@
-//! Why a request is not answered.
+//! The text of a server's refusal of a request.
 
 ghost use Rattle.std.specs.Prelude.{◌≡◌, ◌++◌, length, map, take, OnErr, OnOk};
 ghost use Rattle.mold_refusals.specs.Words.{answer_words};
@@ -8,8 +8,8 @@ use mold_session::AnswerError;
 use mold_text::{Word, push_line_with};
 use std::alloc::AllocError;
 
-/// Writes a line of the words before, and why a server doesn't answer a request. After an error, which is want
-/// of memory, a part of it stands behind what was there.
+/// Appends a line of the words `before` and the reason why a server does not respond to a request. If an
+/// allocation fails, a part of the line may follow the earlier text.
 pub fn push_answer_refusal(
     out: &mut Vec<u8>,
     before: &[Word<'_>],

@@ -1,4 +1,4 @@
-//! Why a message is not published.
+//! The text of a journal's refusal of a message.
 
 ghost use Rattle.std.specs.Prelude.{◌≡◌, ◌++◌, length, map, take, OnErr, OnOk};
 ghost use Rattle.mold_refusals.specs.Words.{append_words};
@@ -8,8 +8,8 @@ use mold_session::AppendError;
 use mold_text::{Word, push_line_with};
 use std::alloc::AllocError;
 
-/// Writes a line of the words before, and why a journal doesn't take a message. After an error, which is want
-/// of memory, a part of it stands behind what was there.
+/// Appends a line of the words `before` and the reason why a journal does not accept a message. If an
+/// allocation fails, a part of the line may follow the earlier text.
 pub fn push_append_refusal(
     out: &mut Vec<u8>,
     before: &[Word<'_>],

@@ -1,4 +1,4 @@
-//! Why a publisher and a re-request server refuse something, and why a file is no journal, as words of a line.
+//! The text of the refusals of publishers, re-request servers and journal files.
 #![tactic(auto)]
 
 mod answering;

@@ -1,4 +1,4 @@
-//! Why a file is no journal.
+//! The text of the refusal of a journal file.
 
 ghost use Rattle.std.specs.Prelude.{◌≡◌, ◌++◌, length, take, OnErr, OnOk};
 ghost use Rattle.mold_refusals.specs.Words.{file_fault_words};
@@ -8,8 +8,8 @@ use mold_session::FileError;
 use mold_text::{Word, push_refused};
 use std::alloc::AllocError;
 
-/// Writes the line of why a file is no journal. After an error, which is want of memory, a part of it stands
-/// behind what was there.
+/// Appends the line of the reason why a journal file cannot be loaded, saved or upgraded. If an allocation
+/// fails, a part of the line may follow the earlier text.
 pub fn push_file_refusal(out: &mut Vec<u8>, error: FileError) -> Result<(), AllocError>
     ensures text { OnOk result (out.new.items ≡ out.old.items ++ refused_line (file_fault_words error)) }
     ensures kept { OnErr result (take (length out.old.items) out.new.items ≡ out.old.items) }
