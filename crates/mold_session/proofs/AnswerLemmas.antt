@@ -1,4 +1,4 @@
--- The packets of an answer: the one that a plan has next, and those behind it.
+-- The packets of a response: the next one of a plan, and those after it.
 use Rattle.std.proofs.Common.{◌≡◌, ℕ, zero, suc, ◌+◌, ◌-◌, ◌<◌, ◌≤◌, List, [], ◌∷◌, ◌++◌, length, length-drop, take, drop, refl, sym, ap, ◌∙◌, inl, inr, arith}
 use Rattle.std.proofs.Math.Seq.{drop-append_seam, drop-append-le}
 use Rattle.std.proofs.lemmas.List.{length-take, drop-drop, drop-take, take_min, take-append-le}
@@ -14,7 +14,7 @@ use Rattle.mold_session.specs.Answer.{next_packet, moved, planned, FitAlone, Has
 use Rattle.mold_session.specs.Datagrams.{first_part, packing}
 use Rattle.mold_session.specs.Journal.{JournalState}
 
--- how many messages stand between two numbers
+-- The number of messages between two sequence numbers.
 pub between_length :
     (published : List (List ℕ)) (from to : ℕ) → 1 ≤ from → from ≤ to → to ≤ length published + 1 →
     length (between published from to) ≡ to - from
@@ -28,7 +28,7 @@ between_length published from to first ordered last =
       last,
     )
 
--- what stands behind the first so many messages between two numbers
+-- The messages between two sequence numbers, without the first `count` of them.
 between_behind :
     (published : List (List ℕ)) (from to count : ℕ) → 1 ≤ from → from + count ≤ to →
     drop count (between published from to) ≡ between published (from + count) to
@@ -40,7 +40,7 @@ between_behind published from to count first within =
     ∙ ap (λ (t : List (List ℕ)). take (to - (from + count)) t) (drop-drop count (from - 1) published)
     ∙ ap (λ (n : ℕ). take (to - (from + count)) (drop n published)) place
 
--- the part that comes next is a front of what is left
+-- The messages of the next packet are a prefix of the plan's remaining messages.
 pub record IsPart (published : List (List ℕ)) (limit : ℕ) (plan : PlanState) (part : List (List ℕ)) : Type 0 where
   pub within : plan.from + length part ≤ plan.to
   pub parts : between published plan.from plan.to ≡ part ++ between published (plan.from + length part) plan.to
@@ -64,7 +64,7 @@ is_part published limit plan part is last longest =
       parts = longest.parts ∙ ap (λ (t : List (List ℕ)). part ++ t) behind;
     }
 
--- and some message, where messages are left and each fits alone
+-- The next packet has a message if the plan has remaining messages and each fits a datagram by itself.
 pub part_some :
     (published : List (List ℕ)) (limit : ℕ) (plan : PlanState) (part : List (List ℕ)) → SomeFront → Alone →
     FitAlone limit published → IsPlan plan → plan.from < plan.to → plan.to ≤ length published + 1 →
@@ -78,14 +78,14 @@ part_some published limit plan part some alone each is more last longest =
     (each_drop (λ (m : List ℕ). length m + 22 ≤ limit) (plan.from - 1) published each))
     (omega (arith, all, more)) (omega (arith, all, more)) longest
 
--- what is left of a plan that isn't spent begins with the packet that comes next
+-- A plan that isn't spent has a packet and a message left.
 unspent : (plan : PlanState) → IsPlan plan → (IsSpent plan → ⊥) → (0 < plan.left) × (plan.from < plan.to)
 unspent plan is more = (
   omega (arith, λ (none : plan.left ≡ 0). more (inl none)),
   omega (arith, is.1, λ (none : plan.from ≡ plan.to). more (inr none)),
 )
 
--- a message that fits alone leaves room for a header
+-- If some message fits a datagram by itself, a header does, too.
 header_room : (limit : ℕ) (messages : List (List ℕ)) → FitAlone limit messages → 0 < length messages → 20 ≤ limit
 header_room limit [] each some = absurd (omega arith)
 header_room limit (message ∷ messages) each some = omega (arith, each.0)
@@ -98,7 +98,7 @@ take_first (suc n) packet packets some =
     let one_less : n ≡ suc n - 1 = omega arith in
     ap (λ (m : ℕ). packet ∷ take m packets) one_less
 
--- nothing more is taken than there is
+-- A prefix of the empty list is empty.
 take_none : {X : Type 0} (n : ℕ) → take {A = X} n [] ≡ []
 take_none zero = refl
 take_none (suc n) = refl
@@ -127,7 +127,7 @@ next_of published limit plan front_is some alone each is last more =
       within = next.within;
     }
 
--- nothing is left of a plan that is spent
+-- A spent plan sends nothing.
 pub none_of :
     (published : List (List ℕ)) (limit : ℕ) (plan : PlanState) → IsSpent plan → planned published limit plan ≡ []
 none_of published limit plan (inl none) =
@@ -139,7 +139,7 @@ none_of published limit plan (inr none) =
     ∙ ap (λ (t : List Packet). take plan.left t) (packing_none limit plan.session plan.from)
     ∙ take_none plan.left
 
--- no more packets come than may be left
+-- A plan sends at most `left` packets.
 pub planned_few :
     (published : List (List ℕ)) (limit : ℕ) (plan : PlanState) →
     length (planned published limit plan) ≤ plan.left
@@ -149,7 +149,7 @@ planned_few published limit plan =
       length-take plan.left (packing limit plan.session plan.from (between published plan.from plan.to)),
     )
 
--- what more is published changes nothing of what is left
+-- Messages that are published later don't change what a plan sends.
 pub between_grown :
     (published more : List (List ℕ)) (from to : ℕ) → 1 ≤ from → from ≤ to → to ≤ length published + 1 →
     between (published ++ more) from to ≡ between published from to
@@ -166,7 +166,7 @@ planned_grown published more limit plan is last =
     ap (λ (t : List (List ℕ)). take plan.left (packing limit plan.session plan.from t))
     (between_grown published more plan.from plan.to is.0 is.1 last)
 
--- what a plan sends of a request that is answered is the answer
+-- What a plan sends for an accepted request is the response to the request.
 asked_between :
     (published : List (List ℕ)) (number count : ℕ) → 1 ≤ number → number ≤ length published →
     between published number (min (number + count) (length published + 1)) ≡ take count (from_number published number)
@@ -186,7 +186,7 @@ planned_answer journal limit burst request first last =
     ap (λ (t : List (List ℕ)). take burst (packing limit journal.session request.sequence t))
     (asked_between journal.messages request.sequence request.count first last)
 
--- the plan of an answer
+-- The plan for an accepted request is valid and not spent.
 pub plan_is :
     (journal : JournalState) (burst : ℕ) (request : Request) → 1 ≤ request.sequence →
     request.sequence ≤ length journal.messages → IsPlan (plan_for journal burst request)
@@ -209,7 +209,7 @@ pub plan_unspent :
 plan_unspent published session number count burst first last some packets (inl none) = omega (arith, packets, none)
 plan_unspent published session number count burst first last some packets (inr none) = omega (arith, some, last, none)
 
--- an answer has a first packet, which has some message
+-- A response has a first packet with at least one message.
 pub answer_first :
     (published : List (List ℕ)) (session : Session) (limit number count burst : ℕ) → FrontIs → SomeFront → Alone →
     FitAlone limit published → 1 ≤ number → number ≤ length published → 1 ≤ count → 1 ≤ burst →
@@ -229,7 +229,7 @@ answer_first published session limit number count burst front_is some alone each
       some = next.some;
     }
 
--- what the first packet of some of the messages takes
+-- The first packet of the first `count` messages has their longest prefix that fits.
 pub taken_part :
     (limit : ℕ) (messages : List (List ℕ)) (count : ℕ) → FrontIs → OnlyFront → 20 ≤ limit →
     first_part limit (take count messages) ≡ front limit messages count

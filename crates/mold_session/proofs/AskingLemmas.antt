@@ -1,4 +1,4 @@
--- Which requests are answered.
+-- Which requests are accepted.
 use Rattle.std.proofs.Common.{◌≡◌, ℕ, ◌+◌, cond, eqb, ltb, Bool, true, false, not, List, length, Option, None, Some}
 use Rattle.std.proofs.Common.{Result, Ok, Err, refl, ap, subst, ◌∙◌, arith}
 use Rattle.std.proofs.lemmas.Bool.{cond-false, ne_eqb, eqb-false, ltb-false, le-ltb, not-false, not_from_true}
@@ -15,20 +15,20 @@ use Rattle.mold_session.specs.Server.{request_refusal, IsAnswerable, unless, jud
 use Rattle.mold_session.specs.declared.error.AnswerError.{AnswerError}
 use Rattle.mold_session.specs.declared.error.AnswerError.TheVariants.{WrongSession, SequenceZero, EmptyRequest, Ahead}
 
--- a session by its bytes, and a request as it was read
+-- A session, from its bytes, and the result of decoding a request.
 abbrev named : List ℕ → Session
 named bytes = record { 0 = bytes }
 
 abbrev as_read : Request → Result Request RequestError
 as_read request = Ok request
 
--- nothing was refused: not by the first test, nor by those behind it
+-- If nothing is refused, the first check refused nothing, and neither did the others.
 none_first :
     {X : Type 0} (b : Bool) (x : X) (rest : Option X) → cond b (Some x) rest ≡ None → (b ≡ false) × (rest ≡ None)
 none_first true x rest is = absurd cc
 none_first false x rest is = (refl, is)
 
--- a request that nothing speaks against is for messages of the journal
+-- A request that isn't refused asks for messages that the journal has.
 pub answerable_from :
     (journal : JournalState) (request : Request) → request_refusal journal request ≡ None →
     IsAnswerable journal request
@@ -62,7 +62,7 @@ answerable_to journal request is =
     ∙ cond-false (ltb (length journal.messages) request.sequence) _ _
     (le-ltb (length journal.messages) request.sequence is.last)
 
--- what was judged well is what was read, and nothing speaks against it
+-- An accepted request is the one that was decoded, and nothing refuses it.
 pub record IsJudged (journal : JournalState) (read : Result Request RequestError) (request : Request) : Type 0 where
   pub read_is : read ≡ Ok request
   pub answerable : IsAnswerable journal request
@@ -90,7 +90,7 @@ pub judged_to :
 judged_to journal request is =
     ap (λ (r : Option AnswerError). unless r request) (answerable_to journal request is)
 
--- what was planned is the plan for a request that was asked
+-- The plan is the one for a request that was accepted.
 pub record IsPlanned (journal : JournalState) (burst : ℕ) (bytes : List ℕ) (plan : PlanState) : Type 0 where
   pub request : Request
   pub asks : asking journal bytes ≡ Ok request

@@ -1,4 +1,4 @@
--- That a file gives one list of messages and one fault, and which messages its first blocks are.
+-- A file has one list of messages and one fault, and blocks that were read are a prefix of its messages.
 use Rattle.std.proofs.Common.{◌≡◌, ℕ, ◌+◌, ◌<◌, ◌≤◌, List, [], ◌∷◌, ◌++◌, length, length-append, Option, None, Some}
 use Rattle.std.proofs.Common.{refl, sym, ap, subst, ◌∙◌, append_assoc, append-nil, inl, inr, arith}
 use Rattle.std.specs.List.{AllByRecursion}
@@ -15,9 +15,9 @@ use Rattle.mold_session.proofs.HeadLemmas.{behind_1, behind_2}
 use Rattle.mold_session.proofs.OneFaultLemmas.{IsFaultAt, IsBehind, fault_at, full_at_block, same_behind}
 use Rattle.mold_session.proofs.OneFaultLemmas.{short_or_headed, foreign_or_headed, flagged_or_headed, one_fault}
 
--- ---- the first messages of all
+-- ---- prefixes of the messages
 
--- no block more is taken there: nothing is left, or what is left is refused
+-- After `count` messages the bytes end, or the rest has a fault.
 data Stops (count : ℕ) (rest : List ℕ) : Type 0 where
   Over : rest ≡ [] → Stops count rest
   Refusal : (error : FileError) → IsFaultAt 65535 count rest error → Stops count rest
@@ -29,7 +29,7 @@ no_block_stopped count len message more rest few within starts (Refusal error fa
     let full = full_at_block 65535 count message more rest error (omega arith) (omega (arith, within)) starts fault in
     absurd (omega (arith, few, full.1))
 
--- blocks that were taken are the first of all
+-- The messages of blocks that were read are a prefix of all messages.
 front_of : (base : ℕ) (front all : List (List ℕ)) (left rest : List ℕ) →
     base + length front < 18446744073709551615 → AllByRecursion (IsWithin 65535) front →
     AllByRecursion (IsWithin 65535) all → blocks all ++ rest ≡ blocks front ++ left → Stops (base + length all) rest →
@@ -54,9 +54,9 @@ front_of base (message ∷ front) (next ∷ all) left rest few each also same st
           ∙ ap (λ (t : List (List ℕ)). message ∷ t) others.longer;
     }
 
--- ---- what a file gives
+-- ---- the contents of a file
 
--- a file of either version is its blocks and nothing more
+-- After its head, the file of a journal has blocks and nothing more.
 all_blocks : (bytes : List ℕ) (messages : List (List ℕ)) (head : FileHead) (stated : Option ℕ) →
     SpellsFile head messages stated bytes → HasBlocks bytes messages []
 all_blocks bytes messages head None spelled = record {
@@ -72,7 +72,7 @@ all_blocks bytes messages head (Some count) spelled = record {
   parts = sym (append-nil (blocks messages));
 }
 
--- so much of a file is blocks, or its head is refused and it has no messages
+-- A file has a valid head and blocks up to a rest that stops them, or it has no valid head and no messages.
 data Parted (bytes : List ℕ) (messages : List (List ℕ)) : Type 0 where
   Headless : messages ≡ [] → ((behind : List ℕ) → IsBehind bytes behind → ⊥) → Parted bytes messages
   Headed : (rest : List ℕ) → HasBlocks bytes messages rest → Stops (length messages) rest → Parted bytes messages
@@ -100,7 +100,7 @@ parted bytes messages (Some Read) gives = absurd gives.1
 parted bytes messages (Some Memory) gives = absurd gives.1
 parted bytes messages (Some Write) gives = absurd gives.1
 
--- blocks behind the head are the first of its messages
+-- The messages of blocks that follow the head are a prefix of the file's messages.
 first_of : (bytes left : List ℕ) (front all : List (List ℕ)) → HasBlocks bytes front left → Parted bytes all →
     IsFront front all
 first_of bytes left front all has (Headless none off) = absurd (off has.behind has.head)

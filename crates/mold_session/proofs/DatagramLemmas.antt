@@ -1,4 +1,4 @@
--- How messages are packed: the first packet, and then the packing of what is behind it.
+-- How messages are packed: the first packet, and the packing of the messages after it.
 use Rattle.std.proofs.Common.{◌≡◌, ℕ, zero, suc, ◌+◌, ◌-◌, ◌<◌, ◌≤◌, cond, eqb, List, [], ◌∷◌, ◌++◌, length}
 use Rattle.std.proofs.Common.{length-append, drop, refl, sym, ap, ◌∙◌, inl, inr, arith}
 use Rattle.std.proofs.lemmas.Bool.{cond-true, cond-false, ne_eqb, cases_eq, eq-eqb}
@@ -8,7 +8,7 @@ use Rattle.mold_wire.specs.declared.packet.Packet.{Packet}
 use Rattle.mold_wire.specs.Packing.{front}
 use Rattle.mold_session.specs.Datagrams.{data_packet, first_part, packing_within, packing}
 
--- what is packed behind a first part that has a message
+-- The packing of the messages after a first packet that has a message.
 pub packed_behind : (limit most : ℕ) (session : Session) (sequence : ℕ) (messages found behind : List (List ℕ)) →
     first_part limit messages ≡ found → 0 < length found → messages ≡ found ++ behind →
     packing_within limit (suc most) session sequence messages
@@ -31,7 +31,7 @@ unfolding packing_within
 packed_none limit zero session sequence messages none = refl
 packed_none limit (suc most) session sequence messages none = cond-true _ _ _ (eq-eqb _ 0 none)
 
--- more packets are allowed than there are messages, and then it doesn't matter how many
+-- The bound on the number of packets has no effect if it is at least the number of messages.
 none_of_none : (limit most : ℕ) (session : Session) (sequence : ℕ) (messages : List (List ℕ)) → length messages ≡ 0 →
     packing_within limit most session sequence messages ≡ []
 unfolding front

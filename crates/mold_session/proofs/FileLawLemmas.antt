@@ -1,4 +1,4 @@
--- That a file has one reading: of two spellings both are the same, and what is spelled has no fault.
+-- A file has one reading: two journals with the same file are equal, and the file of a journal has no fault.
 use Rattle.std.proofs.Common.{◌≡◌, ℕ, ◌+◌, ◌<◌, ◌≤◌, Bool, true, false, List, [], ◌∷◌, ◌++◌, length, length-append}
 use Rattle.std.proofs.Common.{take, drop, refl, sym, ap, subst, ◌∙◌, append_assoc, inl, inr, arith}
 use Rattle.std.proofs.lemmas.List.{take_at, drop_at, append_cancel_left}
@@ -13,11 +13,11 @@ use Rattle.mold_session.specs.declared.error.FileError.{FileError}
 use Rattle.mold_session.specs.declared.error.FileError.TheVariants.{TooLong, Memory, BadMagic, Short, BlockCut, Read, Write, Full, CountDiffers, BadFlag}
 use Rattle.mold_session.proofs.HeadLemmas.{length-magic_1, length-magic_2, one_magic, behind_1, behind_2, count_at, flag_at}
 
--- a block begins with the length of its message
+-- A block begins with the length of its message.
 pub length_read : (message rest : List ℕ) → length message ≤ 65535 → big_number 2 (block message ++ rest) ≡ length message
 length_read message rest fits = omega arith
 
--- one block stands at the front of the bytes
+-- Two blocks at the start of the same bytes have the same message, and the bytes after them are the same.
 pub record SameBlock (one other more rest : List ℕ) : Type 0 where
   pub message : one ≡ other
   pub behind : more ≡ rest
@@ -42,7 +42,8 @@ block_here one other more rest fits also same =
 pub no_block : (message more : List ℕ) → block message ++ more ≡ [] → ⊥
 no_block message more same = absurd (omega (arith, ap (λ (t : List ℕ). length t) same))
 
--- blocks and a rest behind them, where all is blocks: the rest is the further blocks
+-- If the blocks of `all` are the blocks of `front` and a rest, then the rest is the blocks of the remaining
+-- messages.
 pub record Further (front all : List (List ℕ)) (rest : List ℕ) : Type 0 where
   pub extra : List (List ℕ)
   pub longer : all ≡ front ++ extra
@@ -66,7 +67,7 @@ further (message ∷ front) (first ∷ all) rest each also same =
       behind = others.behind;
     }
 
--- the same blocks are of the same messages
+-- Equal blocks have equal messages.
 pub same_messages : (one other : List (List ℕ)) → AllByRecursion (IsWithin 65535) one →
     AllByRecursion (IsWithin 65535) other → blocks one ≡ blocks other → one ≡ other
 same_messages [] [] each also same = refl
@@ -89,7 +90,7 @@ each_behind : (most : ℕ) (front extra : List (List ℕ)) → AllByRecursion (I
 each_behind most [] extra each = each
 each_behind most (message ∷ front) extra each = each_behind most front extra each.1
 
--- what follows some of the blocks is no fault
+-- The blocks after a prefix of the blocks have no fault.
 no_rest_fault : (most count : ℕ) (extra : List (List ℕ)) (rest : List ℕ) (error : FileError) → most ≤ 65535 →
     AllByRecursion (IsWithin most) extra → count + length extra < 18446744073709551615 → rest ≡ blocks extra →
     BlockFault most count rest error → ⊥
@@ -154,7 +155,7 @@ no_fault_behind_1 most session messages bytes error bound spelled each fault =
       | inr behind ↦ one_magic (sym head.magic ∙ behind.magic)
     ]
 
--- a file of version 1 has no fault
+-- The file of a journal has no fault: version 1.
 pub no_fault_1 : (most : ℕ) (session : Session) (messages : List (List ℕ)) (bytes : List ℕ) (error : FileError) →
     most ≤ 65535 → SpellsJournal session messages bytes → AllByRecursion (IsWithin most) messages →
     JournalFault most bytes error → ⊥
@@ -191,7 +192,7 @@ no_fault_behind_2 most session messages closed bytes error bound spelled each fa
           (behind.from ∙ sym head.from) fault.2
     ]
 
--- and none of version 2
+-- The file of a journal has no fault: version 2.
 pub no_fault_2 : (most : ℕ) (session : Session) (messages : List (List ℕ)) (closed : Bool) (bytes : List ℕ)
     (error : FileError) → most ≤ 65535 → SpellsJournal2 session messages closed bytes →
     AllByRecursion (IsWithin most) messages → JournalFault most bytes error → ⊥
@@ -228,7 +229,7 @@ no_fault_2 most session messages closed bytes Read bound spelled each fault = fa
 no_fault_2 most session messages closed bytes Memory bound spelled each fault = fault
 no_fault_2 most session messages closed bytes Write bound spelled each fault = fault
 
--- no bytes are files of both versions
+-- No bytes are files of both versions.
 pub one_version : (one other : Session) (messages others : List (List ℕ)) (closed : Bool) (bytes : List ℕ) →
     SpellsJournal one messages bytes → SpellsJournal2 other others closed bytes → ⊥
 one_version one other messages others closed bytes first second = one_magic (
@@ -236,7 +237,7 @@ one_version one other messages others closed bytes first second = one_magic (
     ∙ (behind_2 other.0 bytes (blocks others) closed (length others) second.named second.spelled).magic
     )
 
--- two journals of one file are the same
+-- Two journals with the same file are equal.
 session_at : (session bytes behind magic : List ℕ) → length magic ≡ 8 → length session ≡ 10 →
     bytes ≡ magic ++ (session ++ behind) → session ≡ take 10 (drop 8 bytes)
 session_at session bytes behind magic eight ten parts = sym (

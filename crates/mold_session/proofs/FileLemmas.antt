@@ -1,4 +1,4 @@
--- A whole file by its parts.
+-- A whole file, put together from its parts.
 use Rattle.std.proofs.Common.{◌≡◌, ℕ, ◌⊎◌, Bool, true, List, [], ◌++◌, length, Option, None, Some, refl, sym, ap, subst, ◌∙◌, inl, inr, Result, Err}
 use Rattle.std.specs.Prelude.{IfSome, IfErr, unwrap_or, if◌then◌else◌}
 use Rattle.std.specs.Io.KnownBytes.{Consumes, prepend_known}
@@ -15,7 +15,7 @@ use Rattle.mold_session.specs.declared.error.FileError.TheVariants.{TooLong, Mem
 use Rattle.mold_session.specs.declared.loading.FileHead.{FileHead}
 use Rattle.mold_session.proofs.HeadLemmas.{behind_1, behind_2, count_at, refused_behind}
 
--- the blocks follow a head of either version
+-- The blocks follow the head of either version.
 pub behind_head : (session : List ℕ) (closed : Bool) (stated : Option ℕ) (bytes behind : List ℕ) → length session ≡ 10 →
     bytes ≡ head_spelling session closed stated ++ behind → IsBody1 bytes behind ⊎ IsBody2 bytes behind
 behind_head session closed None bytes behind ten parts = inl (behind_1 session bytes behind ten parts)
@@ -39,14 +39,14 @@ in_file head most ten bytes rest parts Read fault = absurd fault.fault
 in_file head most ten bytes rest parts Memory fault = absurd fault.fault
 in_file head most ten bytes rest parts Write fault = absurd fault.fault
 
--- a fault in the blocks is one of the file
+-- A fault in the blocks is a fault of the file.
 pub blocks_refused : (known left : Option (List ℕ)) (head : FileHead) (most : ℕ) → ReadsHead known left head →
     (error : FileError) → Refuses (BlocksFault most) left error → Refuses (JournalFault most) known error
 blocks_refused known left head most read error fault =
     refused_behind (BlocksFault most) (JournalFault most) known left
     (head_spelling head.session.0 head.closed head.stated) read.consumed (in_file head most read.named) error fault
 
--- before anything was read
+-- Nothing was read before the head.
 pub from_start : (known : Option (List ℕ)) (piece : List ℕ) (most : ℕ) (error : FileError) → piece ≡ [] →
     Refuses (JournalFault most) (prepend_known piece known) error → Refuses (JournalFault most) known error
 from_start known piece most error none fault =
@@ -59,7 +59,7 @@ head_from_start known left piece head none read =
     subst (λ (t : Option (List ℕ)). ReadsHead t left head)
     (ap (λ (t : List ℕ). prepend_known t known) none ∙ prepend_known-nil known) read
 
--- another number of messages than is stated
+-- A file that states another number of messages than it has.
 miscounted : (known left : Option (List ℕ)) (head : FileHead) (stated : Option ℕ) (most : ℕ)
     (messages : List (List ℕ)) (count found : ℕ) → length head.session.0 ≡ 10 → IsStated head.closed stated →
     Consumes known left (head_spelling head.session.0 head.closed stated) →
@@ -107,7 +107,7 @@ count_off known left head most messages found Read read whole are counted fault 
 count_off known left head most messages found Memory read whole are counted fault = absurd fault
 count_off known left head most messages found Write read whole are counted fault = absurd fault
 
--- the number that is stated, or no number
+-- A file that states the number of its messages, or none, is the file of a journal.
 spells : (known left : Option (List ℕ)) (head : FileHead) (stated : Option ℕ) (messages : List (List ℕ))
     (count found : ℕ) → length head.session.0 ≡ 10 → IsStated head.closed stated →
     Consumes known left (head_spelling head.session.0 head.closed stated) →
@@ -137,13 +137,13 @@ file_spelled known left head messages count found read whole are is same counted
     spells known left head head.stated messages count found read.named read.said read.consumed whole are is same
     counted
 
--- a refusal that `?` passes on
+-- An error that `?` returns.
 pub passed_on : {T : Type 0} (result : Result T FileError) (error : FileError) (P : FileError → Type 0) →
     ((x : FileError) × (result ≡ Err x) × (x ≡ error)) → P error → IfErr result P
 passed_on {T = T} result error P p is =
     subst (λ (r : Result T FileError). IfErr r P) (sym p.1) (subst P (sym p.2) is)
 
--- the file was that of its version
+-- The bytes are the file of the version that its head shows.
 of_version : (known : Option (List ℕ)) (head : FileHead) (messages : List (List ℕ)) (stated : Option ℕ) →
     IfSome known (λ bytes. SpellsFile head messages stated bytes) →
     IfSome known (λ bytes. SpellsVersion (version_of stated) head.session messages head.closed bytes)

@@ -1,4 +1,5 @@
--- Longest fronts: what the wire crate's laws say of them, of some messages and of the first so many of these.
+-- Longest prefixes of messages: what the laws of mold_wire state about them, for all messages and for the first
+-- ones.
 use Rattle.std.proofs.Common.{◌≡◌, ℕ, zero, suc, ◌+◌, ◌-◌, ◌<◌, ◌≤◌, List, [], ◌∷◌, ◌++◌, length, length-append, take}
 use Rattle.std.proofs.Common.{drop, refl, sym, ap, ◌∙◌, append_assoc, arith}
 use Rattle.std.proofs.Math.Seq.{take-append-add}
@@ -23,7 +24,7 @@ each_take P zero xs each = tt
 each_take P (suc n) [] each = tt
 each_take P (suc n) (x ∷ xs) each = (each.0, each_take P n xs each.1)
 
--- messages that a journal may have fit the datagrams of a server or publisher for it
+-- The messages of a journal fit the datagrams of its publisher or server, each by itself.
 pub fit_alone :
     (longest limit : ℕ) (messages : List (List ℕ)) → longest + 22 ≤ limit →
     AllByRecursion (IsWithin longest) messages → FitAlone limit messages
@@ -46,18 +47,18 @@ SomeFront =
     (limit : ℕ) (message : List ℕ) (messages found : List (List ℕ)) (most : ℕ) →
     IsFront limit (message ∷ messages) most found → 0 < most → Fits limit (message ∷ []) → 0 < length found
 
--- a message of 22 bytes less than the limit fits alone
+-- A message of `limit - 22` bytes or fewer fits a datagram by itself.
 abbrev pub Alone : Type 0
 Alone = (limit : ℕ) (message : List ℕ) → length message + 22 ≤ limit → Fits limit (message ∷ [])
 
--- a front has no more messages than there are
+-- A prefix has at most as many messages as the list.
 pub front_within :
     (limit : ℕ) (messages : List (List ℕ)) (most : ℕ) (found : List (List ℕ)) → IsFront limit messages most found →
     length found ≤ length messages
 front_within limit messages most found longest =
     omega (arith, ap (λ (t : List (List ℕ)). length t) longest.parts, length-append found longest.behind)
 
--- where each message fits alone, the longest front has some
+-- If each message fits by itself, the longest prefix of a list with messages has a message.
 pub some_front :
     (limit : ℕ) (messages : List (List ℕ)) (most : ℕ) (found : List (List ℕ)) → SomeFront → Alone →
     FitAlone limit messages → 0 < length messages → 0 < most → IsFront limit messages most found → 0 < length found
@@ -65,7 +66,7 @@ some_front limit [] most found some alone each more most_some longest = absurd (
 some_front limit (message ∷ messages) most found some alone each more most_some longest =
     some limit message messages found most longest most_some (alone limit message each.0)
 
--- the longest front of at most so many is that of the first so many
+-- The longest prefix of at most `most` messages is the longest prefix of the first `most` messages.
 pub front_of_taken :
     (limit : ℕ) (messages : List (List ℕ)) (most : ℕ) (found : List (List ℕ)) → IsFront limit messages most found →
     IsFront limit (take most messages) (length (take most messages)) found

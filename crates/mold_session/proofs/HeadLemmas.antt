@@ -1,4 +1,4 @@
--- What stands before the blocks of a file.
+-- The head of a file.
 use Rattle.std.proofs.Common.{◌≡◌, ℕ, zero, suc, ◌+◌, ◌<◌, ◌≤◌, ◌^◌, eqb, not, Bool, true, false, List, [], ◌∷◌, ◌++◌}
 use Rattle.std.proofs.Common.{length, length-append, take, drop, get_or, Option, None, Some, refl, sym, ap, ◌∙◌}
 use Rattle.std.proofs.Common.{append_assoc, inr, arith}
@@ -23,7 +23,7 @@ pub length-magic_2 : length magic_2 ≡ 8
 unfolding magic_2
 length-magic_2 = refl
 
--- no file is of both versions
+-- The magic bytes of the two versions differ.
 pub one_magic : magic_1 ≡ magic_2 → ⊥
 unfolding magic_1 magic_2
 one_magic same = absurd (omega (arith, ap (λ (t : List ℕ). get_or t 7 0) same))
@@ -31,7 +31,7 @@ one_magic same = absurd (omega (arith, ap (λ (t : List ℕ). get_or t 7 0) same
 length-head_1 : (session : List ℕ) → length session ≡ 10 → length (head_1 session) ≡ 18
 length-head_1 session ten = omega (arith, length-append magic_1 session, length-magic_1)
 
--- the flag and the count stand behind 18 and 19 bytes
+-- The flag is at offset 18, and the count at offset 19.
 flag_place : (session behind : List ℕ) (closed : Bool) (count : ℕ) →
     head_2 session closed count ++ behind ≡ (magic_2 ++ session) ++ (closed_byte closed ∷ (be64 count ++ behind))
 flag_place session behind closed count =
@@ -52,7 +52,7 @@ length-head_2 session closed count ten =
       length-magic_2,
     )
 
--- what follows a head of version 1
+-- The bytes after a head of version 1.
 pub behind_1 : (session bytes behind : List ℕ) → length session ≡ 10 → bytes ≡ head_1 session ++ behind →
     IsBody1 bytes behind
 behind_1 session bytes behind ten parts = record {
@@ -80,7 +80,7 @@ flag_at session bytes behind closed count ten parts =
     ∙ ap (λ (t : List ℕ). get_or t 0 0)
     (drop_at (magic_2 ++ session) (closed_byte closed ∷ (be64 count ++ behind)) 18 (length-flag_place session ten))
 
--- and one of version 2
+-- The bytes after a head of version 2.
 pub behind_2 : (session bytes behind : List ℕ) (closed : Bool) (count : ℕ) → length session ≡ 10 →
     bytes ≡ head_2 session closed count ++ behind → IsBody2 bytes behind
 behind_2 session bytes behind closed count ten parts = record {
@@ -108,7 +108,7 @@ count_place session behind closed count =
     flag_place session behind closed count
     ∙ sym (append_assoc (magic_2 ++ session) (closed_byte closed ∷ []) (be64 count ++ behind))
 
--- the number that is stated
+-- The number of messages that a file of version 2 states.
 pub count_at : (session bytes behind : List ℕ) (closed : Bool) (count : ℕ) → length session ≡ 10 → count < 2 ^ 64 →
     bytes ≡ head_2 session closed count ++ behind → count ≡ big_number 8 (drop 19 bytes)
 count_at session bytes behind closed count ten fits parts =
@@ -122,7 +122,7 @@ count_at session bytes behind closed count ten fits parts =
     ∙ big_number-be64 count behind fits
     )
 
--- flag and count, as they were read
+-- The flag and the count as they were decoded.
 closed_from : (byte : ℕ) → byte ≤ 1 → closed_byte (eqb byte 1) ≡ byte
 closed_from zero small = refl
 closed_from (suc zero) small = refl
@@ -135,7 +135,7 @@ numbers_are place count byte number all small read =
     ∙ read
     ∙ ap (λ (n : ℕ). n ∷ be64 number) (sym (closed_from byte small))
 
--- 18 bytes that begin with neither magic
+-- A file whose first 18 bytes begin with the magic bytes of neither version is refused.
 pub bad_magic : (known left : Option (List ℕ)) (front : List ℕ) (most : ℕ) → Consumes known left front →
     length front ≡ 18 → (take 8 front ≡ magic_1 → ⊥) → (take 8 front ≡ magic_2 → ⊥) →
     Refuses (JournalFault most) known BadMagic
@@ -155,7 +155,7 @@ known_behind None left front Behind Whole read same fault = tt
 known_behind (Some xs) None front Behind Whole read same fault = absurd read
 known_behind (Some xs) (Some ys) front Behind Whole read same fault = same xs ys read fault
 
--- a fault of what is left is one of what was known
+-- A fault of the remaining bytes is a fault of all bytes.
 pub refused_behind : (Behind Whole : List ℕ → FileError → Type 0) (known left : Option (List ℕ)) (front : List ℕ) →
     Consumes known left front →
     ((bytes rest : List ℕ) → bytes ≡ front ++ rest → (error : FileError) → Behind rest error → Whole bytes error) →
@@ -186,7 +186,7 @@ refused_behind Behind Whole known left front read same (CountDiffers count found
     (λ bytes. Whole bytes (CountDiffers count found))
     read (λ xs ys e. same xs ys e (CountDiffers count found)) fault
 
--- a fault behind 18 bytes that begin version 2
+-- A fault of the bytes after the first 18 bytes of version 2 is a fault of the file.
 pub numbers_refused : (front : List ℕ) (most : ℕ) → length front ≡ 18 → take 8 front ≡ magic_2 → (bytes rest : List ℕ) →
     bytes ≡ front ++ rest → (error : FileError) → NumbersFault rest error → JournalFault most bytes error
 numbers_refused front most long is bytes rest read (Short len) fault =
@@ -214,7 +214,7 @@ numbers_refused front most long is bytes rest read (TooLong len) fault = absurd 
 numbers_refused front most long is bytes rest read (BlockCut number) fault = absurd fault
 numbers_refused front most long is bytes rest read (CountDiffers count found) fault = absurd fault
 
--- bytes that compare unequal are not the same
+-- If the comparison of bytes is false, they differ.
 pub unequal : (one other magic front : List ℕ) → pointwise eqb one other ≡ false → one ≡ take 8 front →
     other ≡ magic → take 8 front ≡ magic → ⊥
 unequal one other magic front differ begins is same =
@@ -229,12 +229,12 @@ pub compares : (equal : Bool) → not equal ≡ false → equal ≡ true
 compares true is = refl
 compares false is = sym is
 
--- bytes that compare equal are the same
+-- If the comparison of bytes is true, they are equal.
 pub same_magic : (one other magic front : List ℕ) → pointwise eqb one other ≡ true → one ≡ take 8 front →
     other ≡ magic → take 8 front ≡ magic
 same_magic one other magic front equal begins is = sym begins ∙ (bytes_decides one other).0 equal ∙ is
 
--- a byte and the eight bytes of a number
+-- Nine bytes are one byte and the eight bytes of a number.
 pub byte_and_number : (bytes first behind : List ℕ) (number : ℕ) → length bytes ≡ 9 →
     ((i : ℕ) → get_or bytes i 0 < 256) → first ≡ take 1 bytes → behind ≡ drop 1 bytes → number ≡ big_number 8 behind →
     bytes ≡ get_or first 0 0 ∷ be64 number

@@ -1,4 +1,4 @@
--- What was read of a file.
+-- The messages that were read of a file so far.
 use Rattle.std.proofs.Common.{◌≡◌, ℕ, ◌+◌, ◌-◌, ◌≤◌, List, [], ◌∷◌, ◌++◌, length, length-append, take, drop}
 use Rattle.std.proofs.Common.{take-append-drop, Option, refl, sym, ap, ◌∙◌, arith}
 use Rattle.std.proofs.lemmas.List.{length-take-le}
@@ -8,14 +8,14 @@ use Rattle.mold_messages.specs.Listed.{extended}
 use Rattle.mold_wire.specs.Block.{blocks}
 use Rattle.mold_session.specs.Journal.{AreMessages}
 
--- so many bytes were taken into the last message, and the others are missing
+-- The last message of the list has all but `missing` of its `len` bytes.
 pub record Taking (known left : Option (List ℕ)) (old new : List (List ℕ)) (missing len : ℕ) : Type 0 where
   pub message : List ℕ
   pub counted : length message + missing ≡ len
   pub added : new ≡ old ++ message ∷ []
   pub consumed : Consumes known left message
 
--- the blocks of these messages were taken
+-- The blocks of these messages were read.
 pub record Reads (most : ℕ) (known left : Option (List ℕ)) (messages : List (List ℕ)) : Type 0 where
   pub listed : AreMessages most messages
   pub consumed : Consumes known left (blocks messages)
@@ -27,7 +27,7 @@ extended_last (first ∷ []) message part = refl
 extended_last (first ∷ second ∷ old) message part =
     ap (λ (t : List (List ℕ)). first ∷ t) (extended_last (second ∷ old) message part)
 
--- a part of the piece joins the last message
+-- Some bytes of the piece are appended to the last message.
 pub taking_more : (known mid left : Option (List ℕ)) (piece lent rest : List ℕ) (old new newer : List (List ℕ))
     (missing count len : ℕ) → Taking known mid old new missing len → Keeps mid (prepend_known piece left) →
     lent ≡ piece → rest ≡ drop count piece → count ≤ length piece → count ≤ missing →

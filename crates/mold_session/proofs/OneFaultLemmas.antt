@@ -1,4 +1,4 @@
--- That a file has one fault: of two faults of the same bytes both are the same.
+-- A file has at most one fault: two faults of the same bytes are equal.
 use Rattle.std.proofs.Common.{◌≡◌, ◌⊎◌, ℕ, ◌+◌, ◌<◌, ◌≤◌, List, [], ◌∷◌, ◌++◌, length, length-append, take}
 use Rattle.std.proofs.Common.{get_or, refl, sym, ap, subst, ◌∙◌, append_assoc, inl, inr, arith}
 use Rattle.std.specs.List.{AllByRecursion}
@@ -12,7 +12,7 @@ use Rattle.mold_session.specs.declared.error.FileError.TheVariants.{TooLong, Mem
 use Rattle.mold_session.proofs.FileLawLemmas.{length_read, block_here, each_file, same_messages, no_blocks_fault}
 use Rattle.mold_session.proofs.HeadLemmas.{one_magic}
 
--- a fault behind so many blocks: no number is left, or the block is too long, or cut
+-- The fault after `count` blocks: no sequence number remains, the message is too long, or its block is cut.
 abbrev pub IsFullAt : ℕ → FileError → Type 0
 IsFullAt count error = (error ≡ Full) × (18446744073709551614 ≤ count)
 
@@ -50,7 +50,7 @@ long_or_cut most rest some long cut =
       | inr within ↦ absurd (omega (arith, long, within.0))
     ]
 
--- at the same place there is one fault
+-- The same rest has at most one fault.
 same_at : (most count : ℕ) (rest : List ℕ) (one other : FileError) → IsFaultAt most count rest one →
     IsFaultAt most count rest other → one ≡ other
 same_at most count rest one other (inl full) (inl also) = full.0 ∙ sym also.0
@@ -63,7 +63,7 @@ same_at most count rest one other (inr (inr cut)) (inl full) = absurd (omega (ar
 same_at most count rest one other (inr (inr cut)) (inr (inl long)) = absurd (long_or_cut most rest long.2 long.3 cut.2)
 same_at most count rest one other (inr (inr cut)) (inr (inr also)) = cut.0 ∙ sym also.0
 
--- a whole block within the bound is a fault only where no number is left
+-- A whole block within the bound is a fault only if no sequence number remains.
 pub full_at_block : (most count : ℕ) (message more rest : List ℕ) (error : FileError) → most ≤ 65535 →
     length message ≤ most → rest ≡ block message ++ more → IsFaultAt most count rest error → IsFullAt count error
 full_at_block most count message more rest error bound within starts (inl full) = full
@@ -84,7 +84,7 @@ full_at_block most count message more rest error bound within starts (inr (inr c
       | inr short ↦ absurd (omega (arith, long, read, short.1))
     ]
 
--- and behind it no number is left either
+-- If no sequence number remains, `Full` is the only possible fault.
 full_behind : (most count : ℕ) (rest : List ℕ) (error : FileError) → 18446744073709551614 ≤ count →
     IsFaultAt most count rest error → error ≡ Full
 full_behind most count rest error last (inl full) = full.0
@@ -99,7 +99,8 @@ block_between most count later message more rest behind one other bound within s
     let last : 18446744073709551614 ≤ later = omega (arith, order, full.1) in
     full.0 ∙ sym (full_behind most later behind other last second)
 
--- the same bytes cut into blocks and a rest in two ways: where each rest is a fault, both are the same
+-- The same bytes are split into blocks and a rest in two ways. If both rests have a fault, the faults are
+-- equal.
 same_fault : (most count level : ℕ) (one other : List (List ℕ)) (rest behind : List ℕ) (error wrong : FileError) →
     most ≤ 65535 → count + length other ≡ level + length one → AllByRecursion (IsWithin most) one →
     AllByRecursion (IsWithin most) other → blocks one ++ rest ≡ blocks other ++ behind →
@@ -134,7 +135,7 @@ one_blocks_fault most behind one other bound first second =
     (fault_at most (length first.messages) first.rest one first.fault)
     (fault_at most (length second.messages) second.rest other second.fault)
 
--- what stands behind the head is one
+-- The bytes after the head are unique.
 abbrev pub IsBehind : List ℕ → List ℕ → Type 0
 IsBehind bytes behind = IsBody1 bytes behind ⊎ IsBody2 bytes behind
 
@@ -144,7 +145,7 @@ same_behind bytes one other (inl first) (inr second) = absurd (one_magic (sym fi
 same_behind bytes one other (inr first) (inl second) = absurd (one_magic (sym second.magic ∙ first.magic))
 same_behind bytes one other (inr first) (inr second) = first.from ∙ sym second.from
 
--- another number of messages than is stated
+-- A file states another number of messages than it has.
 abbrev IsCountedOff : ℕ → List ℕ → FileError → Type 0
 IsCountedOff most bytes error =
     (count : ℕ) × (found : ℕ) × (error ≡ CountDiffers count found) × IsMiscounted most bytes count found
@@ -180,7 +181,7 @@ one_blocks most bytes one other bound first second =
     one_blocks_fault most first.0 one other bound first.2
     (subst (λ (t : List ℕ). BlocksFault most t other) behind second.2)
 
--- the places of a fault: too few bytes, neither magic, a bad flag, the blocks, their number
+-- Where a fault can be: too few bytes, the magic bytes, the flag, the blocks, or the number of messages.
 abbrev pub IsShort : List ℕ → FileError → Type 0
 IsShort bytes error =
     (error ≡ Short (length bytes)) × ((length bytes < 18) ⊎ (IsVersion2 bytes × (length bytes < 27)))
@@ -213,7 +214,7 @@ place_of most bytes Read fault = absurd fault
 place_of most bytes Memory fault = absurd fault
 place_of most bytes Write fault = absurd fault
 
--- a fault at one place leaves none at those before it
+-- Faults at two of these places exclude each other.
 short_or_foreign : (bytes : List ℕ) (one other : FileError) → IsShort bytes one → IsForeign bytes other → ⊥
 short_or_foreign bytes one other first second =
     elim first.1 [
@@ -296,7 +297,7 @@ same_place most bytes one other bound (In_count first) (In_blocks second) =
 same_place most bytes one other bound (In_count first) (In_count second) =
     one_count most bytes one other bound first second
 
--- a file has one fault
+-- A file has at most one fault.
 pub one_fault : (most : ℕ) (bytes : List ℕ) (one other : FileError) → most ≤ 65535 → JournalFault most bytes one →
     JournalFault most bytes other → one ≡ other
 one_fault most bytes one other bound first second =

@@ -1,4 +1,4 @@
--- Messages put into a packet one after the other.
+-- Messages packed into a packet one after another.
 use Rattle.std.proofs.Common.{◌≡◌, ℕ, ◌+◌, ◌*◌, ◌<◌, ◌≤◌, List, [], ◌∷◌, ◌++◌, length, length-append, refl, sym}
 use Rattle.std.proofs.Common.{ap, subst, ◌∙◌, append_assoc, arith}
 use Rattle.std.proofs.lemmas.List.Sums.{sum_by-cons}
@@ -10,7 +10,7 @@ use Rattle.mold_wire.specs.Packing.{packet_length, Fits, IsFront}
 use Rattle.mold_session.specs.File.{file_length}
 use Rattle.mold_session.specs.Packing.{HasPacked}
 
--- what the wire crate's law says of a front that can't be longer
+-- A law of mold_wire: a prefix that fits and can't be extended is the longest one.
 abbrev pub Stops : Type 0
 Stops = (limit : ℕ) (messages : List (List ℕ)) (most : ℕ) (found behind : List (List ℕ)) →
     messages ≡ found ++ behind → length found ≤ most → Fits limit found →
@@ -18,7 +18,7 @@ Stops = (limit : ℕ) (messages : List (List ℕ)) (most : ℕ) (found behind : 
     (found ++ next ∷ []) → ⊥) →
     IsFront limit messages most found
 
--- and of the bytes of a packet with one more message
+-- A law of mold_wire: the length of a packet with one more message.
 abbrev pub OneMore : Type 0
 OneMore =
     (messages : List (List ℕ)) (message : List ℕ) →
@@ -27,7 +27,7 @@ OneMore =
 abbrev pub packer_with : ℕ → Session → ℕ → List (List ℕ) → PackerState
 packer_with limit session sequence found = record { limit = limit; begun = Open session sequence found }
 
--- so many of the messages are in the open packet and fit it, and the rest is to come
+-- The first `count` messages are in the open packet and fit it. The messages in `rest` remain.
 pub record Gathers (limit : ℕ) (session : Session) (sequence : ℕ) (messages : List (List ℕ)) (most : ℕ)
     (packer : PackerState) (rest : List (List ℕ)) (count : ℕ) : Type 0 where
   pub found : List (List ℕ)
@@ -73,7 +73,8 @@ gathers_more limit session sequence messages most packer rest count message more
       fits = omega (arith, within, one_more had.found message);
     }
 
--- once no message is left, there are as many as may be, or the next one has no room, the longest front is packed
+-- The longest prefix is packed when no message remains, when `most` messages are packed, or when the next
+-- message doesn't fit.
 pub packed_all :
     (old : PackerState) (session : Session) (sequence : ℕ) (messages : List (List ℕ)) (most : ℕ)
     (packer : PackerState) (rest : List (List ℕ)) (count : ℕ) → Stops →
@@ -121,7 +122,7 @@ packed_full old session sequence messages most packer rest count message more ne
           no_room (omega (arith, one_more had.found other, ap (λ (t : List ℕ). length t) one, fits)));
     }
 
--- the bytes of a packet by the number of its messages and their bytes together
+-- The length of blocks, from the number of messages and their total length.
 lengths_and_bytes :
     (messages : List (List ℕ)) →
     sum_by (λ message. 2 + length message) messages ≡ 2 * length messages + byte_count messages
@@ -140,7 +141,7 @@ pub packet_bytes :
 unfolding packet_length
 packet_bytes messages = ap (λ (n : ℕ). 20 + n) (lengths_and_bytes messages)
 
--- and those of a file
+-- The length of a file, from the number of messages and their total length.
 pub file_bytes :
     (messages : List (List ℕ)) → file_length messages ≡ 27 + (2 * length messages + byte_count messages)
 file_bytes messages = ap (λ (n : ℕ). 27 + n) (lengths_and_bytes messages)

@@ -18,7 +18,7 @@ use Rattle.mold_session.specs.Packing.{HasPacked}
 use Rattle.mold_session.specs.Publisher.{PublisherState, IsPublisher, unsent_of, next_front, next_datagram, next_heartbeat, next_end}
 use Rattle.mold_session.specs.Publisher.{after_datagram, Lends}
 
--- where nothing is unsent, nothing is sent and the publisher stays
+-- If no message is unsent, nothing is sent and the publisher is unchanged.
 pub record StaysIdle (publisher : PublisherState) : Type 0 where
   pub same : publisher ≡ after_datagram publisher
   pub nothing : next_datagram publisher ≡ None
@@ -43,7 +43,7 @@ stays_idle publisher front_is is none =
       nothing = rw (eq-eqb publisher.sent (length publisher.journal.messages) all) refl;
     }
 
--- what was packed is the next datagram, and is some message
+-- The packed messages are those of the next datagram, and there is at least one.
 pub record IsNext (publisher : PublisherState) (old new : PackerState) (count : ℕ) : Type 0 where
   pub counted : count ≡ length (next_front publisher)
   pub within : publisher.sent + count ≤ length publisher.journal.messages
@@ -89,7 +89,7 @@ is_next publisher old new session messages most count only some alone is unsent 
       some = omega (arith, packed.counted, found_some);
     }
 
--- the bytes that spell what was begun are the next datagram
+-- The encoding of the packed messages is the next datagram.
 pub lends_next :
     (publisher : PublisherState) (old new : PackerState) (count : ℕ) (bytes : List ℕ) →
     (length publisher.journal.messages - publisher.sent ≡ 0 → ⊥) → IsNext publisher old new count →
@@ -107,7 +107,7 @@ lends_next publisher old new count bytes unsent next spells =
     spelled
     )
 
--- the publisher behind it
+-- The publisher after that datagram has the properties of a publisher.
 pub still_publisher :
     (publisher : PublisherState) (old new : PackerState) (count : ℕ) → IsPublisher publisher →
     (length publisher.journal.messages - publisher.sent ≡ 0 → ⊥) → IsNext publisher old new count →
@@ -120,7 +120,8 @@ still_publisher publisher old new count is unsent next = record {
   finished = λ closed. absurd (unsent (omega (arith, is.finished closed)));
 }
 
--- the unsent messages fit by the room that a header leaves, what the lengths take of it, and the bytes
+-- The length of a packet with the unsent messages: the header, the length fields, and the bytes of the
+-- messages.
 pub unsent_bytes :
     (publisher : PublisherState) (lengths joined : ℕ) → IsPublisher publisher →
     lengths ≡ length publisher.journal.messages - publisher.sent → joined ≡ byte_count (unsent_of publisher) →
@@ -158,7 +159,7 @@ full_tells publisher limit lengths joined is limited counted together few =
           (cases_lt (limit - 20 - 2 * lengths) joined),
     )
 
--- the bytes that spell a begun heartbeat or end packet are the next ones
+-- The encoding of a begun heartbeat or end packet is the next one.
 pub lends_heartbeat :
     (publisher : PublisherState) (begun : Begun) (bytes : List ℕ) → publisher.journal.closed ≡ false →
     begun ≡ Open publisher.journal.session (publisher.sent + 1) [] → SpellsBegun begun bytes →

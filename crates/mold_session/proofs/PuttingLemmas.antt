@@ -1,4 +1,4 @@
--- Bytes put at the front of a buffer, one text behind the other.
+-- Bytes copied to the start of a buffer, one text after another.
 use Rattle.std.proofs.Common.{◌≡◌, ℕ, ◌+◌, ◌<◌, ◌^◌, Bool, List, [], ◌∷◌, ◌++◌, length, take, drop, refl, sym, ap, subst, ◌∙◌}
 use Rattle.std.proofs.Common.{append_assoc, append-nil, length-append, arith}
 use Rattle.std.proofs.lemmas.List.{take_at, drop_at, drop-drop, drop_all}
@@ -14,7 +14,7 @@ use Rattle.mold_session.proofs.SavingLemmas.{blocks_one_more, next_within}
 pub puts_none : (bytes : List ℕ) → Puts bytes bytes [] 0
 puts_none bytes = record { sized = refl; put = refl }
 
--- a text behind the one that was put
+-- A text is copied after the one before it.
 pub puts_more :
     (old mid new text more : List ℕ) (used : ℕ) → Puts old mid text used →
     new ≡ take used mid ++ (more ++ drop (length more) (drop used mid)) →
@@ -44,7 +44,8 @@ puts_of :
 puts_of old new text same used size is long puts =
     subst (λ (t : List ℕ). Puts old new t size) is (subst (λ (n : ℕ). Puts old new text n) long puts)
 
--- the blocks of some of the messages stand behind the head, and the rest has room
+-- The buffer has the head and the blocks of the messages in `done`. It has room for the blocks of the messages
+-- in `rest`.
 pub record Fills (old new head : List ℕ) (all rest : List (List ℕ)) (used : ℕ) : Type 0 where
   pub done : List (List ℕ)
   pub parts : all ≡ done ++ rest
@@ -62,7 +63,7 @@ fills_none old new head all rest same long next = record {
   total = ap file_length same;
 }
 
--- the next message's block has room
+-- The buffer has room for the block of the next message.
 pub fills_room :
     (old new head : List ℕ) (all left : List (List ℕ)) (message : List ℕ) (rest : List (List ℕ)) (used : ℕ) →
     left ≡ message ∷ rest → Fills old new head all left used →
@@ -103,14 +104,14 @@ fills_more old mid half new head len all left message rest used some fills spell
       total = omega (arith, fills_room old mid head all left message rest used some fills);
     }
 
--- the next of the messages is within the bound of a block
+-- The next message is no longer than a block allows.
 pub fills_fits :
     (old new head : List ℕ) (all left : List (List ℕ)) (message : List ℕ) (rest : List (List ℕ)) (used : ℕ) →
     AreMessages 65535 all → left ≡ message ∷ rest → Fills old new head all left used → length message < 2 ^ 16
 fills_fits old new head all left message rest used are some fills =
     next_within all fills.done left message rest are some fills.parts
 
--- no message is left: the file stands there
+-- When no message remains, the buffer has the whole file.
 pub fills_all :
     (old new : List ℕ) (session : Session) (closed : Bool) (all rest : List (List ℕ)) (used : ℕ) →
     length session.0 ≡ 10 → AreMessages 65535 all → rest ≡ [] →
@@ -129,7 +130,7 @@ pub fills_size :
 fills_size old new head all rest used none fills =
     omega (arith, fills.total, ap (λ (t : List (List ℕ)). sum_by (λ (m : List ℕ). 2 + length m) t) none)
 
--- the four parts of a head, one behind the other in a buffer that has no more room
+-- The four parts of a head, one after another, fill the buffer.
 pub head_put :
     (zeros a b c bytes magic name flag number : List ℕ) (closed : Bool) (count : ℕ) → length zeros ≡ 27 →
     magic ≡ magic_2 → length magic_2 ≡ 8 → length name ≡ 10 → flag ≡ closed_byte closed ∷ [] → number ≡ be64 count →

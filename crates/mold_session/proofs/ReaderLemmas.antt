@@ -1,4 +1,4 @@
--- What a file gives, by the messages of it that were read.
+-- The contents of a file, given the messages that were read of it.
 use Rattle.std.proofs.Common.{◌≡◌, ℕ, ◌<◌, ◌≤◌, List, [], ◌∷◌, ◌++◌, length, length-append, Option, None, Some}
 use Rattle.std.proofs.Common.{refl, sym, ap, subst, ◌∙◌, append_assoc, append-nil, arith}
 use Rattle.std.specs.Prelude.{IfSome, unwrap_or}
@@ -26,7 +26,7 @@ in_known : (known : Option (List ℕ)) (One Other : List ℕ → Type 0) → ((b
 in_known None One Other same holds = tt
 in_known (Some bytes) One Other same holds = same bytes holds
 
--- a file whose head is refused gives no message
+-- A file whose head is refused has no messages.
 pub head_refused : (known : Option (List ℕ)) (error : FileError) → IsOfHead error →
     Refuses (JournalFault 65535) known error → Refuses (λ bytes why. Gives bytes [] (Some why)) known error
 head_refused known (Short len) of refused =
@@ -46,7 +46,7 @@ head_refused known (TooLong len) of refused = absurd of
 head_refused known (BlockCut number) of refused = absurd of
 head_refused known (CountDiffers count found) of refused = absurd of
 
--- ---- one message more
+-- ---- the next message
 
 each_more : (messages : List (List ℕ)) (message : List ℕ) → AllByRecursion (IsWithin 65535) messages →
     length message < 65536 → AllByRecursion (IsWithin 65535) (messages ++ message ∷ [])
@@ -82,7 +82,7 @@ read_more known left after reader next messages read more =
           more.consumed));
     }
 
--- ---- what the file gives
+-- ---- the contents of the file
 
 module _ (xs ys : List ℕ) (reader : ReaderState) (messages : List (List ℕ))
     (read : HasRead (Some xs) (Some ys) reader messages) where
@@ -167,7 +167,7 @@ read_refused known left reader messages error read fault =
     }) why rest)
     error fault
 
--- what was read is the first of what the file gives
+-- The messages that were read are a prefix of the file's messages.
 pub read_front : (known left : Option (List ℕ)) (reader : ReaderState) (messages : List (List ℕ)) →
     HasRead known left reader messages →
     IfSome known (λ bytes. (contents : FileContents bytes) → IsFront messages contents.messages)

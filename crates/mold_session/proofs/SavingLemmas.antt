@@ -17,7 +17,7 @@ blocks-append (message ∷ front) back =
     ap (λ (t : List ℕ). block message ++ t) (blocks-append front back)
     ∙ sym (append_assoc (block message) (blocks front) (blocks back))
 
--- the block of a message by its two parts
+-- The block of a message is put as two parts: its length field and its bytes.
 pub block_moves : (old mid new : Option (List ℕ)) (kept len held message still : List ℕ) → len ≡ be16 (length message) →
     Moves old mid kept len held → Moves mid new held message still → Moves old new kept (block message) still
 block_moves old mid new kept len held message still same p q =
@@ -37,7 +37,7 @@ block_front_behind old mid new kept len held message same p q =
     subst (λ (t : List ℕ). AppendsPrefix old new (kept ++ (t ++ message))) same
     (moves_front_more old mid new kept len held message p q)
 
--- the blocks of some of the messages stand behind the head, and the rest is to come
+-- The head and the blocks of the messages in `done` were put. The messages in `rest` remain.
 pub record Saves (old new : Option (List ℕ)) (head : List ℕ) (all rest : List (List ℕ)) (kept : List ℕ) : Type 0 where
   pub done : List (List ℕ)
   pub parts : all ≡ done ++ rest
@@ -51,7 +51,7 @@ saves_none held head all rest kept same begun = record {
   moved = record { written = []; parts = append-nil head ∙ sym begun; appended = Appends-nil held };
 }
 
--- the next of the messages, each of which has at most 65,535 bytes
+-- The next message has at most 65,535 bytes if all messages do.
 each_next : (done : List (List ℕ)) (message : List ℕ) (rest : List (List ℕ)) →
     AllByRecursion (IsWithin 65535) (done ++ message ∷ rest) → length message ≤ 65535
 each_next [] message rest each = each.0
@@ -93,7 +93,7 @@ saves_more old mid new head all left message rest kept still some saves next = r
       (moves_both old mid new [] (head ++ blocks saves.done) kept (block message) still saves.moved next);
 }
 
--- the whole text by what was done and what is left
+-- The bytes of the whole file are the bytes so far and the blocks of the remaining messages.
 whole : (head : List ℕ) (all done rest : List (List ℕ)) → all ≡ done ++ rest →
     (head ++ blocks done) ++ blocks rest ≡ head ++ blocks all
 whole head all done rest parts =
@@ -137,7 +137,7 @@ saves_all old mid new head all rest kept saves none p =
     )
     (Appends-trans old mid new saves.moved.written kept saves.moved.appended p)
 
--- what was written is the file of a journal, or a beginning of it
+-- The written bytes are the file of a journal, or a prefix of it.
 pub file_saved : (old new : Option (List ℕ)) (session : Session) (closed : Bool) (count : ℕ)
     (messages : List (List ℕ)) → length session.0 ≡ 10 → AreMessages 65535 messages → count ≡ length messages →
     Appends old new (head_2 session.0 closed count ++ blocks messages) → AppendsFile old new session messages closed
@@ -165,7 +165,7 @@ file_begun old new session closed count messages named listed counted p = record
   appended = p;
 }
 
--- a bound of 16 bits is a block's own
+-- A message within a bound of 16 bits is within the bound of a block.
 each_within : (most : ℕ) (messages : List (List ℕ)) → most < 65536 → AllByRecursion (IsWithin most) messages →
     AllByRecursion (IsWithin 65535) messages
 each_within most [] bound each = tt

@@ -1,4 +1,4 @@
--- The packets that a publisher or a server sends next have a spelling, and it tells the truth.
+-- The packets that a publisher or a server sends next have an encoding, and it is true of the journal.
 use Rattle.std.proofs.Common.{◌≡◌, ℕ, zero, suc, ◌+◌, ◌-◌, ◌<◌, ◌≤◌, ◌^◌, cond, Bool, true, false, List, [], ◌∷◌, length}
 use Rattle.std.proofs.Common.{drop, length-drop, ◌++◌, Option, None, Some, sym, ap, subst, ◌∙◌, inl, inr, arith}
 use Rattle.std.specs.Prelude.{slice_get}
@@ -21,7 +21,7 @@ use Rattle.mold_session.specs.Publisher.{IsPublisher, Lends, PublisherState, nex
 use Rattle.mold_session.specs.Publisher.{next_heartbeat, unsent_of}
 use Rattle.mold_session.specs.Truthful.{MayAnswer, IsTrueDatagram}
 
--- what the laws of the wire say
+-- The laws of mold_wire that these proofs use.
 pub record WireLaws : Type 0 where
   pub front_is : FrontIs
   pub some : SomeFront
@@ -30,7 +30,7 @@ pub record WireLaws : Type 0 where
   pub most : (limit : ℕ) (messages : List (List ℕ)) → limit ≤ 65507 → Fits limit messages → length messages ≤ 32743
   pub spelled : (packet : Packet) → IsPacket packet → Spells packet (spelling_of packet)
 
--- messages of a datagram are as long as a block's may be
+-- The messages of a datagram are no longer than a block allows.
 each_is_message :
     (longest : ℕ) (messages : List (List ℕ)) → longest < 65536 → AllByRecursion (IsWithin longest) messages →
     AllByRecursion IsMessage messages
@@ -38,13 +38,13 @@ each_is_message longest [] short each = tt
 each_is_message longest (message ∷ messages) short each =
     (omega (arith, short, each.0), each_is_message longest messages short each.1)
 
--- the front of a list has what the list has
+-- What holds of each item of a list holds of each item of its prefix.
 each_front :
     {X : Type 0} (P : X → Type 0) (front behind : List X) → AllByRecursion P (front ++ behind) → AllByRecursion P front
 each_front P [] behind each = tt
 each_front P (x ∷ front) behind each = (each.0, each_front P front behind each.1)
 
--- some messages that a journal may have, and the limit of a datagram for them
+-- Messages of a journal, and a datagram limit for them.
 pub record MayBeSent (limit longest : ℕ) (messages : List (List ℕ)) : Type 0 where
   pub least : 20 ≤ limit
   pub greatest : limit ≤ 65507
@@ -52,7 +52,7 @@ pub record MayBeSent (limit longest : ℕ) (messages : List (List ℕ)) : Type 0
   pub each : AllByRecursion (IsWithin longest) messages
   pub some : 0 < length messages
 
--- the longest front of messages that may be sent makes a packet
+-- The longest prefix of messages that may be sent makes a packet.
 front_is_packet :
     (laws : WireLaws) (session : Session) (number limit longest most : ℕ) (messages : List (List ℕ)) →
     length session.0 ≡ 10 → number < 2 ^ 64 → 0 < most → MayBeSent limit longest messages →
@@ -73,7 +73,7 @@ front_is_packet laws session number limit longest most messages named fits some 
       );
     }
 
--- so what a publisher sends next has a spelling that tells the truth: a datagram
+-- The encoding of a publisher's next data packet is true of the journal.
 pub datagram_spelled :
     (laws : WireLaws) (publisher : PublisherState) (packet : Packet) → IsPublisher publisher →
     length publisher.journal.session.0 ≡ 10 → next_datagram publisher ≡ Some packet →
@@ -114,7 +114,7 @@ datagram_says laws publisher packet is named next =
     (subst (λ (t : Option Packet). Lends t (Some (spelling_of packet))) (sym next)
     (datagram_spelled laws publisher packet is named next))
 
--- a packet without messages is one
+-- A heartbeat or an end packet is a packet.
 bare_is_packet :
     (laws : WireLaws) (publisher : PublisherState) (packet : Packet) → IsPacket packet → (next : Option Packet) →
     next ≡ Some packet → Lends next (Some (spelling_of packet))
@@ -131,7 +131,7 @@ closed_packet :
 closed_packet true first packet is = same_Some first packet is
 closed_packet false first packet is = absurd (none-some packet is)
 
--- a heartbeat
+-- The encoding of a publisher's next heartbeat is true of the journal.
 pub heartbeat_says :
     (laws : WireLaws) (publisher : PublisherState) (packet : Packet) → IsPublisher publisher →
     length publisher.journal.session.0 ≡ 10 → next_heartbeat publisher ≡ Some packet →
@@ -152,7 +152,7 @@ heartbeat_says laws publisher packet is named next =
     (subst IsPacket (open_packet publisher.journal.closed first packet next) packet_is)
     (next_heartbeat publisher) next)
 
--- an end packet
+-- The encoding of a publisher's next end packet is true of the journal.
 pub end_says :
     (laws : WireLaws) (publisher : PublisherState) (packet : Packet) → IsPublisher publisher →
     length publisher.journal.session.0 ≡ 10 → next_end publisher ≡ Some packet →
@@ -173,7 +173,7 @@ end_says laws publisher packet is named next =
     (subst IsPacket (closed_packet publisher.journal.closed first packet next) packet_is)
     (next_end publisher) next)
 
--- the packet that a plan has next
+-- The encoding of a plan's next packet is true of the journal.
 next_says :
     (laws : WireLaws) (journal : JournalState) (limit : ℕ) (plan : PlanState) → MayAnswer journal limit →
     IsPlan plan → plan.from < plan.to → plan.to ≤ length journal.messages + 1 → plan.session ≡ journal.session →
@@ -206,7 +206,7 @@ in_cons :
 in_cons P first packet rest zero is one others = subst P (same_Some first packet is) one
 in_cons P first packet rest (suc place) is one others = others place is
 
--- every packet that a plan still sends
+-- The encoding of every packet of a plan is true of the journal.
 pub planned_says :
     (laws : WireLaws) (journal : JournalState) (limit left : ℕ) (plan : PlanState) → plan.left ≡ left →
     MayAnswer journal limit → IsPlan plan → plan.to ≤ length journal.messages + 1 → plan.session ≡ journal.session →

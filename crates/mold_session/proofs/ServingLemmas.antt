@@ -1,4 +1,4 @@
--- What a server has packed, and what its bytes spell.
+-- What a server packs, and which packet its bytes encode.
 use Rattle.std.proofs.Common.{◌≡◌, ℕ, ◌+◌, ◌-◌, ◌<◌, ◌≤◌, List, length, drop, Ok, refl, sym, ap, subst, ◌∙◌, arith}
 use Rattle.mold_wire.specs.declared.session.Session.{Session}
 use Rattle.mold_wire.specs.declared.packet.Body.{Body}
@@ -16,7 +16,7 @@ use Rattle.mold_session.specs.Packing.{HasPacked}
 use Rattle.mold_session.specs.Server.{ServerState, IsServer, SpellsAnswer, planning}
 use Rattle.mold_session.specs.Serving.{HasPackedNext}
 
--- a server by its parts
+-- The state of a server, from its parts.
 abbrev pub server_of : ℕ → ℕ → ℕ → ℕ → ServerState
 server_of limit max_message burst answered = record {
   limit = limit;
@@ -25,7 +25,7 @@ server_of limit max_message burst answered = record {
   answered = answered;
 }
 
--- a packet of these messages, once it was begun
+-- The state of a packer that has begun a data packet with these messages.
 abbrev begun_of : ℕ → Session → ℕ → List (List ℕ) → PackerState
 begun_of limit session sequence messages = record { limit = limit; begun = Open session sequence messages }
 
@@ -61,7 +61,7 @@ packed_next old new journal plan session sequence to messages count only some al
       journaled = journaled;
     }
 
--- the bytes of a packet that has some message spell the plan's next one
+-- The bytes of a packet with at least one message are the encoding of the plan's next packet.
 pub spells_next :
     (old new : PackerState) (journal : JournalState) (plan : PlanState) (count : ℕ) (bytes : List ℕ) →
     HasPackedNext old new journal plan count → plan.from < plan.to → SpellsBegun new.begun bytes →
@@ -72,12 +72,12 @@ spells_next old new journal plan count bytes packed more spells =
     (data_body (next_part journal.messages old.limit plan) (omega (arith, packed.some more, packed.counted)))
     (rw begun at spells)
 
--- what is lent as the answer to a request
+-- The bytes `lent` respond to the request `asked`, and they are true of the journal.
 pub record IsAnswer (journal : JournalState) (server : ServerState) (asked lent : List ℕ) : Type 0 where
   pub spelled : SpellsAnswer journal server asked lent
   pub truth : IsTrueDatagram journal lent
 
--- it is the first packet of the answer, where the plan is of a request that was asked
+-- The packed bytes are the first packet of the response to the request that the plan was made for.
 pub spells_answer :
     (journal : JournalState) (server : ServerState) (asked : List ℕ) (plan : PlanState) (old new : PackerState)
     (count : ℕ) (bytes : List ℕ) → Piece → FrontIs → SomeFront → Alone → IsJournal journal → IsServer server →

@@ -1,4 +1,4 @@
--- That all bytes give something as a file.
+-- All bytes have contents as a file.
 use Rattle.std.proofs.Common.{◌≡◌, ◌⊎◌, ℕ, zero, suc, ◌+◌, ◌<◌, ◌≤◌, ◌^◌, eqb, Bool, true, false, List, [], ◌∷◌}
 use Rattle.std.proofs.Common.{◌++◌, length, length-drop, take, drop, get_or, take-append-drop, Option, None}
 use Rattle.std.proofs.Common.{Some, refl, sym, ap, subst, ◌∙◌, append_assoc, inl, inr, arith, ⊎_elim}
@@ -35,12 +35,12 @@ taken_bytes (suc n) (byte ∷ bytes) are (suc i) = taken_bytes n bytes (λ k. ar
 
 -- ---- blocks
 
--- nothing is left behind so many messages, or no block that may be taken
+-- After `count` messages the bytes end, or the rest has a fault.
 data Ending (count : ℕ) (rest : List ℕ) : Type 0 where
   Over : rest ≡ [] → Ending count rest
   Refusal : (error : FileError) → BlockFault 65535 count rest error → Ending count rest
 
--- bytes behind so many messages as blocks, and what is left behind the last one
+-- The bytes split into blocks, and a rest that is empty or has a fault. They follow `base` other messages.
 record Split (base : ℕ) (bytes : List ℕ) : Type 0 where
   messages : List (List ℕ)
   rest : List ℕ
@@ -64,7 +64,7 @@ small high low one other zero = one
 small high low one other (suc zero) = other
 small high low one other (suc (suc i)) = omega arith
 
--- the first block, and the others
+-- The bytes begin with a whole block.
 first_block : (high low : ℕ) (more : List ℕ) → high < 256 → low < 256 →
     big_number 2 (high ∷ low ∷ more) ≤ length more →
     high ∷ low ∷ more
@@ -120,7 +120,7 @@ split (suc fuel) base (high ∷ low ∷ more) short are few =
     (λ none. stop base (high ∷ low ∷ more) few (Refusal Full (omega arith, none)))
     (cases_lt base 18446744073709551614)
 
--- ---- behind a head
+-- ---- the bytes after a head
 
 as_rest : (stated : Option ℕ) (count : ℕ) (rest : List ℕ) (error : FileError) → BlockFault 65535 count rest error →
     RestFault stated count rest error
@@ -135,7 +135,7 @@ as_rest stated count rest Read fault = absurd fault
 as_rest stated count rest Memory fault = absurd fault
 as_rest stated count rest Write fault = absurd fault
 
--- the number that a file states is that of its messages, or another one
+-- The file states the number of its messages, or another number.
 counted : (stated : Option ℕ) (count : ℕ) →
     (unwrap_or stated count ≡ count) ⊎ RestFault stated count [] (CountDiffers (unwrap_or stated count) count)
 counted stated count = ⊎_elim
@@ -208,7 +208,7 @@ same_bytes one other = told_same one other (pointwise eqb one other) refl
 abbrev session_of : List ℕ → Session
 session_of bytes = record { 0 = take 10 (drop 8 bytes) }
 
--- the first 18 bytes are a magic and a session
+-- The first 18 bytes are the magic bytes and the session.
 head_parts : (bytes magic : List ℕ) → 18 ≤ length bytes → take 8 bytes ≡ magic →
     bytes ≡ magic ++ (take 10 (drop 8 bytes) ++ drop 18 bytes)
 head_parts bytes magic long is =
@@ -227,7 +227,7 @@ version_1 bytes are long is =
     (head_parts bytes magic_1 long is ∙ sym (append_assoc magic_1 (take 10 (drop 8 bytes)) (drop 18 bytes)))
     (bytes_behind 18 bytes are)
 
--- the flag and the number behind the session
+-- The flag and the number after the session.
 number_fits : (bytes : List ℕ) → IsBytes bytes → big_number 8 bytes < 2 ^ 64
 number_fits bytes are = omega (arith, are 0, are 1, are 2, are 3, are 4, are 5, are 6, are 7)
 
@@ -264,7 +264,7 @@ module _ (bytes : List ℕ) (are : IsBytes bytes) (long : 27 ≤ length bytes) (
       ∙ numbers_are place 9 byte number (omega arith) byte_small
       (byte_and_number place (take 1 place) (drop 1 place) number nine bytes_taken refl refl refl)
 
-  -- flag and number behind the session
+  -- the flag and the number after the session
   numbers_at : drop 18 bytes ≡ (closed_byte (eqb byte 1) ∷ be64 number) ++ drop 27 bytes
   numbers_at =
       sym (take-append-drop 9 (drop 18 bytes))

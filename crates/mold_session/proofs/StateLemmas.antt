@@ -1,4 +1,4 @@
--- What a publisher stays while messages are published and sent, and when it is closed.
+-- The properties of a publisher are kept when messages are published and sent, and when it is closed.
 use Rattle.std.proofs.Common.{◌≡◌, ℕ, cond, ltb, eqb, Bool, true, false, List, [], ◌∷◌, ◌++◌, length}
 use Rattle.std.proofs.Common.{length-append, length-drop, Option, None, Some, refl, sym, ◌∙◌, inl, inr, arith}
 use Rattle.std.specs.List.{AllByRecursion}
@@ -10,14 +10,14 @@ use Rattle.mold_session.specs.Journal.{IsWithin, append_refusal}
 use Rattle.mold_session.specs.Publisher.{IsPublisher, MayPublish, PublisherState, after_datagram, closed, next_datagram}
 use Rattle.mold_session.specs.Publisher.{next_front, published, unsent_of}
 
--- no first reason of several is no such reason and no other one
+-- If there is no first reason, the first check found none, and neither did the others.
 none_if :
     {E : Type 0} (refused : Bool) (error : E) (others : Option E) → cond refused (Some error) others ≡ None →
     (refused ≡ false) × (others ≡ None)
 none_if true error others is = absurd (none-some error (sym is))
 none_if false error others is = (refl, is)
 
--- a message that is not refused
+-- A message that isn't refused can be published.
 pub may_publish :
     (publisher : PublisherState) (message : List ℕ) → append_refusal publisher.journal message ≡ None →
     MayPublish publisher message

@@ -1,4 +1,4 @@
--- What is lent is true of the journal.
+-- What the returned datagrams state is true of the journal.
 use Rattle.std.proofs.Common.{◌≡◌, ℕ, ◌+◌, ◌-◌, ◌<◌, ◌≤◌, cond, Bool, true, false, List, ◌++◌, length, drop, None, Some}
 use Rattle.std.proofs.Common.{refl, sym, ap, ◌∙◌, append_assoc, inl, inr, arith}
 use Rattle.std.proofs.lemmas.Bool.{cases_eq, eq-eqb, ne_eqb}
@@ -15,14 +15,14 @@ use Rattle.mold_session.specs.Journal.{JournalState, IsJournal}
 use Rattle.mold_session.specs.Publisher.{PublisherState, IsPublisher, unsent_of, next_front, next_datagram, next_heartbeat, next_end, Lends}
 use Rattle.mold_session.specs.Truthful.{IsTrueDatagram}
 
--- what the wire crate's law says of a data packet whose messages stand at its number
+-- A law of mold_wire: a data packet is true if the journal has its messages at its sequence number.
 abbrev pub Piece : Type 0
 Piece =
     (packet : Packet) (published behind : List (List ℕ)) (closed : Bool) →
     length published < 18446744073709551615 → 1 ≤ packet.sequence → packet.body ≡ Data (messages_of packet.body) →
     drop (packet.sequence - 1) published ≡ messages_of packet.body ++ behind → IsTruePacket packet published closed
 
--- the datagram of a publisher's unsent messages
+-- The datagram of a publisher's unsent messages is true.
 pub datagram_true :
     (publisher : PublisherState) (bytes : List ℕ) → Piece → FrontIs → IsPublisher publisher →
     Lends (next_datagram publisher) (Some bytes) → IsTrueDatagram publisher.journal bytes
@@ -44,7 +44,7 @@ datagram_true publisher bytes piece front_is is lends =
           }
     ]
 
--- a packet that is lent where a session is open, or where it is closed
+-- A packet that is returned only while the session is open, or only when it is closed.
 lends_open :
     (closed : Bool) (packet : Packet) (bytes : List ℕ) → Lends (cond closed None (Some packet)) (Some bytes) →
     Spells packet bytes
@@ -57,7 +57,7 @@ lends_closed :
 lends_closed true packet bytes lends = (refl, lends)
 lends_closed false packet bytes lends = absurd lends
 
--- a heartbeat
+-- A heartbeat is true.
 pub heartbeat_true :
     (publisher : PublisherState) (bytes : List ℕ) → IsPublisher publisher →
     Lends (next_heartbeat publisher) (Some bytes) → IsTrueDatagram publisher.journal bytes
@@ -74,7 +74,7 @@ heartbeat_true publisher bytes is lends =
       so = record { few = is.journaled.few; said = (omega arith, omega (arith, is.published)) };
     }
 
--- the end of a session
+-- An end packet is true.
 pub end_true :
     (publisher : PublisherState) (bytes : List ℕ) → IsPublisher publisher →
     Lends (next_end publisher) (Some bytes) → IsTrueDatagram publisher.journal bytes
@@ -92,7 +92,7 @@ end_true publisher bytes is lends =
       so = record { few = is.journaled.few; said = (both.0, refl) };
     }
 
--- the datagram of a plan
+-- The datagram of a plan is true.
 pub packet_true :
     (journal : JournalState) (limit : ℕ) (plan : PlanState) (bytes : List ℕ) → Piece → FrontIs → IsJournal journal →
     20 ≤ limit → IsPlan plan → plan.to ≤ length journal.messages + 1 → plan.session ≡ journal.session →

@@ -1,4 +1,4 @@
--- What a file gives: the messages of its blocks, and why it is no journal, where it is none.
+-- The contents of a file: the messages of its blocks, and why it is not the file of a journal if it isn't.
 use Rattle.std.specs.Prelude.{◌≡◌, ◌⊎◌, ℕ, List, [], ◌++◌, length, Option, None, Some}
 use Rattle.mold_wire.specs.Block.{blocks}
 use Rattle.mold_wire.specs.declared.block.TheConstants.{MAX_MESSAGE}
@@ -10,21 +10,22 @@ use Rattle.mold_session.specs.declared.error.FileError.TheVariants.{TooLong, Mem
 use Rattle.mold_session.specs.declared.error.FileError.TheVariants.{Write, Full, CountDiffers, BadFlag}
 use Rattle.mold_session.specs.declared.loading.FileHead.{FileHead}
 
--- behind a whole head stand the blocks of these messages, and then the rest
+-- The file has a valid head. The blocks of `messages` follow the head, and then come the bytes `rest`.
 pub record HasBlocks (bytes : List ℕ) (messages : List (List ℕ)) (rest : List ℕ) : Type 0 where
+  -- all bytes after the head
   pub behind : List ℕ
   pub head : IsBody1 bytes behind ⊎ IsBody2 bytes behind
   pub listed : AreMessages MAX_MESSAGE messages
   pub parts : behind ≡ blocks messages ++ rest
 
--- the same, and the rest is refused
+-- The file has these messages in whole blocks, and the bytes after them have the fault `error`.
 pub record AreBefore (bytes : List ℕ) (messages : List (List ℕ)) (error : FileError) : Type 0 where
   pub rest : List ℕ
   pub front : HasBlocks bytes messages rest
   pub fault : BlockFault MAX_MESSAGE (length messages) rest error
 
--- the messages of a file with this fault: none where its head is refused, and else those of the whole blocks before
--- the fault
+-- The messages of a file with this fault: none if the fault is in the head, otherwise those of the whole blocks
+-- before the fault.
 abbrev pub PrecedeFault : List ℕ → List (List ℕ) → FileError → Type 0
 PrecedeFault bytes messages (Short len) = messages ≡ []
 PrecedeFault bytes messages BadMagic = messages ≡ []
@@ -37,19 +38,19 @@ PrecedeFault bytes messages Read = ⊥
 PrecedeFault bytes messages Memory = ⊥
 PrecedeFault bytes messages Write = ⊥
 
--- the bytes are the file of a journal of these messages, of either version; or they are none, for this reason, and
--- these messages stand before the fault
+-- The contents of the bytes as a file. Without a fault, they are the file of a journal of these messages, of
+-- either version. With a fault, they are not the file of a journal, and `messages` are those before the fault.
 abbrev pub Gives : List ℕ → List (List ℕ) → Option FileError → Type 0
 Gives bytes messages None = (head : FileHead) × SpellsFile head messages head.stated bytes
 Gives bytes messages (Some error) = JournalFault MAX_MESSAGE bytes error × PrecedeFault bytes messages error
 
--- what bytes give as a file whose messages may have any length
+-- The contents of the bytes as a file: its messages, which may have any length, and its fault, if it has one.
 pub record FileContents (bytes : List ℕ) : Type 0 where
   pub messages : List (List ℕ)
   pub fault : Option FileError
   pub gives : Gives bytes messages fault
 
--- some messages are the first of all
+-- The messages `front` are a prefix of the messages `all`.
 pub record IsFront (front all : List (List ℕ)) : Type 0 where
   pub extra : List (List ℕ)
   pub longer : all ≡ front ++ extra

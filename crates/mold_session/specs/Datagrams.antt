@@ -1,19 +1,20 @@
--- The data packets that some messages are packed into.
+-- The data packets that messages are packed into.
 use Rattle.std.specs.Prelude.{ℕ, zero, suc, ◌+◌, List, [], ◌∷◌, length, drop, ◌==◌, if◌then◌else◌}
 use Rattle.mold_wire.specs.declared.session.Session.{Session}
 use Rattle.mold_wire.specs.declared.packet.Packet.{Packet}
 use Rattle.mold_wire.specs.declared.packet.Body.TheVariants.{Data}
 use Rattle.mold_wire.specs.Packing.{front}
 
--- a data packet
+-- A data packet of these messages. The first message has the number `sequence`.
 abbrev pub data_packet : Session → ℕ → List (List ℕ) → Packet
 data_packet session sequence messages = record { session = session; sequence = sequence; body = Data messages }
 
--- the messages of the first packet: the longest front that fits
+-- The messages of the first packet: the longest prefix that fits.
 abbrev pub first_part : ℕ → List (List ℕ) → List (List ℕ)
 first_part limit messages = front limit messages (length messages)
 
--- at most so many packets: the first one, and the packing of the messages behind its own
+-- The first packets that the messages are packed into, at most as many as the second argument. Each has the
+-- longest prefix that fits of the remaining messages.
 unfoldable pub packing_within : ℕ → ℕ → Session → ℕ → List (List ℕ) → List Packet
 packing_within limit zero session sequence messages = []
 packing_within limit (suc most) session sequence messages =
@@ -23,7 +24,7 @@ packing_within limit (suc most) session sequence messages =
     ∷ packing_within limit most session (sequence + length (first_part limit messages))
     (drop (length (first_part limit messages)) messages)
 
--- the messages as data packets, the first of which has this sequence number: each is the longest front
--- that fits of what is left
+-- The messages packed into data packets, the first of which has the number `sequence`. Each packet has the
+-- longest prefix that fits of the remaining messages.
 unfoldable pub packing : ℕ → Session → ℕ → List (List ℕ) → List Packet
 packing limit session sequence messages = packing_within limit (length messages) session sequence messages

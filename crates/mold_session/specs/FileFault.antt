@@ -1,4 +1,4 @@
--- Why bytes are no file of a journal.
+-- The faults of a journal's file: why bytes are not the file of a journal.
 use Rattle.std.specs.Prelude.{◌≡◌, ◌⊎◌, ℕ, ◌+◌, ◌<◌, ◌≤◌, List, ◌++◌, length, take, drop, slice_index}
 use Rattle.std.specs.List.{AllByRecursion}
 use Rattle.byteorder.specs.Endian.{big_number}
@@ -13,33 +13,35 @@ use Rattle.mold_session.specs.declared.error.FileError.TheVariants.{TooLong, Mem
 use Rattle.mold_session.specs.declared.error.FileError.TheVariants.{Write, Full, CountDiffers, BadFlag}
 use Rattle.mold_session.specs.declared.journal.TheConstants.{MAX_MESSAGES}
 
--- the bytes are, or begin, a file of version 2
+-- The bytes begin with the magic bytes of version 2.
 abbrev pub IsVersion2 : List ℕ → Type 0
 IsVersion2 bytes = take 8 bytes ≡ magic_2
 
--- the byte at 18 of version 2 is neither 00 nor 01
+-- The byte, which is at offset 18 of version 2, is neither 0 nor 1.
 abbrev pub IsBadFlag : ℕ → Type 0
 IsBadFlag byte = 1 < byte
 
--- what stands behind a whole head that is not refused: from byte 18 on in version 1, and from byte 27 on in
--- version 2
+-- A file of version 1 has a valid head, and the bytes after it, from offset 18 on, are `behind`.
 pub record IsBody1 (bytes behind : List ℕ) : Type 0 where
   pub magic : take 8 bytes ≡ magic_1
   pub whole : 18 ≤ length bytes
   pub from : behind ≡ drop 18 bytes
 
+-- A file of version 2 has a valid head, and the bytes after it, from offset 27 on, are `behind`.
 pub record IsBody2 (bytes behind : List ℕ) : Type 0 where
   pub magic : take 8 bytes ≡ magic_2
   pub whole : 27 ≤ length bytes
   pub flag : slice_index bytes 18 ≤ 1
   pub from : behind ≡ drop 27 bytes
 
--- the bytes begin with a block that is cut: one byte, or a length within the bound and fewer bytes than it says
+-- The bytes begin with a block that is cut: there is only one byte, or the block has a valid length and fewer
+-- bytes than that.
 pub record IsCut (most : ℕ) (rest : List ℕ) : Type 0 where
   pub some : 0 < length rest
   pub short : (length rest < 2) ⊎ ((big_number 2 rest ≤ most) × (length rest < 2 + big_number 2 rest))
 
--- why what follows so many blocks is refused: a message would be one too many, or is too long, or is cut
+-- The fault of the bytes that follow `count` whole blocks: another message would have no number, or it is too
+-- long, or its block is cut.
 abbrev pub BlockFault : ℕ → ℕ → List ℕ → FileError → Type 0
 BlockFault most count rest Full = (0 < length rest) × (MAX_MESSAGES ≤ count)
 BlockFault most count rest (TooLong len) =
@@ -48,7 +50,8 @@ BlockFault most count rest (BlockCut number) =
     (count < MAX_MESSAGES) × (number ≡ count + 1) × IsCut most rest
 BlockFault most count rest _ = ⊥
 
--- behind some whole blocks, of at most so many bytes each, the rest is refused
+-- The bytes `behind` have some whole blocks, of messages with at most `most` bytes. The bytes after these have
+-- the fault `error`.
 pub record BlocksFault (most : ℕ) (behind : List ℕ) (error : FileError) : Type 0 where
   pub messages : List (List ℕ)
   pub rest : List ℕ
@@ -56,12 +59,12 @@ pub record BlocksFault (most : ℕ) (behind : List ℕ) (error : FileError) : Ty
   pub parts : behind ≡ blocks messages ++ rest
   pub fault : BlockFault most (length messages) rest error
 
--- the same in a file of either version
+-- A file of either version has a valid head and a fault in its blocks.
 abbrev pub FaultInBlocks : ℕ → List ℕ → FileError → Type 0
 FaultInBlocks most bytes error =
     (behind : List ℕ) × (IsBody1 bytes behind ⊎ IsBody2 bytes behind) × BlocksFault most behind error
 
--- a file of version 2 that ends between blocks has another number of messages than it states
+-- A file of version 2 ends after a whole block, and it states another number of messages than it has.
 pub record IsMiscounted (most : ℕ) (bytes : List ℕ) (count found : ℕ) : Type 0 where
   pub behind : List ℕ
   pub head : IsBody2 bytes behind
@@ -73,8 +76,8 @@ pub record IsMiscounted (most : ℕ) (bytes : List ℕ) (count found : ℕ) : Ty
   pub counted : found ≡ length messages
   pub differs : count ≡ found → ⊥
 
--- what is wrong with the bytes, by the name and the numbers of the refusal, where messages have at most so many
--- bytes
+-- The fault of a file whose messages may have at most `most` bytes. Errors of devices and memory aren't
+-- faults of a file.
 abbrev pub JournalFault : ℕ → List ℕ → FileError → Type 0
 JournalFault most bytes (Short len) =
     (len ≡ length bytes) × ((length bytes < 18) ⊎ (IsVersion2 bytes × (length bytes < 27)))
@@ -90,7 +93,7 @@ JournalFault most bytes Read = ⊥
 JournalFault most bytes Memory = ⊥
 JournalFault most bytes Write = ⊥
 
--- the refusal of a call whose reading ended with this fault
+-- The error that a call returns if reading the source ends with this fault.
 abbrev pub from_read_fault : ReadFault → FileError
 from_read_fault reading.Read = Read
 from_read_fault reading.Memory = Memory

@@ -1,4 +1,4 @@
--- A journal as its users see it, and what is appended to it.
+-- The state of a journal, and how appending a message changes it.
 use Rattle.std.specs.Prelude.{ℕ, zero, suc, ◌≤◌, ◌<◌, Bool, false, List, [], ◌∷◌, ◌++◌, length, nat_lt, ◌==◌}
 use Rattle.std.specs.Prelude.{if◌then◌else◌, slice_get, Option, None, Some}
 use Rattle.std.specs.List.{AllByRecursion}
@@ -8,36 +8,40 @@ use Rattle.mold_session.specs.declared.error.AppendError.{AppendError}
 use Rattle.mold_session.specs.declared.error.AppendError.TheVariants.{Closed, TooLong, Full}
 use Rattle.mold_session.specs.declared.journal.TheConstants.{MAX_MESSAGES}
 
--- the session, how long a message may be, the messages from number 1 on, and whether no more may come
+-- The state of a journal: its session, the bound on its messages, the messages, and whether it is closed.
 pub record JournalState : Type 0 where
   pub session : Session
+  -- the largest length of a message, in bytes
   pub max_message : ℕ
+  -- the messages in order, the first of which has number 1
   pub messages : List (List ℕ)
+  -- whether the journal takes no more messages
   pub closed : Bool
 
--- an open journal without messages
+-- An open journal without messages.
 abbrev pub fresh_journal : Session → ℕ → JournalState
 fresh_journal session max_message =
     record { session = session; max_message = max_message; messages = []; closed = false }
 
--- a message of at most so many bytes
+-- The message has at most `most` bytes.
 abbrev pub IsWithin : ℕ → List ℕ → Type 0
 IsWithin most message = length message ≤ most
 
--- messages that a journal may have: at most `MAX_MESSAGES` of them, none too long
+-- A journal may have these messages: there are at most `MAX_MESSAGES`, and each has at most `most` bytes.
 pub record AreMessages (most : ℕ) (messages : List (List ℕ)) : Type 0 where
   pub few : length messages < MAX_NUMBER
   pub each : AllByRecursion (IsWithin most) messages
 
+-- The properties of every journal: the number of its messages and their lengths are within the limits.
 abbrev pub IsJournal : JournalState → Type 0
 IsJournal journal = AreMessages journal.max_message journal.messages
 
--- the message of a number, the first one's being 1
+-- The message with this sequence number. The first message has number 1.
 abbrev pub message_numbered : List (List ℕ) → ℕ → Option (List ℕ)
 message_numbered messages zero = None
 message_numbered messages (suc i) = slice_get messages i
 
--- why a message can't be appended, the first reason of several; none where only memory may be wanting
+-- The first reason why the message can't be appended. If there is none, only an allocation can still fail.
 abbrev pub append_refusal : JournalState → List ℕ → Option AppendError
 append_refusal journal message =
     if journal.closed then Some Closed
@@ -45,6 +49,6 @@ append_refusal journal message =
     else if length journal.messages == MAX_MESSAGES then Some Full
     else None
 
--- the journal with one more message behind the others
+-- The journal with `message` appended.
 abbrev pub appended : JournalState → List ℕ → JournalState
 appended journal message = record journal { messages = journal.messages ++ message ∷ [] }

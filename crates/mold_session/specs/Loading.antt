@@ -1,4 +1,4 @@
--- What is read of a file, part by part.
+-- How a file is read, part by part.
 use Rattle.std.specs.Prelude.{◌≡◌, ℕ, ◌+◌, ◌*◌, ◌^◌, ◌<◌, ◌≤◌, slice_index, ⊤, Bool, false, List, ◌∷◌, [], ◌++◌, length}
 use Rattle.std.specs.Prelude.{Option, None, Some, Result, Ok, Err, IfSome}
 use Rattle.std.specs.Io.KnownBytes.{Consumes}
@@ -12,22 +12,23 @@ use Rattle.mold_session.specs.declared.error.FileError.{FileError}
 use Rattle.mold_session.specs.declared.error.FileError.TheVariants.{Short, BadMagic, BadFlag, Read, Write, Memory}
 use Rattle.mold_session.specs.declared.loading.FileHead.{FileHead}
 
--- an end of every loop over the file: the source's bound, for as many bytes as are read at once, and the bytes that
--- were read and not used
+-- An upper bound of the work that remains for a loop over the file. It counts the reads that the source still
+-- allows, and the bytes that were read and not used. Each iteration decreases it.
 abbrev pub work_left : ℕ → List ℕ → ℕ
 work_left bound rest = bound * 4097 + length rest
 
--- what stands before the blocks
+-- The head of a file that states this number of messages. A file of version 1 states none.
 abbrev pub head_spelling : List ℕ → Bool → Option ℕ → List ℕ
 head_spelling session closed None = head_1 session
 head_spelling session closed (Some count) = head_2 session closed count
 
--- a file of version 1 doesn't say that it is closed, and one of version 2 states a number of 64 bits
+-- What a head states is possible: version 1 never states that the session is closed, and version 2 states a
+-- number of 64 bits.
 abbrev pub IsStated : Bool → Option ℕ → Type 0
 IsStated closed None = closed ≡ false
 IsStated closed (Some count) = count < 2 ^ 64
 
--- what follows the session in version 2: whether the session is closed, and the number of messages
+-- The rest of the head of version 2 was read: whether the session is closed, and the number of messages.
 pub record ReadsNumbers (known left : Option (List ℕ)) (session : Session) (head : FileHead) : Type 0 where
   pub count : ℕ
   pub fits : count < 2 ^ 64
@@ -35,14 +36,14 @@ pub record ReadsNumbers (known left : Option (List ℕ)) (session : Session) (he
   pub stated : head.stated ≡ Some count
   pub consumed : Consumes known left (closed_byte head.closed ∷ be64 count)
 
--- or there are fewer bytes, or the first is neither 00 nor 01
+-- The fault of the rest of the head of version 2: it has fewer than 9 bytes, or its first byte is neither 0 nor
+-- 1.
 abbrev pub NumbersFault : List ℕ → FileError → Type 0
 NumbersFault rest (Short len) = (len ≡ 18 + length rest) × (length rest < 9)
 NumbersFault rest (BadFlag byte) = (9 ≤ length rest) × (slice_index rest 0 ≡ byte) × IsBadFlag byte
 NumbersFault rest error = ⊥
 
--- the refusals for what stands before the blocks; the others that reading it may end with are a failed read and want
--- of memory
+-- The errors that reading a head can return: the faults of a head, a failed read, and a failed allocation.
 abbrev pub IsOfHead : FileError → Type 0
 IsOfHead (Short len) = ⊤
 IsOfHead BadMagic = ⊤
@@ -51,43 +52,45 @@ IsOfHead Read = ⊤
 IsOfHead Memory = ⊤
 IsOfHead error = ⊥
 
--- the head was read
+-- The head was read from the source.
 pub record ReadsHead (known left : Option (List ℕ)) (head : FileHead) : Type 0 where
   pub named : length head.session.0 ≡ 10
   pub said : IsStated head.closed head.stated
   pub consumed : Consumes known left (head_spelling head.session.0 head.closed head.stated)
 
--- the bytes are the file, of the version that the head has, of these messages
+-- The bytes are the file of these messages, of the version that the head shows by the number that it states.
 abbrev pub SpellsFile : FileHead → List (List ℕ) → Option ℕ → List ℕ → Type 0
 SpellsFile head messages None bytes = (head.closed ≡ false) × SpellsJournal head.session messages bytes
 SpellsFile head messages (Some count) bytes = SpellsJournal2 head.session messages head.closed bytes
 
--- so many bytes were taken as one message more
+-- The next `len` bytes were read and appended to the list as one message.
 pub record TakesMessage (len : ℕ) (known left : Option (List ℕ)) (old new : List (List ℕ)) : Type 0 where
   pub message : List ℕ
   pub counted : length message ≡ len
   pub added : new ≡ old ++ message ∷ []
   pub consumed : Consumes known left message
 
--- a block was taken, of a message of at most so many bytes
+-- A block was read, and its message was appended to the list. The message has at most `most` bytes.
 pub record TakesBlock (most : ℕ) (known left : Option (List ℕ)) (old new : List (List ℕ)) : Type 0 where
   pub message : List ℕ
   pub within : IsWithin most message
   pub added : new ≡ old ++ message ∷ []
   pub consumed : Consumes known left (block message)
 
--- where the bytes are known they have the fault; a failed read and want of memory are no fault of the bytes
+-- The call may return this error: if the bytes are known, they have this fault. `Read` and `Memory` are no
+-- faults of the bytes, and `Write` is never returned.
 abbrev pub Refuses : (List ℕ → FileError → Type 0) → Option (List ℕ) → FileError → Type 0
 Refuses Fault known Read = ⊤
 Refuses Fault known Memory = ⊤
 Refuses Fault known Write = ⊥
 Refuses Fault known error = IfSome known (λ bytes. Fault bytes error)
 
--- the source failed once more where `Read` is answered, and else it didn't
+-- The count of the source's failures after an error: one more for `Read`, otherwise unchanged.
 abbrev pub CountsLoadFault : ℕ → ℕ → FileError → Type 0
 CountsLoadFault old new Read = new ≡ one_more old
 CountsLoadFault old new error = new ≡ old
 
+-- The count of the source's failures after a call: one more if the call returned `Read`, otherwise unchanged.
 abbrev pub CountsLoad : {T : Type 0} → ℕ → ℕ → Result T FileError → Type 0
 CountsLoad old new (Ok _) = new ≡ old
 CountsLoad old new (Err error) = CountsLoadFault old new error

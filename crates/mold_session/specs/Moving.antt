@@ -1,8 +1,9 @@
--- What is kept before it is written.
+-- How bytes move from a buffer to a sink.
 use Rattle.std.specs.Prelude.{◌≡◌, ℕ, List, ◌++◌, Option}
 use Rattle.std.specs.Io.KnownBytes.{Appends}
 
--- of what was kept and a text behind it a front was written, and the rest is kept now
+-- The text was put after the kept bytes. A prefix of all these bytes was written to the sink, and the buffer
+-- still keeps the rest.
 pub record Moves (old new : Option (List ℕ)) (kept text still : List ℕ) : Type 0 where
   pub written : List ℕ
   pub parts : kept ++ text ≡ written ++ still

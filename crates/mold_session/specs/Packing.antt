@@ -1,10 +1,11 @@
--- What a packer has, once the longest front of some messages was put into a packet.
+-- The state of a packer after messages were packed into a data packet.
 use Rattle.std.specs.Prelude.{◌≡◌, ℕ, List, length}
 use Rattle.mold_wire.specs.declared.session.Session.{Session}
 use Rattle.mold_wire.specs.Packer.{PackerState, Open}
 use Rattle.mold_wire.specs.Packing.{IsFront}
 
--- a data packet was begun with the longest front of at most so many messages that fits, and how many it has
+-- A data packet was begun with the longest prefix of the first `most` messages that fits. It has `count`
+-- messages.
 pub record HasPacked (old new : PackerState) (session : Session) (sequence : ℕ) (messages : List (List ℕ))
     (most count : ℕ) : Type 0 where
   pub found : List (List ℕ)

@@ -1,4 +1,4 @@
--- A file that is read message by message.
+-- How a file is read message by message.
 use Rattle.std.specs.Prelude.{◌≡◌, ℕ, ◌+◌, ◌<◌, List, [], ◌++◌, length, Option, unwrap_or}
 use Rattle.std.specs.Io.KnownBytes.{Consumes, IsAtEnd}
 use Rattle.mold_wire.specs.Block.{block, blocks}
@@ -11,15 +11,17 @@ use Rattle.mold_session.specs.declared.error.FileError.TheVariants.{CountDiffers
 use Rattle.mold_session.specs.declared.journal.TheConstants.{MAX_MESSAGES}
 use Rattle.mold_session.specs.declared.loading.FileHead.{FileHead}
 
--- a reader of a file: its head, how many messages were read, the last of them, and the bytes that are read and not
--- used
+-- The state of a reader of a file: the head, the messages read so far, and the bytes that are not used yet.
 pub record ReaderState : Type 0 where
   pub head : FileHead
+  -- how many messages were read
   pub count : ℕ
+  -- the message that was read last
   pub message : List ℕ
+  -- the bytes that were read from the source and not used
   pub rest : List ℕ
 
--- head and the blocks of these messages were read
+-- The head of the file and the blocks of these messages were read.
 pub record HasRead (known left : Option (List ℕ)) (reader : ReaderState) (messages : List (List ℕ)) : Type 0 where
   pub named : length reader.head.session.0 ≡ 10
   pub said : IsStated reader.head.closed reader.head.stated
@@ -28,7 +30,7 @@ pub record HasRead (known left : Option (List ℕ)) (reader : ReaderState) (mess
   pub consumed : Consumes known left
       (head_spelling reader.head.session.0 reader.head.closed reader.head.stated ++ blocks messages)
 
--- one message more was read
+-- The next block was read, and `new` is the reader after it.
 pub record ReadsNext (known left : Option (List ℕ)) (old new : ReaderState) : Type 0 where
   pub same : new.head ≡ old.head
   pub few : old.count < MAX_MESSAGES
@@ -36,22 +38,25 @@ pub record ReadsNext (known left : Option (List ℕ)) (old new : ReaderState) : 
   pub within : IsWithin MAX_MESSAGE new.message
   pub consumed : Consumes known left (block new.message)
 
--- no message is left, and the file states no number of them or this one
+-- The file ends after the messages that were read. It states their number, or it states no number.
 pub record EndsWith (known : Option (List ℕ)) (reader : ReaderState) : Type 0 where
+  -- no bytes remain
   pub over : IsAtEnd known
   pub stated : unwrap_or reader.head.stated reader.count ≡ reader.count
 
--- another number of messages is stated than were read
+-- The file states `count` messages, but `found` were read.
 pub record Misstates (stated : Option ℕ) (read count found : ℕ) : Type 0 where
   pub states : count ≡ unwrap_or stated read
   pub reads : found ≡ read
   pub differs : count ≡ found → ⊥
 
+-- The error reports that the file states another number of messages than were read.
 abbrev pub CountFault : Option ℕ → ℕ → FileError → Type 0
 CountFault stated read (CountDiffers count found) = Misstates stated read count found
 CountFault stated read error = ⊥
 
--- why what follows the messages that were read is refused: its first block, or their number where nothing follows
+-- The fault of the bytes that follow the messages that were read. It is in the next block, or nothing follows
+-- and the file states another number of messages.
 abbrev pub RestFault : Option ℕ → ℕ → List ℕ → FileError → Type 0
 RestFault stated read rest (CountDiffers count found) = (rest ≡ []) × Misstates stated read count found
 RestFault stated read rest error = BlockFault MAX_MESSAGE read rest error

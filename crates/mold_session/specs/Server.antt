@@ -1,4 +1,4 @@
--- A re-request server as its users see it, which requests it answers, and what it lends.
+-- The state of a re-request server, which requests it accepts, and what it sends.
 use Rattle.std.specs.Prelude.{◌≡◌, ℕ, ◌+◌, ◌≤◌, ◌<◌, ◌^◌, min, Bool, not, ◌&&◌, nat_le, nat_lt, ◌==◌, if◌then◌else◌}
 use Rattle.std.specs.Prelude.{List, ◌∷◌, length, Option, None, Some, Result, Ok, Err}
 use Rattle.std.specs.Str.{bytes_eq}
@@ -19,28 +19,32 @@ use Rattle.mold_session.specs.declared.error.ServerError.{ServerError}
 use Rattle.mold_session.specs.declared.error.ServerError.TheVariants.{Limit, Burst}
 use Rattle.mold_wire.specs.declared.limits.TheConstants.{MAX_BURST}
 
--- the limit of a datagram, how long a journal's messages may be, how many datagrams answer one request at most, and
--- how many requests were answered
+-- The state of a re-request server: its limits, and how many requests it accepted.
 pub record ServerState : Type 0 where
+  -- the largest length of a datagram, in bytes
   pub limit : ℕ
+  -- the largest length of a journal's message, in bytes
   pub max_message : ℕ
+  -- the largest number of datagrams in one response
   pub burst : ℕ
+  -- how many requests were accepted
   pub answered : ℕ
 
--- a server that has answered nothing yet
+-- A server that has accepted no request yet.
 abbrev pub fresh_server : ℕ → ℕ → ℕ → ServerState
 fresh_server limit max_message burst =
     record { limit = limit; max_message = max_message; burst = burst; answered = 0 }
 
--- what holds of every server
+-- The properties of every server: its limits are valid, and each message of a journal fits a datagram.
 pub record IsServer (server : ServerState) : Type 0 where
   pub limited : IsLimit server.limit
+  -- each message of a journal fits a datagram by itself
   pub longest : server.max_message + MESSAGE_OVERHEAD ≤ server.limit
   pub some : 1 ≤ server.burst
   pub few : server.burst ≤ MAX_BURST
   pub counted : server.answered < 2 ^ 64
 
--- why a server is not made, the first reason of several; none where only memory may be wanting
+-- The first reason why a server can't be made. If there is none, only an allocation can still fail.
 abbrev pub server_refusal : ℕ → ℕ → ℕ → Option ServerError
 server_refusal limit max_message burst =
     if not (nat_le MIN_LIMIT limit && nat_le limit MAX_LIMIT && nat_le (max_message + MESSAGE_OVERHEAD) limit)
@@ -48,7 +52,7 @@ server_refusal limit max_message burst =
     else if not (nat_le 1 burst && nat_le burst MAX_BURST) then Some Burst
     else None
 
--- why a request is not answered, the first reason of several
+-- The first reason why the request is refused.
 abbrev pub request_refusal : JournalState → Request → Option AnswerError
 request_refusal journal request =
     if not (bytes_eq request.session.0 journal.session.0) then Some WrongSession
@@ -57,48 +61,54 @@ request_refusal journal request =
     else if nat_lt (length journal.messages) request.sequence then Some (Ahead (length journal.messages + 1))
     else None
 
--- what a request asks for that is answered: some messages of the journal's session from one on that it has
+-- The request can be satisfied: it is for messages of the journal's session, and the journal has the first of
+-- them.
 pub record IsAnswerable (journal : JournalState) (request : Request) : Type 0 where
   pub session : request.session ≡ journal.session
+  -- the first requested number is that of a message
   pub first : 1 ≤ request.sequence
   pub last : request.sequence ≤ length journal.messages
+  -- at least one message is requested
   pub count : 1 ≤ request.count
 
--- the request, unless there is a reason against it
+-- The request, or the error if there is one.
 abbrev pub unless : Option AnswerError → Request → Result Request AnswerError
 unless None request = Ok request
 unless (Some error) request = Err error
 
--- what was read as a request, judged by the journal
+-- A decoded request, checked against the journal: the request, or why it is refused.
 abbrev pub judged : JournalState → Result Request RequestError → Result Request AnswerError
 judged journal (Err (fault.RequestLength len)) = Err (RequestLength len)
 judged journal (Ok request) = unless (request_refusal journal request) request
 
--- the request that some bytes ask of a journal, or why it is not answered
+-- The request that the bytes encode, or why it is refused.
 abbrev pub asking : JournalState → List ℕ → Result Request AnswerError
 asking journal bytes = judged journal (request_reading bytes)
 
--- the plan of its answer
+-- The plan for the response to a checked request, or why the request is refused.
 abbrev pub plan_of : JournalState → ℕ → Result Request AnswerError → Result PlanState AnswerError
 plan_of journal burst (Err error) = Err error
 plan_of journal burst (Ok request) = Ok (plan_for journal burst request)
 
+-- The plan for the response to the request that the bytes encode, or why it is refused.
 abbrev pub planning : JournalState → ℕ → List ℕ → Result PlanState AnswerError
 planning journal burst bytes = plan_of journal burst (asking journal bytes)
 
--- what was lent spells the first packet of the answer to what was asked
+-- The bytes `lent` are the encoding of the first packet of the response to the request `asked`.
 pub record SpellsAnswer (journal : JournalState) (server : ServerState) (asked lent : List ℕ) : Type 0 where
   pub request : Request
   pub packet : Packet
+  -- the further packets of the response
   pub rest : List Packet
   pub asks : asking journal asked ≡ Ok request
   pub sent : answer journal.messages journal.session server.limit request.sequence request.count server.burst
       ≡ packet ∷ rest
   pub spelled : Spells packet lent
 
--- the server with one more request answered, where one was; the count stays at its limit
+-- The server after it accepted one more request. The count stops at `MAX_NUMBER`.
 abbrev pub counted : ServerState → ServerState
 counted server = record server { answered = min MAX_NUMBER (server.answered + 1) }
 
+-- The server after a request, which is counted only if it was accepted.
 abbrev pub counted_if : Bool → ServerState → ServerState
 counted_if answered server = if answered then counted server else server

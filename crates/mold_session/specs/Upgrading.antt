@@ -1,4 +1,4 @@
--- A file of either version, written again in version 2.
+-- How a file of either version is rewritten in version 2.
 use Rattle.std.specs.Prelude.{◌≡◌, ◌⊎◌, ℕ, Bool, true, false, List, length, if◌then◌else◌, Option, None, Some, Result}
 use Rattle.std.specs.Prelude.{Ok, Err, IfSome}
 use Rattle.mold_wire.specs.declared.block.TheConstants.{MAX_MESSAGE}
@@ -11,29 +11,30 @@ use Rattle.mold_session.specs.declared.error.FileError.{FileError}
 use Rattle.mold_session.specs.declared.error.FileError.TheVariants.{Write}
 use Rattle.mold_session.specs.declared.upgrading.Upgraded.{Upgraded}
 
--- the version of a file by the number of messages that it states: version 1 states none
+-- The version of a file, given the number of messages that it states. A file of version 1 states none.
 abbrev pub version_of : Option ℕ → ℕ
 version_of None = 1
 version_of (Some count) = 2
 
--- the bytes are the file of this version
+-- The bytes are the file, of this version, of a journal with these messages.
 abbrev pub SpellsVersion : ℕ → Session → List (List ℕ) → Bool → List ℕ → Type 0
 SpellsVersion version session messages closed bytes =
     ((version ≡ 1) × (closed ≡ false) × SpellsJournal session messages bytes)
     ⊎ ((version ≡ 2) × SpellsJournal2 session messages closed bytes)
 
--- known bytes were a file, and the file of version 2 of the same session and messages was added to what the sink
--- held: closed where the first said so or that is asked for
+-- The known bytes were the file of a journal. The file of version 2 of the same session and messages was
+-- appended to the sink. It is closed if the old one was or if `close` is true.
 pub record Upgrades (known old new : Option (List ℕ)) (close : Bool) (upgraded : Upgraded) : Type 0 where
   pub session : Session
   pub messages : List (List ℕ)
+  -- whether the old file states that the session is closed
   pub was : Bool
   pub loaded : IfSome known (λ bytes. SpellsVersion upgraded.from session messages was bytes)
   pub counted : upgraded.messages ≡ length messages
   pub closed : upgraded.closed ≡ (if was then true else close)
   pub saved : AppendsFile old new session messages upgraded.closed
 
--- a beginning of that file was
+-- The known bytes were the file of a journal, and a prefix of the new file was appended to the sink.
 pub record BeginsUpgrade (known old new : Option (List ℕ)) (close : Bool) : Type 0 where
   pub version : ℕ
   pub session : Session
@@ -42,16 +43,18 @@ pub record BeginsUpgrade (known old new : Option (List ℕ)) (close : Bool) : Ty
   pub loaded : IfSome known (λ bytes. SpellsVersion version session messages was bytes)
   pub saved : AppendsFilePrefix old new session messages (if was then true else close)
 
--- a sink that fails leaves a beginning, and each other refusal is that of the file
+-- What a refused upgrade did. If the sink failed, a prefix of the new file was written. Any other error is the
+-- fault of the old file, a failed read, or a failed allocation.
 abbrev pub RefusesUpgrade : Option (List ℕ) → Option (List ℕ) → Option (List ℕ) → Bool → FileError → Type 0
 RefusesUpgrade known old new close Write = BeginsUpgrade known old new close
 RefusesUpgrade known old new close error = Refuses (JournalFault MAX_MESSAGE) known error
 
--- the sink failed once more where `Write` is answered, and else it didn't
+-- The count of the sink's failures after an error: one more for `Write`, otherwise unchanged.
 abbrev pub CountsSaveFault : ℕ → ℕ → FileError → Type 0
 CountsSaveFault old new Write = new ≡ one_more old
 CountsSaveFault old new error = new ≡ old
 
+-- The count of the sink's failures after a call: one more if the call returned `Write`, otherwise unchanged.
 abbrev pub CountsSave : {T : Type 0} → ℕ → ℕ → Result T FileError → Type 0
 CountsSave old new (Ok _) = new ≡ old
 CountsSave old new (Err error) = CountsSaveFault old new error

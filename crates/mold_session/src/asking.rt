@@ -1,4 +1,4 @@
-//! Requests, judged by a journal.
+//! Requests, checked against a journal.
 
 ghost use Rattle.std.specs.Prelude.{◌≡◌};
 ghost use Rattle.mold_session.specs.Journal.{IsJournal};
@@ -8,7 +8,7 @@ use crate::error::AnswerError;
 use crate::journal::Journal;
 use mold_wire::{Request, RequestError};
 
-/// The request that the bytes ask of the journal, or the first reason not to answer it.
+/// Decodes a request for messages of the journal, or returns the first reason to refuse it.
 pub fn asked(journal: &Journal, request: &[u8]) -> Result<Request, AnswerError>
     ensures asked { result ≡ asking journal.now request.now }
     ensures journal { IsJournal journal.now }

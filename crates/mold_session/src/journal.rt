@@ -1,4 +1,4 @@
-//! The messages of a session, in the order in which they were published.
+//! The journal of a session: its messages in the order in which they were published.
 
 ghost use Rattle.std.specs.Prelude.{◌≡◌, ◌+◌, ◌<◌, ◌≤◌, true, false, None, length, drop, take, ◌-◌, unwrap_or};
 ghost use Rattle.std.specs.Prelude.{IfOk};
@@ -24,11 +24,10 @@ use mold_wire::{LENGTH_BYTES, MAX_NUMBER, Session};
 use std::alloc::Global;
 use std::marker::Model;
 
-/// The most messages that a session may have: the number that follows the last one has 64 bits, too.
+/// The largest number of messages in a session. The sequence number after the last message's must fit 64 bits, too.
 pub const MAX_MESSAGES: u64 = MAX_NUMBER - 1;
 
-/// The journal of a session: its messages, the first of which has number 1. It is open until it is
-/// closed, and only then takes messages.
+/// The journal of a session. Its first message has sequence number 1. It takes messages until it is closed.
 #[derive(Debug, Drop)]
 pub struct Journal {
     session: Session,
@@ -54,8 +53,8 @@ impl Model for Journal {
 }
 
 impl Journal {
-    /// An open journal without messages, whose messages may have up to `max_message` bytes. It takes no
-    /// memory yet.
+    /// Returns an open journal without messages. Each message may have up to `max_message` bytes. This
+    /// allocates nothing.
     pub fn new(alloc: Global, session: Session, max_message: u16) -> Journal
         ensures { result ≡ fresh_journal session max_message }
     {
@@ -67,28 +66,28 @@ impl Journal {
         }
     }
 
-    /// The session that the messages belong to.
+    /// Returns the session that the messages belong to.
     pub fn session(&self) -> Session
         ensures { result ≡ self.now.session }
     {
         self.session
     }
 
-    /// How many bytes a message may have.
+    /// Returns the largest length of a message, in bytes.
     pub fn max_message(&self) -> u16
         ensures { result ≡ self.now.max_message }
     {
         self.max_message
     }
 
-    /// Whether no more messages may come.
+    /// Returns true if the journal is closed and takes no more messages.
     pub fn is_closed(&self) -> bool
         ensures { result ≡ self.now.closed }
     {
         self.closed
     }
 
-    /// The number that the next message gets: one more than the number of messages.
+    /// Returns the sequence number that the next message gets: one more than the number of messages.
     pub fn next(&self) -> u64
         ensures value { result ≡ length self.now.messages + 1 }
         ensures journal { IsJournal self.now }
@@ -96,7 +95,6 @@ impl Journal {
         self.len() + 1
     }
 
-    // How many messages there are.
     pub(crate) fn len(&self) -> u64
         ensures value { result ≡ length self.now.messages }
         ensures journal { IsJournal self.now }
@@ -104,7 +102,8 @@ impl Journal {
         self.list.len() as u64
     }
 
-    /// The message of this number, in constant time; none for 0 and for numbers not yet given.
+    /// Returns the message with this sequence number, in constant time. Returns `None` for 0 and for a number
+    /// that no message has yet.
     pub fn get(&self, number: u64) -> Option<&[u8]>
         ensures { option_copied result ≡ message_numbered self.now.messages number }
     {
@@ -112,7 +111,7 @@ impl Journal {
         self.list.get(place as usize)
     }
 
-    // The messages from a place on, the first message's being 0.
+    // The messages from index `place` on. The first message has index 0.
     pub(crate) fn iter_from(&self, place: u64) -> MessageIterator<'_>
         ensures from { result ≡ drop place self.now.messages }
         ensures journal { IsJournal self.now }
@@ -120,7 +119,7 @@ impl Journal {
         self.list.iter_from(place as usize)
     }
 
-    // How many bytes the messages from a place on have together, in constant time.
+    // The total length in bytes of the messages from index `place` on, in constant time.
     pub(crate) fn joined_from(&self, place: u64) -> usize
         requires { place ≤ length self.now.messages }
         ensures { result ≡ byte_count (drop place self.now.messages) }
@@ -128,8 +127,8 @@ impl Journal {
         self.list.joined_length(place as usize, self.list.len())
     }
 
-    /// Adds a message behind the last one and answers its number. The journal is unchanged after an
-    /// error, and `Memory` comes only where a growth was refused.
+    /// Appends a message and returns its sequence number. After an error the journal is unchanged. `Memory` is
+    /// returned only if an allocation failed.
     pub fn append(&mut self, message: &[u8]) -> Result<u64, AppendError>
         ensures number { IfOk result (λ number. number ≡ length self.old.messages + 1) }
         ensures taken { OnOk result (append_refusal self.old message.now ≡ None) }
@@ -153,11 +152,14 @@ impl Journal {
         }
     }
 
-    /// Reads the file of a journal, of version 1, which is open, or of version 2, whose messages have at
-    /// most `max_message` bytes. It reads at most 4,096 bytes at once, goes through the file once, and holds
-    /// no more than the journal and what was read at once. Bytes have one fault at most (`laws::one_fault_law`), so
-    /// the one that is answered is the only one; `Read` and `Memory` come as they occur. A journal that is
-    /// answered has read the source to its end.
+    /// Loads a journal from its file, of version 1 or 2, whose messages have at most `max_message` bytes. A
+    /// journal from a file of version 1 is open.
+    ///
+    /// It goes through the file once and reads at most 4,096 bytes at once. It holds no more than the journal
+    /// and the bytes of one read. On success it has read the source to its end.
+    ///
+    /// Bytes have at most one fault (`laws::one_fault_law`), so no other fault can be returned for them. `Read`
+    /// and `Memory` are returned when they occur.
     pub fn load<S: Source>(
         alloc: Global,
         max_message: u16,
@@ -181,9 +183,10 @@ impl Journal {
         })
     }
 
-    /// Writes the journal's file, in version 2. Blocks are gathered and go out in writes of up to 4,096
-    /// bytes, and a longer message in a write of its own. It takes no memory, and `Write` is its only
-    /// refusal; the sink has then taken a beginning of the file.
+    /// Saves the journal as a file of version 2. Blocks are gathered into writes of up to 4,096 bytes, and a
+    /// longer message has a separate write. This allocates nothing.
+    ///
+    /// `Write` is the only error. A prefix of the file was then written to the sink.
     pub fn save<K: Sink>(&self, sink: &mut K) -> Result<(), FileError>
         ensures whole { OnOk result (AppendsFile (K.held sink.old) (K.held sink.new)
             self.now.session self.now.messages self.now.closed) }
@@ -198,16 +201,18 @@ impl Journal {
         }
     }
 
-    /// How many bytes the journal's file has in version 2, in constant time: 27, and for each message two
-    /// and its length.
+    /// Returns the length in bytes of the journal's file in version 2, in constant time: 27, and for each
+    /// message 2 plus its length.
     pub fn file_length(&self) -> usize
         ensures { result ≡ file_length self.now.messages }
     {
         self.list.total_length() + LENGTH_BYTES * self.list.len() + HEAD_LENGTH
     }
 
-    /// Writes the journal's file, in version 2, at the front of the bytes, and answers its length; none,
-    /// and the bytes stay, where they are fewer than that. It takes no memory.
+    /// Writes the journal's file, in version 2, to the start of the buffer and returns its length. This
+    /// allocates nothing.
+    ///
+    /// If the buffer is shorter than the file, it is left unchanged and `None` is returned.
     pub fn save_in(&self, bytes: &mut [u8]) -> Option<usize>
         ensures put { IfSome result (λ size.
             PutsFile bytes.old bytes.new self.now.session self.now.messages self.now.closed size) }
@@ -222,7 +227,7 @@ impl Journal {
         Some(put_file(bytes, self.session, self.closed, &self.list))
     }
 
-    /// Lets no more messages come. On a closed journal it changes nothing.
+    /// Closes the journal, which then takes no more messages. It has no effect on a closed journal.
     pub fn close(&mut self)
         ensures { self.new ≡ record self.old { closed = true } }
     {

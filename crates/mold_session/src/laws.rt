@@ -1,5 +1,5 @@
-//! What holds of the definitions alone. Each law is a function that does nothing: its contract is the
-//! law.
+//! Laws: theorems about the definitions alone. Each law is a function that does nothing, and its contract is
+//! the theorem.
 
 ghost use Rattle.std.specs.Prelude.{◌≡◌, ◌+◌, ◌<◌, ◌≤◌, ◌++◌, ◌∷◌, [], List, ℕ, Bool, length, take, None, Ok, Some};
 ghost use Rattle.std.specs.Prelude.{Option, IfSome};
@@ -35,13 +35,13 @@ use mold_wire::laws::{
     true_packet_law,
 };
 
-/// The most messages of a session, written out.
+/// The value of `MAX_MESSAGES`.
 pub fn constants_law()
     ensures messages { MAX_MESSAGES ≡ 18446744073709551614 }
 {}
 
-/// How messages are packed: none give no packet, and where the longest front that fits has a message, it
-/// is the first packet's, and what is behind it is packed from the next number on.
+/// How messages are packed. No messages give no packets. If the longest prefix that fits has a message, the
+/// first packet has that prefix. The messages after it are packed from the next sequence number on.
 #[tactic(auto, using(crate::proofs::DatagramLemmas::packing_none, crate::proofs::DatagramLemmas::packing_first))]
 pub fn packing_law()
     ensures none { (limit : ℕ) (session : Session) (sequence : ℕ) → packing limit session sequence [] ≡ [] }
@@ -51,7 +51,7 @@ pub fn packing_law()
         ≡ data_packet session sequence found ∷ packing limit session (sequence + length found) behind }
 {}
 
-/// Which messages the first packet of an answer has: of at most so many the longest front that fits.
+/// Which messages the first packet has if `count` messages are requested: their longest prefix that fits.
 pub fn first_part_law()
     ensures { (limit count : ℕ) (messages : List (List ℕ)) → HEADER_LENGTH ≤ limit →
         first_part limit (take count messages) ≡ front limit messages count }
@@ -59,10 +59,12 @@ pub fn first_part_law()
     front_law();
 }
 
-/// What a plan still sends: nothing, once it is spent; else the next packet, and then what the plan still
-/// sends once it was moved behind that packet's messages; and no more packets than may be left. What is
-/// published meanwhile changes nothing. So the datagrams that are lent until none comes are all packets
-/// that the plan had at first, in order.
+/// What a plan still sends. A spent plan sends nothing. Any other plan sends its next packet, and then what the
+/// plan sends after it is advanced past that packet. It never sends more than `left` packets. Messages that are
+/// published meanwhile change nothing.
+///
+/// So the datagrams that `Server::datagram` returns, until it returns `None`, are all packets that the plan had
+/// at first, in order.
 pub fn planned_law()
     ensures spent { (published : List (List ℕ)) (limit : ℕ) (plan : PlanState) →
         IsSpent plan → planned published limit plan ≡ [] }
@@ -79,8 +81,8 @@ pub fn planned_law()
     packet_length_law();
 }
 
-/// A request for messages that the journal has is answered, and no other one is; what its plan sends is the
-/// answer.
+/// A request is accepted exactly when it asks for messages that the journal has. The packets that its plan
+/// sends are the response to the request.
 pub fn answered_law()
     ensures asked { (journal : JournalState) (request : Request) (bytes : List ℕ) →
         SpellsRequest request bytes → IsAnswerable journal request → asking journal bytes ≡ Ok request }
@@ -99,9 +101,11 @@ pub fn answered_law()
     reading_law();
 }
 
-/// The answer to a request has a first packet, with at least one message, where the number asked is a
-/// message's, at least one message is asked for, and no message is longer than `MESSAGE_OVERHEAD` bytes less
-/// than the limit; so it is of a journal and of a server that may answer from it.
+/// The response to a request has a first packet with at least one message, if three conditions hold. The
+/// requested number is that of a message, the message count is at least 1, and each message fits a datagram by
+/// itself.
+///
+/// The third condition holds for every journal and every server that may respond from it.
 pub fn answer_not_empty_law()
     ensures first { (published : List (List ℕ)) (session : Session) (limit number count burst : ℕ) →
         FitAlone limit published → 1 ≤ number → number ≤ length published → 1 ≤ count → 1 ≤ burst →
@@ -113,8 +117,8 @@ pub fn answer_not_empty_law()
     packet_length_law();
 }
 
-/// What a publisher sends next, and all packets of an answer, have a spelling that tells the truth of the
-/// journal, wherever the session's name has its ten bytes. That of a datagram spells the datagram itself.
+/// The packets that a publisher sends next, and all packets of a plan, have an encoding that is true of the
+/// journal. The session's name must have ten bytes. The bytes of a data packet are the encoding of that packet.
 pub fn sending_law()
     ensures spelled { (publisher : PublisherState) (packet : Packet) → IsPublisher publisher →
         length publisher.journal.session.0 ≡ 10 → next_datagram publisher ≡ Some packet →
@@ -140,9 +144,9 @@ pub fn sending_law()
     true_packet_law();
 }
 
-/// A file has one reading: no bytes are the files of two journals or of both versions, and the file of a
-/// journal whose messages are within a bound has no fault for that bound. So what `Journal::load` answers
-/// of a file is all that it may answer.
+/// A file has one reading. No bytes are the files of two journals or of both versions. The file of a journal
+/// whose messages are within a bound has no fault for that bound. So a file determines what `Journal::load`
+/// returns for it.
 #[tactic(auto, using(crate::proofs::FileLawLemmas::one_reading))]
 pub fn one_file_law()
     ensures one_journal { (one other : Session) (messages others : List (List ℕ)) (bytes : List ℕ) →
@@ -161,22 +165,22 @@ pub fn one_file_law()
         AllByRecursion (IsWithin most) messages → ¬ JournalFault most bytes error }
 {}
 
-/// A file has one fault: no bytes have two for the same bound. So what `Journal::load` refuses a file with is, `Read`
-/// and `Memory` aside, all that it may refuse it with.
+/// A file has at most one fault for a given bound. So a file determines the error of `Journal::load`, except
+/// for `Read` and `Memory`.
 pub fn one_fault_law()
     ensures { (most : ℕ) (bytes : List ℕ) (one other : FileError) → most ≤ MAX_MESSAGE →
         JournalFault most bytes one → JournalFault most bytes other → one ≡ other }
 {}
 
-/// Bytes give something as a file, whatever they are, and always the same: one list of messages, and one fault or none.
+/// All bytes have contents as a file: a list of messages, and at most one fault. The contents are unique.
 pub fn contents_law()
     ensures some { (bytes : List ℕ) → IsBytes bytes → FileContents bytes }
     ensures one { (bytes : List ℕ) (one other : FileContents bytes) →
         (one.messages ≡ other.messages) × (one.fault ≡ other.fault) }
 {}
 
-/// What a reader of a file has read is all that the file gives, once it is at the end or refused; and before that
-/// it is the first of it. Where nothing is known of the file nothing is said.
+/// A reader has read all contents of a file when it reaches the end or a fault. Before that, it has read a
+/// prefix of its messages. If the bytes of the file aren't known, the law states nothing.
 pub fn reader_law()
     ensures next { (known left after : Option (List ℕ)) (reader next : ReaderState) (messages : List (List ℕ)) →
         HasRead known left reader messages → ReadsNext left after reader next →
@@ -193,8 +197,8 @@ pub fn reader_law()
         IfSome known (λ bytes. (contents : FileContents bytes) → IsFront messages contents.messages) }
 {}
 
-/// A publisher stays one while messages are published that nothing refuses, and sent, and when it is closed
-/// once all are sent.
+/// The properties of `IsPublisher` are kept by each step: a message is published that nothing refuses, a
+/// datagram is sent, or the publisher is closed after all messages were sent.
 pub fn publisher_law()
     ensures may { (publisher : PublisherState) (message : List ℕ) →
         append_refusal publisher.journal message ≡ None → MayPublish publisher message }

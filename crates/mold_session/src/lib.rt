@@ -1,5 +1,5 @@
-//! What a session published: its journal, the publisher that puts it into datagrams, and the server that
-//! answers requests from it.
+//! A published session: its journal, the publisher that packs messages into datagrams, and the server that
+//! responds to requests for messages of the journal.
 #![tactic(auto)]
 
 mod asking;

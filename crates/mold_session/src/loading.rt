@@ -1,4 +1,4 @@
-//! The file of a journal, read.
+//! Reads the file of a journal, of version 1 or 2.
 
 ghost use Rattle.std.specs.Prelude.{◌≡◌, ◌<◌, ◌≤◌, ◌^◌, ◌∷◌, ℕ, length, take, unwrap_or, IfOk, IfErr, IfSome, OnOk};
 ghost use Rattle.std.specs.Bool.{OnTrue, OnFalse};
@@ -23,16 +23,19 @@ use mold_messages::MessageList;
 use mold_wire::{SESSION_LENGTH, Session};
 use std::alloc::Global;
 
-/// What stands before the blocks of a file.
+/// The head of a file: what it states before the blocks.
 #[derive(Clone, Copy)]
 pub struct FileHead {
+    /// The session of the messages.
     pub session: Session,
+    /// Whether the session is closed. It is false for a file of version 1.
     pub closed: bool,
-    /// The number of messages that a file of version 2 states.
+    /// The number of messages that a file of version 2 states. It is `None` for version 1.
     pub stated: Option<u64>,
 }
 
-// Fills the place as far as there are bytes, and answers how many it filled.
+// Fills `place` from the source, and returns how many bytes it filled. That is fewer than its length if the
+// source ends first.
 fn fill<S: Source>(piece: &mut Piece, source: &mut S, place: &mut [u8]) -> Result<usize, ReadFault>
     ensures filled { IfOk result (λ count. count ≤ length place.new) }
     ensures bytes { IfOk result (λ count. Consumes (prepend_known piece.old (S.left source.old))
@@ -52,7 +55,7 @@ fn fill<S: Source>(piece: &mut Piece, source: &mut S, place: &mut [u8]) -> Resul
     Ok(count)
 }
 
-// A byte and the number behind it.
+// Splits off the first byte and decodes the number after it.
 fn split_numbers(bytes: &[u8]) -> (u8, u64)
     requires { length bytes.now ≡ 9 }
     ensures parts { bytes.now ≡ result.0 ∷ be64 result.1 }
@@ -62,7 +65,7 @@ fn split_numbers(bytes: &[u8]) -> (u8, u64)
     (first[0], BigEndian::read_u64(number))
 }
 
-// What follows magic and session in a file of version 2.
+// Reads what follows the session in a file of version 2.
 fn read_numbers<S: Source>(
     piece: &mut Piece,
     source: &mut S,
@@ -91,7 +94,7 @@ fn read_numbers<S: Source>(
     })
 }
 
-/// What stands before the blocks.
+/// Reads the head of a file.
 pub fn read_head<S: Source>(piece: &mut Piece, source: &mut S) -> Result<FileHead, FileError>
     ensures read { IfOk result (λ head. ReadsHead (prepend_known piece.old (S.left source.old))
         (prepend_known piece.new (S.left source.new)) head) }
@@ -121,7 +124,7 @@ pub fn read_head<S: Source>(piece: &mut Piece, source: &mut S) -> Result<FileHea
     read_numbers(piece, source, session)
 }
 
-// Takes the next so many bytes as one message; false where the source ends before.
+// Takes the next `len` bytes as one more message of the list. Returns false if the source ends first.
 fn take_message<S: Source>(
     list: &mut MessageList,
     piece: &mut Piece,
@@ -151,7 +154,8 @@ fn take_message<S: Source>(
     Ok(true)
 }
 
-/// Takes the next block behind so many others as one message more of the list; false where none is left.
+/// Takes the next block as one more message of the list. `count` blocks were taken before it. Returns false if
+/// the source is at its end.
 pub fn next_block<S: Source>(
     list: &mut MessageList,
     piece: &mut Piece,
@@ -195,7 +199,7 @@ pub fn next_block<S: Source>(
     Ok(true)
 }
 
-// Takes all blocks to the end of the file.
+// Takes all blocks up to the end of the file.
 fn read_blocks<S: Source>(
     alloc: Global,
     most: u16,
@@ -231,7 +235,7 @@ pub fn check_count(stated: Option<u64>, found: u64) -> Result<(), FileError>
     Ok(())
 }
 
-/// Reads the file of a journal, of either version, whose messages have at most so many bytes.
+/// Reads the file of a journal, of either version, whose messages have at most `most` bytes.
 pub fn load_file<S: Source>(
     alloc: Global,
     most: u16,

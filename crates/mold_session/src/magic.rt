@@ -1,12 +1,12 @@
-//! What files begin with.
+//! The eight bytes that identify a journal's file and its version.
 
 ghost use Rattle.std.specs.Prelude.{◌≡◌};
 ghost use Rattle.mold_session.specs.File.{magic_1, magic_2};
 
-/// How many bytes that are.
+/// The length of the magic bytes at the start of a file.
 pub const MAGIC_LENGTH: usize = 8;
 
-/// Of version 1.
+/// The magic bytes of version 1.
 #[tactic(auto, unfolding(crate::specs::File::magic_1))]
 pub fn first_magic() -> [u8; MAGIC_LENGTH]
     ensures { result ≡ magic_1 }
@@ -14,7 +14,7 @@ pub fn first_magic() -> [u8; MAGIC_LENGTH]
     *b"MOLDJNL1"
 }
 
-/// Of version 2.
+/// The magic bytes of version 2.
 #[tactic(auto, unfolding(crate::specs::File::magic_2))]
 pub fn second_magic() -> [u8; MAGIC_LENGTH]
     ensures { result ≡ magic_2 }

@@ -1,4 +1,4 @@
-//! Messages of a journal put into one datagram.
+//! Messages of a journal packed into one datagram.
 
 ghost use Rattle.std.specs.Prelude.{◌≡◌, ◌+◌, ◌≤◌, ◌<◌, length};
 ghost use Rattle.mold_wire.specs.Packer.{IsLimit};
@@ -13,8 +13,8 @@ use mold_messages::MessageIterator;
 use mold_wire::laws::{front_law, packet_length_law};
 use mold_wire::{Packer, Session};
 
-/// Puts the longest front of at most so many of the messages that fits into a data packet, and answers
-/// how many messages that are. No message behind that front is looked at but the first.
+/// Packs the longest prefix of the first `most` messages that fits into a data packet. Returns the number of
+/// its messages. Of the messages after that prefix, only the first is read.
 pub fn pack_front(
     packer: &mut Packer,
     session: Session,
@@ -38,7 +38,7 @@ pub fn pack_front(
     count
 }
 
-/// Packs the next datagram of a plan and returns how many messages it has.
+/// Packs the next datagram of a plan and returns the number of its messages.
 pub fn pack_next(packer: &mut Packer, journal: &Journal, plan: &Plan) -> u64
     requires limit { IsLimit packer.old.limit }
     requires longest { journal.now.max_message + MESSAGE_OVERHEAD ≤ packer.old.limit }

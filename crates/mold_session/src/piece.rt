@@ -1,4 +1,4 @@
-//! Bytes of a source, one after the other.
+//! The bytes of a source, one after another, read in pieces of up to 4,096 bytes.
 
 ghost use Rattle.std.specs.Prelude.{◌<◌, ◌≤◌, [], ◌∷◌, length, IfOk, IfSome, MatchOption, ⊤};
 ghost use Rattle.std.specs.Bool.{OnTrue, OnFalse};
@@ -8,13 +8,14 @@ ghost use Rattle.mold_session.specs.Loading.{work_left};
 
 use mold_devices::{ReadFault, Source};
 
-/// How many bytes are read at once, at most.
+/// The largest number of bytes in one read.
 const PIECE: usize = 4096;
 
-/// The bytes of one read, and which of them are not used yet. It takes no memory.
+/// The bytes of one read, and which of them are unused. It has a fixed size and allocates nothing.
 pub type Piece = mold_devices::Piece<PIECE>;
 
-/// Reads once where all bytes are used, and answers whether there is a byte. Else the source is at its end.
+/// Returns whether an unused byte is available, and reads once if all bytes are used. It returns false if the
+/// source is at its end.
 pub fn has_more<S: Source>(piece: &mut Piece, source: &mut S) -> Result<bool, ReadFault>
     ensures same { IfOk result (λ _. Keeps
         (prepend_known piece.old (S.left source.old)) (prepend_known piece.new (S.left source.new))) }
@@ -32,7 +33,7 @@ pub fn has_more<S: Source>(piece: &mut Piece, source: &mut S) -> Result<bool, Re
     Ok(count > 0)
 }
 
-/// The next byte; none where the source is at its end.
+/// Takes the next byte. Returns `None` if the source is at its end.
 pub fn next_byte<S: Source>(piece: &mut Piece, source: &mut S) -> Result<Option<u8>, ReadFault>
     ensures given { IfOk result (λ found. MatchOption found
         (IsAtEnd (prepend_known piece.old (S.left source.old)))

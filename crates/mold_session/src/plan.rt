@@ -1,4 +1,4 @@
-//! What is left of the answer to a request.
+//! The rest of the response to a request.
 
 ghost use Rattle.std.specs.Prelude.{◌≡◌, ◌+◌, ◌≤◌, ◌<◌, ◌↔◌, length, IsTrue, IsSome, IfSome};
 ghost use Rattle.mold_session.specs.Answer.{IsPlan, IsSpent, plan_for, moved};
@@ -8,8 +8,8 @@ use crate::journal::Journal;
 use mold_wire::{Request, Session};
 use std::marker::Model;
 
-/// What is left of the answer to a request: the messages from `from` to below `to`, in at most `left`
-/// datagrams. `from` is at least 1 and at most `to`.
+/// The rest of the response to a request: the messages with numbers from `from` up to, but not including, `to`,
+/// in at most `left` datagrams. `from` is at least 1 and at most `to`.
 #[derive(Debug, Drop)]
 pub struct Plan {
     session: Session,
@@ -29,7 +29,7 @@ impl Model for Plan {
 }
 
 impl Plan {
-    // The answer to a request that the journal can answer, in at most `burst` datagrams.
+    // Plans the response to a request that the journal can satisfy, in at most `burst` datagrams.
     pub(crate) fn new(journal: &Journal, request: &Request, burst: u16) -> Plan
         requires session { request.now.session ≡ journal.now.session }
         requires first { 1 ≤ request.now.sequence }
@@ -45,9 +45,8 @@ impl Plan {
         }
     }
 
-    /// What is left of an answer, from numbers that a caller kept; none where `from` is 0 or above `to`. Any
-    /// `left` is taken: how many datagrams a plan may have is for its server to say, which makes plans of at
-    /// most `MAX_BURST`.
+    /// Returns a plan from values that the caller kept, or `None` if `from` is 0 or greater than `to`. Any
+    /// `left` is accepted. A server makes plans of at most `MAX_BURST` datagrams.
     pub fn resumed(session: Session, from: u64, to: u64, left: u16) -> Option<Plan>
         ensures some { IsSome result ↔ IsPlan (record { session = session; from = from; to = to; left = left }) }
         ensures made { IfSome result (λ plan.
@@ -64,15 +63,15 @@ impl Plan {
         })
     }
 
-    /// The session of the messages.
+    /// Returns the session of the messages.
     pub fn session(&self) -> Session
         ensures { result ≡ self.now.session }
     {
         self.session
     }
 
-    /// The number of the next message: at first the number asked, then one behind the last message that
-    /// was lent.
+    /// Returns the sequence number of the next message: at first the requested number, then one more than the
+    /// number of the last message that was returned in a datagram.
     pub fn from(&self) -> u64
         ensures value { result ≡ self.now.from }
         ensures plan { IsPlan self.now }
@@ -80,8 +79,8 @@ impl Plan {
         self.from
     }
 
-    /// One more than the number of the last message that was asked for and that the journal had when the
-    /// plan was made.
+    /// Returns one more than the number of the plan's last message. That is the last message that was requested
+    /// and that the journal had when the plan was made.
     pub fn to(&self) -> u64
         ensures value { result ≡ self.now.to }
         ensures plan { IsPlan self.now }
@@ -89,14 +88,15 @@ impl Plan {
         self.to
     }
 
-    /// How many datagrams may still come, at most `MAX_BURST`.
+    /// Returns how many datagrams may still be sent. It is at most `MAX_BURST`, unless `resumed` was given
+    /// more.
     pub fn left(&self) -> u16
         ensures { result ≡ self.now.left }
     {
         self.left
     }
 
-    // Whether no datagram is left.
+    // Whether the plan has no more datagrams.
     pub(crate) fn is_spent(&self) -> bool
         ensures spent { IsTrue result ↔ IsSpent self.now }
         ensures plan { IsPlan self.now }
@@ -104,7 +104,7 @@ impl Plan {
         self.left == 0 || self.from == self.to
     }
 
-    // A datagram of so many messages was lent.
+    // Advances the plan past a datagram of `count` messages.
     pub(crate) fn advance(&mut self, count: u64)
         requires left { ¬ IsSpent self.old }
         requires within { self.old.from + count ≤ self.old.to }

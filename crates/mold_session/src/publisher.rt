@@ -20,16 +20,17 @@ use mold_wire::{HEADER_LENGTH, LENGTH_BYTES, MESSAGE_OVERHEAD, Packer, PackerErr
 use std::alloc::Global;
 use std::marker::Model;
 
-/// Publishes the messages of a session: it keeps them in a journal, and puts them into datagrams, each
-/// the longest front of what was not yet put in one. Only `new` and `publish` take memory. What a call
-/// lends is valid until the next call.
+/// Publishes the messages of a session. It keeps them in a journal and packs them into datagrams, each with the
+/// longest prefix of the unsent messages that fits.
+///
+/// Only `new` and `publish` allocate. A returned datagram is valid until the next call.
 #[derive(Debug, Drop)]
 pub struct Publisher {
     journal: Journal,
     packer: Packer,
-    // As many bytes as a datagram may have.
+    // The largest length of a datagram, in bytes.
     limit: usize,
-    // How many messages were put in a datagram.
+    // The number of messages that were put into a datagram.
     sent: u64,
 }
 
@@ -50,8 +51,8 @@ impl Publisher {
     ghost use Rattle.std.specs.Io.BufRead.{Rests};
     ghost use Rattle.mold_session.specs.contracts.publisher.Publisher.{the_row};
 
-    /// A publisher of an open session without messages, whose datagrams have at most `limit` bytes and
-    /// whose messages at most `MESSAGE_OVERHEAD` fewer. It reserves the limit once.
+    /// Makes a publisher of an open session without messages. Its datagrams have at most `limit` bytes, and its
+    /// messages at most `limit - MESSAGE_OVERHEAD`. It allocates the buffer of `limit` bytes once.
     pub fn new(alloc: Global, session: Session, limit: usize) -> Result<Publisher, PublisherError>
         ensures made { IfOk result (λ publisher. publisher ≡ fresh_publisher session limit) }
         ensures ok { IsOk result → IsLimit limit }
@@ -70,8 +71,8 @@ impl Publisher {
         })
     }
 
-    /// Publishes a message and answers its number. The publisher is unchanged after an error, and
-    /// `Memory` comes only where a growth was refused.
+    /// Publishes a message and returns its sequence number. After an error the publisher is unchanged. `Memory`
+    /// is returned only if an allocation failed.
     pub fn publish(&mut self, message: &[u8]) -> Result<u64, AppendError>
         ensures number { IfOk result (λ number. number ≡ length self.old.journal.messages + 1) }
         ensures taken { OnOk result (append_refusal self.old.journal message.now ≡ None) }
@@ -83,7 +84,7 @@ impl Publisher {
         self.journal.append(message)
     }
 
-    /// How many bytes a datagram may have.
+    /// Returns the largest length of a datagram, in bytes.
     pub fn limit(&self) -> usize
         ensures value { result ≡ self.now.limit }
         ensures publisher { IsPublisher self.now }
@@ -91,7 +92,7 @@ impl Publisher {
         self.limit
     }
 
-    /// How many messages were not yet put in a datagram.
+    /// Returns the number of unsent messages: those that were not put into a datagram yet.
     pub fn unsent(&self) -> u64
         ensures value { result ≡ length self.now.journal.messages - self.now.sent }
         ensures publisher { IsPublisher self.now }
@@ -99,7 +100,7 @@ impl Publisher {
         self.journal.len() - self.sent
     }
 
-    /// Whether the messages that were not yet put in a datagram don't all fit one, in constant time.
+    /// Returns true if the unsent messages don't all fit into one datagram. It takes constant time.
     pub fn is_full(&self) -> bool
         ensures full { IsTrue result ↔ (¬ Fits self.now.limit (unsent_of self.now)) }
         ensures publisher { IsPublisher self.now }
@@ -112,9 +113,8 @@ impl Publisher {
         self.journal.joined_from(self.sent) > room - LENGTH_BYTES * lengths as usize
     }
 
-    /// Lends a datagram of the longest front that fits of the messages that were not yet put in one, and
-    /// counts these as put in one; none where there are none. No message that was sent before is looked
-    /// at.
+    /// Returns a datagram with the longest prefix of the unsent messages that fits, and counts these messages
+    /// as sent. Returns `None` if no message is unsent. It doesn't read messages that were sent before.
     pub fn datagram(&mut self) -> Option<&[u8]>
         ensures* after { sem 𝓛 (Rests the_row self.entry (λ new. new ≡ after_datagram self.old)) }
         ensures lent { Lends (next_datagram self.old) (option_copied result) }
@@ -141,8 +141,8 @@ impl Publisher {
         Some(self.packer.bytes())
     }
 
-    /// Lends a heartbeat with the number of the first message that was not yet put in a datagram; none
-    /// where the session is closed.
+    /// Returns a heartbeat with the sequence number of the first unsent message, or of the next message if none
+    /// is unsent. Returns `None` if the session is closed.
     pub fn heartbeat(&mut self) -> Option<&[u8]>
         ensures* after { sem 𝓛 (Rests the_row self.entry (λ new. new ≡ self.old)) }
         ensures lent { Lends (next_heartbeat self.old) (option_copied result) }
@@ -156,8 +156,8 @@ impl Publisher {
         Some(self.packer.bytes())
     }
 
-    /// Closes the session and its journal, where every message was put in a datagram. On a closed
-    /// publisher it changes nothing.
+    /// Closes the session and its journal if every message was put into a datagram. On a closed publisher it
+    /// changes nothing.
     pub fn close(&mut self) -> Result<(), Unsent>
         ensures unsent { IfErr result (λ error. error ≡ record {
           count = length self.old.journal.messages - self.old.sent;
@@ -175,8 +175,8 @@ impl Publisher {
         Ok(())
     }
 
-    /// Lends an end packet, with one more than the number of messages; none where the session is not
-    /// closed.
+    /// Returns an end packet, whose sequence number is one more than the number of messages. Returns `None` if
+    /// the session is open.
     pub fn end(&mut self) -> Option<&[u8]>
         ensures* after { sem 𝓛 (Rests the_row self.entry (λ new. new ≡ self.old)) }
         ensures lent { Lends (next_end self.old) (option_copied result) }
@@ -190,14 +190,14 @@ impl Publisher {
         Some(self.packer.bytes())
     }
 
-    /// Whether the session is closed.
+    /// Returns true if the session is closed.
     pub fn is_closed(&self) -> bool
         ensures { result ≡ self.now.journal.closed }
     {
         self.journal.is_closed()
     }
 
-    /// The journal of what was published.
+    /// Returns the journal of the published messages.
     pub fn journal(&self) -> &Journal
         ensures { result.now ≡ self.now.journal }
     {

@@ -1,4 +1,4 @@
-//! The file of a journal, read message by message.
+//! Reads the file of a journal message by message.
 
 ghost use Rattle.std.specs.Prelude.{◌≡◌, ◌<◌, [], IfErr, IfOk, Some};
 ghost use Rattle.std.specs.Bool.{OnFalse, OnTrue};
@@ -16,14 +16,16 @@ use mold_wire::MAX_MESSAGE;
 use std::alloc::Global;
 use std::marker::Model;
 
-/// Reads the file of a journal, of either version, message by message. It holds no more than the longest message so
-/// far and what was read at once, at most 4,096 bytes. Bytes are refused as `Journal::load` refuses them where a
-/// message may have any length, once it comes to what is wrong with them.
+/// Reads the file of a journal, of either version, message by message. It holds no more than the longest
+/// message so far and the bytes of one read, at most 4,096.
+///
+/// It refuses the bytes that `Journal::load` refuses with a `max_message` of 65,535. The fault is the same, and
+/// it is returned once the reader reaches it.
 #[derive(Drop)]
 pub struct JournalReader {
     head: FileHead,
     piece: Piece,
-    // The last message, once one was read.
+    // The message that was read last, or no message before the first.
     last: MessageList,
     count: u64,
 }
@@ -46,7 +48,7 @@ impl Model for JournalReader {
 }
 
 impl JournalReader {
-    /// Reads what stands before the messages. It is refused where that is at fault, and takes no memory yet.
+    /// Reads the head of the file. A fault of the head is returned. This allocates nothing.
     pub fn new<S: Source>(alloc: Global, source: &mut S) -> Result<JournalReader, FileError>
         ensures begun { IfOk result (λ reader. HasRead (S.left source.old)
             (prepend_known reader.rest (S.left source.new)) reader []) }
@@ -64,21 +66,21 @@ impl JournalReader {
         })
     }
 
-    /// What stands before the messages.
+    /// Returns the head of the file.
     pub fn head(&self) -> FileHead
         ensures { result ≡ self.now.head }
     {
         self.head
     }
 
-    /// How many messages were read, which is the number of the last of them.
+    /// Returns the number of messages read, which is also the sequence number of the last one.
     pub fn count(&self) -> u64
         ensures { result ≡ self.now.count }
     {
         self.count
     }
 
-    /// The message that `advance` read last; no bytes before the first one.
+    /// Returns the message that `advance` read last. It is empty before the first one.
     pub fn message(&self) -> &[u8]
         ensures { result.now ≡ self.now.message }
     {
@@ -88,8 +90,10 @@ impl JournalReader {
         }
     }
 
-    /// Reads the next message, and answers whether there is one. Where none is left the file is a journal. Memory is
-    /// taken only for a message that is longer than those before. After an error the reader is good for nothing more.
+    /// Reads the next message. Returns false if no message remains, and then the whole file is valid.
+    ///
+    /// It allocates only for a message that is longer than all before it. After an error the reader must not be
+    /// used again.
     pub fn advance<S: Source>(&mut self, source: &mut S) -> Result<bool, FileError>
         ensures next { IfOk result (λ more. OnTrue more (ReadsNext
             (prepend_known self.old.rest (S.left source.old))

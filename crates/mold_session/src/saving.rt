@@ -1,4 +1,4 @@
-//! The file of a journal, written.
+//! Writes the file of a journal, in version 2.
 
 ghost use Rattle.std.specs.Prelude.{◌≡◌, ◌<◌, ◌≤◌, ◌^◌, ◌++◌, length, OnOk, OnErr};
 ghost use Rattle.mold_wire.specs.Block.{be16, block};
@@ -17,10 +17,10 @@ use mold_devices::{DeviceFault, Sink};
 use mold_messages::MessageList;
 use mold_wire::{LENGTH_BYTES, Session};
 
-/// How many bytes stand before the blocks.
+/// The length of the head, the bytes before the first block.
 pub const HEAD_LENGTH: usize = 27;
 
-// What stands before the blocks.
+// The bytes before the first block.
 fn head(session: Session, closed: bool, count: u64) -> [u8; HEAD_LENGTH]
     ensures named { length session.0 ≡ 10 }
     ensures head { result ≡ head_2 session.0 closed count }
@@ -35,7 +35,7 @@ fn head(session: Session, closed: bool, count: u64) -> [u8; HEAD_LENGTH]
     bytes
 }
 
-// What stands before a message in its block.
+// The length field of a message's block.
 fn length_of(message: &[u8]) -> [u8; LENGTH_BYTES]
     requires { length message.now < 2 ^ 16 }
     ensures { result ≡ be16 (length message.now) }
@@ -45,7 +45,7 @@ fn length_of(message: &[u8]) -> [u8; LENGTH_BYTES]
     bytes
 }
 
-// Takes the block of a message.
+// Puts the block of a message into the buffer.
 fn put_block<K: Sink>(
     buffer: &mut WriteBuffer,
     sink: &mut K,
@@ -60,8 +60,8 @@ fn put_block<K: Sink>(
     buffer.put(sink, message)
 }
 
-/// Writes the file of version 2 of these messages, and takes no memory. After a fault a beginning of it
-/// is written.
+/// Writes these messages as a file of version 2, without an allocation. After a fault, a prefix of the file was
+/// written.
 pub fn save_file<K: Sink>(
     session: Session,
     closed: bool,
@@ -82,7 +82,7 @@ pub fn save_file<K: Sink>(
     buffer.flush(sink)
 }
 
-/// Writes the file of version 2 of these messages at the front of the bytes, and answers its length.
+/// Writes these messages as a file of version 2 to the start of the buffer, and returns the file's length.
 pub fn put_file(bytes: &mut [u8], session: Session, closed: bool, list: &MessageList) -> usize
     requires messages { AreMessages MAX_MESSAGE list.now.messages }
     requires room { file_length list.now.messages ≤ length bytes.old }

@@ -21,18 +21,20 @@ use mold_wire::{MAX_BURST, MAX_LIMIT, MESSAGE_OVERHEAD, MIN_LIMIT, Packer};
 use std::alloc::Global;
 use std::marker::Model;
 
-/// Answers requests for messages of a session from its journal: with at most so many datagrams, the
-/// burst, each the longest front that fits of what is left of what was asked and the journal has. Only
-/// `new` takes memory, and a call looks at no more messages than it lends and one. What a call lends is
-/// valid until the next call.
+/// A re-request server, which responds to a request with messages of a journal. A request gets at most `burst`
+/// datagrams. Each has the longest prefix that fits of the remaining messages that were requested and that the
+/// journal has.
+///
+/// Only `new` allocates. Each call reads at most one message more than it returns. A returned datagram is valid
+/// until the next call.
 #[derive(Debug, Drop)]
 pub struct Server {
     packer: Packer,
-    // How many bytes a journal's messages may have.
+    // The largest length of a journal's message, in bytes.
     max_message: u16,
-    // How many datagrams answer a request at most.
+    // The largest number of datagrams in the response to one request.
     burst: u16,
-    // How many requests were answered.
+    // The number of requests with a response.
     answered: u64,
 }
 
@@ -61,8 +63,9 @@ impl Server {
     ghost use Rattle.std.specs.Io.BufRead.{Rests};
     ghost use Rattle.mold_session.specs.contracts.server.Server.{the_row};
 
-    /// A server whose datagrams have at most `limit` bytes, for journals whose messages have at most
-    /// `max_message`, which answers a request with at most `burst` datagrams. It reserves the limit once.
+    /// Makes a server whose datagrams have at most `limit` bytes, for journals whose messages have at most
+    /// `max_message` bytes. It sends at most `burst` datagrams for a request. It allocates `limit` bytes, and
+    /// nothing later.
     pub fn new(
         alloc: Global,
         limit: usize,
@@ -92,7 +95,7 @@ impl Server {
         }
     }
 
-    /// How many bytes a datagram may have.
+    /// Returns the largest length of a datagram, in bytes.
     pub fn limit(&self) -> usize
         ensures value { result ≡ self.now.limit }
         ensures server { IsServer self.now }
@@ -100,7 +103,7 @@ impl Server {
         self.packer.limit()
     }
 
-    /// How many bytes the messages of a journal may have from which it answers.
+    /// Returns the largest `max_message` of a journal that this server responds from, in bytes.
     pub fn max_message(&self) -> u16
         ensures value { result ≡ self.now.max_message }
         ensures server { IsServer self.now }
@@ -108,17 +111,18 @@ impl Server {
         self.max_message
     }
 
-    /// How many requests were answered, by `answer` or `plan`; it stays at `MAX_NUMBER`. A refused
-    /// one is not counted.
+    /// Returns the number of requests that `answer` and `plan` accepted. The count stops at `MAX_NUMBER`. A
+    /// refused request isn't counted.
     pub fn answered(&self) -> u64
         ensures { result ≡ self.now.answered }
     {
         self.answered
     }
 
-    /// Lends the first datagram of the answer to a request, which has at least one message, and counts the
-    /// request as answered; or refuses it for the first reason of `AnswerError` that applies, and then
-    /// nothing changes. The journal's messages may have at most `max_message` bytes.
+    /// Returns the first datagram of the response to a request, and counts the request. The datagram has at
+    /// least one message. The journal's messages may have at most `max_message` bytes.
+    ///
+    /// A refused request gets the first error of `AnswerError` that applies, and the server is unchanged.
     pub fn answer(&mut self, journal: &Journal, request: &[u8]) -> Result<&[u8], AnswerError>
         requires { journal.now.max_message ≤ self.old.max_message }
         ensures* after { sem 𝓛 (Rests the_row self.entry (λ new. new ≡ counted_if (is_ok result) self.old)) }
@@ -137,8 +141,8 @@ impl Server {
         Ok(self.packer.bytes())
     }
 
-    /// Plans the answer to a request, whose datagrams `datagram` lends one by one. It refuses what `answer`
-    /// refuses, and counts the request as that does.
+    /// Plans the response to a request. `datagram` then returns its datagrams one by one. It refuses and counts
+    /// requests as `answer` does.
     pub fn plan(&mut self, journal: &Journal, request: &[u8]) -> Result<Plan, AnswerError>
         requires { journal.now.max_message ≤ self.old.max_message }
         ensures planned { result ≡ planning journal.now self.old.burst request.now }
@@ -154,9 +158,11 @@ impl Server {
         Ok(Plan::new(journal, &request, burst))
     }
 
-    /// Lends the next datagram of a plan, the longest front that fits of what is left of it, and moves the
-    /// plan behind its messages; none, and nothing changes, where nothing is left of the plan. The journal is
-    /// the one that the plan was made from, or one of the same session with at least its messages.
+    /// Returns the next datagram of a plan and advances the plan past its messages. The datagram has the
+    /// longest prefix of the plan's remaining messages that fits.
+    ///
+    /// If the plan is spent, `None` is returned and nothing changes. The journal is the one that the plan was
+    /// made from, or one of the same session with at least its messages.
     pub fn datagram(&mut self, journal: &Journal, plan: &mut Plan) -> Option<&[u8]>
         requires longest { journal.now.max_message ≤ self.old.max_message }
         requires session { plan.old.session ≡ journal.now.session }

@@ -1,4 +1,4 @@
-//! Files written again in the version that is written today.
+//! Rewrites the file of a journal in version 2.
 
 ghost use Rattle.std.specs.Prelude.{◌≡◌, IfOk, IfErr};
 ghost use Rattle.mold_session.specs.Loading.{CountsLoad};
@@ -12,18 +12,18 @@ use mold_devices::{Sink, Source};
 use mold_wire::MAX_MESSAGE;
 use std::alloc::Global;
 
-/// What was upgraded.
+/// What `upgrade` read and wrote.
 #[derive(Clone, Copy, Debug, PartialEq, Eq, Hash)]
 pub struct Upgraded {
-    /// How many messages the journal has.
+    /// The number of messages in the journal.
     pub messages: u64,
-    /// Whether the new file says that the session is closed.
+    /// Whether the new file states that the session is closed.
     pub closed: bool,
     /// The version of the file that was read: 1 or 2.
     pub from: u8,
 }
 
-// The version of a file, by the number of messages that it states.
+// The version of a file whose head states this number of messages.
 fn version(stated: Option<u64>) -> u8
     ensures { result ≡ version_of stated }
 {
@@ -33,9 +33,11 @@ fn version(stated: Option<u64>) -> u8
     }
 }
 
-/// Reads the file of a journal, of either version, and writes it in version 2, closed where it was or
-/// where `close` is true. Nothing is written where the file is refused; `Write` comes where the sink
-/// failed, which has then taken a beginning of the new file.
+/// Reads the file of a journal, of either version, and writes it in version 2. The new file is closed if the
+/// old one was or if `close` is true.
+///
+/// If the old file is refused, nothing is written. `Write` means that the sink failed, and then a prefix of the
+/// new file was written.
 pub fn upgrade<S: Source, K: Sink>(
     alloc: Global,
     source: &mut S,

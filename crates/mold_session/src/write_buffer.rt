@@ -1,4 +1,4 @@
-//! Bytes on their way into a sink.
+//! A buffer that gathers bytes into large writes to a sink.
 
 ghost use Rattle.std.specs.Prelude.{◌≡◌, ◌+◌, ◌≤◌, ◌++◌, [], length, OnOk, OnErr};
 ghost use Rattle.std.specs.Io.KnownBytes.{Appends};
@@ -9,10 +9,10 @@ use crate::putting::put_after;
 use mold_devices::{DeviceFault, Sink, write_all};
 use std::marker::Model;
 
-/// How many bytes are gathered before they are written.
+/// The size of the buffer, in bytes.
 const ROOM: usize = 4096;
 
-/// Gathers bytes, so that they go out in large writes. It takes no memory.
+/// Gathers bytes, so that they are written in large writes. It has a fixed size and allocates nothing.
 #[derive(Drop)]
 pub struct WriteBuffer {
     bytes: [u8; ROOM],
@@ -30,6 +30,7 @@ impl Model for WriteBuffer {
 }
 
 impl WriteBuffer {
+    /// Returns an empty buffer.
     pub fn new() -> WriteBuffer
         ensures { result ≡ [] }
     {
@@ -39,7 +40,7 @@ impl WriteBuffer {
         }
     }
 
-    /// Keeps the text behind what is kept.
+    /// Appends `text` to the kept bytes.
     pub fn keep(&mut self, text: &[u8])
         requires { length self.old + length text.now ≤ 4096 }
         ensures { self.new ≡ self.old ++ text.now }
@@ -48,7 +49,7 @@ impl WriteBuffer {
         self.used += text.len();
     }
 
-    /// Writes what is kept. After a fault a front of it is written.
+    /// Writes the kept bytes. After a fault, a prefix of them was written.
     pub fn flush<K: Sink>(&mut self, sink: &mut K) -> Result<(), DeviceFault>
         ensures whole { OnOk result (Appends (K.held sink.old) (K.held sink.new) self.old) }
         ensures empty { OnOk result (self.new ≡ []) }
@@ -60,8 +61,9 @@ impl WriteBuffer {
         Ok(())
     }
 
-    /// Takes the text behind what is kept: it writes what is kept where there is no room, and then the
-    /// text at once where it is longer than all room. After a fault a front of both is written.
+    /// Puts `text` after the kept bytes. If it doesn't fit into the buffer, the kept bytes are written first.
+    /// If it is longer than the buffer, it is then written directly. After a fault, a prefix of the kept bytes
+    /// followed by `text` was written.
     pub fn put<K: Sink>(&mut self, sink: &mut K, text: &[u8]) -> Result<(), DeviceFault>
         ensures moved { OnOk result (Moves (K.held sink.old) (K.held sink.new) self.old text.now self.new) }
         ensures front { OnErr result (AppendsPrefix (K.held sink.old) (K.held sink.new) (self.old ++ text.now)) }

@@ -4,7 +4,7 @@ use Rattle.mold_session.specs.Loading.{work_left}
 use Rattle.mold_session.proofs.LoadingLemmas.{Reads}
 use Rattle.mold_session.proofs.loading.read_blocks.Given as goal
 
--- the blocks so far were taken
+-- The blocks of the listed messages were read.
 abbrev pub invariant-messages : goal.invariant-messages
 invariant-messages g l = record {
   reads : Reads l.fn.most (prepend_known l.fn.piece (g.S.Source.left l.fn.source))

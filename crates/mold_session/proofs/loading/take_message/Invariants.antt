@@ -4,7 +4,7 @@ use Rattle.mold_session.specs.Loading.{work_left}
 use Rattle.mold_session.proofs.LoadingLemmas.{Taking}
 use Rattle.mold_session.proofs.loading.take_message.Given as goal
 
--- the bytes so far are the last message
+-- The bytes so far are in the last message of the list.
 abbrev pub invariant-loop-missing : goal.invariant-loop-missing
 invariant-loop-missing g l = record {
   taking : Taking (prepend_known l.fn.piece (g.S.Source.left l.fn.source))

@@ -22,7 +22,7 @@ returns-then-unsent-eq0 c =
     in
     ((refl, (λ _. tt), same), record { after = tt; lent = nothing; within = tt; idle = unmoved; truth = tt })
 
--- what was packed is the next datagram
+-- The packed messages are those of the next datagram.
 packed_next : (c : After-pack_front-count) →
     IsNext (record { journal = c.self.inside.journal; limit = c.self.inside.limit; sent = c.self.inside.sent })
     c.self.inside.packer c.pack_front-count.new.packer c.pack_front-count.result
