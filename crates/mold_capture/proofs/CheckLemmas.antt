@@ -1,4 +1,4 @@
--- What a check of a list answers.
+-- What a check of a list returns.
 use Rattle.std.proofs.Common.{◌≡◌, ℕ, ◌+◌, ◌<◌, ◌≤◌, List, [], ◌∷◌, ◌++◌, length, take, get_or, refl, sym, ap, subst, ◌∙◌, arith}
 use Rattle.std.proofs.Common.{Bor, map, zero, suc}
 use Rattle.std.proofs.lemmas.List.{take_more, take_all}
@@ -20,13 +20,13 @@ use Rattle.mold_capture.proofs.ListLemmas.{ReadsBack}
 use Rattle.mold_capture.proofs.RefusalLemmas.{RuleLaw}
 use Rattle.mold_capture.proofs.SumLemmas.{none_consistent, accepted, not_refused, after_more, heard_whole, whole_heard}
 
--- one datagram more
+-- The prefix with one more datagram.
 pub front_more : (list : List (List ℕ)) (i : ℕ) (bytes : List ℕ) → i < length list → get_or list i [] ≡ bytes →
     take (i + 1) list ≡ take i list ++ bytes ∷ []
 front_more list i bytes within at =
     take_more list i [] within ∙ ap (λ (b : List ℕ). take i list ++ b ∷ []) at
 
--- what holds where a datagram is refused for a reason
+-- The facts about a datagram that is refused for a reason.
 pub refused_for : ReadsBack → RuleLaw → (list : List (List ℕ)) (i : ℕ) (bytes : List ℕ) (why : Refusal) → i < length list →
     get_or list i [] ≡ bytes → Consistent (take i list) → reason (take i list) bytes ≡ Some why
     → (i < length list) × Consistent (take i list) × (Consistent (take (i + 1) list) → ⊥)
@@ -54,7 +54,7 @@ refused_at reads rule list i bytes within at all (EndBelow k) is new = refused_f
 refused_at reads rule list i bytes within at all (PastEnd e) is new = refused_for reads rule list i bytes _ within at all is
 refused_at reads rule list i bytes within at all (Conflict n) is new = refused_for reads rule list i bytes _ within at all is
 
--- the datagrams so far are consistent, and what they have said is known
+-- The first `i` datagrams are consistent, and `seen` is what they state.
 pub record HasChecked (list : List (List ℕ)) (i : ℕ) (seen : Seen) : Type 0 where
   pub consistent : Consistent (take i list)
   pub said : seen ≡ seen_of (take i list)
@@ -88,7 +88,7 @@ verdict_on reads list consistent (IsWhole messages) is = heard_whole reads list 
 verdict_on reads list consistent (Incomplete missing end) is =
     (consistent, is.0, is.1, λ P whole. is.2 (length P + 1) (whole_heard reads list P whole))
 
--- the datagrams that are borrowed
+-- The borrowed datagrams.
 abbrev pub bytes_of : List (Bor (List ℕ)) → List (List ℕ)
 bytes_of list = map (λ b. b.now) list
 
@@ -105,7 +105,7 @@ bytes_at (b ∷ list) (suc i) d within = bytes_at list i d (omega arith)
 pub none_checked : (list : List (List ℕ)) (seen : Seen) → seen ≡ seen_of [] → HasChecked list 0 seen
 none_checked list seen is = record { consistent = none_consistent; said = is }
 
--- all datagrams
+-- All datagrams are checked.
 pub all_checked : (list : List (List ℕ)) (i : ℕ) (seen : Seen) → length list ≤ i → HasChecked list i seen →
     Consistent list × (seen ≡ seen_of list)
 all_checked list i seen all checked =

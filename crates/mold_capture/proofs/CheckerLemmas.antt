@@ -1,4 +1,4 @@
--- What a checker holds, and what it answers.
+-- What a checker holds, and what it returns.
 use Rattle.std.proofs.Common.{◌≡◌, ℕ, ◌-◌, max, false, List, [], refl, sym, ap, ◌∙◌}
 use Rattle.std.proofs.Common.{arith}
 use Rattle.std.specs.Prelude.{Option, None, Some, is_none, Result, Ok, Err, IfOk}
@@ -18,7 +18,7 @@ use Rattle.mold_capture.specs.Seen.{Pairs, Seen, IsSound, after, end_in, joined,
 use Rattle.mold_capture.specs.Verdict.{IsWholeSeen, lacks, missing_in}
 use Rattle.mold_capture.proofs.GapLemmas.{none_lacking, lacking_none}
 
--- another reason than memory tells itself
+-- A reason other than `Memory` is reported as it is.
 told_other : (why : Refusal) → (why ≡ Memory → ⊥) → told why ≡ Some why
 told_other Memory other = absurd (other refl)
 told_other (Malformed error) other = refl
@@ -35,7 +35,7 @@ session_or : (o : Option Session) (s : Session) →
 session_or None s = refl
 session_or (Some x) s = refl
 
--- the parts of a checker when a packet has joined
+-- The fields of a checker before and after a packet joins.
 pub record Joins (session now_session : Option Session) (known now_known : ℕ) (ended now_ended : Option ℕ) (pairs now_pairs : Pairs) (p : Packet) : Type 0 where
   pub session_is : now_session ≡ option_or session (Some p.session)
   pub known_is : now_known ≡ max known (top_of p)
@@ -58,7 +58,7 @@ some_carried : (o : Option (List ℕ)) → is_none o ≡ false → (m : List ℕ
 some_carried None is = absurd (true≢false is)
 some_carried (Some m) is = (m, refl)
 
--- an end was told and nothing is missing: it is whole
+-- If there is an end and nothing is missing, the datagrams are whole.
 pub none_whole : (seen : Seen) → IsSound seen → (end : ℕ) → seen.ended ≡ Some end → missing_in seen ≡ [] →
     IsWholeSeen seen end
 none_whole seen sound end ended none =
@@ -69,7 +69,7 @@ none_whole seen sound end ended none =
           (none_lacking (lacks seen.pairs) 1 (seen.known - 1) none k low (omega (arith, sound.ended end ended)));
     }
 
--- of what is whole nothing is missing
+-- If the datagrams are whole, nothing is missing.
 pub whole_none : (seen : Seen) → IsSound seen → (end : ℕ) → IsWholeSeen seen end → missing_in seen ≡ []
 whole_none seen sound end whole =
     lacking_none (lacks seen.pairs) 1 (seen.known - 1)
@@ -81,7 +81,7 @@ pub ok_then : {X E : Type 0} (r : Result X E) (P Q : X → Type 0) → ((x : X) 
 ok_then (Ok x) P Q to holds = to x holds
 ok_then (Err e) P Q to holds = tt
 
--- of a datagram that reads as the packet, what was said being given by its parts: its refusal by the header,
+-- A datagram that encodes a packet is refused because of its header.
 pub read_early : (before seen : Seen) (bytes : List ℕ) (p : Packet) (why : Refusal) → before ≡ seen
     → reading bytes ≡ Ok p
     → ((other : Option ℕ) → refusal_of before.session before.known before.ended other p ≡ Some why)
@@ -90,7 +90,7 @@ read_early before seen bytes p why same read header other =
     ap (λ (s : Seen). refusal s bytes) (sym same) ∙ ap (refusal_read before) read
     ∙ header (conflict before.pairs p.sequence (messages_of p.body)) ∙ sym (told_other why other)
 
--- by a conflict,
+-- A datagram that encodes a packet is refused because of a conflict.
 pub read_late : (before seen : Seen) (bytes : List ℕ) (p : Packet) → before ≡ seen → reading bytes ≡ Ok p
     → ((other : Option ℕ) → refusal_of before.session before.known before.ended other p ≡ conflict_at other)
     → refusal seen bytes ≡ conflict_at (conflict before.pairs p.sequence (messages_of p.body))
@@ -98,7 +98,7 @@ read_late before seen bytes p same read header =
     ap (λ (s : Seen). refusal s bytes) (sym same) ∙ ap (refusal_read before) read
     ∙ header (conflict before.pairs p.sequence (messages_of p.body))
 
--- and what was said with it
+-- What is stated after a datagram that encodes a packet.
 pub read_joined : (before seen : Seen) (bytes : List ℕ) (p : Packet) → before ≡ seen → reading bytes ≡ Ok p
     → joined before p ≡ after seen bytes
 read_joined before seen bytes p same read =

@@ -1,4 +1,4 @@
--- The gaps between runs are the ranges of what is lacking.
+-- The gaps between runs are the ranges of missing numbers.
 use Rattle.std.proofs.Common.{◌≡◌, ℕ, zero, suc, ◌+◌, ◌-◌, ◌<◌, ◌≤◌, ◌⊎◌, Bool, true, false, eqb, ltb, List, [], ◌∷◌, ◌++◌}
 use Rattle.std.proofs.Common.{length, refl, sym, ap, subst, ◌∙◌, inl, inr, arith}
 use Rattle.std.specs.Prelude.{Some, is_none}
@@ -21,7 +21,7 @@ use Rattle.mold_capture.specs.Runs.{Runs, pairs_of, HasRun, AreRuns, Covers}
 use Rattle.mold_capture.specs.Verdict.{lacks, gap, gaps}
 use Rattle.mold_capture.proofs.RunLemmas.{lookup_at, lookup_all, covered_pairs, uncovered_at}
 
--- how ranges are found by walking over the numbers
+-- How the ranges are found by walking the numbers.
 pub record Walks (lacks : ℕ → Bool) : Type 0 where
   pub none : (low : ℕ) → ranges lacks low 0 ≡ []
   pub skip : (low count more : ℕ) →
@@ -32,7 +32,7 @@ pub record Walks (lacks : ℕ → Bool) : Type 0 where
       (more ≡ 0) ⊎ (lacks (low + suc count) ≡ false) →
       ranges lacks low (suc count + more) ≡ range low (low + count) ∷ ranges lacks (low + suc count) more
 
--- where all numbers up to one that is there, or to the end, are lacking, the gap is the first range
+-- If all numbers are missing up to one that is there, or up to the end, the gap is the first range.
 gap_first : (test : ℕ → Bool) → Walks test → (low high end : ℕ) → low ≤ high → high ≤ end →
     ((number : ℕ) → low ≤ number → number < high → test number ≡ true) → (high ≡ end) ⊎ (test high ≡ false)
     → ranges test low (end - low) ≡ gap low high ++ ranges test high (end - high)
@@ -75,14 +75,14 @@ less a b is =
       | inr (inr above) ↦ (let e = nat_cmp_is a b Greater above in absurd cc)
     ]
 
--- the runs that are left, and each run that has a number from `next` on is among them
+-- The runs that remain. Every run with a number of `next` or more is among them.
 record Left (runs : Runs) (es : List (ℕ × Run)) (next : ℕ) : Type 0 where
   all : All (λ (e : ℕ × Run). HasRun runs e.0 e.1) es
   sorted : IsStrictlySortedBy nat_cmp (keys_of es)
   behind : (q f : ℕ) (run : Run) → next ≤ q → HasRun runs f run → Covers f run q → lookup (eqb f) es ≡ Some run
   low : (f : ℕ) (run : Run) → lookup (eqb f) es ≡ Some run → next ≤ f
 
--- a run that is found is the first, or among the others and behind it
+-- A run that is found is the first one, or it is among the others and after it.
 found_cases : (e : ℕ × Run) (es : List (ℕ × Run)) → IsStrictlySortedBy nat_cmp (keys_of (e ∷ es)) → (f : ℕ) (run : Run) →
     lookup (eqb f) (e ∷ es) ≡ Some run → ((f ≡ e.0) × (e.1 ≡ run)) ⊎ ((e.0 < f) × (lookup (eqb f) es ≡ Some run))
 found_cases e es sorted f run is =
@@ -164,7 +164,7 @@ gaps_left runs kept are known walks ends (e ∷ es) next within left =
     ∙ sym behind ∙ ap (ranges test e.0) (sym counted))
     ∙ sym first
 
--- the gaps of all runs are the ranges of what is lacking
+-- The gaps between all runs are the ranges of missing numbers.
 pub gaps_are : (runs : Runs) (kept : List (List ℕ)) → AreRuns runs (length kept) → (known : ℕ) → 1 ≤ known →
     Walks (lacks (pairs_of runs.entries kept))
     → ((q : ℕ) (m : List ℕ) → finite.get (pairs_of runs.entries kept) q ≡ Some m → (1 ≤ q) × (q < known))
@@ -194,7 +194,7 @@ joined_some number (r ∷ rs) is =
       | inr f ↦ (let e = sym (cond-false _ (range number r.last ∷ rs) (range number number ∷ r ∷ rs) f) ∙ is in cc)
     ]
 
--- where there are no ranges, nothing is lacking
+-- If there are no ranges, no number is missing.
 pub none_lacking : (test : ℕ → Bool) (low count : ℕ) → ranges test low count ≡ [] → (q : ℕ) → low ≤ q → q < low + count →
     test q ≡ false
 unfolding ranges
@@ -210,7 +210,7 @@ none_lacking test low (suc count) none q from below =
           ]
     ]
 
--- where nothing is lacking, there are no ranges
+-- If no number is missing, there are no ranges.
 pub lacking_none : (test : ℕ → Bool) (low count : ℕ) → ((q : ℕ) → low ≤ q → q < low + count → test q ≡ false) →
     ranges test low count ≡ []
 unfolding ranges

@@ -1,4 +1,4 @@
--- Runs that grow by new messages, and the way back.
+-- How runs grow by new messages, and how that is undone.
 use Rattle.std.proofs.Common.{◌≡◌, ℕ, zero, suc, ◌+◌, ◌-◌, ◌<◌, ◌≤◌, ◌^◌, ◌⊎◌, List, [], ◌∷◌, ◌++◌, length}
 use Rattle.std.proofs.Common.{refl, sym, ap, subst, ◌∙◌, inl, inr, arith, length-append}
 use Rattle.std.specs.Prelude.{Option, None, Some, slice_get}
@@ -36,7 +36,7 @@ slice_get_back (x ∷ xs) ys i =
     ap (slice_get (x ∷ xs ++ ys)) (let e : suc (length xs) + i ≡ suc (length xs + i) = omega arith in e)
     ∙ slice_get_back xs ys i
 
--- at a number that no run covers nothing was carried
+-- A number that is in no run has no carried message.
 pub free_pairs : (runs : Runs) (kept : List (List ℕ)) → AreRuns runs (length kept) → (first top : ℕ) →
     AreFree runs first top → (q : ℕ) → first ≤ q → q < top → finite.get (pairs_of runs.entries kept) q ≡ None
 free_pairs runs kept are first top free q low high =
@@ -66,7 +66,7 @@ put_cases runs now f run put g r has =
       | inr other ↦ inr (other, sym (put_other runs now f run put g other) ∙ has)
     ]
 
--- new messages, at numbers that no run covers, join a run or make one
+-- New messages, with numbers that are in no run, extend a run or make a new one.
 pub record Growth (runs now : Runs) (kept ms : List (List ℕ)) (number f : ℕ) (run : Run) : Type 0 where
   pub are : AreRuns runs (length kept)
   pub some : 0 < length ms
@@ -77,7 +77,7 @@ pub record Growth (runs now : Runs) (kept ms : List (List ℕ)) (number f : ℕ)
   pub put : IsPut runs f run now
   pub ordered : tree.IsOrdered nat_cmp now
 
--- a run that begins at the first new number isn't there yet
+-- A run at the number of the grown run begins below the first new number.
 fresh : (runs now : Runs) (kept ms : List (List ℕ)) (number f : ℕ) (run : Run) → Growth runs now kept ms number f run →
     (old : Run) → HasRun runs f old → f < number
 fresh runs now kept ms number f run growth old has =
@@ -90,7 +90,7 @@ fresh runs now kept ms number f run growth old has =
           (omega arith) (omega (arith, growth.some)))
     ]
 
--- the run that a longer one takes the place of
+-- The run that a longer one replaces.
 front_run : (runs now : Runs) (kept ms : List (List ℕ)) (number f : ℕ) (run : Run) → Growth runs now kept ms number f run →
     f < number → (old : Run) × (HasRun runs f old × (old.start ≡ run.start) × (old.count + length ms ≡ run.count))
 front_run runs now kept ms number f run growth below = growth.grown.front (omega (arith, growth.grown.ends))
@@ -181,14 +181,14 @@ are_grown runs now kept ms number f run growth =
           ];
     }
 
--- the message of an old run is among the messages still
+-- The message of an old run is still in the list of messages.
 still_there : (runs : Runs) (kept ms : List (List ℕ)) → AreRuns runs (length kept) → (g : ℕ) (r : Run) (q : ℕ) →
     HasRun runs g r → Covers g r q →
     slice_get (kept ++ ms) (r.start + (q - g)) ≡ slice_get kept (r.start + (q - g))
 still_there runs kept ms are g r q has covers =
     slice_get_front kept ms (r.start + (q - g)) (omega (arith, are.inside g r has, covers.0, covers.1))
 
--- the place of a new message
+-- The index of a new message in the list of messages.
 new_place : (runs now : Runs) (kept ms : List (List ℕ)) (number f : ℕ) (run : Run) → Growth runs now kept ms number f run →
     (q : ℕ) → number ≤ q → slice_get (kept ++ ms) (run.start + (q - f)) ≡ message_at number ms q
 new_place runs now kept ms number f run growth q low =
@@ -292,7 +292,7 @@ grown_from runs now kept ms number f run growth q m is =
           ]
     ]
 
--- what was carried, and the new messages
+-- The carried messages are the old ones and the new ones, number by number.
 pub pairs_grown : (runs now : Runs) (kept ms : List (List ℕ)) (number f : ℕ) (run : Run) → Growth runs now kept ms number f run →
     (q : ℕ) → finite.get (pairs_of now.entries (kept ++ ms)) q
     ≡ option_or (finite.get (pairs_of runs.entries kept) q) (message_at number ms q)
@@ -305,7 +305,7 @@ pairs_grown runs now kept ms number f run growth q =
 pub since_same : (runs : Runs) (place : ℕ) → IsSince runs runs place
 since_same runs place = record { kept = λ f run has. has; others = λ f run has low. has }
 
--- a run of new places doesn't touch those of before
+-- A run of messages that were added later doesn't change the earlier runs.
 pub since_grown : (before runs now : Runs) (kept ms : List (List ℕ)) (number f : ℕ) (run : Run) (place : ℕ) →
     Growth runs now kept ms number f run → AreRuns before place → place ≤ run.start
     → IsSince before runs place → IsSince before now place
@@ -330,7 +330,7 @@ since_grown before runs now kept ms number f run place growth are high since =
           ];
     }
 
--- without the runs of new places the runs are those of before
+-- Without the runs that were added later, the runs are the earlier ones.
 pub back_is : (before now after : Runs) (place : ℕ) → AreRuns before place → IsSince before now place →
     tree.IsOrdered nat_cmp after
     → ((f : ℕ) (run : Run) → HasRun after f run → HasRun now f run × (run.start < place))
@@ -343,7 +343,7 @@ back_is before now after place are since ordered out stays =
     (λ run has. stays q run (since.kept q run has) (omega (arith, are.inside q run has, are.some q run has))))
     exact_unsigned
 
--- what was carried, and the new messages, as one value
+-- The carried messages are the old ones and the new ones, as one value.
 pub carried_grown : (runs now : Runs) (kept ms : List (List ℕ)) (number f : ℕ) (run : Run) → Growth runs now kept ms number f run →
     pairs_of now.entries (kept ++ ms) ≡ pairs_with (pairs_of runs.entries kept) number ms
 carried_grown runs now kept ms number f run growth =

@@ -1,4 +1,4 @@
--- Which sessions may have said what was said, and what a packet after it changes.
+-- Which sessions agree with what datagrams state, and how a further packet changes that.
 use Rattle.std.proofs.Common.{◌≡◌, ℕ, zero, suc, ◌+◌, ◌-◌, ◌<◌, ◌≤◌, true, List, [], ◌∷◌, length, refl, sym, ap, subst}
 use Rattle.std.proofs.Common.{◌∙◌, inl, inr, get_or, arith}
 use Rattle.std.specs.Prelude.{Option, Some, slice_get, unwrap_or}
@@ -15,7 +15,7 @@ use Rattle.mold_capture.specs.Seen.{Pairs, Seen, end_in, joined, IsSound}
 use Rattle.mold_capture.proofs.PairLemmas.{option_cases, option_or_cases, option_or_first, option_or_second}
 use Rattle.mold_capture.proofs.PairLemmas.{message_bounds, message_there, message_none, message_within, get-with}
 
--- a session of this name and these messages may have said this
+-- A session with this name and these messages agrees with what is stated.
 pub record Allows (seen : Seen) (session : List ℕ) (P : List (List ℕ)) : Type 0 where
   pub few : length P < 18446744073709551615
   pub named : (name : List ℕ) → seen.session ≡ Some name → name ≡ session
@@ -23,12 +23,12 @@ pub record Allows (seen : Seen) (session : List ℕ) (P : List (List ℕ)) : Typ
   pub ended : (number : ℕ) → seen.ended ≡ Some number → number ≡ length P + 1
   pub carried : (q : ℕ) (m : List ℕ) → finite.get seen.pairs q ≡ Some m → published_at P q ≡ Some m
 
--- nothing in the packet's header speaks against it, and its messages are those that were carried at their numbers
+-- The packet's header contradicts nothing, and its messages equal the carried messages with their numbers.
 pub record MayJoin (seen : Seen) (packet : Packet) : Type 0 where
   pub admitted : IsAdmitted seen.session seen.known seen.ended packet
   pub agrees : (q : ℕ) (m other : List ℕ) → Carries packet q m → finite.get seen.pairs q ≡ Some other → other ≡ m
 
--- a packet, by its parts
+-- A packet, from its parts.
 abbrev pub made : Session → ℕ → Body → Packet
 made session sequence body = record { session = session; sequence = sequence; body = body }
 
@@ -61,7 +61,7 @@ end_is (Data ms) n number is = absurd (none-some number is)
 end_is Heartbeat n number is = absurd (none-some number is)
 end_is End n number is = (refl, same_Some n number is)
 
--- a packet that is true of a session which allows what was said may join it
+-- A packet may join if it is true of a session that agrees with what is stated.
 pub may_join : (seen : Seen) (packet : Packet) (session : List ℕ) (P : List (List ℕ)) → Allows seen session P →
     packet.session.0 ≡ session → IsBody packet.body → IsTruePacket packet P true → MayJoin seen packet
 may_join seen packet session P allows named is_body truth =
@@ -160,7 +160,7 @@ was_said seen s n End session P may allows = (
   ],
 )
 
--- a session that allows what was said with the packet has said the packet
+-- If a session agrees with what is stated after the packet, then the packet is true of the session.
 pub was_true : (seen : Seen) (packet : Packet) (session : List ℕ) (P : List (List ℕ)) → MayJoin seen packet →
     Allows (joined seen packet) session P → IsTruePacket packet P true
 was_true seen packet session P may allows =
@@ -196,7 +196,7 @@ still_sound seen packet sound may =
           ];
     }
 
--- the messages that were carried from a number on, and where none was the empty one
+-- The carried messages from a number on, with an empty message for each missing one.
 abbrev pub filled : Pairs → ℕ → ℕ → List (List ℕ)
 filled pairs number zero = []
 filled pairs number (suc more) = unwrap_or (finite.get pairs number) [] ∷ filled pairs (suc number) more
@@ -225,7 +225,7 @@ filled_published pairs more q m low high is =
     ∙ ap (λ (k : ℕ). Some (unwrap_or (finite.get pairs k) [])) at
     ∙ ap (λ (o : Option (List ℕ)). Some (unwrap_or o [])) is
 
--- what fits together was said by some session: by that of the messages carried
+-- What fits together is stated by some session: the one with the carried messages.
 pub some_allowed : (seen : Seen) (session : List ℕ) → IsSound seen →
     ((name : List ℕ) → seen.session ≡ Some name → name ≡ session)
     → Allows seen session (filled seen.pairs 1 (seen.known - 1))

@@ -1,4 +1,4 @@
--- What was carried, when messages are kept or taken back.
+-- The carried messages when messages are kept or removed.
 use Rattle.std.proofs.Common.{◌≡◌, ℕ, suc, ◌+◌, ◌<◌, List, [], ◌∷◌, length, refl, sym, ap, subst, ◌∙◌, inl, inr, arith, true, false, Bor}
 use Rattle.std.specs.Prelude.{Option, None, Some, is_some, Result, Ok, Err, IfErr, OnOk}
 use Rattle.std.specs.BTreeMap.{is_at}
@@ -23,7 +23,7 @@ use Rattle.mold_capture.proofs.PairLemmas.{option_or_first, option_or_second, me
 use Rattle.mold_capture.proofs.PairLemmas.{message_past, message_first, message_next, message_none, get-with}
 use Rattle.mold_capture.proofs.PairLemmas.{same_pairs}
 
--- runs with the same entries
+-- Runs with the same entries are valid for the same messages.
 pub are_same : (runs now : Runs) (kept count : ℕ) → now.entries ≡ runs.entries → count ≡ kept → AreRuns runs kept →
     AreRuns now count
 are_same runs now kept count same counted are =
@@ -67,7 +67,7 @@ message_split n m ms q =
           ∙ sym (message_next n m ms q above)
     ]
 
--- messages join one after the other
+-- Adding messages one after another is the same as adding all of them.
 pub with_next : (pairs : Pairs) (n k : ℕ) (m : List ℕ) (ms : List (List ℕ)) → k ≡ n + 1 →
     pairs_with (pairs_with pairs n (m ∷ [])) k ms ≡ pairs_with pairs n (m ∷ ms)
 with_next pairs n k m ms next =
@@ -80,7 +80,7 @@ with_next pairs n k m ms next =
     ∙ ap (option_or (finite.get pairs q)) (message_split n m ms q)
     ∙ sym (get-with pairs n (m ∷ ms) q))
 
--- messages that were carried change nothing
+-- Adding messages that are already there changes nothing.
 pub with_carried : (pairs : Pairs) (n : ℕ) (ms : List (List ℕ)) →
     ((q : ℕ) (m : List ℕ) → message_at n ms q ≡ Some m → (x : List ℕ) × (finite.get pairs q ≡ Some x))
     → pairs_with pairs n ms ≡ pairs
@@ -92,12 +92,12 @@ with_carried pairs n ms had = same_pairs _ _ (λ q.
     stays None None had = refl
     stays None (Some m) had = (let found = had m refl in absurd (none-some found.0 found.1))
 
--- the pairs of the same entries and messages
+-- The same entries and messages give the same carried messages.
 pub same_carried : (runs now : Runs) (kept messages : List (List ℕ)) → now.entries ≡ runs.entries → messages ≡ kept →
     pairs_of now.entries messages ≡ pairs_of runs.entries kept
 same_carried runs now kept messages same is = λ i. pairs_of (same i) (is i)
 
--- behind a message that was carried the others join as with it
+-- After a message that is already there, the other messages are added as with it.
 pub with_held : (pairs : Pairs) (n k : ℕ) (m : List ℕ) (ms : List (List ℕ)) → k ≡ n + 1 →
     (x : List ℕ) × (finite.get pairs n ≡ Some x) → pairs_with pairs k ms ≡ pairs_with pairs n (m ∷ ms)
 with_held pairs n k m ms next found =
@@ -109,7 +109,7 @@ with_held pairs n k m ms next found =
     in
     ap (λ (p : Pairs). pairs_with p k ms) (sym same) ∙ with_next pairs n k m ms next
 
--- a message at a number that had none is new
+-- A message with a number that no message has is new.
 pub brings_first : (pairs : Pairs) (n : ℕ) (m : List ℕ) (ms : List (List ℕ)) → finite.get pairs n ≡ None →
     BringNew pairs n (m ∷ ms)
 brings_first pairs n m ms none = λ same.
@@ -119,7 +119,7 @@ brings_first pairs n m ms none = λ same.
     ∙ option_or_second (finite.get pairs n) (message_at n (m ∷ ms) n) none
     ∙ message_first n m ms n refl)
 
--- behind a message that doesn't differ the conflict is that of the others
+-- After a message that doesn't differ, the conflict is that of the other messages.
 pub conflict_next : (pairs : Pairs) (n k : ℕ) (m : List ℕ) (ms : List (List ℕ)) → k ≡ n + 1 →
     differs (finite.get pairs n) m ≡ false → conflict pairs k ms ≡ conflict pairs n (m ∷ ms)
 conflict_next pairs n k m ms next same =
@@ -140,7 +140,7 @@ pub copied_none : (o : Option (Bor (List ℕ))) → is_some o ≡ false → opti
 copied_none None none = refl
 copied_none (Some b) none = absurd (true≢false none)
 
--- where no run has a number of the messages, they are new
+-- If no run has a number of the messages, they are new.
 pub free_brings : (runs : Runs) (kept : List (List ℕ)) → AreRuns runs (length kept) → (n : ℕ) (ms : List (List ℕ)) →
     0 < length ms → AreFree runs n (n + length ms) → BringNew (pairs_of runs.entries kept) n ms
 free_brings runs kept are n [] some free = absurd (omega (arith, some))
@@ -148,7 +148,7 @@ free_brings runs kept are n (m ∷ ms) some free =
     brings_first (pairs_of runs.entries kept) n m ms
     (free_pairs runs kept are n (n + length (m ∷ ms)) free n (omega arith) (omega (arith, some)))
 
--- where no run has a number of the messages, nothing conflicts
+-- If no run has a number of the messages, nothing conflicts.
 pub free_conflict : (runs : Runs) (kept : List (List ℕ)) → AreRuns runs (length kept) → (n : ℕ) (ms : List (List ℕ)) →
     AreFree runs n (n + length ms) → conflict (pairs_of runs.entries kept) n ms ≡ None
 free_conflict runs kept are n ms free =
@@ -156,7 +156,7 @@ free_conflict runs kept are n ms free =
     let lies = message_bounds n ms q m new in
     absurd (none-some other (sym (free_pairs runs kept are n (n + length ms) free q lies.0 lies.1) ∙ old)))
 
--- memory alone is refused where nothing else is
+-- If there is no other reason, only `Memory` is returned.
 pub memory_told : (r : Result (Unit {0}) Refusal) (o : Option Refusal) → IfErr r (λ x. x ≡ Memory) → o ≡ None →
     IfErr r (λ x. o ≡ told x)
 memory_told (Ok u) o memory none = tt
@@ -170,7 +170,7 @@ pub always_ok : {E : Type 0} (r : Result (Unit {0}) E) (P : Type 0) → P → On
 always_ok (Ok u) P holds = holds
 always_ok (Err x) P holds = tt
 
--- without runs nothing was carried
+-- Without runs, no message is carried.
 pub none_carried : (kept : List (List ℕ)) → pairs_of [] kept ≡ finite.empty
 unfolding pairs_of
 none_carried kept = refl

@@ -1,4 +1,4 @@
--- What has been said by datagrams, one after the other.
+-- What datagrams state, one datagram after another.
 use Rattle.std.proofs.Common.{◌≡◌, ℕ, zero, suc, max, eqb, List, [], ◌∷◌, ◌++◌, refl, sym, ap, subst}
 use Rattle.std.proofs.Common.{◌∙◌, inl, inr, ◌⊎◌, arith}
 use Rattle.std.specs.Prelude.{Option, None, Some, Result, Ok, Err}
@@ -74,7 +74,7 @@ pairs-push vs v = same_pairs _ _ (λ q.
     ∙ ap (λ (o : Option (List ℕ)). option_or o (message_at v.sequence ms q)) (sym (get-packets vs q))
     ∙ sym (get-with (seen_in vs).pairs v.sequence ms q))
 
--- what was said with one datagram more
+-- What is stated with one more datagram at the end.
 pub seen-push : (list : List (List ℕ)) (bytes : List ℕ) (v : Packet) → reading bytes ≡ Ok v →
     seen_of (list ++ bytes ∷ []) ≡ joined (seen_of list) v
 seen-push list bytes v is =
@@ -90,7 +90,7 @@ seen-push list bytes v is =
       pairs = pairs-push vs v i;
     })
 
--- what every lemma here takes of the codec: what is spelled is read
+-- The fact about the codec that the lemmas here need: an encoding is decoded as its packet.
 abbrev pub ReadsBack : Type 0
 ReadsBack = (packet : Packet) (bytes : List ℕ) → Spells packet bytes → reading bytes ≡ Ok packet
 
@@ -111,12 +111,12 @@ member_cases : {X : Type 0} (y x : X) (xs : List X) → Contains (y ∷ xs) x �
 member_cases y x xs (zero, lt, is) = inl is
 member_cases y x xs (suc k, lt, is) = inr (k, omega arith, is)
 
--- the packets of a list that begins with a packet
+-- The packets of a list that begins with a packet.
 packets-first : (bytes : List ℕ) (list : List (List ℕ)) (v : Packet) → reading bytes ≡ Ok v →
     packets_of (bytes ∷ list) ≡ v ∷ packets_of list
 packets-first bytes list v is = ap (λ (r : Result Packet DecodeError). read_before r (packets_of list)) is
 
--- what was carried at a number by a list that begins with a packet
+-- The carried message with a number, in a list that begins with a packet.
 get-first : (bytes : List ℕ) (list : List (List ℕ)) (v : Packet) → reading bytes ≡ Ok v → (q : ℕ) →
     finite.get (seen_of (bytes ∷ list)).pairs q
     ≡ option_or (message_at v.sequence (messages_of v.body) q) (finite.get (seen_of list).pairs q)
@@ -133,7 +133,7 @@ end-first : (bytes : List ℕ) (list : List (List ℕ)) (v : Packet) → reading
     (seen_of (bytes ∷ list)).ended ≡ option_or (end_in v.body v.sequence) (seen_of list).ended
 end-first bytes list v is = ap end_of (packets-first bytes list v is)
 
--- a message that was carried is carried by one of the datagrams
+-- A carried message is in one of the datagrams.
 pub get_carried : ReadsBack → (session : List ℕ) (P list : List (List ℕ)) → All (IsSaidBy session P) list →
     (q : ℕ) (m : List ℕ) → finite.get (seen_of list).pairs q ≡ Some m → IsCarried list q m
 get_carried reads session P [] each q m is = absurd (none-some m (sym (get-packets [] q) ∙ is))
@@ -154,7 +154,7 @@ get_carried reads session P (bytes ∷ list) each q m is =
           }
     ]
 
--- at a number that one of the datagrams carries, a message was carried
+-- If a datagram has a message with a number, the number has a carried message.
 pub carried_get : ReadsBack → (session : List ℕ) (P list : List (List ℕ)) → All (IsSaidBy session P) list →
     (q : ℕ) (m : List ℕ) (bytes : List ℕ) (packet : Packet) → Contains list bytes → Spells packet bytes → Carries packet q m
     → (x : List ℕ) × (finite.get (seen_of list).pairs q ≡ Some x)
@@ -181,7 +181,7 @@ carried_get reads session P (first ∷ list) each q m bytes packet member spelle
           ]
     ]
 
--- an end that was told is that of one of the datagrams
+-- The end that is stated is that of an end packet among the datagrams.
 pub end_told : ReadsBack → (session : List ℕ) (P list : List (List ℕ)) → All (IsSaidBy session P) list →
     (number : ℕ) → (seen_of list).ended ≡ Some number → HasEnd list number
 end_told reads session P [] each number is = absurd (none-some number is)
@@ -205,7 +205,7 @@ end_told reads session P (bytes ∷ list) each number is =
           }
     ]
 
--- where one of the datagrams is an end packet, an end was told
+-- If an end packet is among the datagrams, an end is stated.
 pub end_found : ReadsBack → (session : List ℕ) (P list : List (List ℕ)) → All (IsSaidBy session P) list →
     (bytes : List ℕ) (packet : Packet) → Contains list bytes → Spells packet bytes → packet.body ≡ End
     → (number : ℕ) × ((seen_of list).ended ≡ Some number)

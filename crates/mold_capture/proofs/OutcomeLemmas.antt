@@ -1,4 +1,4 @@
--- Datagrams have one outcome, and no other.
+-- Datagrams have exactly one outcome.
 use Rattle.std.proofs.Common.{◌≡◌, ◌⊎◌, inl, inr, ℕ, zero, suc, ◌+◌, ◌-◌, ◌<◌, ◌≤◌, List, [], ◌∷◌, length, take, drop, get_or}
 use Rattle.std.proofs.Common.{refl, sym, ap, subst, ◌∙◌, arith}
 use Rattle.std.specs.Prelude.{Option, None, Some, Ok}
@@ -28,7 +28,7 @@ use Rattle.mold_capture.proofs.ListLemmas.{ReadsBack}
 use Rattle.mold_capture.proofs.RefusalLemmas.{RuleLaw}
 use Rattle.mold_capture.proofs.SumLemmas.{sums_up, none_consistent, front_consistent, read_or_refused, accepted, one_whole, whole_heard, heard_whole}
 
--- each front of consistent datagrams is consistent
+-- Each prefix of consistent datagrams is consistent.
 taken_consistent : (list : List (List ℕ)) (i : ℕ) → Consistent list → Consistent (take i list)
 taken_consistent list i consistent =
     front_consistent (take i list) (drop i list) (subst Consistent (sym (take-append-drop i list)) consistent)
@@ -40,7 +40,7 @@ shorter_consistent list i j within consistent =
 whole_consistent : (list P : List (List ℕ)) → Whole list P → Consistent list
 whole_consistent list P is = (is.session, P, is.explained)
 
--- where the index is that of no datagram, or of one behind it
+-- A prefix that is longer than an inconsistent one isn't consistent.
 not_both : (list : List (List ℕ)) (i j : ℕ) → i < j → (Consistent (take (i + 1) list) → ⊥) →
     Consistent (take j list) → ⊥
 not_both list i j below not consistent = not (shorter_consistent list (i + 1) j (omega arith) consistent)
@@ -52,7 +52,7 @@ same_refusal list i j why other same is so =
     let reasons = sym is ∙ ap (λ (k : ℕ). reason (take k list) (get_or list k [])) same ∙ so in
     (λ k. refused (same k) (same_Some why other reasons k))
 
--- no two outcomes
+-- Datagrams have at most one outcome.
 pub one_outcome : ReadsBack → (list : List (List ℕ)) (a b : Outcome) → IsOutcome list a → IsOutcome list b → a ≡ b
 one_outcome reads list (whole m) (whole n) p q =
     ap whole (sym p.1.1 ∙ ap (λ (l : List (List ℕ)). length l) (one_whole reads list p.0 q.0 p.1.0 q.1.0) ∙ q.1.1)
@@ -75,11 +75,11 @@ one_outcome reads list (refused i why) (refused j other) p q =
       ]
     ]
 
--- what spells a packet is what reads as it
+-- Bytes that are decoded as a packet are its encoding.
 abbrev pub Spelled : Type 0
 Spelled = (packet : Packet) (bytes : List ℕ) → IsBytes bytes → reading bytes ≡ Ok packet → Spells packet bytes
 
--- the front of so many datagrams is consistent, or the list has an outcome
+-- The first `i` datagrams are consistent, or the list has an outcome.
 abbrev Goes : List (List ℕ) → ℕ → Type 0
 Goes list i = Consistent (take i list) ⊎ ((outcome : Outcome) × IsOutcome list outcome)
 
@@ -137,7 +137,7 @@ ends_by reads list consistent (Some end) (r ∷ missing) ends is =
       ),
     )
 
--- an outcome
+-- Every list of datagrams has an outcome.
 pub some_outcome : ReadsBack → RuleLaw → Spelled → (list : List (List ℕ)) → All IsBytes list →
     (outcome : Outcome) × IsOutcome list outcome
 some_outcome reads rule spelled list all =
@@ -147,14 +147,14 @@ some_outcome reads rule spelled list all =
       | inr outcome ↦ outcome
     ]
 
--- a verdict tells the outcome
+-- A verdict reports the outcome.
 pub verdict_answers : ReadsBack → (list : List (List ℕ)) (v : Verdict) → IsVerdictOn v list → (outcome : Outcome) →
     IsOutcome list outcome → outcome_in v ≡ outcome
 verdict_answers reads list (IsWhole messages) is outcome told = one_outcome reads list (whole messages) outcome is told
 verdict_answers reads list (Incomplete missing end) is outcome told =
     one_outcome reads list (incomplete (ranges_of missing.items) end) outcome is told
 
--- so does a refusal, unless memory was refused
+-- A refusal reports the outcome, unless an allocation failed.
 pub refused_answers : ReadsBack → (list : List (List ℕ)) (i : ℕ) (why : Refusal) → IsRefusedAt i why list →
     (outcome : Outcome) → IsOutcome list outcome → (why ≡ Memory) ⊎ (refused i why ≡ outcome)
 refused_answers reads list i Memory is outcome told = inl refl

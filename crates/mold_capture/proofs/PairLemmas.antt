@@ -1,4 +1,4 @@
--- Messages by their numbers.
+-- Messages by sequence number.
 use Rattle.std.proofs.Common.{◌≡◌, ℕ, zero, suc, ◌+◌, ◌-◌, ◌<◌, ◌≤◌, Bool, cond, eqb, List, [], ◌∷◌, ◌++◌, length}
 use Rattle.std.proofs.Common.{refl, sym, ap, ◌∙◌, inl, inr, ◌⊎◌, get_or, arith}
 use Rattle.std.specs.Prelude.{Option, None, Some, slice_get}
@@ -37,7 +37,7 @@ message_within n ms q low = cond-true _ _ _ (le-leb n q low)
 pub message_past : (n : ℕ) (ms : List (List ℕ)) (q : ℕ) → n + length ms ≤ q → message_at n ms q ≡ None
 message_past n ms q past = message_within n ms q (omega arith) ∙ slice_get_past ms (q - n) (omega arith)
 
--- a message stands within the numbers
+-- The number of a message is within the bounds.
 pub message_bounds : (n : ℕ) (ms : List (List ℕ)) (q : ℕ) (m : List ℕ) → message_at n ms q ≡ Some m →
     (n ≤ q) × (q < n + length ms)
 message_bounds n ms q m is =
@@ -48,7 +48,7 @@ message_bounds n ms q m is =
           (low, omega (arith, within))
     ]
 
--- within the numbers there is a message
+-- Each number within the bounds has a message.
 pub message_there : (n : ℕ) (ms : List (List ℕ)) (q : ℕ) → n ≤ q → q < n + length ms →
     message_at n ms q ≡ Some (get_or ms (q - n) [])
 message_there n ms q low high =
@@ -117,7 +117,7 @@ get_made es q = finite.get-from_entries nat_cmp_total es q ∙ find-lookup q es
 pub get_entries : (pairs : Pairs) (q : ℕ) → lookup (eqb q) (finite.entries pairs) ≡ finite.get pairs q
 get_entries pairs q = sym (find-lookup q (finite.entries pairs)) ∙ sym (finite.get-entries pairs q)
 
--- what was carried at a number, or else what comes with the new messages
+-- The message with a number is the carried one, or otherwise the new one.
 pub get-with : (pairs : Pairs) (n : ℕ) (ms : List (List ℕ)) (q : ℕ) →
     finite.get (pairs_with pairs n ms) q ≡ option_or (finite.get pairs q) (message_at n ms q)
 get-with pairs n ms q =
@@ -126,6 +126,6 @@ get-with pairs n ms q =
     ∙ ap (λ (o : Option (List ℕ)). option_or o (lookup (eqb q) (numbered n ms))) (get_entries pairs q)
     ∙ ap (option_or (finite.get pairs q)) (lookup-numbered n ms q)
 
--- what answers alike is one
+-- Two maps are equal if they have the same message for each number.
 pub same_pairs : (one other : Pairs) → ((q : ℕ) → finite.get one q ≡ finite.get other q) → one ≡ other
 same_pairs = finite.same_map nat_cmp_total finite.nat_cmp-IsAntisymmetric

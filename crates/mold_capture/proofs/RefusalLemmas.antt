@@ -1,4 +1,4 @@
--- Nothing is refused exactly where nothing speaks against the packet.
+-- A packet isn't refused exactly when it contradicts nothing.
 use Rattle.std.proofs.Common.{◌≡◌, ℕ, suc, false, List, [], ◌∷◌, refl, sym, ap}
 use Rattle.std.proofs.Common.{◌∙◌, inl, inr, arith}
 use Rattle.std.specs.Prelude.{Option, None, Some}
@@ -17,7 +17,7 @@ use Rattle.mold_capture.specs.Refusal.{conflict, packet_refusal}
 use Rattle.mold_capture.proofs.PairLemmas.{message_first, message_next, message_bounds}
 use Rattle.mold_capture.proofs.JoinLemmas.{MayJoin}
 
--- what the rule's law says
+-- The law of mold_rule that these proofs use.
 pub record RuleLaw : Type 0 where
   pub none : (session : Option (List ℕ)) (known : ℕ) (ended : Option ℕ) (p : Packet) →
       IsAdmitted session known ended p → refusal_of session known ended None p ≡ None
@@ -70,7 +70,7 @@ agrees_from pairs n (x ∷ ms) agrees =
     let bounds = message_bounds (suc n) ms q m carried in
     agrees q m other (message_next n x ms q (omega (arith, bounds.0)) ∙ carried) is)
 
--- nothing is refused: nothing speaks against the packet
+-- A packet that isn't refused contradicts nothing.
 pub joins_from : RuleLaw → (seen : Seen) (packet : Packet) → packet_refusal seen packet ≡ None → MayJoin seen packet
 joins_from rule seen packet none =
     let other = conflict seen.pairs packet.sequence (messages_of packet.body) in
@@ -80,7 +80,7 @@ joins_from rule seen packet none =
           (rule.same seen.session seen.known seen.ended other packet none);
     }
 
--- nothing speaks against the packet: nothing is refused
+-- A packet that contradicts nothing isn't refused.
 pub joins_to : RuleLaw → (seen : Seen) (packet : Packet) → MayJoin seen packet → packet_refusal seen packet ≡ None
 joins_to rule seen packet may =
     ap (λ (o : Option ℕ). refusal_of seen.session seen.known seen.ended o packet)

@@ -1,4 +1,4 @@
--- Runs and the messages that they stand for.
+-- Runs, and the messages that they represent.
 use Rattle.std.proofs.Common.{◌≡◌, ℕ, zero, suc, ◌+◌, ◌-◌, ◌<◌, ◌≤◌, Bool, true, false, cond, eqb, ltb, List, [], ◌∷◌, length}
 use Rattle.std.proofs.Common.{take, drop, get_or, refl, sym, ap, subst, ◌∙◌, inl, inr, arith}
 use Rattle.std.specs.Prelude.{Option, None, Some, IfSome, is_some, slice_get}
@@ -53,7 +53,7 @@ slice_get_part (m ∷ kept) (suc start) (suc count) i within =
     slice_get_part kept start (suc count) i within
     ∙ ap (slice_get (m ∷ kept)) (let e : suc (start + i) ≡ suc start + i = omega arith in e)
 
--- a run has this message at a number
+-- A run has this message with a number.
 pub record RunAt (runs : Runs) (kept : List (List ℕ)) (q : ℕ) (m : List ℕ) : Type 0 where
   pub first : ℕ
   pub run : Run
@@ -61,7 +61,7 @@ pub record RunAt (runs : Runs) (kept : List (List ℕ)) (q : ℕ) (m : List ℕ)
   pub covers : Covers first run q
   pub is : slice_get kept (run.start + (q - first)) ≡ Some m
 
--- the message of a run at one of its numbers
+-- The message that a run has with one of its numbers.
 run_message : (kept : List (List ℕ)) (f : ℕ) (run : Run) (q : ℕ) → Covers f run q →
     message_at f (messages_in kept run) q ≡ slice_get kept (run.start + (q - f))
 run_message kept f run q covers =
@@ -133,14 +133,14 @@ entries_at runs kept are q m f run there covers is (e ∷ es) all found =
           (sym (cond-false (eqb f e.0) (Some e.1) (lookup (eqb f) es) (ne_eqb f e.0 (λ e. omega (arith, e)))) ∙ found)
     ]
 
--- a message that was carried is that of a run
+-- A carried message is in a run.
 pub at_pairs : (runs : Runs) (kept : List (List ℕ)) → AreRuns runs (length kept) → (q : ℕ) (m : List ℕ) →
     finite.get (pairs_of runs.entries kept) q ≡ Some m → RunAt runs kept q m
 unfolding pairs_of
 at_pairs runs kept are q m is =
     at_entries runs kept q m runs.entries (All-found nat_cmp_total runs are.ordered) (sym (get_made (run_pairs runs.entries kept) q) ∙ is)
 
--- the message of a run was carried
+-- A message of a run is carried.
 pub pairs_at : (runs : Runs) (kept : List (List ℕ)) → AreRuns runs (length kept) → (q : ℕ) (m : List ℕ) →
     RunAt runs kept q m → finite.get (pairs_of runs.entries kept) q ≡ Some m
 unfolding pairs_of
@@ -189,7 +189,7 @@ unfiltered p Q (e ∷ es) all =
           (unfiltered p Q es (subst (All Q) (cond-false (p e) (e ∷ filter p es) (filter p es) f) all))
     ]
 
--- whether the places of a run begin below the given one
+-- Whether a run starts below index `place`.
 abbrev pub is_before : ℕ → ℕ × Run → Bool
 is_before place e = ltb e.1.start place
 
@@ -209,7 +209,7 @@ retained_stays old new place ordered is f run has low =
     lookup_all (λ e. is_before place e ≡ true → Q e) f run old.entries all (sym (lookup_at f old.entries) ∙ has)
     (lt-ltb run.start place low)
 
--- at a number that a run covers a message was carried
+-- Each number of a run has a carried message.
 pub covered_pairs : (runs : Runs) (kept : List (List ℕ)) → AreRuns runs (length kept) → (q f : ℕ) (run : Run) →
     HasRun runs f run → Covers f run q
     → finite.get (pairs_of runs.entries kept) q ≡ Some (get_or kept (run.start + (q - f)) [])
@@ -225,7 +225,7 @@ covered_pairs runs kept are q f run has covers =
           (omega (arith, are.inside f run has, covers.0, covers.1));
     })
 
--- as a search for the run tells it
+-- If a search finds a run, the number has a carried message.
 pub found_pairs : (runs : Runs) (kept : List (List ℕ)) → AreRuns runs (length kept) → (q : ℕ) (o : Option (ℕ × Run)) →
     IfSome o (λ e. HasRun runs e.0 e.1) → IfSome o (λ e. Covers e.0 e.1 q) → is_some o ≡ true
     → (x : List ℕ) × (finite.get (pairs_of runs.entries kept) q ≡ Some x)
@@ -233,7 +233,7 @@ found_pairs runs kept are q None has covers some = absurd (true≢false (sym som
 found_pairs runs kept are q (Some e) has covers some =
     (get_or kept (e.1.start + (q - e.0)) [], covered_pairs runs kept are q e.0 e.1 has covers)
 
--- what was carried at a number that a run covers is the run's
+-- The carried message of a run's number is the message of the run.
 pub covered_at : (runs : Runs) (kept : List (List ℕ)) → AreRuns runs (length kept) → (q f : ℕ) (run : Run) →
     HasRun runs f run → Covers f run q
     → finite.get (pairs_of runs.entries kept) q ≡ slice_get kept (run.start + (q - f))
@@ -242,7 +242,7 @@ covered_at runs kept are q f run has covers =
     ∙ sym (slice_get-get_or kept (run.start + (q - f)) []
     (omega (arith, are.inside f run has, covers.0, covers.1)))
 
--- at a number that no run covers nothing was carried
+-- A number that is in no run has no carried message.
 pub uncovered_at : (runs : Runs) (kept : List (List ℕ)) → AreRuns runs (length kept) → (q : ℕ) →
     ((f : ℕ) (run : Run) → HasRun runs f run → Covers f run q → ⊥) → finite.get (pairs_of runs.entries kept) q ≡ None
 uncovered_at runs kept are q none =

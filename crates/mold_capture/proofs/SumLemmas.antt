@@ -1,4 +1,4 @@
--- What was said by a list of datagrams sums it up: it is what the sessions that explain the list have in common.
+-- What a list of datagrams states sums it up: it is what all sessions that explain the list have in common.
 use Rattle.std.proofs.Common.{◌≡◌, ℕ, suc, ◌+◌, ◌-◌, true, List, [], ◌∷◌, ◌++◌, length, refl, sym, ap, subst}
 use Rattle.std.proofs.Common.{◌∙◌, inl, inr, arith, append_assoc}
 use Rattle.std.specs.Prelude.{None, Some, Ok, Err}
@@ -24,7 +24,7 @@ use Rattle.mold_capture.proofs.JoinLemmas.{still_sound, true_carried, filled, so
 use Rattle.mold_capture.proofs.RefusalLemmas.{RuleLaw, joins_from, joins_to}
 use Rattle.mold_capture.proofs.ListLemmas.{ReadsBack, one_packet, seen-push, get_carried, carried_get, end_told, end_found}
 
--- what was said fits together, and allows just the sessions that explain the list
+-- What is stated fits together, and exactly the sessions that explain the list agree with it.
 pub record SumsUp (list : List (List ℕ)) (seen : Seen) : Type 0 where
   pub sound : IsSound seen
   pub allows : (session : List ℕ) (P : List (List ℕ)) → Explains session P list → Allows seen session P
@@ -51,7 +51,7 @@ sums_none = record {
   explains = λ session P allows. record { few = allows.few; each = All-nil (IsSaidBy session P) };
 }
 
--- the datagrams but the last, and the last
+-- The datagrams without the last one, and the last one.
 pub explained_front : (session : List ℕ) (P list : List (List ℕ)) (bytes : List ℕ) →
     Explains session P (list ++ bytes ∷ []) → Explains session P list
 explained_front session P list bytes explained =
@@ -91,7 +91,7 @@ sums_more reads list seen bytes v sums spelled may =
       };
     }
 
--- a packet that a session which explains the list and the packet says may join
+-- A packet may join the list if a session explains both.
 pub explained_joins : (list : List (List ℕ)) (seen : Seen) (bytes session : List ℕ) (P : List (List ℕ)) →
     SumsUp list seen → (explained : Explains session P (list ++ bytes ∷ []))
     → MayJoin seen (explained_last session P list bytes explained).packet
@@ -139,7 +139,7 @@ some_session seen v may name is =
       | inr new ↦ sym (same_Some v.session.0 name new.1)
     ]
 
--- a datagram that nothing refuses joins a list that stays consistent
+-- A datagram that isn't refused keeps the list consistent.
 pub accepted : ReadsBack → RuleLaw → (list : List (List ℕ)) (bytes : List ℕ) (v : Packet) → Consistent list → Spells v bytes →
     reason list bytes ≡ None → Consistent (list ++ bytes ∷ [])
 accepted reads rule list bytes v consistent spelled none =
@@ -150,7 +150,7 @@ accepted reads rule list bytes v consistent spelled none =
     let allows = some_allowed (joined seen v) v.session.0 sums.sound (some_session seen v may) in
     (v.session.0, filled (joined seen v).pairs 1 ((joined seen v).known - 1), sums.explains _ _ allows)
 
--- what reads as a packet is no fault
+-- A datagram that isn't refused is decoded as a packet.
 pub read_or_refused : (list : List (List ℕ)) (bytes : List ℕ) → reason list bytes ≡ None →
     (v : Packet) × (reading bytes ≡ Ok v)
 read_or_refused list bytes none =
@@ -159,7 +159,7 @@ read_or_refused list bytes none =
       | Err error ↦ λ e. absurd (none-some _ (sym e))
     ] none
 
--- what was said with one datagram more
+-- What is stated with one more datagram.
 pub after_more : ReadsBack → (list : List (List ℕ)) (bytes : List ℕ) → Consistent (list ++ bytes ∷ []) →
     seen_of (list ++ bytes ∷ []) ≡ after (seen_of list) bytes
 after_more reads list bytes (session, P, explained) =
@@ -167,11 +167,11 @@ after_more reads list bytes (session, P, explained) =
     let read = reads said.packet bytes said.spelled in
     seen-push list bytes said.packet read ∙ sym (ap (joined_read (seen_of list)) read)
 
--- no datagrams are explained by any session
+-- The empty list of datagrams is consistent.
 pub none_consistent : Consistent []
 none_consistent = ([], [], record { few = omega arith; each = All-nil (IsSaidBy [] []) })
 
--- of a list that is consistent with a datagram, nothing refuses the datagram
+-- A datagram isn't refused if the list with it is consistent.
 pub not_refused : ReadsBack → RuleLaw → (list : List (List ℕ)) (bytes : List ℕ) → Consistent (list ++ bytes ∷ []) →
     reason list bytes ≡ None
 not_refused reads rule list bytes (session, P, explained) =
@@ -184,7 +184,7 @@ not_refused reads rule list bytes (session, P, explained) =
 pub front_consistent : (list more : List (List ℕ)) → Consistent (list ++ more) → Consistent list
 front_consistent list more (session, P, explained) = (session, P, explained_before session P list more explained)
 
--- the end that was told is behind the last message of a session that explains the list
+-- The end is one more than the number of messages of a session that explains the list.
 pub end_at : ReadsBack → (session : List ℕ) (P list : List (List ℕ)) → Explains session P list → (number : ℕ) →
     HasEnd list number → number ≡ length P + 1
 end_at reads session P list explained number has =
@@ -193,7 +193,7 @@ end_at reads session P list explained number has =
     let truth = subst (λ (u : Packet). IsTrueBody u.body u.sequence P true) one said.is_true.said in
     sym has.at ∙ (subst (λ (b : Body). IsTrueBody b has.packet.sequence P true) has.ended truth).1
 
--- a message that is carried is that of each session which explains the list
+-- A carried message is the message of every session that explains the list.
 pub carried_at : ReadsBack → (session : List ℕ) (P list : List (List ℕ)) → Explains session P list → (q : ℕ) (m : List ℕ) →
     IsCarried list q m → published_at P q ≡ Some m
 carried_at reads session P list explained q m is =
@@ -202,7 +202,7 @@ carried_at reads session P list explained q m is =
     true_carried said.packet.body said.packet.sequence P said.is_true.said q m
     (subst (λ (u : Packet). Carries u q m) (sym one) is.carried)
 
--- a list is whole by one list of messages at most
+-- At most one list of messages makes datagrams whole.
 pub one_whole : ReadsBack → (list P Q : List (List ℕ)) → Whole list P → Whole list Q → P ≡ Q
 one_whole reads list P Q whole other =
     let first = end_at reads whole.session P list whole.explained whole.ended.0 whole.ended.1 in
@@ -214,7 +214,7 @@ one_whole reads list P Q whole other =
     get_or_from_slice_get P k found.0 d (sym (published_in P k) ∙ one)
     ∙ sym (get_or_from_slice_get Q k found.0 d (sym (published_in Q k) ∙ two)))
 
--- of a whole list, an end and each message below it were heard
+-- If datagrams are whole, they have an end packet and carry every message below the end.
 pub whole_heard : ReadsBack → (list P : List (List ℕ)) → Whole list P → IsWholeSeen (seen_of list) (length P + 1)
 whole_heard reads list P whole =
     let session = whole.session in
@@ -230,7 +230,7 @@ whole_heard reads list P whole =
           found.1.spelled found.1.carried;
     }
 
--- where an end and each message below it were heard, the list is whole
+-- If datagrams have an end packet and carry every message below the end, they are whole.
 pub heard_whole : ReadsBack → (list : List (List ℕ)) → Consistent list → (count : ℕ) →
     IsWholeSeen (seen_of list) (count + 1) → (P : List (List ℕ)) × (Whole list P × (length P ≡ count))
 heard_whole reads list (session, P, explained) count heard =

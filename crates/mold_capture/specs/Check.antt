@@ -1,4 +1,4 @@
--- What refuses a list of datagrams.
+-- Why a list of datagrams is refused.
 use Rattle.std.specs.Prelude.{◌≡◌, ℕ, ◌+◌, ◌≤◌, ◌<◌, List, [], take, length, slice_index_or, Some}
 use Rattle.mold_rule.specs.declared.refusal.Refusal.{Refusal}
 use Rattle.mold_rule.specs.declared.refusal.Refusal.TheVariants.{Memory}
@@ -6,9 +6,9 @@ use Rattle.mold_capture.specs.Consistent.{Consistent}
 use Rattle.mold_capture.specs.Refusal.{reason}
 use Rattle.mold_capture.specs.Seen.{BringsNew, seen_of}
 
--- the datagrams in front of the index are consistent, with the one there they aren't, and this is the reason
--- why; where only memory was refused, the datagrams in front of the index are consistent, and the one there,
--- if one is, brings a message
+-- The datagrams before the index are consistent. With the datagram at the index they aren't, and `why` is the
+-- first reason. For `Memory`, the datagrams before the index are consistent, and the one at the index, if there
+-- is one, has a new message.
 abbrev pub IsRefusedAt : ℕ → Refusal → List (List ℕ) → Type 0
 IsRefusedAt index Memory list =
     (index ≤ length list) × Consistent (take index list)

@@ -1,4 +1,4 @@
--- What datagrams say together: whether one session explains them, and whether they carry it whole.
+-- What datagrams state together: whether one session explains them, and whether they are whole.
 use Rattle.std.specs.Prelude.{◌≡◌, ℕ, ◌<◌, ◌≤◌, List, length, true}
 use Rattle.std.specs.List.{All, Contains}
 use Rattle.mold_wire.specs.Packet.{Spells}
@@ -7,24 +7,24 @@ use Rattle.mold_wire.specs.declared.limits.TheConstants.{MAX_NUMBER}
 use Rattle.mold_wire.specs.declared.packet.Packet.{Packet}
 use Rattle.mold_wire.specs.declared.packet.Body.TheVariants.{End}
 
--- the datagram spells a packet of the session with this name, and the packet is true once the session is
--- closed with these messages
+-- The datagram encodes a packet of the session with this name. The packet is true of the session, once that is
+-- closed with these messages.
 pub record IsSaidBy (session : List ℕ) (messages : List (List ℕ)) (bytes : List ℕ) : Type 0 where
   pub packet : Packet
   pub spelled : Spells packet bytes
   pub named : packet.session.0 ≡ session
   pub is_true : IsTruePacket packet messages true
 
--- the session with this name and these messages explains each datagram
+-- The session with this name and these messages explains every datagram of the list.
 pub record Explains (session : List ℕ) (messages list : List (List ℕ)) : Type 0 where
   pub few : length messages < MAX_NUMBER
   pub each : All (IsSaidBy session messages) list
 
--- some session explains the datagrams
+-- The datagrams are consistent: some session explains all of them.
 abbrev pub Consistent : List (List ℕ) → Type 0
 Consistent list = (session : List ℕ) × (messages : List (List ℕ)) × Explains session messages list
 
--- one of the datagrams carries this message at the number
+-- A datagram of the list carries this message with this number.
 pub record IsCarried (list : List (List ℕ)) (number : ℕ) (message : List ℕ) : Type 0 where
   pub bytes : List ℕ
   pub packet : Packet
@@ -32,7 +32,7 @@ pub record IsCarried (list : List (List ℕ)) (number : ℕ) (message : List ℕ
   pub spelled : Spells packet bytes
   pub carried : Carries packet number message
 
--- one of the datagrams is an end packet with this number
+-- A datagram of the list is an end packet with this sequence number.
 pub record HasEnd (list : List (List ℕ)) (number : ℕ) : Type 0 where
   pub bytes : List ℕ
   pub packet : Packet
@@ -41,8 +41,8 @@ pub record HasEnd (list : List (List ℕ)) (number : ℕ) : Type 0 where
   pub ended : packet.body ≡ End
   pub at : packet.sequence ≡ number
 
--- a session with these messages explains the datagrams, an end packet is among them, and each message is
--- carried
+-- The datagrams are whole: a session with these messages explains them, an end packet is among them, and each
+-- message is carried.
 pub record Whole (list messages : List (List ℕ)) : Type 0 where
   pub session : List ℕ
   pub explained : Explains session messages list

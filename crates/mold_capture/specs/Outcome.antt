@@ -1,4 +1,4 @@
--- What a check of datagrams tells.
+-- The outcome of a check of datagrams.
 use Rattle.std.specs.Prelude.{◌≡◌, ◌⊎◌, ℕ, ◌+◌, ◌<◌, List, [], take, length, slice_index_or, Option, Some, Result}
 use Rattle.std.specs.Prelude.{MatchResult}
 use Rattle.mold_rule.specs.Ranges.{Range}
@@ -11,15 +11,15 @@ use Rattle.mold_rule.specs.declared.refusal.Refusal.TheVariants.{Memory}
 use Rattle.mold_capture.specs.declared.verdict.Verdict.{Verdict}
 use Rattle.mold_capture.specs.declared.verdict.Verdict.TheVariants.{Whole as IsWhole, Incomplete as IsIncomplete}
 
--- whole, by so many messages; not whole, with the ranges that are missing and the end; or refused at an index
+-- The outcome of a check: whole, with the number of messages; incomplete, with the missing ranges and the end;
+-- or refused, with an index and a reason.
 pub data Outcome : Type 0 where
   whole : ℕ → Outcome
   incomplete : List Range → Option ℕ → Outcome
   refused : ℕ → Refusal → Outcome
 
--- the outcome of datagrams: whole by some messages, of which the number is told; or consistent and whole by no
--- messages, with what is missing; or those in front of the index are consistent, with the one there they
--- aren't, and this is the reason why
+-- The datagrams have this outcome. They are whole with this number of messages, or they are consistent but not
+-- whole. Otherwise the datagram at the index is the first one that makes them inconsistent.
 abbrev pub IsOutcome : List (List ℕ) → Outcome → Type 0
 IsOutcome list (whole count) = (messages : List (List ℕ)) × (Whole list messages × (length messages ≡ count))
 IsOutcome list (incomplete missing end) =
@@ -29,12 +29,12 @@ IsOutcome list (refused index why) =
     (index < length list) × Consistent (take index list) × (Consistent (take (index + 1) list) → ⊥)
     × (reason (take index list) (slice_index_or list index []) ≡ Some why)
 
--- the outcome that a verdict tells
+-- The outcome that a verdict reports.
 abbrev pub outcome_in : Verdict → Outcome
 outcome_in (IsWhole messages) = whole messages
 outcome_in (IsIncomplete missing end) = incomplete (ranges_of missing.items) end
 
--- the answer tells this outcome, unless memory was refused
+-- The result of a check reports this outcome, unless an allocation failed.
 abbrev pub Answers : Outcome → Result Verdict (ℕ × Refusal) → Type 0
 Answers outcome answer = MatchResult answer (λ verdict. outcome_in verdict ≡ outcome)
     (λ r. (r.1 ≡ Memory) ⊎ (refused r.0 r.1 ≡ outcome))

@@ -1,4 +1,4 @@
--- Why a datagram may not come after others.
+-- Why a datagram is refused.
 use Rattle.std.specs.Prelude.{ℕ, List, Option, None, Some, Result, Ok, Err}
 use Rattle.mold_wire.specs.Packet.{messages_of}
 use Rattle.mold_wire.specs.Reading.{reading}
@@ -10,29 +10,31 @@ use Rattle.mold_rule.specs.declared.refusal.Refusal.{Refusal}
 use Rattle.mold_rule.specs.declared.refusal.Refusal.TheVariants.{Malformed, Memory}
 use Rattle.mold_capture.specs.Seen.{Pairs, Seen, numbered, seen_of}
 
--- the least number at which another message was carried than a packet's
+-- The lowest number whose carried message differs from the packet's message of that number.
 abbrev pub conflict : Pairs → ℕ → List (List ℕ) → Option ℕ
 conflict pairs number messages = first_conflict pairs (numbered number messages)
 
--- why a packet may not join what was said, if it may not: the first refusal of the rule
+-- The first reason to refuse the packet, given what the earlier datagrams state.
 abbrev pub packet_refusal : Seen → Packet → Option Refusal
 packet_refusal seen packet =
     refusal_of seen.session seen.known seen.ended
     (conflict seen.pairs packet.sequence (messages_of packet.body)) packet
 
--- why a datagram may not join what was said, if it may not
+-- The first reason to refuse a decoded datagram, given what the earlier datagrams state. A datagram that
+-- doesn't encode a packet is refused with its decode fault.
 abbrev pub refusal_read : Seen → Result Packet DecodeError → Option Refusal
 refusal_read seen (Ok packet) = packet_refusal seen packet
 refusal_read seen (Err error) = Some (Malformed error)
 
+-- The first reason to refuse a datagram, given what the earlier datagrams state.
 abbrev pub refusal : Seen → List ℕ → Option Refusal
 refusal seen bytes = refusal_read seen (reading bytes)
 
--- why a datagram may not come after others, if it may not
+-- The first reason to refuse a datagram after the datagrams of the list.
 abbrev pub reason : List (List ℕ) → List ℕ → Option Refusal
 reason list bytes = refusal (seen_of list) bytes
 
--- the refusal that a reason tells: none where only memory was refused
+-- The reason that an error reports. An allocation that fails is not a reason.
 abbrev pub told : Refusal → Option Refusal
 told Memory = None
 told other = Some other

@@ -1,4 +1,4 @@
-//! The messages that were carried.
+//! The messages that the accepted datagrams carry, by sequence number.
 
 ghost use Rattle.std.specs.Prelude.{◌≡◌, ◌+◌, ◌-◌, ◌<◌, ◌≤◌, ◌^◌, length, List, ℕ, None, Some, IfOk, IfErr, OnOk};
 ghost use Rattle.std.specs.Prelude.{OnErr};
@@ -24,8 +24,8 @@ use std::alloc::{AllocError, Global};
 use std::collections::BTreeMap;
 use std::marker::Model;
 
-/// Messages by number. Their bytes stand once in one buffer, and messages that came together with numbers
-/// that follow one another cost one entry of the map.
+/// The messages by sequence number. One buffer has all their bytes once. Messages that arrive together with
+/// consecutive numbers take one entry of the map.
 #[derive(Debug, Drop)]
 pub(crate) struct Carried {
     runs: BTreeMap<u64, Run>,
@@ -50,7 +50,7 @@ impl Model for Carried {
 }
 
 impl Carried {
-    /// No messages; it takes no memory.
+    /// Returns an empty set of messages. This allocates nothing.
     pub(crate) fn new(alloc: Global) -> Carried
         ensures { result ≡ finite.empty }
     {
@@ -60,8 +60,9 @@ impl Carried {
         }
     }
 
-    /// Adds a packet's messages, the first of which has the number `first`. A message that is there already
-    /// isn't stored again. After an error everything is as before. Memory is refused only where a message is new.
+    /// Adds the messages of a packet, the first of which has the number `first`. A message that is already
+    /// there isn't stored again. After an error nothing has changed. `Memory` is returned only if a message is
+    /// new.
     pub(crate) fn join(&mut self, first: u64, blocks: &Blocks<'_>) -> Result<(), Refusal>
         requires few { first + length blocks.now < 2 ^ 64 }
         ensures refused { IfErr result (λ reason. conflict_at (conflict self.old first blocks.now) ≡ told reason) }
@@ -81,8 +82,8 @@ impl Carried {
         }
     }
 
-    /// The longest ranges of the numbers from 1 to below `known` that have no message, ascending. It walks what
-    /// is there and not the numbers between. An error comes where a growth is refused.
+    /// Returns the longest ranges of numbers from 1 up to, but not including, `known` that have no message, in
+    /// ascending order. It walks the runs, not the numbers. It returns an error if an allocation fails.
     pub(crate) fn missing(&self, alloc: Global, known: u64) -> Result<Vec<Range>, AllocError>
         requires some { 1 ≤ known }
         requires within { (number : ℕ) (message : List ℕ) → finite.get self.now number ≡ Some message →

@@ -1,4 +1,4 @@
-//! The checker.
+//! The checker, which takes datagrams one by one.
 
 ghost use Rattle.std.specs.Prelude.{◌≡◌, ◌≤◌, ◌<◌, ◌^◌, [], None, IfOk, IfErr, OnOk, OnErr};
 ghost use Rattle.std.specs.Option.{option_or};
@@ -19,7 +19,7 @@ use mold_wire::{Body, Packet, Session, decode};
 use std::alloc::Global;
 use std::marker::Model;
 
-// The end that was told with the packet: that of the first end packet.
+// The sequence number of the first end packet, with this packet included.
 fn known_end(packet: &Packet<'_>, ended: Option<u64>) -> Option<u64>
     ensures { result ≡ option_or ended (end_in packet.now.body packet.now.sequence) }
 {
@@ -29,7 +29,7 @@ fn known_end(packet: &Packet<'_>, ended: Option<u64>) -> Option<u64>
     }
 }
 
-// Adds a packet's messages to those that were carried.
+// Adds the messages of a packet to those of the earlier packets.
 fn join_messages(carried: &mut Carried, packet: &Packet<'_>) -> Result<(), Refusal>
     requires { top_of packet.now < 2 ^ 64 }
     ensures refused { IfErr result (λ reason.
@@ -46,9 +46,9 @@ fn join_messages(carried: &mut Carried, packet: &Packet<'_>) -> Result<(), Refus
     }
 }
 
-/// What the datagrams that were accepted have said: the session, the greatest number heard of, the end and the
-/// messages. They may come in any order. Messages are stored once; a datagram that brings nothing new takes no
-/// memory.
+/// A checker of datagrams. It keeps what the accepted datagrams state: the session, the largest top of a
+/// packet, the end, and the messages. The datagrams may come in any order. Each message is stored once. A
+/// datagram without a new message allocates nothing.
 #[derive(Debug, Drop)]
 pub struct Checker {
     session: Option<Session>,
@@ -72,7 +72,7 @@ impl Model for Checker {
 }
 
 impl Checker {
-    /// A checker that has accepted no datagram. It takes no memory.
+    /// Returns a checker that has accepted no datagram. This allocates nothing.
     pub fn new(alloc: Global) -> Checker
         ensures { result ≡ seen_of [] }
     {
@@ -85,10 +85,12 @@ impl Checker {
         }
     }
 
-    /// Accepts a datagram, or refuses it with the first reason why it may not come after those that were
-    /// accepted; after an error the checker is as before. The session is that of the first datagram accepted,
-    /// and `known` is the greatest top accepted, at least 1. A message is compared with any message accepted
-    /// before at the same number. Memory is refused only where no other reason applies and a message is new.
+    /// Accepts a datagram, or refuses it for the first reason that applies. After an error the checker is
+    /// unchanged. The session is that of the first accepted datagram. `known` is the largest top of an accepted
+    /// packet, at least 1.
+    ///
+    /// A message is compared with the accepted message of the same number, from whichever datagram it came.
+    /// `Memory` is returned only if no other reason applies and a message is new.
     pub fn add(&mut self, bytes: &[u8]) -> Result<(), Refusal>
         ensures refused { IfErr result (λ reason. refusal self.old bytes.now ≡ told reason) }
         ensures taken { OnOk result (refusal self.old bytes.now ≡ None) }
@@ -111,8 +113,9 @@ impl Checker {
         Ok(())
     }
 
-    /// Whether the datagrams accepted are whole, and what is missing where they aren't. It walks what was
-    /// carried and never the numbers between. An error comes where memory for the ranges is refused.
+    /// Returns whether the accepted datagrams are a whole session, and what is missing if they aren't. It walks
+    /// the stored messages, not the numbers between them. It returns an error if the allocation for the ranges
+    /// fails.
     pub fn verdict(&self) -> Result<Verdict, Memory>
         ensures { IfOk result (λ verdict. IsVerdict verdict self.now) }
     {

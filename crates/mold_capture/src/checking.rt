@@ -1,4 +1,4 @@
-//! Checking a list of datagrams.
+//! Checks a list of datagrams.
 
 ghost use Rattle.std.specs.Prelude.{◌≡◌, IfOk, IfErr, map};
 ghost use Rattle.mold_capture.specs.Check.{IsRefusedAt};
@@ -12,9 +12,10 @@ use mold_rule::laws::refusal_law;
 use mold_wire::laws::reading_law;
 use std::alloc::Global;
 
-/// Checks datagrams: whether they come from one whole session, and what is missing where they don't. Where
-/// one may not come after those before it, the answer is its index, counted from 0, and the first reason;
-/// the list's length and `Memory` where memory for the verdict is refused.
+/// Checks whether the datagrams come from one whole session, and what is missing if they don't.
+///
+/// If a datagram is refused after those before it, the error has its index, counted from 0, and the first
+/// reason. If an allocation for the verdict fails, the error has the list's length and `Memory`.
 pub fn check(alloc: Global, list: &[&[u8]]) -> Result<Verdict, (usize, Refusal)>
     ensures verdict { IfOk result (λ verdict. IsVerdictOn verdict (map (λ bytes. bytes.now) list.now)) }
     ensures outcome { (outcome : Outcome) → IsOutcome (map (λ bytes. bytes.now) list.now) outcome →

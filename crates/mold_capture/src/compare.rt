@@ -1,4 +1,4 @@
-//! A packet's messages beside those that were carried.
+//! Compares a packet's messages with those of the accepted datagrams.
 
 ghost use Rattle.std.specs.Prelude.{◌≡◌, ◌+◌, ◌<◌, ◌^◌, false, length, Some, None, IsTrue, IfSome, IfOk, IfErr, OnOk};
 ghost use Rattle.std.specs.FinMap as finite;
@@ -13,7 +13,7 @@ use mold_messages::MessageList;
 use mold_wire::Blocks;
 use std::collections::BTreeMap;
 
-// The message that was carried at the number. The run that has it is near for the next number.
+// The stored message with this number. `near` is set to the run that has it, for the search of the next number.
 fn message_at<'a>(
     runs: &BTreeMap<u64, Run>,
     kept: &'a MessageList,
@@ -33,7 +33,7 @@ fn message_at<'a>(
     }
 }
 
-// Whether another message was carried than this one.
+// Whether a stored message differs from this one.
 fn is_other(carried: Option<&[u8]>, message: &[u8]) -> bool
     ensures { result ≡ differs (option_copied carried.entry) message.now }
 {
@@ -43,7 +43,8 @@ fn is_other(carried: Option<&[u8]>, message: &[u8]) -> bool
     }
 }
 
-/// Whether each of a packet's messages was carried, or the least number at which another one was.
+/// Returns whether all messages of a packet are stored already. The error is the lowest number whose stored
+/// message differs.
 pub(crate) fn compare(
     runs: &BTreeMap<u64, Run>,
     kept: &MessageList,

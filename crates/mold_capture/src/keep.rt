@@ -1,4 +1,4 @@
-//! New messages join those that were carried.
+//! Adds new messages to those of the accepted datagrams.
 
 ghost use Rattle.std.specs.Prelude.{◌≡◌, ◌+◌, ◌<◌, ◌≤◌, ◌^◌, ◌++◌, ◌∷◌, [], length, take, IfErr, OnOk, OnErr};
 ghost use Rattle.mold_capture.specs.Runs.{AreFree, AreRuns, IsSince, Runs, carried};
@@ -12,8 +12,8 @@ use mold_wire::Blocks;
 use std::alloc::AllocError;
 use std::collections::BTreeMap;
 
-// Adds a packet's messages behind those that are kept. An error comes where a growth is refused; nothing is
-// added then.
+// Appends the messages of a packet to the kept ones. It returns an error if an allocation fails, and then
+// nothing was added.
 fn keep_all(kept: &mut MessageList, blocks: &Blocks<'_>) -> Result<(), AllocError>
     ensures ok { OnOk result (kept.new.messages ≡ kept.old.messages ++ blocks.now) }
     ensures err { OnErr result (kept.new.messages ≡ kept.old.messages) }
@@ -28,8 +28,8 @@ fn keep_all(kept: &mut MessageList, blocks: &Blocks<'_>) -> Result<(), AllocErro
     Ok(())
 }
 
-/// Adds a packet's messages, of whose numbers none has a run, as one run. An error comes where a growth is
-/// refused; nothing is added then.
+/// Adds the messages of a packet as one run. No run may have one of their numbers. It returns an error if an
+/// allocation fails, and then nothing was added.
 pub(crate) fn add_all(
     runs: &mut BTreeMap<u64, Run>,
     kept: &mut MessageList,
@@ -49,7 +49,7 @@ pub(crate) fn add_all(
     if let Err(_) = keep_all(kept, blocks) {
         return Err(Refusal::Memory);
     }
-    // For the prover: `len` bounds the number of messages, as `put_run` needs it.
+    // For the prover: `len` bounds the number of messages, which `put_run` needs.
     let _len = kept.len();
     match put_run(runs, first, Run { start, count }) {
         Ok(()) => Ok(()),
@@ -60,8 +60,8 @@ pub(crate) fn add_all(
     }
 }
 
-// Adds a message at a number that no run has. It joins a run that ends there, if the places of that one
-// aren't before `since`. An error comes where a growth is refused; nothing is added then.
+// Adds a message with a number that no run has. It extends a run that ends there, if that run starts at index
+// `since` or later. It returns an error if an allocation fails, and then nothing was added.
 fn add_message(
     runs: &mut BTreeMap<u64, Run>,
     kept: &mut MessageList,
@@ -96,7 +96,7 @@ fn add_message(
     }
 }
 
-// Adds a message, unless a run has its number.
+// Adds a message unless a run already has its number.
 fn add_new(
     runs: &mut BTreeMap<u64, Run>,
     kept: &mut MessageList,
@@ -122,8 +122,8 @@ fn add_new(
     add_message(runs, kept, since, number, message)
 }
 
-/// Adds those of a packet's messages whose numbers no run has, in runs. An error comes where a growth is
-/// refused; what was added is taken out again then.
+/// Adds those messages of a packet whose numbers no run has. It returns an error if an allocation fails, and
+/// then it removes what it added.
 pub(crate) fn add_each(
     runs: &mut BTreeMap<u64, Run>,
     kept: &mut MessageList,

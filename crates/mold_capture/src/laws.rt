@@ -1,5 +1,5 @@
-//! What holds of the definitions alone, for all lists of datagrams. Each law is a function that does
-//! nothing: its contract is the law.
+//! Laws about all lists of datagrams: theorems about the definitions alone. Each law is a function that does
+//! nothing, and its contract is the theorem.
 
 ghost use Rattle.std.specs.Prelude.{◌≡◌, ◌↔◌, ◌+◌, ◌++◌, ◌∷◌, [], None, List, ℕ, length};
 ghost use Rattle.std.specs.List.{All};
@@ -15,8 +15,8 @@ ghost use Rattle.mold_capture.specs.Verdict.{IsWholeSeen};
 use mold_rule::laws::refusal_law;
 use mold_wire::laws::reading_law;
 
-/// `reason` refuses exactly the datagrams that would make a consistent list inconsistent. No datagrams are
-/// consistent, and each front of consistent ones is.
+/// `reason` refuses exactly the datagrams that would make a consistent list inconsistent. The empty list is
+/// consistent, and so is each prefix of a consistent list.
 pub fn reason_law()
     ensures none { Consistent [] }
     ensures front { (list more : List (List ℕ)) → Consistent (list ++ more) → Consistent list }
@@ -29,7 +29,7 @@ pub fn reason_law()
     refusal_law();
 }
 
-/// What was said is told datagram by datagram.
+/// What a list of datagrams states can be computed one datagram at a time.
 pub fn after_law()
     ensures { (list : List (List ℕ)) (bytes : List ℕ) →
         Consistent (list ++ bytes ∷ []) → seen_of (list ++ bytes ∷ []) ≡ after (seen_of list) bytes }
@@ -37,8 +37,8 @@ pub fn after_law()
     reading_law();
 }
 
-/// Datagrams are whole by one list of messages and no other, and exactly where they are consistent and have
-/// told an end and carried each number from 1 to below it.
+/// At most one list of messages makes datagrams whole. They are whole exactly when they are consistent, have an
+/// end packet, and carry each number below the end.
 pub fn whole_is_one_law()
     ensures one { (list one other : List (List ℕ)) → Whole list one → Whole list other → one ≡ other }
     ensures heard { (list messages : List (List ℕ)) →
@@ -50,7 +50,7 @@ pub fn whole_is_one_law()
     reading_law();
 }
 
-/// Datagrams have one outcome and no other.
+/// Every list of datagrams has exactly one outcome.
 pub fn outcome_law()
     ensures some { (list : List (List ℕ)) → All IsBytes list → (outcome : Outcome) × IsOutcome list outcome }
     ensures one { (list : List (List ℕ)) (one other : Outcome) →

@@ -1,5 +1,5 @@
-//! The checker of captured datagrams: whether they come from one whole session, and if not, what is missing
-//! or what contradicts what.
+//! The checker of captured datagrams. It finds whether one whole session explains them, and otherwise what is
+//! missing or which datagram is refused.
 #![tactic(auto)]
 
 mod carried;

@@ -1,8 +1,8 @@
-//! Want of memory.
+//! The error of a verdict.
 
 use thiserror::Error;
 
-/// The memory for a verdict was refused.
+/// The allocation for a verdict failed.
 #[derive(Clone, Copy, Debug, PartialEq, Eq, Error)]
 #[error("out of memory")]
 pub struct Memory;

@@ -1,4 +1,4 @@
-//! What is missing between runs.
+//! Finds the gaps between runs.
 
 ghost use Rattle.std.specs.Prelude.{◌≡◌, ◌+◌, ◌<◌, ◌^◌, ◌++◌, ℕ, OnOk, IfOk};
 ghost use Rattle.mold_capture.specs.Runs.{HasRun};
@@ -10,7 +10,7 @@ use crate::verdict::Range;
 use std::alloc::{AllocError, Global};
 use std::collections::BTreeMap;
 
-// Adds the range from a number to below another one, where that isn't empty.
+// Appends the range of numbers from `from` up to, but not including, `below`, unless it is empty.
 fn push_gap(missing: &mut Vec<Range>, from: u64, below: u64) -> Result<(), AllocError>
     ensures { OnOk result (ranges_of missing.new.items ≡ ranges_of missing.old.items ++ gap from below) }
 {
@@ -23,8 +23,7 @@ fn push_gap(missing: &mut Vec<Range>, from: u64, below: u64) -> Result<(), Alloc
     Ok(())
 }
 
-/// The gaps in front of the runs, between them, and behind them up to `known`. It walks the runs and not the
-/// numbers.
+/// Returns the gaps before, between and after the runs, up to `known`. It walks the runs, not the numbers.
 pub(crate) fn find_gaps(
     alloc: Global,
     runs: &BTreeMap<u64, Run>,

@@ -1,4 +1,4 @@
-//! Runs of messages.
+//! Runs of messages with consecutive sequence numbers.
 
 ghost use Rattle.std.specs.Prelude.{◌≡◌, ◌+◌, ◌^◌, ◌<◌, ◌≤◌, ◌↔◌, IsTrue, ℕ, IfSome, IfNone, OnOk, OnErr};
 ghost use Rattle.std.specs.BTreeMap as tree;
@@ -9,22 +9,22 @@ ghost use Rattle.mold_capture.specs.declared.run.Run.{Run};
 use std::alloc::AllocError;
 use std::collections::BTreeMap;
 
-/// Messages whose numbers follow one another: as many as the count says, from a place in the list of
-/// messages on.
+/// Messages with consecutive sequence numbers: `count` messages, the first of which has index `start` in the
+/// list of messages.
 #[derive(Clone, Copy, Debug)]
 pub(crate) struct Run {
     pub(crate) start: usize,
     pub(crate) count: u64,
 }
 
-// Whether the run, whose first message has the number `first`, has a message with the number.
+// Whether a run whose first message has the number `first` has a message with this number.
 fn covers(first: u64, run: Run, number: u64) -> bool
     ensures { IsTrue result ↔ Covers first run number }
 {
     first <= number && number - first < run.count
 }
 
-// The last of the runs that don't begin above the number, behind the number of its first message.
+// The last run that begins at this number or below it, with the number of its first message.
 fn last_run(runs: &BTreeMap<u64, Run>, number: u64) -> Option<(u64, Run)>
     ensures none { IfNone result ((f : ℕ) (run : Run) → HasRun runs.now f run → number < f) }
     ensures there { IfSome result (λ e. HasRun runs.now e.0 e.1) }
@@ -37,8 +37,8 @@ fn last_run(runs: &BTreeMap<u64, Run>, number: u64) -> Option<(u64, Run)>
     }
 }
 
-/// The run that has a message with the number, behind the number of its first message. A run that is near is
-/// looked at first.
+/// Finds the run that has a message with this number. It returns the number of the run's first message, too.
+/// The run `near` is tried first.
 pub(crate) fn run_at(
     runs: &BTreeMap<u64, Run>,
     near: Option<(u64, Run)>,
@@ -59,7 +59,7 @@ pub(crate) fn run_at(
     }
 }
 
-/// Whether no run has a message with a number from the first to below the top. It looks at one run.
+/// Returns true if no run has a number from `first` up to, but not including, `top`. It reads one run.
 pub(crate) fn is_free(runs: &BTreeMap<u64, Run>, first: u64, top: u64) -> bool
     requires apart { AreApart runs.now }
     requires some { first < top }
@@ -71,8 +71,9 @@ pub(crate) fn is_free(runs: &BTreeMap<u64, Run>, first: u64, top: u64) -> bool
     }
 }
 
-/// The run that a message makes, and the number of its first message, when it is put with this number behind
-/// so many messages: it joins a run that ends there, if the places of that one aren't before `since`.
+/// Returns the run of a message that is added with this number after `len` messages, and the number of the
+/// run's first message. The message extends a run that ends there, if that run starts at index `since` or
+/// later.
 pub(crate) fn grown_run(
     runs: &BTreeMap<u64, Run>,
     since: usize,
@@ -106,7 +107,7 @@ pub(crate) fn grown_run(
     }
 }
 
-// Whether the run ends right before the number and the place.
+// Whether the run ends right before this number and this index.
 fn joins(first: u64, run: Run, place: usize, number: u64) -> bool
     ensures { IsTrue result ↔ ((first + run.count ≡ number) × (run.start + run.count ≡ place)) }
 {
@@ -116,8 +117,8 @@ fn joins(first: u64, run: Run, place: usize, number: u64) -> bool
         && (place - run.start) as u64 == run.count
 }
 
-/// Puts a run in, or in place of the one that begins with the same message. An error comes where a growth is
-/// refused.
+/// Inserts a run, or replaces the one that begins with the same number. It returns an error if an allocation
+/// fails.
 pub(crate) fn put_run(runs: &mut BTreeMap<u64, Run>, first: u64, run: Run) -> Result<(), AllocError>
     ensures put { OnOk result (IsPut runs.old first run runs.new) }
     ensures ordered { tree.IsOrdered nat_cmp runs.new }
@@ -129,7 +130,7 @@ pub(crate) fn put_run(runs: &mut BTreeMap<u64, Run>, first: u64, run: Run) -> Re
     }
 }
 
-/// Takes the runs out whose places aren't below the given one.
+/// Removes the runs that start at index `place` or later.
 pub(crate) fn take_back(runs: &mut BTreeMap<u64, Run>, place: usize)
     ensures ordered { tree.IsOrdered nat_cmp runs.new }
     ensures out { (f : ℕ) (run : Run) → HasRun runs.new f run → HasRun runs.old f run × (run.start < place) }

@@ -1,26 +1,30 @@
-//! What a checker answers.
+//! The verdict of a checker.
 
-/// Numbers from the first to the last, both among them.
+/// A range of sequence numbers.
 #[derive(Clone, Copy, Debug, PartialEq, Eq, Hash)]
 pub struct Range {
+    /// The first number of the range.
     pub first: u64,
+    /// The last number, which belongs to the range.
     pub last: u64,
 }
 
 /// Whether datagrams come from one whole session.
 #[derive(Debug, PartialEq, Eq, Drop)]
 pub enum Verdict {
-    /// One session explains the datagrams, an end packet is among them, and each of so many messages was
-    /// carried. No other messages explain them so.
+    /// One session explains the datagrams, an end packet is among them, and each message is carried. No other
+    /// list of messages does so.
     Whole {
+        /// The number of messages in the session.
         messages: u64,
     },
-    /// Sessions explain the datagrams, and none is whole.
+    /// A session explains the datagrams, but they are not a whole session.
     Incomplete {
-        /// The longest ranges of the numbers from 1 to below the greatest top that were not carried,
-        /// ascending.
+        /// The longest ranges of numbers that no packet carries, from 1 up to, but not including, the largest
+        /// top. They are in ascending order.
         missing: Vec<Range>,
-        /// The number of the end packet: one more than the number of messages. None where no end packet came.
+        /// The sequence number of the end packet, which is one more than the number of messages. It is `None`
+        /// if no end packet is among the datagrams.
         end: Option<u64>,
     },
 }

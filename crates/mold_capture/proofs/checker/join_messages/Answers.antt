@@ -6,7 +6,7 @@ use Rattle.mold_capture.specs.Seen.{Pairs, pairs_with}
 use Rattle.mold_capture.proofs.KeepLemmas.{with_none}
 use Rattle.mold_capture.proofs.checker.join_messages.Goals as goal
 
--- a packet without messages changes nothing
+-- A packet without messages changes nothing.
 nothing : (pairs : Pairs) (n : ℕ) (body : Body) → (body ≡ Heartbeat) ⊎ (body ≡ End) →
     pairs ≡ pairs_with pairs n (messages_of body)
 nothing pairs n body is =

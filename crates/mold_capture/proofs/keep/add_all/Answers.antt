@@ -4,7 +4,7 @@ use Rattle.mold_capture.specs.Runs.{Runs, pairs_of, AreRuns, IsGrown}
 use Rattle.mold_capture.proofs.GrowLemmas.{Growth, are_grown, carried_grown}
 use Rattle.mold_capture.proofs.keep.add_all.Goals as goal
 
--- a run of its own, of all messages
+-- All messages make one new run.
 alone : (runs : Runs) (kept number count : ℕ) (run : Run) → run.start ≡ kept → run.count ≡ count →
     IsGrown runs kept number count number run
 alone runs kept number count run starts counts = record {

@@ -18,7 +18,7 @@ loop-first-init c =
       there = subst (All (λ (e : ℕ × Run). HasRun c.args.runs.now e.0 e.1)) (sym gives.0) gives.6;
     }
 
--- the run that is visited and those behind it
+-- The current run and the runs after it are in the map.
 there : (c : goal.In_ok-push_gap) →
     All (λ (e : ℕ × Run). HasRun c.args.runs.now e.0 e.1) ((c.in-Some.first.now, c.in-Some.run'.now) ∷ c.next.new.self)
 there c =

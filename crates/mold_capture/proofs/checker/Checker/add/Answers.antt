@@ -24,7 +24,7 @@ returns-in_err-join_messages-clause-refused c =
     ∙ c.in_err-join_messages.ensures.refused in
     search (rules, refused)
 
--- the checker's parts are those before, and the packet
+-- The checker's fields are the old ones joined with the packet.
 joined_parts : (c : goal.After-ended-1) → Joins c.self.inside.session c.or-self-inside.result c.self.inside.known
     c.max-self-inside.result c.self.inside.ended c.known_end-ended.result c.self.inside.carried
     c.join_messages.new.carried c.in-Ok.packet

@@ -29,7 +29,7 @@ returns-in-Some c =
     (subst (IsWholeSeen seen) end
     (none_whole seen c.self.invariant c.in-Some.end c.in-Some.is (sym c.in-Ok.ensures ∙ no_ranges items none)))
 
--- what a verdict that isn't whole says
+-- What a verdict that isn't whole reports.
 abbrev IsOpen : List Range → Option ℕ → Seen → Type 0
 IsOpen items end seen =
     (ranges_of items ≡ missing_in seen) × (end ≡ seen.ended) × ((number : ℕ) → IsWholeSeen seen number → ⊥)
