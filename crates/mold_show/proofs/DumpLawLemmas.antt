@@ -1,4 +1,4 @@
--- That what is printed of a journal's file is published as the same messages.
+-- What is printed for a journal's file is published as the same messages.
 use Rattle.std.proofs.Common.{◌≡◌, ℕ, zero, suc, ◌+◌, ◌-◌, ◌/◌, ◌%◌, ◌<◌, ◌≤◌, ◌==◌, Bool, false, cond, nat_lt, List, [], ◌∷◌}
 use Rattle.std.proofs.Common.{◌++◌, length, length-append, map, Option, None, Some, Result, Ok, refl, sym, ap}
 use Rattle.std.proofs.Common.{◌∙◌, append_assoc, append-nil, subst, arith}
@@ -26,7 +26,7 @@ use Rattle.mold_show.specs.Dump.{dump_text, dumped, fault_line, message_line, me
 
 -- ---- lines of digits
 
--- no digit ends a line
+-- No digit is the end of a line.
 digit_stays : (place : ℕ) → (slice_index lower_digits place == 10) ≡ false
 digit_stays zero = refl
 digit_stays (suc zero) = refl
@@ -107,7 +107,7 @@ file_few : (bytes : List ℕ) (head : FileHead) (messages : List (List ℕ)) (st
 file_few bytes head messages None spelled = spelled.1.listed.few
 file_few bytes head messages (Some count) spelled = spelled.listed.few
 
--- ---- what they are published as
+-- ---- the messages that are published
 
 short_enough : (a b : ℕ) → b ≤ a → nat_lt a b ≡ false
 short_enough a b holds = grind (arith, nat_tests)
@@ -152,7 +152,7 @@ all_published (message ∷ messages) journal opened are within few =
 
 -- ---- the law
 
--- bytes give one thing as a file
+-- The contents of a file are unique.
 abbrev pub OneContents : Type 0
 OneContents = (bytes : List ℕ) (one other : FileContents bytes) →
     (one.messages ≡ other.messages) × (one.fault ≡ other.fault)

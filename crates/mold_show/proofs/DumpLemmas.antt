@@ -18,8 +18,8 @@ use Rattle.mold_show.proofs.DumpedLemmas.{first_lines, lines_more, no_lines}
 
 -- ---- what was written so far
 
--- of the lines of these messages a part was written, and the rest is gathered; and they are the first of what the
--- file gives
+-- A part of the lines of these messages was written, and the rest is gathered. The messages are a prefix of the
+-- file's messages.
 pub record Gathered (from count : ℕ) (known old now : Option (List ℕ)) (messages : List (List ℕ)) (text : List ℕ) :
     Type 0 where
   pub first : IfSome known (λ bytes. (contents : FileContents bytes) → IsFront messages contents.messages)
@@ -27,14 +27,14 @@ pub record Gathered (from count : ℕ) (known old now : Option (List ℕ)) (mess
   pub sent : Appends old now written
   pub parts : message_lines (dumped from count messages) ≡ written ++ text
 
--- and they are what was read of the file
+-- The messages were read by the reader, and their lines are written or gathered.
 pub record Dumping (from count : ℕ) (known left old now : Option (List ℕ)) (reader : ReaderState) (text : List ℕ) :
     Type 0 where
   pub messages : List (List ℕ)
   pub read : HasRead known left reader messages
   pub gathered : Gathered from count known old now messages text
 
--- what is known of a reader, by the laws of its crate
+-- The laws of mold_session about a reader.
 pub record ReaderLaws : Type 0 where
   pub one : (bytes : List ℕ) (one other : FileContents bytes) →
       (one.messages ≡ other.messages) × (one.fault ≡ other.fault)
@@ -57,7 +57,7 @@ none_first : (known : Option (List ℕ)) →
 none_first None = tt
 none_first (Some bytes) = λ contents. record { extra = contents.messages; longer = refl }
 
--- no message was read
+-- No message was read yet.
 pub gathered_none : (from count : ℕ) (known old : Option (List ℕ)) (text : List ℕ) → text ≡ [] →
     Gathered from count known old old [] text
 gathered_none from count known old text none = record {
@@ -72,13 +72,13 @@ pub dumping_none : (from count : ℕ) (known left old : Option (List ℕ)) (read
 dumping_none from count known left old reader text read none =
     record { messages = []; read = read; gathered = gathered_none from count known old text none }
 
--- the same text stands there
+-- The gathered text is the same.
 pub gathered_same : (from count : ℕ) (known old now : Option (List ℕ)) (messages : List (List ℕ)) (text same : List ℕ) →
     Gathered from count known old now messages text → same ≡ text → Gathered from count known old now messages same
 gathered_same from count known old now messages text same gathered is =
     subst (Gathered from count known old now messages) (sym is) gathered
 
--- one message more was read
+-- One more message was read.
 pub dumping_more : ReaderLaws → (from count : ℕ) (known left after old now : Option (List ℕ)) (reader next : ReaderState)
     (text more : List ℕ) → Dumping from count known left old now reader text → ReadsNext left after reader next →
     more ≡ text ++ next_line from count reader.count next.message → Dumping from count known after old now next more
@@ -104,7 +104,7 @@ dumping_more laws from count known left after old now reader next text more so_f
       };
     }
 
--- what was gathered was sent
+-- The gathered text was sent.
 pub dumping_sent : (from count : ℕ) (known left old mid now : Option (List ℕ)) (reader : ReaderState)
     (text none : List ℕ) → Dumping from count known left old mid reader text → Appends mid now text → none ≡ [] →
     Dumping from count known left old now reader none
@@ -124,7 +124,7 @@ dumping_sent from count known left old mid now reader text none so_far sends emp
       };
     }
 
--- ---- a beginning of the text
+-- ---- a prefix of the text
 
 front_more : (old new : Option (List ℕ)) (text more all : List ℕ) → all ≡ text ++ more → AppendsPrefix old new text →
     AppendsPrefix old new all
@@ -158,7 +158,7 @@ lines_front from count bytes old mid new messages text contents gathered begun =
     ∙ ap (λ (t : List ℕ). t ++ (lines.more ++ fault_line contents.fault)) gathered.parts)
     (front_after old mid new gathered.written text gathered.sent begun)
 
--- a beginning of what was gathered was written
+-- A prefix of the gathered text was written.
 pub gathered_front : (from count : ℕ) (known old mid new : Option (List ℕ)) (messages : List (List ℕ)) (text : List ℕ) →
     Gathered from count known old mid messages text → AppendsPrefix mid new text →
     IfSome known (λ bytes. (contents : FileContents bytes) → AppendsPrefix old new (dump_text from count contents))
@@ -168,12 +168,12 @@ gathered_front from count (Some bytes) old mid new messages text gathered begun 
 
 -- ---- the end
 
--- how reading ended, where the bytes are known
+-- How reading ended, if the bytes are known.
 abbrev pub Ends : Option (List ℕ) → List (List ℕ) → Option FileError → Type 0
 Ends known messages None = IfSome known (λ bytes. Gives bytes messages None)
 Ends known messages (Some error) = Refuses (λ bytes why. Gives bytes messages (Some why)) known error
 
--- the file gives these messages and this end
+-- The file has these messages and this fault, or none.
 gives_told : (bytes : List ℕ) (messages : List (List ℕ)) (ended : Option FileError) →
     Ends (Some bytes) messages ended → IsTold ended → Gives bytes messages ended
 gives_told bytes messages None ends told = ends
@@ -201,7 +201,7 @@ line_told (Some (TooLong len)) told = refl
 line_told (Some (BlockCut number)) told = refl
 line_told (Some (CountDiffers count found)) told = refl
 
--- a refusal that is no fault of a device or of memory
+-- An error that is not a fault of a device or of memory.
 pub record IsRefusal (error : FileError) : Type 0 where
   pub told : IsTold (Some error)
   pub line : ended_line (Some error) ≡ fault_line (Some error)
@@ -220,7 +220,7 @@ other_refusal (BlockCut number) no_read no_memory = record { told = tt; line = r
 other_refusal (CountDiffers count found) no_read no_memory =
     record { told = tt; line = refl; counts = λ old new counts. counts }
 
--- or nothing is told of it
+-- The text reports how reading ended, or it has nothing about it.
 is_told : (ended : Option FileError) → IsTold ended ⊎ (ended_line ended ≡ [])
 is_told None = inl tt
 is_told (Some Read) = inr refl
@@ -236,7 +236,7 @@ is_told (Some (CountDiffers count found)) = inl tt
 
 module _ (laws : ReaderLaws) (from count : ℕ) (old mid new : Option (List ℕ)) (messages : List (List ℕ))
     (text : List ℕ) (ended : Option FileError) where
-  -- the text of what the file gives is what was written and gathered, and how reading ended
+  -- The text for the file's contents is what was written, what was gathered, and how reading ended.
   all_text : (bytes : List ℕ) (contents : FileContents bytes) → Gathered from count (Some bytes) old mid messages text →
       Gives bytes messages ended → (written : List ℕ) → message_lines (dumped from count messages) ≡ written ++ text →
       dump_text from count contents ≡ written ++ (text ++ fault_line ended)
@@ -280,7 +280,7 @@ module _ (laws : ReaderLaws) (from count : ℕ) (old mid new : Option (List ℕ)
         ),
       )
 
--- what was gathered and how reading ended were written, or a beginning of them
+-- What was gathered and how reading ended were written, or a prefix of that.
 pub ended_front : ReaderLaws → (from count : ℕ) (known old mid new : Option (List ℕ)) (messages : List (List ℕ))
     (text : List ℕ) (ended : Option FileError) → Gathered from count known old mid messages text →
     Ends known messages ended → AppendsPrefix mid new (text ++ ended_line ended) →

@@ -1,4 +1,4 @@
--- Which lines are printed of messages, one message after the other.
+-- Which lines are printed, one message after another.
 use Rattle.std.proofs.Common.{◌≡◌, ℕ, ◌-◌, ◌<◌, ◌≤◌, Bool, true, false, nat_le, nat_lt, List, [], ◌∷◌, ◌++◌, length}
 use Rattle.std.proofs.Common.{length-append, length-drop, take, drop, sym, ap, ◌∙◌, append_assoc, append-nil, arith}
 use Rattle.std.proofs.Common.{⊎_elim}
@@ -24,7 +24,7 @@ lt_false a b holds = grind (arith, nat_tests)
 not_first : (a b : Bool) → a ≡ false → a && b ≡ false
 not_first a b one = ap (λ (x : Bool). x && b) one
 
--- one more of some, where it is one of those that are asked for
+-- Messages with one more, if that is to be printed.
 more_if : Bool → List (List ℕ) → List ℕ → List (List ℕ)
 more_if asked messages message = messages ++ (if asked then message ∷ [] else [])
 
@@ -86,7 +86,7 @@ lines_more from count messages message =
     ap message_lines (dumped_more from count messages message)
     ∙ lines_if (is_dumped from count (length messages)) (dumped from count messages) message
 
--- the lines of some messages are the first lines of all
+-- The lines of a prefix of the messages are a prefix of the lines of all messages.
 pub record HasLines (from count : ℕ) (front all : List (List ℕ)) : Type 0 where
   pub more : List ℕ
   pub lines : message_lines (dumped from count all) ≡ message_lines (dumped from count front) ++ more

@@ -43,7 +43,7 @@ unfolding all_but_last
 first_but_last packet [] some = absurd (omega arith)
 first_but_last packet (next ∷ packets) some = refl
 
--- the first packet of several is printed first
+-- The first of several packets is printed first.
 first_printed : (limit sent then : ℕ) (journal : JournalState) (packet : Packet) (refused : Option LineRefusal) →
     packets_after limit sent journal ≡ packet ∷ packets_after limit then journal →
     0 < length (packets_after limit then journal) →
@@ -63,7 +63,7 @@ first_printed limit sent then journal packet (Some why) packets some =
 
 -- ---- turns
 
--- what is printed of the messages behind the first ones
+-- What is printed for the messages after the first `sent` ones.
 abbrev shown : ℕ → ℕ → PublishedLines → List ℕ
 shown limit sent published = packed_text limit sent published.journal published.refused
 
@@ -101,7 +101,7 @@ full_goes laws start now (Some xs) (Some ys) filled = (
   ap (λ (p : PublishedLines). packed_status p.refused) filled.lines,
 )
 
--- a turn that prints a datagram
+-- A turn that prints a datagram.
 pub turn_full : PackingLaws → (start now after : PublisherState) (known left : Option (List ℕ)) (old new : List ℕ) →
     Fills start now known left Full → after ≡ after_datagram now → new ≡ old ++ line_of_some (next_datagram now) →
     IsTurn (pack_printing start) (pack_printing after) known left old new More
@@ -128,7 +128,7 @@ end_goes laws start now after (Some xs) (Some ys) filled =
       ap (λ (p : PublishedLines). packed_status p.refused) filled.lines,
     )
 
--- the turn after the last line
+-- The turn after the last line.
 pub turn_end : PackingLaws → (start now after : PublisherState) (known left : Option (List ℕ)) (old mid new : List ℕ) →
     Fills start now known left End → mid ≡ old ++ line_of_some (next_datagram now) →
     new ≡ mid ++ packet_line (end_packet now.journal) →
@@ -157,7 +157,7 @@ refused_goes laws start now after (Some xs) (Some ys) why filled =
       ap (λ (p : PublishedLines). packed_status p.refused) filled.lines,
     )
 
--- the turn of a refused line
+-- The turn of a refused line.
 pub turn_refused : PackingLaws → (start now after : PublisherState) (known left : Option (List ℕ)) (old new : List ℕ)
     (number : ℕ) (why : LineRefusal) → Fills start now known left (Refused why) →
     number ≡ length now.journal.messages + 1 → new ≡ old ++ refused_text number why →

@@ -1,4 +1,4 @@
--- What a line more prints, and what is printed behind the last one.
+-- What is printed for one more line, and after the last line.
 use Rattle.std.proofs.Common.{◌≡◌, ℕ, Bool, true, false, cond, List, [], ◌∷◌, ◌++◌, Option, None, Some, refl, sym, ap, ◌∙◌, append-nil}
 use Rattle.std.specs.Prelude.{◌||◌}
 use Rattle.std.specs.List.{flat_map, list_any}
@@ -15,7 +15,7 @@ or-false : (b : Bool) → b || false ≡ b
 or-false true = refl
 or-false false = refl
 
--- the first line prints first
+-- The text of the first line is printed first.
 show_text-line : (requests : Bool) (bytes line behind : List ℕ) → lines_of bytes ≡ line ∷ lines_of behind →
     show_text requests bytes ≡ line_text requests line ++ show_text requests behind
 unfolding show_text
@@ -34,11 +34,11 @@ show_refused-nil : (requests : Bool) → show_refused requests [] ≡ false
 unfolding show_refused
 show_refused-nil requests = refl
 
--- a command that shows, with one line more
+-- The state of the command after one more line.
 abbrev pub shown_more : ShowState → Bool → ShowState
 shown_more s asked = record { requests = s.requests; refused = s.refused || asked }
 
--- a line was found, and what it prints was written behind what was there
+-- A line was found, and its text was appended.
 pub record IsShown (s : ShowState) (asked : Bool) (known left : Option (List ℕ)) (old new : List ℕ) : Type 0 where
   pub line : List ℕ
   pub gives : GivesLine known left true line
@@ -58,7 +58,7 @@ more_goes s asked (Some xs) (Some ys) old new is gives = (
       ∙ ap (λ (b : Bool). cond b 2 0) (or_assoc s.refused asked (show_refused s.requests ys)),
 )
 
--- a turn shows a line
+-- A turn that shows a line.
 pub shown_line : (s : ShowState) (asked : Bool) {known left : Option (List ℕ)} {old new : List ℕ} →
     IsShown s asked known left old new →
     IsTurn (show_printing s) (show_printing (shown_more s asked)) known left old new More
@@ -68,7 +68,7 @@ shown_line s asked {known} {left} {old} {new} is = record {
   goes = more_goes s asked known left old new is is.gives;
 }
 
--- no line was left, and the status tells whether one was refused
+-- No line remained, and the status reports whether one was refused.
 pub record IsOver (s : ShowState) (known left : Option (List ℕ)) (status : ℕ) : Type 0 where
   pub line : List ℕ
   pub gives : GivesLine known left false line
@@ -86,7 +86,7 @@ done_goes s (Some xs) (Some ys) line status gives is = (
       ∙ sym is,
 )
 
--- the last turn shows nothing
+-- The last turn prints nothing.
 pub shown_all : (s : ShowState) {known left : Option (List ℕ)} {old : List ℕ} {status : ℕ} →
     IsOver s known left status → IsTurn (show_printing s) (show_printing s) known left old old (Done status)
 shown_all s {known} {left} {old} {status} is = record {

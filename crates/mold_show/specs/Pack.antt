@@ -10,15 +10,16 @@ use Rattle.mold_publish.specs.Publishing.{lines_published, packed_status, refuse
 use Rattle.mold_publish.specs.Sending.{all_but_last, end_packet, packets_after}
 use Rattle.mold_publish.specs.declared.line_refusal.LineRefusal.{LineRefusal}
 
--- what is printed of a session's messages behind the first ones: their data packets and the end packet,
--- or where the line behind the last message is refused, all but the last of the data packets and why
+-- What is printed for the messages after the first `sent` ones: their data packets and the end packet. If the
+-- line after the last message is refused, it is all data packets except the last one, and why the line is
+-- refused.
 abbrev pub packed_text : ℕ → ℕ → JournalState → Option LineRefusal → List ℕ
 packed_text limit sent journal None =
     packet_lines (packets_after limit sent journal) ++ packet_line (end_packet journal)
 packed_text limit sent journal (Some why) =
     packet_lines (all_but_last (packets_after limit sent journal)) ++ refused_text (length journal.messages + 1) why
 
--- what a publisher prints of the lines that are left, and the status that it ends with
+-- What a publisher prints for the remaining lines, and its exit status.
 abbrev pub pack_printing : PublisherState → Printing
 pack_printing publisher = record {
   text = λ input. let published = lines_published publisher.journal (lines_of input) in
@@ -26,10 +27,11 @@ pack_printing publisher = record {
   status = λ input. packed_status (lines_published publisher.journal (lines_of input)).refused;
 }
 
--- what is printed for the whole input: the lines up to the first that is refused are the messages of the
--- session, the first of which has number 1
+-- What is printed for the whole input. The lines before the first refused one are the messages of the session.
+-- The first message has number 1.
 unfoldable pub pack_text : Session → ℕ → List ℕ → List ℕ
 pack_text session limit input = (pack_printing (fresh_publisher session limit)).text input
 
+-- The exit status for the whole input.
 unfoldable pub pack_status : Session → ℕ → List ℕ → ℕ
 pack_status session limit input = (pack_printing (fresh_publisher session limit)).status input

@@ -1,4 +1,4 @@
-//! `mold dump`: the messages of a journal's file, printed as lines of hexadecimal digits.
+//! `mold dump`: prints the messages of a journal's file as lines of hexadecimal digits.
 
 ghost use Rattle.std.specs.Prelude.{◌≡◌, ◌<◌, ◌++◌, ℕ, IfErr, IfOk, IfSome, IsErr, OnErr, OnOk, Some};
 ghost use Rattle.std.specs.Bool.{OnFalse, OnTrue};
@@ -21,7 +21,7 @@ use mold_session::{FileError, JournalReader};
 use mold_text::{Word, push_line};
 use std::alloc::Global;
 
-// Whether the message behind so many others is printed.
+// Whether the message that follows `before` others is printed.
 fn is_dumped(from: u64, count: u64, before: u64) -> bool
     ensures { result ≡ is_dumped from count before }
 {
@@ -29,7 +29,7 @@ fn is_dumped(from: u64, count: u64, before: u64) -> bool
     skipped <= before && before - skipped < count
 }
 
-// Writes the line of a message. After an error, which is want of memory, the text is as it was.
+// Appends the line of a message. If an allocation fails, which is the only error, the text is unchanged.
 fn push_message(text: &mut Vec<u8>, message: &[u8]) -> Result<(), FileError>
     ensures line { OnOk result (text.new.items ≡ text.old.items ++ message_line message.now) }
     ensures kept { OnErr result (text.new.items ≡ text.old.items) }
@@ -43,7 +43,7 @@ fn push_message(text: &mut Vec<u8>, message: &[u8]) -> Result<(), FileError>
     Ok(())
 }
 
-// Reads the next message, and writes its line where it is asked for; false where none is left.
+// Reads the next message and appends its line if it is to be printed. Returns false if no message remains.
 fn dump_next<S: Source>(
     reader: &mut JournalReader,
     source: &mut S,
@@ -76,7 +76,7 @@ fn dump_next<S: Source>(
     Ok(true)
 }
 
-// Sends the text, and answers the fault that ended the command.
+// Sends the text and returns the fault that ended the command.
 fn end_with<K: Sink>(
     text: &mut Vec<u8>,
     fault: CommandFault,
@@ -91,7 +91,7 @@ fn end_with<K: Sink>(
     Err(fault)
 }
 
-// Writes why the file is none behind the text, sends both, and answers the status.
+// Sends the text and a line with the fault of the file, and returns the status.
 fn print_refusal<K: Sink>(
     text: &mut Vec<u8>,
     error: FileError,
@@ -112,8 +112,8 @@ fn print_refusal<K: Sink>(
     Ok(2)
 }
 
-// Sends the text and behind it why the file is none; or the text alone, where reading ended with a fault of the source
-// or of memory, which is answered.
+// Sends the text and a line with the fault of the file. After a failed read or a failed allocation, it sends
+// the text alone and returns the fault.
 fn end_refused<K: Sink>(
     text: &mut Vec<u8>,
     error: FileError,
@@ -133,7 +133,8 @@ fn end_refused<K: Sink>(
     }
 }
 
-// Sends the text, and behind it how reading ended, and answers the status or the fault that it ended with.
+// Sends the text, then a line that reports the fault of the file, if there is one. Returns the status, or the
+// fault that ended reading.
 fn end_dump<K: Sink>(
     text: &mut Vec<u8>,
     ended: Option<FileError>,
@@ -155,12 +156,16 @@ fn end_dump<K: Sink>(
     }
 }
 
-/// Reads the file of a journal, of either version, and writes a line for each of its messages from the number `from`
-/// on, at most `count` of them: the message's bytes as lower-case hexadecimal digits. The first message has number 1.
-/// Where the file is none, the messages before the fault are written, and then why. The status is 0, or 2 where the
-/// file is none. It holds no more than the longest message, what was read at once, and text that goes out in pieces of
-/// 65,536 bytes or more. After a fault a beginning of the text is written. `Read` and `Write` come only where the
-/// source or the sink failed, `Memory` only where a growth was refused.
+/// Reads the file of a journal, of either version, and writes a line for each message from number `from` on, at
+/// most `count` of them. The line has the message's bytes as lower-case hexadecimal digits. The first message
+/// has number 1. A `from` of 0 counts as 1.
+///
+/// If the file isn't valid, the messages before the fault are written, and then a line with the fault. The
+/// status is 0 for a valid file, otherwise 2.
+///
+/// It holds no more than the longest message, the bytes of one read, and the text that it gathers. It writes
+/// the text when this has 65,536 bytes or more. After a fault, a prefix of the text was written. `Read` and
+/// `Write` are returned only if the source or the sink failed, `Memory` only if an allocation failed.
 pub fn dump_file<S: Source, K: Sink>(
     alloc: Global,
     source: &mut S,

@@ -1,4 +1,5 @@
-//! What holds of the definitions alone. A law is a function that does nothing: its contract is the law.
+//! The law of this crate: a theorem about the definitions alone. It is a function that does nothing, and its
+//! contract is the theorem.
 
 ghost use Rattle.std.specs.Prelude.{◌≡◌, ◌-◌, ◌≤◌, ℕ, List, None, length};
 ghost use Rattle.std.specs.List.{AllByRecursion};
@@ -14,8 +15,9 @@ ghost use Rattle.mold_show.specs.Dump.{dump_text};
 
 use mold_session::laws::contents_law;
 
-/// What `dump` prints of the file of a journal is published as the same messages, in a session of the same name whose
-/// limit is at least `MESSAGE_OVERHEAD` bytes more than each of them. No line is refused.
+/// If the lines that `dump` prints for a journal's file are published, the journal has the same messages. The
+/// session must have the same name, and its limit must be at least `MESSAGE_OVERHEAD` bytes more than each
+/// message. No line is refused.
 pub fn dump_law()
     ensures { (head : FileHead) (messages : List (List ℕ)) (bytes : List ℕ) (contents : FileContents bytes)
         (limit count : ℕ) → IsBytes bytes → SpellsFile head messages head.stated bytes →

@@ -1,5 +1,5 @@
-//! Packets as text, lines as packets, and a journal's messages as lines: the commands `show` and `pack`, line by line,
-//! and `dump`.
+//! The commands that convert between packets, messages and text: `show` prints packets, `pack` makes packets
+//! from lines, and `dump` prints a journal's messages as lines.
 #![tactic(auto)]
 
 mod dump;

@@ -1,4 +1,4 @@
-//! `mold pack`: messages given as lines of hexadecimal digits, printed as the packets of a session.
+//! `mold pack`: prints messages, given as lines of hexadecimal digits, as the packets of a session.
 
 ghost use Rattle.std.specs.Prelude.{◌≡◌, ◌++◌, length, take, IfOk, OnErr, OnOk};
 ghost use Rattle.mold_publish.specs.Sending.{end_packet};
@@ -15,8 +15,8 @@ use mold_wire::laws::{front_law, packet_length_law};
 use std::alloc::{AllocError, Global};
 use std::marker::Model;
 
-// Writes the next datagram as a line, and nothing where there is none. The publisher counts it as sent
-// even where memory was refused for the line.
+// Appends the line of the next datagram, if there is one. The publisher counts it as sent even if an allocation
+// for the line failed.
 fn push_datagram(out: &mut Vec<u8>, publisher: &mut Publisher) -> Result<(), AllocError>
     ensures text { OnOk result (out.new.items ≡ out.old.items ++ line_of_some (next_datagram publisher.old)) }
     ensures kept { OnErr result (take (length out.old.items) out.new.items ≡ out.old.items) }
@@ -28,7 +28,7 @@ fn push_datagram(out: &mut Vec<u8>, publisher: &mut Publisher) -> Result<(), All
     }
 }
 
-// Closes the session, of which every message was sent, and writes its end packet as a line.
+// Closes the session, all of whose messages were sent, and appends the line of its end packet.
 fn push_end(out: &mut Vec<u8>, publisher: &mut Publisher) -> Result<(), AllocError>
     requires { publisher.old.sent ≡ length publisher.old.journal.messages }
     ensures text { OnOk result (out.new.items ≡ out.old.items ++ packet_line (end_packet publisher.old.journal)) }
@@ -43,7 +43,8 @@ fn push_end(out: &mut Vec<u8>, publisher: &mut Publisher) -> Result<(), AllocErr
     }
 }
 
-/// The command `pack`: it prints the packets of a session whose messages the lines of its input spell.
+/// The command `pack`. Each line of its input has a message, and it prints the packets of a session with these
+/// messages.
 #[derive(Debug, Drop)]
 pub struct Pack {
     publisher: Publisher,
@@ -62,12 +63,12 @@ impl Model for Pack {
 }
 
 impl Pack {
-    /// A session without messages. It takes the memory of a datagram.
+    /// Makes the command for a session without messages. It allocates the buffer of a datagram.
     pub fn new(alloc: Global, options: PackOptions) -> Result<Pack, AllocError>
         ensures { IfOk result (λ pack. pack ≡ fresh_publisher options.session options.limit) }
     {
         packet_length_law();
-        // The limit is in its range, so an error means that memory is refused.
+        // The limit is valid, so an error means that an allocation failed.
         let Ok(publisher) = Publisher::new(alloc, options.session, options.limit) else {
             return Err(AllocError);
         };

@@ -1,15 +1,15 @@
-//! What `mold pack` is made with.
+//! The options of `mold pack`.
 
 ghost use Rattle.mold_wire.specs.Packer.{IsLimit};
 
 use mold_wire::Session;
 
-/// The session that is packed, and how long its packets may be.
+/// The options of `Pack`: the session, and the limit of its packets.
 #[derive(Clone, Copy, Debug, PartialEq, Eq)]
 pub struct PackOptions {
     /// The session's name.
     pub session: Session,
-    /// The most bytes of a packet.
+    /// The largest length of a packet, in bytes.
     pub limit: usize,
     ghost limited: { IsLimit limit },
 }

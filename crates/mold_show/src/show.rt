@@ -1,4 +1,4 @@
-//! `mold show`: packets given as lines of hexadecimal digits, printed field by field.
+//! `mold show`: prints packets, given as lines of hexadecimal digits, field by field.
 
 ghost use Rattle.std.specs.Prelude.{◌≡◌, ◌++◌, false, length, take, IfOk, OnErr};
 ghost use Rattle.mold_show.specs.Show.{packet_shown, packet_refused, request_shown, request_refused};
@@ -14,7 +14,8 @@ use mold_wire::Request;
 use std::alloc::{AllocError, Global};
 use std::marker::Model;
 
-// Writes the packet that the bytes spell, or why they spell none, and answers whether they are refused.
+// Appends the text of the packet that the bytes encode, or why they encode none. Returns whether they are
+// refused.
 fn show_packet(bytes: &[u8], out: &mut Vec<u8>) -> Result<bool, AllocError>
     ensures text { IfOk result (λ _. out.new.items ≡ out.old.items ++ packet_shown (reading bytes.now)) }
     ensures refused { IfOk result (λ refused. refused ≡ packet_refused (reading bytes.now)) }
@@ -32,7 +33,8 @@ fn show_packet(bytes: &[u8], out: &mut Vec<u8>) -> Result<bool, AllocError>
     }
 }
 
-// Writes the request that the bytes spell, or why they spell none, and answers whether they are refused.
+// Appends the text of the request that the bytes encode, or why they encode none. Returns whether they are
+// refused.
 fn show_request(bytes: &[u8], out: &mut Vec<u8>) -> Result<bool, AllocError>
     ensures text { IfOk result (λ _.
         out.new.items ≡ out.old.items ++ request_shown (request_reading bytes.now)) }
@@ -51,8 +53,8 @@ fn show_request(bytes: &[u8], out: &mut Vec<u8>) -> Result<bool, AllocError>
     }
 }
 
-// Writes what the line prints, and answers whether it was refused. The bytes that its digits stand for
-// go into `bytes`, whatever that held.
+// Appends the text for a line, and returns whether the line is refused. The decoded bytes of the line replace
+// the contents of `bytes`.
 #[tactic(auto, unfolding(crate::specs::Show::line_text, crate::specs::Show::line_refused))]
 fn show_line(
     requests: bool,
@@ -78,7 +80,7 @@ fn show_line(
     }
 }
 
-/// The command `show`: it prints the packets, or else the requests, that the lines of its input spell.
+/// The command `show`. It prints the packets, or the requests, that the lines of its input encode.
 #[derive(Debug, Drop)]
 pub struct Show {
     requests: bool,
@@ -95,7 +97,8 @@ impl Model for Show {
 }
 
 impl Show {
-    /// Takes no memory yet.
+    /// Makes the command, which prints requests if `requests` is true and packets otherwise. This allocates
+    /// nothing.
     pub fn new(alloc: Global, requests: bool) -> Show
         ensures { result ≡ record { requests = requests; refused = false } }
     {

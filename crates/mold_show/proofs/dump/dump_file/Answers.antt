@@ -90,7 +90,7 @@ returns-in-Ok-false-clause-failures g c =
     c.messages.invariant.sink
     (c.end_dump-in-Ok-false.ensures.failures old new (c.in-Ok-false.ensures.failures ∙ c.messages.invariant.source))
 
--- ---- a file that is refused, a read that fails, want of memory
+-- ---- a file that is refused, a read or an allocation that fails
 
 pub returns-in-Err-dump_next-clause-whole : goal.returns-in-Err-dump_next-clause-whole
 returns-in-Err-dump_next-clause-whole g c =
@@ -133,7 +133,7 @@ returns-in-Err-dump_next-clause-failures g c =
     (subst (λ (n : ℕ). CountsLoadFault n new c.in-Err-dump_next.error) c.messages.invariant.source
     c.in-Err-dump_next.ensures.failures))
 
--- ---- one message more
+-- ---- one more message
 
 more : (g : Over) (c : In-Ok-true g) → ReaderLaws →
     Dumping c.args.from c.args.count (g.S.Source.left c.args.source.now)

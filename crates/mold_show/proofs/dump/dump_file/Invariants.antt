@@ -4,7 +4,7 @@ use Rattle.mold_session.specs.Loading.{work_left}
 use Rattle.mold_show.proofs.DumpLemmas.{Dumping}
 use Rattle.mold_show.proofs.dump.dump_file.Given as goal
 
--- the messages so far were read, and their lines are written or gathered
+-- The messages so far were read, and their lines are written or gathered.
 abbrev pub invariant-messages : goal.invariant-messages
 invariant-messages g l = record {
   dumping :
