@@ -1,4 +1,4 @@
--- A check of entries: its outcome, and its report.
+-- A check of entries: its outcome and its report.
 use Rattle.std.proofs.Common.{◌≡◌, ℕ, ◌-◌, ◌<◌, List, [], ◌∷◌, ◌++◌, length, get_or, map, Bor, zero, suc, refl, sym, ap, subst, ◌∙◌, arith}
 use Rattle.std.specs.Prelude.{Option, Result, Ok, Err, IfOk}
 use Rattle.std.specs.Io.KnownBytes.{Appends}
@@ -17,17 +17,17 @@ use Rattle.mold_check.specs.Report.{Checked, counts_line, outcome_status, outcom
 use Rattle.mold_check.specs.declared.entry.Entry.{Entry}
 use Rattle.mold_check.proofs.OrderLemmas.{lent, one_order}
 
--- a verdict tells an outcome
+-- A verdict reports an outcome.
 pub verdict_outcome : (list : List (List ℕ)) (v : Verdict) → IsVerdictOn v list → IsOutcome list (outcome_in v)
 verdict_outcome list (IsWhole messages) is = is
 verdict_outcome list (Incomplete missing end) is = is
 
--- its text names no entry
+-- The text of a verdict has no name of an entry.
 pub verdict_text : (names : List (List ℕ)) (v : Verdict) → outcome_text [] (outcome_in v) ≡ outcome_text names (outcome_in v)
 verdict_text names (IsWhole messages) = refl
 verdict_text names (Incomplete missing end) = refl
 
--- so does a refusal, unless memory was refused
+-- A refusal reports an outcome, unless an allocation failed.
 pub refused_outcome : (list : List (List ℕ)) (index : ℕ) (why : Refusal) → (why ≡ Memory → ⊥) → IsRefusedAt index why list →
     IsOutcome list (refused index why)
 refused_outcome list index (Malformed error) other is = is
@@ -43,12 +43,12 @@ refused_outcome list index Memory other is = absurd (other refl)
 abbrev pub OneOutcome : Type 0
 OneOutcome = (list : List (List ℕ)) (one other : Outcome) → IsOutcome list one → IsOutcome list other → one ≡ other
 
--- what is printed for an order and an outcome
+-- What is printed for an order and an outcome.
 abbrev pub report_of : List Entry → List Entry → Outcome → List ℕ
 report_of entries order outcome =
     counts_line (length order) (length entries - length order) ++ outcome_text (map name_of order) outcome
 
--- where names differ, there is one report
+-- If the names differ, there is only one report.
 pub one_report : OneOutcome → (entries : List Entry) → NamesDiffer entries → (a b : Checked entries) → report a ≡ report b
 one_report one entries differ a b =
     let orders : a.order ≡ b.order = one_order entries a.order b.order differ a.ordered b.ordered in
@@ -57,7 +57,7 @@ one_report one entries differ a b =
     in
     (λ i. report_of entries (orders i) (outcomes i))
 
--- what was checked
+-- The check of the entries, from its parts.
 abbrev pub checked_of : (entries order : List Entry) (list : List (List ℕ)) (outcome : Outcome) → IsOrder entries order →
     list ≡ map bytes_of order → IsOutcome list outcome → Checked entries
 checked_of entries order list outcome ordered is told = record {
@@ -90,7 +90,7 @@ name_at [] i e within = absurd (omega arith)
 name_at (x ∷ order) zero e within = refl
 name_at (x ∷ order) (suc i) e within = name_at order i e (omega arith)
 
--- the text of a report, behind what was there before
+-- The text of a report after the text before it.
 pub report_text : (entries : List Entry) (order : List (Bor Entry)) (start text : List ℕ) (files others : ℕ)
     (told : List ℕ) (outcome : Outcome) → start ≡ [] → text ≡ start ++ counts_line files (length entries - others)
     → files ≡ length order → others ≡ length order → told ≡ outcome_text (map name_of (lent order)) outcome
@@ -108,7 +108,7 @@ report_text entries order start text files others told outcome none is some same
     files_is : (order : List (Bor Entry)) (files : ℕ) → files ≡ length order → files ≡ length (lent order)
     files_is order files is = is ∙ sym (length-lent order)
 
--- the report was written
+-- The report was written.
 pub told_whole : (old new : Option (List ℕ)) (entries : List Entry) (checked : Checked entries)
     (r : Result ℕ CommandFault) (text : List ℕ) (status : ℕ) → text ≡ report checked
     → status ≡ outcome_status checked.outcome → IfOk r (λ s. Appends old new text × (s ≡ status))
@@ -117,7 +117,7 @@ told_whole old new entries checked (Ok s) text status is ends told =
     (checked, (subst (Appends old new) is told.0, told.1 ∙ ends))
 told_whole old new entries checked (Err e) text status is ends told = tt
 
--- a beginning of the only report was written
+-- A prefix of the only report was written.
 pub told_front : (old new : Option (List ℕ)) → OneOutcome → (entries : List Entry) (checked : Checked entries)
     (text : List ℕ) → text ≡ report checked → AppendsPrefix old new text → NamesDiffer entries
     → (x : Checked entries) → AppendsPrefix old new (report x)

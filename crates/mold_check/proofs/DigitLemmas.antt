@@ -1,4 +1,4 @@
--- What hexadecimal digits spell are bytes.
+-- Decoded hexadecimal digits are bytes.
 use Rattle.std.proofs.Common.{◌≡◌, ℕ, zero, suc, ◌+◌, ◌*◌, ◌-◌, ◌%◌, ◌<◌, Bool, true, false, cond, ◌&&◌, List, [], ◌∷◌, length, get_or}
 use Rattle.std.proofs.Common.{refl, subst, arith, inl, inr, ◌⊎◌}
 use Rattle.std.specs.Prelude.{Option, None, Some, Result, Ok, Err, ◌==◌, nat_le}
@@ -17,7 +17,7 @@ same_ok x y is = cc
 err_ok : {A P : Type 0} (e : FromHexError) (x : A) → ◌≡◌ {A = Result A FromHexError} (Err e) (Ok x) → P
 err_ok e x is = absurd (cc)
 
--- a digit's value, where one of its ranges gives it
+-- The value of a digit that is in one of the ranges.
 in_range : (test : Bool) (value found : ℕ) (other : Option ℕ) → cond test (Some value) other ≡ Some found →
     ((test ≡ true) × (value ≡ found)) ⊎ (other ≡ Some found)
 in_range true value found other is = inl (refl, cc)
@@ -48,7 +48,7 @@ value_small c i found is = by_value (hex_digit_value c) refl is
     by_value None same so = err_ok _ _ so
     by_value (Some v) same so = subst (λ (n : ℕ). n < 16) (same_ok v found so) (digit_small c v same)
 
--- what two steps give, where both give something
+-- The result of two steps that both succeed.
 two_steps : {A B C : Type 0} (one : Result A FromHexError) (two : Result B FromHexError) (join : A → B → C) (found : C) →
     (one >>= (λ a. two >>= (λ b. Ok (join a b)))) ≡ Ok found →
     (a : A) × (b : B) × (one ≡ Ok a) × (two ≡ Ok b) × (join a b ≡ found)

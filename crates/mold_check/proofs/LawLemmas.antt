@@ -1,4 +1,4 @@
--- The outcome that is computed of datagrams is one.
+-- The computed outcome of datagrams is their outcome.
 use Rattle.std.proofs.Common.{◌≡◌, ℕ, zero, suc, ◌+◌, Bool, true, false, cond, eqb, List, [], ◌∷◌, ◌++◌, length, take, get_or}
 use Rattle.std.proofs.Common.{refl, sym, ap, subst, ◌∙◌, arith, append_assoc, append-nil, length-append, add-one, true≢false}
 use Rattle.std.specs.Prelude.{Option, None, Some}
@@ -18,7 +18,7 @@ use Rattle.mold_capture.specs.Verdict.{IsWholeSeen, lacks, missing_in}
 use Rattle.mold_check.specs.CheckLines.{index_raised, outcome_at, outcome_from, outcome_of, outcome_or}
 use Rattle.mold_check.proofs.VerdictLemmas.{NoneLacks, is_whole, whole_at}
 
--- what the laws of `mold_capture` and `mold_rule` state
+-- The laws of mold_capture and mold_rule that these proofs use.
 pub record CaptureLaws : Type 0 where
   pub none : Consistent []
   pub accepted : (list : List (List ℕ)) (bytes : List ℕ) → Consistent list → IsBytes bytes →
@@ -31,7 +31,7 @@ pub record CaptureLaws : Type 0 where
       (messages : List (List ℕ)) × (Whole list messages × (length messages ≡ count))
   pub lacking : NoneLacks
 
--- ---- behind the last datagram
+-- ---- after the last datagram
 
 told_end : CaptureLaws → (list messages : List (List ℕ)) (end : ℕ) → (seen_of list).ended ≡ Some end → Whole list messages →
     end ≡ suc (length messages)
@@ -67,7 +67,7 @@ end_outcome laws list consistent (Some (suc count)) is =
 
 -- ---- datagram by datagram
 
--- the same outcome, with so many datagrams more in front
+-- The same outcome with `count` more datagrams before the others.
 abbrev behind : ℕ → Outcome → Outcome
 behind count (whole messages) = whole messages
 behind count (incomplete missing end) = incomplete missing end
@@ -94,7 +94,7 @@ front_taken : (front rest : List (List ℕ)) (count : ℕ) → count ≡ length 
 front_taken front rest count is =
     take-append-le count front rest (omega arith) ∙ take_all count front (omega arith)
 
--- the next datagram is refused
+-- The next datagram is refused.
 refused_behind : CaptureLaws → (front rest : List (List ℕ)) (bytes : List ℕ) (why : Refusal) → Consistent front →
     reason front bytes ≡ Some why → (count : ℕ) → count ≡ length front → IsOutcome (front ++ bytes ∷ rest) (refused count why)
 refused_behind laws front rest bytes why consistent is count at =
@@ -114,7 +114,7 @@ refused_behind laws front rest bytes why consistent is count at =
       ap (λ (f : List (List ℕ)). reason f (get_or list count [])) before ∙ ap (reason front) this ∙ is,
     )
 
--- the next datagram is refused, or those behind it go on
+-- The next datagram is refused, or the outcome is that of the datagrams after it.
 next_behind : CaptureLaws → (front rest : List (List ℕ)) (bytes : List ℕ) (others : Outcome) (why : Option Refusal) →
     Consistent front → reason front bytes ≡ why
     → (why ≡ None → IsOutcome ((front ++ bytes ∷ []) ++ rest) (behind (length (front ++ bytes ∷ [])) others))

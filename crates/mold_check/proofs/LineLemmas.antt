@@ -1,4 +1,4 @@
--- What a check of lines tells, line by line.
+-- What a check of lines reports, line by line.
 use Rattle.std.proofs.Common.{◌≡◌, ℕ, zero, suc, ◌+◌, Bool, true, false, cond, List, [], ◌∷◌, ◌++◌, length}
 use Rattle.std.proofs.Common.{refl, sym, ap, subst, ◌∙◌, arith, append-nil}
 use Rattle.std.specs.Prelude.{Option, None, Some, Result, Ok, Err, IfSome, IfOk, codes, decimal, ◌==◌, ◌^◌, ◌-◌, min}
@@ -29,12 +29,12 @@ use Rattle.mold_check.specs.declared.line_check.CheckedLineRefusal.{CheckedLineR
 use Rattle.mold_check.specs.declared.line_check.RefusedLine.{RefusedLine}
 use Rattle.mold_check.proofs.VerdictLemmas.{NoneLacks, verdict_at}
 
--- ---- what is told of lines, and the status
+-- ---- what is reported about lines, and the status
 
 abbrev told_of : List (List ℕ) → Outcome → Option ℕ → List ℕ × ℕ
 told_of names outcome line = (lines_report names outcome line, lines_status outcome line)
 
--- the same where some lines were judged before
+-- What is reported about lines that follow checked ones.
 abbrev told_behind : Seen → Option RefusedLine → List (ℕ × List ℕ) → List ℕ × ℕ
 told_behind seen (Some line) lines = (refused_line_text line, 2)
 told_behind seen None lines = told_of (names_of lines) (outcome_from seen (datagrams_of lines)) (not_hex lines)
@@ -42,7 +42,7 @@ told_behind seen None lines = told_of (names_of lines) (outcome_from seen (datag
 abbrev told_next : Judged → List (ℕ × List ℕ) → List ℕ × ℕ
 told_next judged lines = told_behind judged.seen judged.refused lines
 
--- a datagram in front that was accepted is not told
+-- An accepted datagram before the others isn't reported.
 told_one_behind : (name : List ℕ) (names : List (List ℕ)) (outcome : Outcome) (line : Option ℕ) →
     told_of names outcome line ≡ told_of (name ∷ names) (index_raised outcome) line
 told_one_behind name names (whole messages) None = refl
@@ -52,7 +52,7 @@ told_one_behind name names (incomplete missing end) (Some number) = refl
 told_one_behind name names (refused index why) None = refl
 told_one_behind name names (refused index why) (Some number) = refl
 
--- a verdict gives way to a line that is no hexadecimal
+-- If a line isn't hexadecimal, it is reported instead of a verdict.
 told_not_hex : (names : List (List ℕ)) (seen : Seen) (end : Option ℕ) (number : ℕ) →
     (refused_line (line_name number ∷ codes "NotHex" ∷ []), 2) ≡ told_of names (outcome_at seen end) (Some number)
 told_not_hex names seen None number = refl
@@ -66,7 +66,7 @@ told_not_hex names seen (Some (suc messages)) number =
     by_count true = refl
     by_count false = refl
 
--- a line that spells a datagram
+-- A line that encodes a datagram.
 told_bytes : (seen : Seen) (number : ℕ) (bytes : List ℕ) (lines : List (ℕ × List ℕ)) (why : Option Refusal) →
     told_next (judged_by seen number bytes why) lines
     ≡ told_of (line_name number ∷ names_of lines) (outcome_or why (outcome_from (after seen bytes) (datagrams_of lines)))
@@ -81,7 +81,7 @@ told_bytes seen number bytes lines (Some why) = by_line (not_hex lines)
     by_line None = refl
     by_line (Some other) = refl
 
--- a line that isn't empty, by what its digits stand for
+-- A line that isn't empty, given its decoded digits.
 told_digits : (seen : Seen) (number : ℕ) (r : Result (List ℕ) FromHexError) (lines : List (ℕ × List ℕ)) →
     told_next (judged_digits seen number r) lines
     ≡ told_of (line_name number ∷ names_of lines) (outcome_from seen (spelled_before r (datagrams_of lines)))
@@ -97,7 +97,7 @@ unfolding names_of datagrams_of not_hex
 told_line seen (Some line) number digits lines = refl
 told_line seen None number digits lines = told_digits seen number (decode_of digits) lines
 
--- no line
+-- No line remains.
 told_nothing : (seen : Seen) (before : Option RefusedLine) →
     (judged_text seen before, judged_status seen before) ≡ told_behind seen before []
 unfolding names_of datagrams_of not_hex outcome_from
@@ -127,7 +127,7 @@ count_all s ((byte ∷ bytes) ∷ lines) =
     count_all (taken s (byte ∷ bytes)) lines
     ∙ count_more s.datagrams (length (numbered (one_more s.next) lines)) (2 ^ 64 - 1)
 
--- what a check of the whole input tells
+-- What is reported for the whole input.
 told_input : (input : List ℕ) → (
   judged_text (all_taken beginning (lines_of input)).judged.seen (all_taken beginning (lines_of input)).judged.refused,
   judged_status (all_taken beginning (lines_of input)).judged.seen (all_taken beginning (lines_of input)).judged.refused,
@@ -153,13 +153,13 @@ input_status input = ap (λ (p : List ℕ × ℕ). p.1) (told_input input)
 
 -- ---- lines that were taken
 
--- of the input that was known, so many lines were taken that the others lead to the same
+-- Of the known input, some lines were taken. The remaining lines lead to the same state as all lines do.
 abbrev pub TakenSoFar : Checking → Checking → Option (List ℕ) → Option (List ℕ) → Type 0
 TakenSoFar start now None left = Unit {0}
 TakenSoFar start now (Some input) None = ⊥
 TakenSoFar start now (Some input) (Some left) = all_taken start (lines_of input) ≡ all_taken now (lines_of left)
 
--- none
+-- No line was taken.
 pub taken_none : (start now : Checking) (known : Option (List ℕ)) (rest : List ℕ) → rest ≡ [] → now ≡ start →
     TakenSoFar start now known (prepend_known rest known)
 taken_none start now None rest none is = tt
@@ -167,7 +167,7 @@ taken_none start now (Some input) rest none is =
     ap (λ (s : Checking). all_taken s (lines_of input)) (sym is)
     ∙ ap (λ (r : List ℕ). all_taken now (lines_of (r ++ input))) (sym none)
 
--- one more
+-- One more line was taken.
 pub taken_more : (start now next : Checking) (known left behind : Option (List ℕ)) (line : List ℕ) →
     TakenSoFar start now known left → GivesLine left behind true line → next ≡ taken now line →
     TakenSoFar start next known behind
@@ -178,7 +178,7 @@ taken_more start now next (Some input) (Some xs) None line so gives is = absurd 
 taken_more start now next (Some input) (Some xs) (Some ys) line so gives is =
     so ∙ ap (all_taken now) gives ∙ ap (λ (s : Checking). all_taken s (lines_of ys)) (sym is)
 
--- all
+-- All lines were taken.
 pub taken_all : (start now : Checking) (known left behind : Option (List ℕ)) (line : List ℕ) →
     TakenSoFar start now known left → GivesLine left behind false line →
     IfSome known (λ input. now ≡ all_taken start (lines_of input))
@@ -191,7 +191,7 @@ taken_all start now (Some input) (Some xs) (Some ys) line so gives =
 
 -- ---- texts
 
--- the line of what is refused, by words or by the line's name
+-- The line of a refusal, from its words or from the line's name.
 named_line : (number : ℕ) (words : List (List ℕ)) →
     line_of (codes "refused" ∷ codes "line" ∷ decimal number ∷ words) ≡ refused_line (line_name number ∷ words)
 unfolding joined
@@ -205,7 +205,7 @@ refused_named line why is =
     named_line line.number (line_refusal_words why)
     ∙ ap (λ (w : CheckedLineRefusal). refused_line (line_name line.number ∷ line_refusal_words w)) (sym is)
 
--- what is told of a check that refused nothing
+-- What is reported by a check that refused nothing.
 pub told_verdict : NoneLacks → (s : Checking) (v : Verdict) → s.judged.refused ≡ None → IsVerdict v s.judged.seen →
     (outcome_text [] (outcome_in v) ≡ judged_text s.judged.seen s.judged.refused)
     × (outcome_status (outcome_in v) ≡ judged_status s.judged.seen s.judged.refused)
@@ -215,7 +215,7 @@ told_verdict law s v none is = (
   ap outcome_status (verdict_at law s.judged.seen v is) ∙ ap (judged_status s.judged.seen) (sym none),
 )
 
--- the whole text, behind what stood there at first
+-- The whole text after the text at the start.
 pub told_text : (start text : List ℕ) (count : ℕ) (told other : List ℕ) → start ≡ [] → text ≡ start ++ count_line count →
     told ≡ other → text ++ told ≡ count_line count ++ other
 told_text start text count told other none is same =

@@ -1,4 +1,4 @@
--- The order in which the datagrams are taken: there is one, and where names differ it is the only one.
+-- The datagrams have an order. If the names differ, it is the only one.
 use Rattle.std.proofs.Common.{◌≡◌, ℕ, zero, suc, ◌+◌, ◌<◌, ◌≤◌, Bool, true, false, List, [], ◌∷◌, length, get_or, map}
 use Rattle.std.proofs.Common.{Bor, inl, inr, refl, sym, ap, subst, ◌∙◌, arith, if◌then◌else◌}
 use Rattle.std.specs.List.{Contains, filter, sum_by}
@@ -16,7 +16,7 @@ use Rattle.std.proofs.lemmas.List.Sorted.{length_permutation, ranks_by, sorted_f
 use Rattle.mold_check.specs.Entries.{IsOrder, NamesDiffer, is_below, is_datagram, name_of}
 use Rattle.mold_check.specs.declared.entry.Entry.{Entry}
 
--- the entries that are lent
+-- The borrowed entries.
 abbrev pub lent : List (Bor Entry) → List Entry
 lent list = map (λ e. e.now) list
 
@@ -30,7 +30,7 @@ lent_at [] k d e within = absurd (omega arith)
 lent_at (x ∷ list) zero d e within = refl
 lent_at (x ∷ list) (suc k) d e within = lent_at list k d e (omega arith)
 
--- by what is lent
+-- The order of borrowed entries is that of the entries.
 abbrev pub is_lent_below : Bor Entry → Bor Entry → Bool
 is_lent_below one other = is_below one.now other.now
 
@@ -59,16 +59,16 @@ length-found (e ∷ entries) =
       | false ↦ omega (arith, length-found entries)
     ]
 
--- there are no more datagrams than entries
+-- There are at most as many datagrams as entries.
 pub order_few : (entries order : List Entry) → IsOrder entries order → length order ≤ length entries
 order_few entries order is =
     omega (arith, length_permutation (filter is_datagram entries) order is.moved, length-found entries)
 
--- names are ranked by their bytes
+-- Names are ordered by their bytes.
 ranked : IsStrictWeakOrder is_below
 ranked = ranks_by nat_list_cmp_total name_of
 
--- of two names of which neither is below the other, both are the same
+-- If neither of two names is below the other, they are equal.
 same_name : (x y : Entry) → is_below x y ≡ false → is_below y x ≡ false → name_of x ≡ name_of y
 same_name x y this other =
     slice_cmp-IsAntisymmetric nat_cmp-IsAntisymmetric (name_of x) (name_of y)
@@ -80,7 +80,7 @@ same_name x y this other =
     tied Equal s is this other = refl
     tied Greater s is this other = absurd (true≢false (sym (ap is_lt is) ∙ other))
 
--- as many of each kind, whatever the kinds are
+-- The lists have equally many entries of each kind, whatever the kinds are.
 abbrev SameSums : List Entry → List Entry → Type 0
 SameSums xs ys = (f : Entry → ℕ) → sum_by f xs ≡ sum_by f ys
 
@@ -91,11 +91,11 @@ sum_none f (x ∷ xs) none =
     let rest = sum_none f xs (λ k d within. none (suc k) d (omega arith)) in
     omega (arith, sum_by-cons f x xs, rest, none 0 x (omega arith))
 
--- how many are below an entry
+-- Counts whether one entry is below another.
 abbrev one_below : Entry → Entry → ℕ
 one_below y e = if is_below e y then 1 else 0
 
--- the first of what ascends is above none of what is there as well
+-- The first entry of a list is not below the first entry of an ascending list with the same entries.
 not_below : (x y : Entry) (xs ys : List Entry) → SameSums (x ∷ xs) (y ∷ ys) → IsSortedBy is_below (y ∷ ys) →
     (b : Bool) → is_below x y ≡ b → is_below x y ≡ false
 not_below x y xs ys same up false is = is
@@ -115,7 +115,7 @@ first_of x xs = (0, omega arith, refl)
 behind : (x y : Entry) (xs : List Entry) → Contains xs y → Contains (x ∷ xs) y
 behind x y xs has = (suc has.0, omega (arith, has.1), has.2)
 
--- two lists that ascend and have the same entries are the same
+-- Two ascending lists with the same entries are equal.
 same_order : (xs ys : List Entry) → SameSums xs ys → IsSortedBy is_below xs → IsSortedBy is_below ys → Agree xs ys →
     xs ≡ ys
 same_order [] [] same up rises agree = refl
@@ -154,7 +154,7 @@ order_from entries order is x has =
     let found = filter is_datagram entries in
     found_from entries x (Contains-permutation order found x (IsPermutation-sym found order is.moved) has)
 
--- entries of the same name are the same entry
+-- Entries with the same name are the same entry.
 same_entry : (entries : List Entry) → NamesDiffer entries → (x y : Entry) → Contains entries x → Contains entries y →
     name_of x ≡ name_of y → x ≡ y
 same_entry entries differ x y (i, in_i, at_i) (j, in_j, at_j) name =
@@ -173,7 +173,7 @@ same_entry entries differ x y (i, in_i, at_i) (j, in_j, at_j) name =
     at_any (z ∷ list) zero d e within = refl
     at_any (z ∷ list) (suc k) d e within = at_any list k d e (omega arith)
 
--- where names differ, there is one order
+-- If the names differ, there is only one order.
 pub one_order : (entries one other : List Entry) → NamesDiffer entries → IsOrder entries one → IsOrder entries other →
     one ≡ other
 one_order entries one other differ is so =

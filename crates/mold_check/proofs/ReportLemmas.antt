@@ -12,7 +12,7 @@ use Rattle.mold_capture.specs.declared.verdict.Range.{Range}
 use Rattle.mold_devices.specs.Faults.{CountsSink, CountsSinkFault}
 use Rattle.mold_check.specs.Report.{missing_line, missing_text}
 
--- nothing was written
+-- Nothing was written.
 pub front_none : (held : Option (List ℕ)) (text : List ℕ) → AppendsPrefix held held text
 front_none held text = record { front = []; rest = text; parts = refl; appended = Appends-nil held }
 
@@ -34,7 +34,7 @@ front_after old mid new text more p q = record {
   appended = Appends-trans old mid new text q.front p q.appended;
 }
 
--- of a text that stood there at first and the lines of some ranges, a part was written, and the rest stands there
+-- A part of the first text and the lines of some ranges was written, and `text` is the rest.
 pub record HasSent (old now : Option (List ℕ)) (begun : List ℕ) (done : List Range) (text : List ℕ) : Type 0 where
   pub written : List ℕ
   pub sent : Appends old now written
@@ -51,7 +51,7 @@ missing_append (r ∷ done) more =
     ap (λ t. line ++ t) (missing_append done more)
     ∙ sym (append_assoc line (missing_text (ranges_of done)) (missing_text (ranges_of more)))
 
--- one line more
+-- One more line was appended.
 pub sent_more : (old now : Option (List ℕ)) (begun : List ℕ) (done next : List Range) (r : Range) (text more : List ℕ) →
     HasSent old now begun done text → next ≡ done ++ r ∷ [] →
     more ≡ text ++ missing_line (lacking.range r.first r.last) → HasSent old now begun next more
@@ -69,7 +69,7 @@ sent_more old now begun done next r text more has is written =
           ∙ ap (λ t. has.written ++ t) (sym written);
     }
 
--- what stood there is written
+-- The text so far was written.
 pub sent_out : (old mid now : Option (List ℕ)) (begun : List ℕ) (done : List Range) (text left : List ℕ) →
     HasSent old mid begun done text → Appends mid now text → left ≡ [] → HasSent old now begun done left
 sent_out old mid now begun done text left has out none = record {
@@ -78,7 +78,7 @@ sent_out old mid now begun done text left has out none = record {
   parts = has.parts ∙ sym (append-nil (has.written ++ text)) ∙ ap (λ t. (has.written ++ text) ++ t) (sym none);
 }
 
--- a front of what stood there is written
+-- A prefix of the text so far was written.
 pub sent_front : (old mid now : Option (List ℕ)) (begun : List ℕ) (done all rest : List Range) (text : List ℕ) →
     HasSent old mid begun done text → all ≡ done ++ rest → AppendsPrefix mid now text →
     AppendsPrefix old now (begun ++ missing_text (ranges_of all))
@@ -93,7 +93,7 @@ sent_front old mid now begun done all rest text has is front =
 pub split_at : (all : List Range) (i : ℕ) → all ≡ take i all ++ drop i all
 split_at all i = sym (take-append-drop i all)
 
--- all of it is written
+-- All of the text was written.
 pub sent_all : (old mid now : Option (List ℕ)) (begun : List ℕ) (done all : List Range) (text : List ℕ) →
     HasSent old mid begun done text → all ≡ done → Appends mid now text →
     Appends old now (begun ++ missing_text (ranges_of all))
@@ -102,7 +102,7 @@ sent_all old mid now begun done all text has is out =
     (sym (ap (λ (l : List Range). begun ++ missing_text (ranges_of l)) is ∙ has.parts))
     (Appends-trans old mid now has.written text has.sent out)
 
--- which count stands behind a fault that is passed on
+-- The count of failures after a fault that is returned.
 pub counts_err : {T : Type 0} (old new : ℕ) (r : Result T CommandFault) (why : CommandFault) →
     IsErr r × IsErrAnd r (λ f. f ≡ why) → CountsSinkFault old new why → CountsSink old new r
 counts_err old new (Ok x) why is counts = absurd is.1

@@ -1,4 +1,4 @@
--- What the verdict on datagrams is, by what they have said.
+-- The verdict on datagrams, given what they state.
 use Rattle.std.proofs.Common.{◌≡◌, ℕ, zero, suc, ◌+◌, ◌<◌, ◌≤◌, Bool, true, false, cond, List, refl, sym, ap, subst, ◌∙◌, arith}
 use Rattle.std.proofs.Common.{add-one, inl, inr}
 use Rattle.std.specs.Prelude.{Option, None, Some, is_none}
@@ -12,7 +12,7 @@ use Rattle.mold_capture.specs.declared.verdict.Verdict.{Verdict}
 use Rattle.mold_capture.specs.declared.verdict.Verdict.TheVariants.{Whole as IsWhole, Incomplete}
 use Rattle.mold_check.specs.CheckLines.{outcome_at}
 
--- where each number is there, none is lacking, as the law of `mold_rule` says
+-- A law of mold_rule: if each number is there, none is missing.
 abbrev pub NoneLacks : Type 0
 NoneLacks = (test : ℕ → Bool) (low count : ℕ) →
     ((number : ℕ) → low ≤ number → number < low + count → test number ≡ false) → lacking.lacking test low count ≡ 0
@@ -25,7 +25,7 @@ others_none : (lacks : Bool) (others : ℕ) → cond lacks 1 0 + others ≡ 0 �
 others_none true others none = absurd (omega arith)
 others_none false others none = omega arith
 
--- where none is lacking, each is there
+-- If no number is missing, each is there.
 lacking_none : (test : ℕ → Bool) (low count : ℕ) → lacking.lacking test low count ≡ 0 →
     (number : ℕ) → low ≤ number → number < low + count → test number ≡ false
 unfolding lacking.lacking
@@ -47,7 +47,7 @@ there pairs number is = by_get (finite.get pairs number) refl
     by_get None same = absurd (true≢false (sym (ap is_none same) ∙ is))
     by_get (Some message) same = (message, same)
 
--- what was said is whole
+-- If the datagrams are whole, no number below the end is missing.
 pub whole_at : NoneLacks → (seen : Seen) (messages : ℕ) → IsWholeSeen seen (suc messages) →
     lacking.lacking (lacks seen.pairs) 1 messages ≡ 0
 whole_at law seen messages is =
@@ -79,7 +79,7 @@ incomplete_outcome seen other = by_end seen.ended refl
         ap (λ (b : Bool). cond b (whole messages) (incomplete (missing_in seen) (Some (suc messages))))
         (sym (ne_eqb _ 0 (λ none. other (suc messages) (is_whole seen messages is none))))
 
--- the verdict's outcome
+-- The outcome of a verdict.
 pub verdict_at : NoneLacks → (seen : Seen) (v : Verdict) → IsVerdict v seen → outcome_in v ≡ outcome_at seen seen.ended
 verdict_at law seen (IsWhole messages) is =
     whole_outcome law seen messages (subst (IsWholeSeen seen) (add-one messages) is)

@@ -1,4 +1,4 @@
--- A check of lines, between two of them.
+-- The state of a check of lines.
 use Rattle.std.specs.Prelude.{ℕ, List, [], ◌∷◌, ◌++◌, codes, Option, None, Some, Result, Ok, Err}
 use Rattle.hex.specs.Hex.{decode_of}
 use Rattle.hex.specs.declared.error.FromHexError.{FromHexError}
@@ -14,17 +14,18 @@ use Rattle.mold_check.specs.declared.line_check.CheckedLineRefusal.{CheckedLineR
 use Rattle.mold_check.specs.declared.line_check.CheckedLineRefusal.TheVariants.{NotHex, NotAccepted}
 use Rattle.mold_check.specs.declared.line_check.RefusedLine.{RefusedLine}
 
--- what the datagrams that were accepted have said, and the line that is refused, if one is
+-- What the accepted datagrams state, and the line that is refused, if there is one.
 pub record Judged : Type 0 where
   pub seen : Seen
   pub refused : Option RefusedLine
 
--- the number of the next line, how many datagrams there were, and what was judged
+-- The state of a check: the number of the next line, how many datagrams there were, and what was found.
 pub record Checking : Type 0 where
   pub next : ℕ
   pub datagrams : ℕ
   pub judged : Judged
 
+-- The state of a `LineCheck`.
 abbrev pub checking_of : LineCheck → Checking
 checking_of check = record {
   next = check.next;
@@ -32,30 +33,32 @@ checking_of check = record {
   judged = record { seen = check.checker; refused = check.refused };
 }
 
+-- The state before the first line.
 abbrev pub beginning : Checking
 beginning = record { next = 1; datagrams = 0; judged = record { seen = seen_of []; refused = None } }
 
--- the next datagram is accepted, or refused for this reason
+-- What was found after the next datagram: it is accepted, or its line is refused for this reason.
 abbrev pub judged_by : Seen → ℕ → List ℕ → Option Refusal → Judged
 judged_by seen number bytes None = record { seen = after seen bytes; refused = None }
 judged_by seen number bytes (Some why) =
     record { seen = seen; refused = Some (record { number = number; why = NotAccepted why }) }
 
--- digits are judged by what they stand for
+-- What was found after the next line, given its decoded bytes.
 abbrev pub judged_digits : Seen → ℕ → Result (List ℕ) FromHexError → Judged
 judged_digits seen number (Ok bytes) = judged_by seen number bytes (refusal seen bytes)
 judged_digits seen number (Err _) =
     record { seen = seen; refused = Some (record { number = number; why = NotHex }) }
 
--- behind a refusal nothing is judged
+-- What was found after the next line. After a refusal no line is checked.
 abbrev pub judged_after : Seen → Option RefusedLine → ℕ → List ℕ → Judged
 judged_after seen (Some line) number digits = record { seen = seen; refused = Some line }
 judged_after seen None number digits = judged_digits seen number (decode_of digits)
 
+-- What was found after the next line, given what was found before it.
 abbrev pub judged_next : Judged → ℕ → List ℕ → Judged
 judged_next judged number digits = judged_after judged.seen judged.refused number digits
 
--- one line more
+-- The state after one more line.
 unfoldable pub taken : Checking → List ℕ → Checking
 taken s [] = record { next = one_more s.next; datagrams = s.datagrams; judged = s.judged }
 taken s (byte ∷ bytes) = record {
@@ -64,30 +67,34 @@ taken s (byte ∷ bytes) = record {
   judged = judged_next s.judged s.next (byte ∷ bytes);
 }
 
--- some lines more
+-- The state after the lines.
 unfoldable pub all_taken : Checking → List (List ℕ) → Checking
 all_taken s [] = s
 all_taken s (line ∷ lines) = all_taken (taken s line) lines
 
--- the words of why a line is refused
+-- The words of the reason why a line is refused.
 abbrev pub line_refusal_words : CheckedLineRefusal → List (List ℕ)
 line_refusal_words NotHex = codes "NotHex" ∷ []
 line_refusal_words (NotAccepted why) = refusal_words why
 
+-- The line of the report about a line that is refused.
 abbrev pub refused_line_text : RefusedLine → List ℕ
 refused_line_text line = refused_line (line_name line.number ∷ line_refusal_words line.why)
 
--- what is told behind the last line
+-- What is reported after the last line: the refused line, if there is one, otherwise the outcome.
 abbrev pub judged_text : Seen → Option RefusedLine → List ℕ
 judged_text seen (Some line) = refused_line_text line
 judged_text seen None = outcome_text [] (outcome_at seen seen.ended)
 
+-- The exit status after the last line.
 abbrev pub judged_status : Seen → Option RefusedLine → ℕ
 judged_status seen (Some line) = 2
 judged_status seen None = outcome_status (outcome_at seen seen.ended)
 
+-- What is printed after the last line: the number of datagrams, and the refused line or the outcome.
 abbrev pub checking_text : Checking → List ℕ
 checking_text s = count_line s.datagrams ++ judged_text s.judged.seen s.judged.refused
 
+-- The exit status of a check in this state.
 abbrev pub checking_status : Checking → ℕ
 checking_status s = judged_status s.judged.seen s.judged.refused

@@ -1,4 +1,4 @@
--- What `mold check` prints, and the status that it ends with.
+-- What `mold check` prints, and its exit status.
 use Rattle.std.specs.Prelude.{ℕ, ◌-◌, List, [], ◌∷◌, ◌++◌, length, map, slice_index_or, codes, decimal, Option}
 use Rattle.std.specs.Prelude.{None, Some}
 use Rattle.std.specs.List.{flat_map}
@@ -9,46 +9,48 @@ use Rattle.mold_capture.specs.Outcome.{Outcome, whole, incomplete, refused, IsOu
 use Rattle.mold_check.specs.Entries.{IsOrder, bytes_of, name_of}
 use Rattle.mold_check.specs.declared.entry.Entry.{Entry}
 
--- the line of how many entries are datagrams, and how many are skipped
+-- The line with the number of datagrams and the number of skipped entries.
 abbrev pub counts_line : ℕ → ℕ → List ℕ
 counts_line files skipped =
     line_of (codes "files" ∷ decimal files ∷ codes "skipped" ∷ decimal skipped ∷ [])
 
--- the number of the end, where it is known
+-- The sequence number of the end packet, or `none` if there is no end packet.
 abbrev pub end_word : Option ℕ → List ℕ
 end_word None = codes "none"
 end_word (Some number) = decimal number
 
+-- The line of a missing range.
 abbrev pub missing_line : Range → List ℕ
 missing_line range = line_of (codes "missing" ∷ decimal range.first ∷ decimal range.last ∷ [])
 
+-- The lines of the missing ranges.
 abbrev pub missing_text : List Range → List ℕ
 missing_text missing = flat_map missing_line missing
 
--- the first line of what isn't whole
+-- The first line of an incomplete session.
 abbrev pub incomplete_line : Option ℕ → List ℕ
 incomplete_line end = line_of (codes "incomplete" ∷ codes "end" ∷ end_word end ∷ [])
 
--- the lines of the outcome of datagrams with these names
+-- The lines of the outcome. The datagrams have these names.
 abbrev pub outcome_text : List (List ℕ) → Outcome → List ℕ
 outcome_text names (whole messages) = line_of (codes "whole" ∷ decimal messages ∷ [])
 outcome_text names (incomplete missing end) = incomplete_line end ++ missing_text missing
 outcome_text names (refused index why) = refused_line (slice_index_or names index [] ∷ refusal_words why)
 
--- the status: 0 whole, 1 not whole, 2 a datagram was refused
+-- The exit status: 0 whole, 1 incomplete, 2 a datagram is refused.
 abbrev pub outcome_status : Outcome → ℕ
 outcome_status (whole messages) = 0
 outcome_status (incomplete missing end) = 1
 outcome_status (refused index why) = 2
 
--- a check of entries: the order in which the datagrams are taken, and the outcome of their bytes
+-- A check of entries: the order in which the datagrams are checked, and the outcome of their bytes.
 pub record Checked (entries : List Entry) : Type 0 where
   pub order : List Entry
   pub ordered : IsOrder entries order
   pub outcome : Outcome
   pub told : IsOutcome (map bytes_of order) outcome
 
--- what is printed
+-- What is printed for a check of entries.
 abbrev pub report : {entries : List Entry} → Checked entries → List ℕ
 report {entries} checked =
     counts_line (length checked.order) (length entries - length checked.order)

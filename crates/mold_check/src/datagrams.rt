@@ -1,4 +1,4 @@
-//! The datagrams among entries, in order.
+//! Finds the datagrams among the entries of a folder, and puts them in order.
 
 ghost use Rattle.std.specs.Prelude.{◌≡◌, map, string_bytes, IfOk};
 ghost use Rattle.std.specs.Cmp.Lexicographic.{slice_cmp};
@@ -10,10 +10,10 @@ use crate::entry::Entry;
 use std::alloc::{AllocError, Global};
 use std::cmp::Ordering;
 
-// How the names of datagrams end.
+// The ending of a datagram's name.
 const ENDING: &[u8] = b".pkt";
 
-/// Whether an entry of this name is a datagram: the name's bytes end in those of `.pkt`.
+/// Returns whether an entry with this name is a datagram: the bytes of the name end in those of `.pkt`.
 pub fn names_datagram(name: &str) -> bool
     ensures { result ≡ names_datagram name.now }
 {
@@ -45,8 +45,8 @@ fn find_datagrams<'a>(alloc: Global, entries: &'a [Entry]) -> Result<Vec<&'a Ent
         .collect(alloc)
 }
 
-/// The datagrams in ascending order of the bytes of their names. They are lent and not copied. An error
-/// comes where a growth is refused.
+/// Returns the datagrams in ascending order of the bytes of their names. They are borrowed, not copied. It
+/// returns an error if an allocation fails.
 pub(crate) fn sorted_datagrams<'a>(
     alloc: Global,
     entries: &'a [Entry],
@@ -58,7 +58,7 @@ pub(crate) fn sorted_datagrams<'a>(
     Ok(order)
 }
 
-/// The bytes of entries. An error comes where a growth is refused.
+/// Returns the bytes of the entries, borrowed. It returns an error if an allocation fails.
 pub(crate) fn lend_bytes<'a>(
     alloc: Global,
     order: &[&'a Entry],

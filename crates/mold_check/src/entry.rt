@@ -1,9 +1,11 @@
 //! An entry of a folder.
 
-/// An entry of a folder, in memory. One whose name ends in `.pkt` is a datagram; of any other the bytes are
-/// not looked at, so there may be none.
+/// An entry of a folder, in memory. It is a datagram if its name ends in `.pkt`. The bytes of other entries are
+/// not read, so they may be left empty.
 #[derive(Debug, Drop)]
 pub struct Entry {
+    /// The name of the entry within its folder.
     pub name: String,
+    /// The contents of the entry, which for a datagram are its UDP payload.
     pub bytes: Vec<u8>,
 }

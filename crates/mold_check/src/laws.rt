@@ -1,5 +1,5 @@
-//! What holds of the definitions alone, for all datagrams and all lines. Each law is a function that does
-//! nothing: its contract is the law.
+//! The law of this crate: a theorem about the definitions alone. It is a function that does nothing, and its
+//! contract is the theorem.
 
 ghost use Rattle.std.specs.Prelude.{ℕ, List};
 ghost use Rattle.std.specs.List.{All};
@@ -10,8 +10,8 @@ ghost use Rattle.mold_check.specs.CheckLines.{datagrams_of, outcome_of};
 use mold_capture::laws::{after_law, reason_law, whole_is_one_law};
 use mold_rule::laws::lacking_law;
 
-/// The outcome that is computed of datagrams is what `mold_capture` calls one: so `mold check` tells the same of
-/// datagrams, whether they are files or lines. It is so of all lines, whatever bytes they are.
+/// The computed outcome of datagrams is the outcome that `mold_capture` defines. So `mold check` reports the
+/// same for datagrams in files and in lines. For lines this holds whatever their bytes are.
 pub fn lines_outcome_law()
     ensures datagrams { (list : List (List ℕ)) → All IsBytes list → IsOutcome list (outcome_of list) }
     ensures lines { (lines : List (ℕ × List ℕ)) → IsOutcome (datagrams_of lines) (outcome_of (datagrams_of lines)) }

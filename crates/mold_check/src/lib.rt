@@ -1,5 +1,6 @@
-//! What `mold check` tells of datagrams, which are the entries of a folder or lines of hexadecimal digits: whether
-//! they come from one whole session, and if not, what is missing or what refuses one.
+//! What `mold check` reports about datagrams, which are files of a folder or lines of hexadecimal digits. It
+//! reports whether they come from one whole session, and otherwise what is missing or which datagram is
+//! refused.
 #![tactic(auto)]
 
 mod datagrams;

@@ -1,4 +1,4 @@
-//! Datagrams in hexadecimal digits, line by line.
+//! Checks datagrams given as lines of hexadecimal digits, line by line.
 
 ghost use Rattle.std.specs.Prelude.{◌≡◌, ◌++◌, IfOk, OnOk};
 ghost use Rattle.std.specs.Io.KnownBytes.{Appends};
@@ -19,21 +19,21 @@ use std::alloc::{AllocError, Global};
 /// Why a line is refused.
 #[derive(Clone, Copy, Debug, PartialEq, Eq)]
 pub(crate) enum CheckedLineRefusal {
-    /// It is no pairs of hexadecimal digits.
+    /// The line is not an even number of hexadecimal digits.
     NotHex,
-    /// The datagram that its digits spell may not come after those before it.
+    /// The datagram of the line is refused after those before it.
     NotAccepted(Refusal),
 }
 
-/// A line that is refused. The first line has number 1; a number stands at `u64::MAX` once it is there.
+/// A line that is refused. The first line has number 1. The numbers stop at `u64::MAX`.
 #[derive(Clone, Copy, Debug, PartialEq, Eq)]
 pub(crate) struct RefusedLine {
     pub(crate) number: u64,
     pub(crate) why: CheckedLineRefusal,
 }
 
-/// A check of lines, up to the first that is refused; those behind it are only counted. No line is kept, but for
-/// what the checker keeps of the messages.
+/// A check of lines up to the first refused one. The lines after it are only counted. It keeps no line, only
+/// the messages that the checker stores.
 #[derive(Debug, Drop)]
 pub(crate) struct LineCheck {
     checker: Checker,
@@ -44,7 +44,7 @@ pub(crate) struct LineCheck {
 }
 
 impl LineCheck {
-    /// A check before the first line. It takes no memory yet.
+    /// Returns a check that has taken no line. This allocates nothing.
     pub(crate) fn new(alloc: Global) -> LineCheck
         ensures { checking_of result ≡ beginning }
     {
@@ -57,7 +57,7 @@ impl LineCheck {
         }
     }
 
-    /// Takes the next line. An error comes where a growth is refused.
+    /// Takes the next line. It returns an error if an allocation fails.
     #[tactic(auto, unfolding(crate::specs::Checking::taken))]
     pub(crate) fn take(&mut self, line: &[u8]) -> Result<(), AllocError>
         ensures { OnOk result (checking_of self.new ≡ taken (checking_of self.old) line.now) }
@@ -74,8 +74,8 @@ impl LineCheck {
         Ok(())
     }
 
-    /// Tells the outcome of the lines that were taken; it answers the status. After a fault a beginning of the
-    /// text is written.
+    /// Writes the outcome of the lines so far, and returns the exit status. After a fault, a prefix of the text
+    /// was written.
     pub(crate) fn print<K: Sink>(&self, alloc: Global, sink: &mut K) -> Result<u8, CommandFault>
         ensures whole { IfOk result (λ status. Appends (K.held sink.old) (K.held sink.new)
             (checking_text (checking_of self.now)) × (status ≡ checking_status (checking_of self.now))) }
@@ -95,8 +95,8 @@ impl LineCheck {
     }
 }
 
-// Gives the datagram that the digits spell to the checker, and answers the refusal of their line, if it is refused.
-// Its bytes go into `bytes`, whatever that held.
+// Adds the datagram of the line to the checker. Returns the refusal of the line if it is refused. The decoded
+// bytes replace the contents of `bytes`.
 fn judge(
     checker: &mut Checker,
     bytes: &mut Vec<u8>,
@@ -142,7 +142,7 @@ fn push_refused_line(text: &mut Vec<u8>, line: RefusedLine) -> Result<(), AllocE
     }
 }
 
-// Writes the text, and behind it why the line is refused; it answers the status.
+// Writes the text and the reason why the line is refused, and returns the exit status.
 fn print_refused_line<K: Sink>(
     sink: &mut K,
     text: &mut Vec<u8>,

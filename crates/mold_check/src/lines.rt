@@ -1,4 +1,4 @@
-//! `mold check -`: datagrams given as lines of hexadecimal digits.
+//! `mold check -`: checks datagrams given as lines of hexadecimal digits.
 
 ghost use Rattle.std.specs.Prelude.{◌≡◌, IfOk, IfSome};
 ghost use Rattle.std.specs.Io.KnownBytes.{Appends};
@@ -12,7 +12,7 @@ use crate::line_check::LineCheck;
 use mold_devices::{CommandFault, Lines, ReadFault, Sink, Source};
 use std::alloc::Global;
 
-// Reads the lines of the source, and checks them.
+// Reads all lines of the source and checks them.
 fn read_lines<S: Source>(alloc: Global, source: &mut S) -> Result<LineCheck, ReadFault>
     ensures taken { IfOk result (λ check. IfSome (S.left source.old) (λ input.
         checking_of check ≡ all_taken beginning (lines_of input))) }
@@ -28,11 +28,12 @@ fn read_lines<S: Source>(alloc: Global, source: &mut S) -> Result<LineCheck, Rea
     }
 }
 
-/// Checks the datagrams that the lines of the source spell in hexadecimal digits, in their order, and tells the
-/// outcome in the sink; it answers the status: 0 whole, 1 not whole, 2 a line is refused. Nothing is written
-/// before the input is read to its end. No line is kept, but for what the checker keeps of the messages. After a
-/// fault a beginning of the text is written. `Read` and `Write` come only where the source or the sink failed,
-/// `Memory` only where a growth was refused.
+/// Checks the datagrams that the lines of the source encode as hexadecimal digits, in their order. It writes
+/// the outcome to the sink and returns the exit status: 0 whole, 1 incomplete, 2 a line is refused.
+///
+/// It reads all lines and then writes. It keeps no line, only the messages that the checker stores. After a
+/// fault, a prefix of the text was written. `Read` and `Write` are returned only if the source or the sink
+/// failed, `Memory` only if an allocation failed.
 pub fn check_lines<S: Source, K: Sink>(
     alloc: Global,
     source: &mut S,

@@ -1,4 +1,4 @@
-//! The report of a check.
+//! Writes the report of a check.
 
 ghost use Rattle.std.specs.Prelude.{◌≡◌, ◌++◌, ◌∷◌, [], OnOk, IfOk};
 ghost use Rattle.std.specs.Io.KnownBytes.{Appends};
@@ -40,7 +40,7 @@ fn push_whole(text: &mut Vec<u8>, messages: u64) -> Result<(), AllocError>
     push_line(text, &[Word::Text(b"whole"), Word::Number(messages)])
 }
 
-// The line of what isn't whole, without those of what is missing.
+// Appends the first line of an incomplete session, without the lines of the missing ranges.
 fn push_incomplete(text: &mut Vec<u8>, end: Option<u64>) -> Result<(), AllocError>
     ensures { OnOk result (text.new.items ≡ text.old.items ++ incomplete_line end) }
 {
@@ -64,7 +64,7 @@ fn push_missing(text: &mut Vec<u8>, range: Range) -> Result<(), AllocError>
     )
 }
 
-// Writes the text, and behind it the lines of what is missing, in pieces of 65,536 bytes or more.
+// Writes the text and the lines of the missing ranges, in pieces of 65,536 bytes or more.
 fn send_missing<K: Sink>(
     sink: &mut K,
     text: &mut Vec<u8>,
@@ -85,7 +85,7 @@ fn send_missing<K: Sink>(
     send(sink, text)
 }
 
-// Writes the text, and behind it that the session is whole; it answers the status.
+// Writes the text and that the session is whole, and returns the exit status.
 fn print_whole<K: Sink>(sink: &mut K, text: &mut Vec<u8>, messages: u64) -> Result<u8, CommandFault>
     ensures whole { IfOk result (λ status. Appends (K.held sink.old) (K.held sink.new)
         (text.old.items ++ outcome_text [] (whole messages)) × (status ≡ 0)) }
@@ -98,7 +98,7 @@ fn print_whole<K: Sink>(sink: &mut K, text: &mut Vec<u8>, messages: u64) -> Resu
     Ok(0)
 }
 
-// Writes the text, and behind it what is missing; it answers the status.
+// Writes the text and the missing ranges, and returns the exit status.
 fn print_incomplete<K: Sink>(
     sink: &mut K,
     text: &mut Vec<u8>,
@@ -116,7 +116,7 @@ fn print_incomplete<K: Sink>(
     Ok(1)
 }
 
-/// Writes the text, and behind it what the verdict tells; it answers the status.
+/// Writes the text and what the verdict reports, and returns the exit status.
 pub(crate) fn print_verdict<K: Sink>(
     sink: &mut K,
     text: &mut Vec<u8>,
@@ -137,7 +137,7 @@ pub(crate) fn print_verdict<K: Sink>(
     }
 }
 
-// Writes the text, and behind it why the entry of this name is refused; it answers the status.
+// Writes the text and the reason why the entry with this name is refused, and returns the exit status.
 fn print_refusal<K: Sink>(
     sink: &mut K,
     text: &mut Vec<u8>,
@@ -155,11 +155,12 @@ fn print_refusal<K: Sink>(
     Ok(2)
 }
 
-/// Checks the entries that are datagrams, in ascending order of the bytes of their names, and tells the
-/// outcome in the sink; it answers the status: 0 whole, 1 not whole, 2 a datagram is refused. No entry is
-/// copied, but for what the checker keeps of the messages. After a fault a beginning of the text is
-/// written, if no two entries have the same name. `Write` comes only where the sink failed, `Memory` only
-/// where a growth was refused, and `Read` never.
+/// Checks the entries that are datagrams, in ascending order of the bytes of their names. It writes the outcome
+/// to the sink and returns the exit status: 0 whole, 1 incomplete, 2 a datagram is refused.
+///
+/// It copies no entry, only the messages that the checker stores. If no two entries have the same name, a
+/// prefix of the text was written after a fault. `Write` is returned only if the sink failed, `Memory` only if
+/// an allocation failed, and `Read` never.
 pub fn check_entries<K: Sink>(
     alloc: Global,
     entries: &[Entry],

@@ -5,7 +5,7 @@ use Rattle.mold_check.specs.Checking.{beginning, checking_of}
 use Rattle.mold_check.proofs.LineLemmas.{TakenSoFar}
 use Rattle.mold_check.proofs.lines.read_lines.Given as goal
 
--- the lines so far are taken, and no device failed
+-- The lines so far were taken, and no device failed.
 abbrev pub invariant-lines : goal.invariant-lines
 invariant-lines g l = record {
   taken : TakenSoFar beginning (checking_of l.check) (g.S.Source.left l.fn.source)

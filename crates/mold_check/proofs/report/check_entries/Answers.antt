@@ -32,7 +32,7 @@ overflow_sub-entries g c =
       c.in_ok-order.order.ok,
     )
 
--- the bytes that are checked are those of the entries in their order
+-- The checked bytes are those of the entries, in their order.
 bytes_checked : (g : Over) (c : After-check g) →
     map (λ b. b.now) c.as_slice-2.result.now ≡ map bytes_of (lent c.in_ok-order.order.items)
 bytes_checked g c =

@@ -6,7 +6,7 @@ use Rattle.mold_check.specs.Report.{incomplete_line, missing_text}
 use Rattle.mold_check.proofs.ReportLemmas.{front_none}
 use Rattle.mold_check.proofs.report.print_incomplete.Goals as goal
 
--- the text that stood there, its first line, and the others
+-- The text so far, the first line, and the other lines.
 joined : (old mid line more : List ℕ) → mid ≡ old ++ line → mid ++ more ≡ old ++ (line ++ more)
 joined old mid line more is = ap (λ t. t ++ more) is ∙ append_assoc old line more
 
