@@ -1,4 +1,4 @@
--- What becomes of a view over slots where a packet begins above `next`.
+-- The view over slots after a packet that begins above `next`.
 use Rattle.std.proofs.Common.{◌≡◌, ℕ, suc, ◌+◌, ◌-◌, ◌<◌, ◌≤◌, max, Bool, true, false, cond, ltb, ◌&&◌, List, [], ◌∷◌}
 use Rattle.std.proofs.Common.{length, get_or, refl, sym, ap, ◌∙◌, inl, inr, arith}
 use Rattle.std.specs.Prelude.{Option, None, Some, is_some, is_none, slice_get}
@@ -38,7 +38,7 @@ limit_shifted next window q low =
       | inr past ↦ le-ltb (q - next) window (omega arith) ∙ sym (le-ltb q (next + window) past)
     ]
 
--- what is stored when the fresh messages were put into their slots
+-- What is stored after the fresh messages are put into their slots.
 pub ahead_looks : (next n : ℕ) (slots : List Slot) (ms : List Message) → next < n → (q : ℕ)
     → finite.get (store_of next (filled slots (n - next) ms)) q ≡ option_or
     (finite.get (store_of next slots) q) (cond (ltb q (next + length slots)) (message_at n ms q) None)
@@ -62,7 +62,7 @@ ahead_looks next n slots ms above q =
           (cond (ltb q (next + length slots)) o None)) (message_shifted next n ms q (omega arith) low)
     ]
 
--- a packet above `next`: the new view is over the slots with its fresh messages
+-- After a packet above `next`, the new view is over the slots with its fresh messages.
 pub ahead_view : (session : Session) (next known : ℕ) (ended : Option ℕ) (slots : List Slot) (n top : ℕ)
     (ms : List Message)
     → IsWellFormed (view_over session next known ended slots) → next < n → n + length ms ≡ top
@@ -114,7 +114,7 @@ new_or_not None p false m is = refl
 new_or_not (Some x) p true m is = refl
 new_or_not (Some x) p false m is = refl
 
--- as many messages are kept as there are fresh ones
+-- The number of kept messages is the number of fresh ones.
 pub ahead_kept : (next n : ℕ) (slots : List Slot) (ms : List Message) → next < n
     → count_kept (store_of next slots) (store_of next (filled slots (n - next) ms))
     (numbered n ms) ≡ length (fresh slots (n - next) ms)
@@ -137,7 +137,7 @@ ahead_kept next n slots ms above =
     (get_from next slots (n + i) (omega arith))
     ∙ ap (is_fresh slots) shifted)
 
--- the counts of a packet above `next`
+-- The counts of a packet above `next`.
 pub ahead_taken : (session : Session) (next known : ℕ) (ended : Option ℕ) (slots : List Slot) (n top : ℕ)
     (ms : List Message)
     → IsWellFormed (view_over session next known ended slots) → next < n → n + length ms ≡ top
@@ -154,7 +154,7 @@ ahead_taken session next known ended slots n top ms well above tops none =
     ap (taken_of v (data_packet session n ms)) (ahead_view session next known ended slots n top ms well above tops none)
     ∙ (λ i. record { handed = zero_handed i; kept = ahead_kept next n slots ms above i; beyond = past i })
 
--- the fields after a packet above `next`, and after one that has it, are those of the new view
+-- The fields after a packet above `next`, or after one that has the message `next`, are those of the new view.
 pub kept_view : (session : Session) (next known : ℕ) (ended : Option ℕ) (slots : List Slot) (n top : ℕ)
     (ms : List Message) (new_known : ℕ) (new_slots : List Slot)
     → IsWellFormed (view_over session next known ended slots) → next < n → n + length ms ≡ top

@@ -1,4 +1,4 @@
--- No line goes further than what is known.
+-- No line's `front` is above what the receiver knows.
 use Rattle.std.proofs.Common.{◌≡◌, ℕ, ◌≤◌, max, List, sym, ap, ◌∙◌, arith}
 use Rattle.std.specs.Prelude.{Some, Ok}
 use Rattle.mold_wire.specs.Packet.{top_of}
@@ -18,7 +18,7 @@ reports_kept : (line : Line) (reports : LineReports) (top known new : ℕ) → r
 reports_kept A reports top known new a b is = (omega (arith, a, is), omega (arith, b, is))
 reports_kept B reports top known new a b is = (omega (arith, a, is), omega (arith, b, is))
 
--- when a datagram was taken on a line, and when one was refused on it
+-- This holds after a datagram was accepted on a line and after one was refused on it.
 pub taken_kept : (line : Line) (old : Arbitration) (bytes : List ℕ) (r : Reception) → IsArbitration old →
     receive old.view bytes ≡ Ok r → IsArbitration (arbitrated (Some line) bytes old (Ok r))
 taken_kept line old bytes r is received =
@@ -37,7 +37,7 @@ pub refused_kept : (line : Line) (view : View) (reports : LineReports) →
 refused_kept A view reports is = record { front_a = is.front_a; front_b = is.front_b }
 refused_kept B view reports is = record { front_a = is.front_a; front_b = is.front_b }
 
--- an answer lowers nothing that is known
+-- It holds after a server's response, since `known` never falls.
 pub answer_kept : (old : Arbitration) (bytes : List ℕ) (r : Reception) → IsArbitration old →
     receive old.view bytes ≡ Ok r → IsArbitration (record { view = r.view; reports = old.reports })
 answer_kept old bytes r is received =

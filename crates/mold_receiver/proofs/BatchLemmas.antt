@@ -1,4 +1,4 @@
--- What follows what in a batch.
+-- Batches and the messages that are appended to them.
 use Rattle.std.proofs.Common.{◌≡◌, ℕ, zero, suc, ◌+◌, ◌-◌, ◌<◌, ◌≤◌, List, [], ◌∷◌, ◌++◌, length, length-append, take}
 use Rattle.std.proofs.Common.{refl, sym, ap, subst, ◌∙◌, append_assoc, arith, max, drop, cond, ltb, inl, inr}
 use Rattle.std.proofs.lemmas.List.{append-nil, take_at}
@@ -21,7 +21,7 @@ follows_in : (first : ℕ) (messages : List Message) (next : ℕ) (m : Message) 
 follows_in first [] next m more follows = refl
 follows_in first (x ∷ messages) next m more follows = omega (arith, follows, length-append messages (m ∷ more))
 
--- a batch that was followed by messages is followed by the next one
+-- After messages are appended, the next number may follow.
 pub follows_after : (batch : Handed) (next : ℕ) (more : List Message) → Follows batch next →
     Follows (followed_by batch next more) (next + length more)
 follows_after batch next [] follows =
@@ -33,7 +33,7 @@ first_twice : (first : ℕ) (messages : List Message) (next : ℕ) (m : Message)
 first_twice first [] next m more at = refl
 first_twice first (x ∷ messages) next m more at = refl
 
--- to be followed by some messages and then by others is to be followed by both
+-- Appending some messages and then others is the same as appending both at once.
 pub followed_twice : (batch : Handed) (next : ℕ) (more : List Message) (at : ℕ) (others : List Message) →
     next + length more ≡ at
     → followed_by (followed_by batch next more) at others ≡ followed_by batch next (more ++ others)
@@ -54,14 +54,14 @@ cut_back first (x ∷ messages) next m more =
     ap (λ (t : List Message). record { first = first; messages = x ∷ t })
     (take_at messages (m ∷ more) (length messages) refl)
 
--- a batch that was followed by messages and is cut to its old length is the old one
+-- A batch that grew and is truncated to its old length is the old batch.
 pub cut_followed : (batch : Handed) (next : ℕ) (more : List Message) → batch ≡ handed_from batch.first batch.messages
     → handed_from (followed_by batch next more).first
     (take (length batch.messages) (followed_by batch next more).messages) ≡ batch
 cut_followed batch next [] normal = ap (handed_from batch.first) (take_all batch.messages) ∙ sym normal
 cut_followed batch next (m ∷ more) normal = cut_back batch.first batch.messages next m more ∙ sym normal
 
--- while messages are handed on: what the batch was followed by, and what is left of the whole
+-- The state of a loop that delivers: what the batch has got so far, and what remains of the whole.
 pub record IsHanding (old new : Handed) (next at : ℕ) (left whole : List Message) : Type 0 where
   pub handed : List Message
   pub batch : new ≡ followed_by old next handed
@@ -93,7 +93,7 @@ pub handing_done : (old new : Handed) (next at : ℕ) (whole : List Message) →
     new ≡ followed_by old next whole
 handing_done old new next at whole is = is.batch ∙ ap (followed_by old next) (sym (append-nil is.handed) ∙ is.parts)
 
--- a message of a packet is handed on where its number isn't below the first that is handed on
+-- A message of a packet is delivered if its number isn't below the first number to deliver.
 pub handing_from : (old new newer : Handed) (next n : ℕ) (m : Message) (ms whole : List Message) →
     IsHanding old new next (max n next) (drop (next - n) (m ∷ ms)) whole
     → newer ≡ cond (ltb n next) new (followed_by new n (m ∷ [])) →
@@ -146,7 +146,8 @@ slot_within [] at m is = absurd (none_some is)
 slot_within (s ∷ slots) zero m is = omega arith
 slot_within (s ∷ slots) (suc at) m is = omega (arith, slot_within slots at m is)
 
--- a slot with a message before the others of a run, and an empty one behind it
+-- A run begins with the message of its first slot, and the rest of the run follows. If that slot is empty, the run is
+-- empty.
 pub run_more : (slots : List Slot) (at : ℕ) (m : Message) → slot_at slots at ≡ Some m →
     run_in slots at ≡ m ∷ run_in slots (at + 1)
 unfolding run_from
@@ -161,7 +162,7 @@ run_more slots at m is =
 pub run_none : (slots : List Slot) (at : ℕ) → slot_at slots at ≡ None → run_in slots at ≡ []
 run_none slots at is = none_run (slot_at slots) at (length slots - at) is
 
--- where no slot has a message, no run begins
+-- If all slots are empty, each run is empty.
 pub run_of_none : (slots : List Slot) (at : ℕ) → count_held slots ≡ 0 → run_in slots at ≡ []
 run_of_none slots at none = run_none slots at (all_empty slots none at)
 
@@ -170,7 +171,7 @@ pub handing_length : (old new : Handed) (next at : ℕ) (whole : List Message) �
 handing_length old new next at whole is =
     ap (λ (t : List Message). next + length t) (sym is.parts ∙ append-nil is.handed) ∙ is.counted
 
--- what grew twice grew
+-- Two steps of growth are one.
 pub grew_twice : (old new newer : Handed) (next at : ℕ) (more : List Message) → new ≡ followed_by old next more →
     next + length more ≡ at → Grew new newer at → Grew old newer next
 grew_twice old new newer next at more is counted grew = record {
@@ -179,7 +180,7 @@ grew_twice old new newer next at more is counted grew = record {
       ∙ followed_twice old next more at grew.handed counted;
 }
 
--- a batch that grew and is cut to its old length is the old one
+-- A batch that grew and is truncated to its old length is the old batch.
 pub cut_grown : (old new : Handed) (next : ℕ) → old ≡ handed_from old.first old.messages → Grew old new next →
     handed_from new.first (take (length old.messages) new.messages) ≡ old
 cut_grown old new next normal grew =

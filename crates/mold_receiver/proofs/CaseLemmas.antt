@@ -1,4 +1,4 @@
--- The three cases of a packet that is taken, each with what the new store looks up.
+-- The three cases of an accepted packet, and what the new store has in each.
 use Rattle.std.proofs.Common.{◌≡◌, ℕ, zero, suc, ◌+◌, ◌-◌, ◌<◌, ◌≤◌, false, cond, eqb, leb, ltb, ◌&&◌, List, [], ◌∷◌}
 use Rattle.std.proofs.Common.{◌++◌, length, length-append, length-drop, drop, refl, sym, ap, subst, ◌∙◌, inl, inr}
 use Rattle.std.proofs.Common.{arith}
@@ -18,7 +18,7 @@ use Rattle.mold_receiver.proofs.StoreLemmas.{run_is, none_some, lookup-from_next
 use Rattle.mold_receiver.proofs.RuleLemmas.{IsBetween, message_below, message_past, message_within, message_bounds}
 use Rattle.mold_receiver.proofs.RuleLemmas.{available_from, available_nothing, cut_is, stored_none, count_none}
 
--- nothing of the packet is at or above `next`: nothing is handed on, and the store stays
+-- If the packet has no message at or above `next`, nothing is delivered and the store is unchanged.
 pub nothing_handed : (s : Store) (next window most n : ℕ) (ms : List Message) → IsBetween s next window →
     ((q : ℕ) → next ≤ q → message_at n ms q ≡ None)
     → run_from (finite.get (available s next n ms)) next most ≡ []
@@ -73,7 +73,7 @@ agree (Some y) m x same stored =
     let held : x ≡ y = cc in
     held ∙ equal
 
--- pairs without a conflict agree with the store
+-- Numbered messages without a conflict agree with the store.
 no_conflict : (s : Store) (pairs : List (ℕ × Message)) → first_conflict s pairs ≡ None → (q : ℕ) (m x : Message) →
     lookup (eqb q) pairs ≡ Some m → finite.get s q ≡ Some x → x ≡ m
 no_conflict s [] none q m x is stored = absurd (none_some is)
@@ -92,14 +92,14 @@ no_conflict s (pair ∷ pairs) none q m x is stored =
           ]
     ]
 
--- a store and a packet without a conflict agree at each number from `next` on
+-- If there is no conflict, the store and the packet agree at each number from `next` on.
 pub same_unless_conflict : (s : Store) (next n : ℕ) (ms : List Message) → first_conflict s (from_next next n ms) ≡ None
     → (q : ℕ) (m x : Message) → next ≤ q → message_at n ms q ≡ Some m → finite.get s q ≡ Some x → x ≡ m
 same_unless_conflict s next n ms none q m x low is stored =
     no_conflict s (from_next next n ms) none q m x
     (lookup-from_next next n ms q ∙ cond-true (leb next q) (message_at n ms q) None (le-leb next q low) ∙ is) stored
 
--- the packet begins above `next`: nothing is handed on
+-- If the packet begins above `next`, nothing is delivered.
 pub ahead_handed : (s : Store) (next window most n : ℕ) (ms : List Message) → IsBetween s next window → next < n
     → run_from (finite.get (available s next n ms)) next most ≡ []
 ahead_handed s next window most n ms between above =
@@ -118,7 +118,7 @@ either_way None (Some x) same = refl
 either_way (Some m) None same = refl
 either_way (Some m) (Some x) same = ap (λ (y : Message). Some y) (sym (same m x refl refl))
 
--- and what is stored afterwards is the cut of what is available
+-- The new store is then the cut of what is available.
 pub ahead_stored : (s t : Store) (next window n : ℕ) (ms : List Message) → IsBetween s next window → next < n →
     first_conflict s (from_next next n ms) ≡ None
     → ((q : ℕ) → finite.get t q ≡ option_or (finite.get s q) (cond (ltb q (next + window)) (message_at n ms q) None))
@@ -151,7 +151,8 @@ ahead_stored s t next window n ms between above none looks =
     ∙ sym (looks q ∙ ap (option_or (finite.get s q))
     (cond-true (ltb q (next + window)) (message_at n ms q) None (lt-ltb q (next + window) high))))
 
--- the packet has the message `next`: it is handed on from there to its end, and then what is stored there
+-- If the packet has the message `next`, its messages from there on are delivered, and then the stored messages that
+-- follow.
 pub at_handed : (s : Store) (next window most n top : ℕ) (ms stored : List Message) → IsBetween s next window →
     n ≤ next → next < top → n + length ms ≡ top
     → ((i : ℕ) (m : Message) → slice_get stored i ≡ Some m → finite.get s (top + i) ≡ Some m)
@@ -194,7 +195,7 @@ at_handed s next window most n top ms stored between low high tops each stops fe
     ∙ stops))
     (omega (arith, whole, few))
 
--- the store then keeps what is behind the new `next`
+-- The store then keeps what is above the new `next`.
 pub at_stored : (s t : Store) (next window n new : ℕ) (ms : List Message) → IsBetween s next window → next ≤ new →
     n + length ms ≤ new → finite.get s new ≡ None
     → ((q : ℕ) → finite.get t q ≡ cond (ltb q new) None (finite.get s q))
@@ -218,7 +219,7 @@ at_stored s t next window n new ms between ahead top stops looks =
     ∙ ap (λ (o : Option Message). option_or o (finite.get s q)) (message_past n ms q (omega arith))
     ∙ sym (looks q ∙ cond-false (ltb q new) None (finite.get s q) (le-ltb q new (omega arith))))
 
--- nothing of it is stored or lies behind the window
+-- No message of that packet is stored or past the window.
 pub at_kept : (s t : Store) (n new : ℕ) (ms : List Message) → n + length ms ≤ new →
     ((q : ℕ) → finite.get t q ≡ cond (ltb q new) None (finite.get s q)) → count_kept s t (numbered n ms) ≡ 0
 at_kept s t n new ms top looks =

@@ -1,4 +1,4 @@
--- What a data packet in the gap does.
+-- The effect of a data packet in the gap.
 use Rattle.std.proofs.Common.{◌≡◌, ℕ, suc, ◌+◌, ◌-◌, ◌≤◌, max, true, false, ltb}
 use Rattle.std.proofs.Common.{◌&&◌}
 use Rattle.std.proofs.Common.{List, [], ◌∷◌, length, refl, sym, ap, subst, ◌∙◌, inl, inr, arith}
@@ -28,11 +28,11 @@ use Rattle.mold_receiver.proofs.RuleLemmas.{message_within, stored_past}
 use Rattle.mold_receiver.proofs.StoreLemmas.{get-cut, none_some, run_had}
 use Rattle.mold_receiver.proofs.ViewLemmas.{between_of}
 
--- a packet of so many messages that begins with the message `next`
+-- The data packet that begins with the message `next`.
 abbrev pub packet : View → List Message → Packet
 packet v ms = data_packet v.session v.next ms
 
--- a packet of so many messages, in the gap up to `end`; nothing refuses it
+-- The packet is in the gap up to `end`, and no refusal applies to it.
 pub record IsInGap (v : View) (ms : List Message) (end : ℕ) : Type 0 where
   pub well : IsWellFormed v
   pub gap : IsGap v end
@@ -64,7 +64,7 @@ in_gap admits v ms end well gap fits =
       }) agree;
     }
 
--- what is available behind the packet was stored
+-- Available messages after the packet's last one were stored before.
 behind : (v : View) (ms : List Message) (q : ℕ) → v.next + length ms ≤ q →
     finite.get (available v.store v.next v.next ms) q ≡ finite.get v.store q
 behind v ms q past =
@@ -129,7 +129,7 @@ messages_are message number (m ∷ ms) each =
     each (suc i) x is ∙ ap message at) in
     (λ i. (each 0 m refl ∙ ap message here) i ∷ rest i)
 
--- where nothing is stored below the packet's top, what is handed on is told by the numbers
+-- If nothing is stored below the packet's top, the numbers determine what is delivered.
 pub hands : (v : View) (ms : List Message) (end : ℕ) → IsInGap v ms end → HandsOn v ms (view_after v (packet v ms)).next
 hands v ms end is = record {
   handed = λ message carried stored.
@@ -152,7 +152,7 @@ not_none : (o : Option Message) → is_some o ≡ true → is_none o ≡ false
 not_none None some = absurd (true≢false (sym some))
 not_none (Some m) some = refl
 
--- as many are missing less as the packet has
+-- The number of missing messages falls by the number of the packet's messages.
 pub fewer : CountsLacking → (v : View) (ms : List Message) (end : ℕ) → IsInGap v ms end →
     missing v ≡ length ms + missing (view_after v (packet v ms))
 fewer counts v ms end is =

@@ -22,7 +22,7 @@ use Rattle.mold_receiver.proofs.LawLemmas.{handed_had, some_same, stored_had, ta
 use Rattle.mold_receiver.proofs.RefusalLemmas.{Admits, admitted_none, no_first_conflict}
 use Rattle.mold_receiver.proofs.StoreLemmas.{none_some}
 
--- what a true packet says
+-- What a true packet states.
 pub record IsTold (p : Packet) (published : List Message) : Type 0 where
   pub first : 1 ≤ p.sequence
   pub top : top_of p ≤ length published + 1
@@ -54,7 +54,7 @@ true_ends (Data messages) sequence published closed ended said ends end is = end
 true_ends Heartbeat sequence published closed ended said ends end is = ends end is
 true_ends End sequence published closed ended said ends end is = (said.0, sym (some_same is) ∙ said.1)
 
--- a view that is honest meets no refusal of what is true
+-- An honest view accepts what is true.
 pub refuses_nothing : Admits → (v : View) (p : Packet) (published : List Message) (closed : Bool) →
     IsHonest v published closed → IsTold p published → p.session ≡ v.session → IsTruePacket p published closed
     → refusal v p ≡ None
@@ -80,7 +80,7 @@ refuses_nothing admits v p published closed honest told same is_true =
       within = λ end is. omega (arith, top, (honest.ends end is).1);
     }) agree
 
--- and is honest when it has taken it
+-- It is honest after it accepted that.
 pub stays_honest : (v : View) (p : Packet) (published : List Message) (closed : Bool) →
     IsHonest v published closed → IsTold p published → IsTruePacket p published closed
     → refusal v p ≡ None → IsHonest (view_after v p) published closed
@@ -112,7 +112,7 @@ takes_honestly admits v p bytes published closed read honest told same is_true =
           ];
     }
 
--- what was published stays so
+-- A published message keeps its number.
 still_published : (published : List Message) (m : Message) (number : ℕ) (x : Message) →
     published_at published number ≡ Some x → published_at (published ++ m ∷ []) number ≡ Some x
 still_published published m number x is =

@@ -24,7 +24,7 @@ length-filled slots first [] = refl
 length-filled slots first (m ∷ ms) = length-filled (put_fresh slots first m) (suc first) ms
     ∙ length-put_fresh slots first m
 
--- another slot stays as it is
+-- Another slot is unchanged.
 put_other : (slots : List Slot) (i : ℕ) (m : Message) (at : ℕ) → (at ≡ i → ⊥) →
     slot_at (put_fresh slots i m) at ≡ slot_at slots at
 put_other slots i m at other =
@@ -53,7 +53,7 @@ none_is : (o : Option Message) → is_none o ≡ true → o ≡ None
 none_is None none = refl
 none_is (Some m) none = absurd (cc none)
 
--- the slot that a message is for has what it had, or else the message, where there is such a slot
+-- The message's own slot keeps what it has. If it exists and is empty, it gets the message.
 put_here : (slots : List Slot) (i : ℕ) (m : Message) →
     slot_at (put_fresh slots i m) i ≡ option_or (slot_at slots i) (cond (ltb i (length slots)) (Some m) None)
 put_here slots i m =
@@ -105,7 +105,7 @@ both_ways : (b : Bool) (o : Option Message) → cond b o o ≡ o
 both_ways true o = refl
 both_ways false o = refl
 
--- with the messages put, a slot has what it had, or else the packet's message
+-- After all messages are put, a slot has what it had before, or otherwise the packet's message.
 pub slot_filled : (slots : List Slot) (first : ℕ) (ms : List Message) (at : ℕ)
     → slot_at (filled slots first ms) at ≡ option_or (slot_at slots at)
     (cond (ltb at (length slots)) (message_at first ms at) None)
@@ -138,7 +138,7 @@ slot_filled slots first (m ∷ ms) at =
           (message_behind first m ms at other))
     ]
 
--- the slots behind one that is written are as free as before
+-- The other slots are as free as before.
 still_fresh : (slots : List Slot) (i : ℕ) (m : Message) (at : ℕ) → (at ≡ i → ⊥) →
     is_fresh (put_fresh slots i m) at ≡ is_fresh slots at
 still_fresh slots i m at other =
@@ -154,7 +154,7 @@ fresh_behind slots i m first (x ∷ ms) below =
     ∙ ap (λ (t : List (ℕ × Message)). cond (is_fresh slots first) ((first, x) ∷ t) t)
     (fresh_behind slots i m (suc first) ms (omega (arith, below)))
 
--- how many of some messages are put: whether the first is, and how many of the others
+-- The number of messages that are put is 1 or 0 for the first one, plus the number for the others.
 pub count_fresh : (slots : List Slot) (first : ℕ) (m : Message) (ms : List Message)
     → length (fresh slots first (m ∷ ms)) ≡ cond (is_fresh slots first) 1 0
     + length (fresh (put_fresh slots first m) (suc first) ms)
@@ -166,7 +166,7 @@ count_fresh slots first m ms =
       | false ↦ omega (arith, same)
     ]
 
--- where there is no empty slot for the first of some messages, only the others count
+-- If there is no empty slot for the first message, only the others count.
 pub fresh_later : (slots : List Slot) (first : ℕ) (m : Message) (ms : List Message) → is_fresh slots first ≡ false →
     fresh slots first (m ∷ ms) ≡ fresh slots (suc first) ms
 fresh_later slots first m ms taken = cond-false _ _ _ taken
@@ -178,7 +178,7 @@ fresh_some slots first m ms free =
     (cond-true (is_fresh slots first) ((first, m) ∷ fresh slots (suc first) ms) (fresh slots (suc first) ms) free) in
     omega (arith, some)
 
--- what is said not to be more than none is none
+-- A number that isn't greater than 0 is 0.
 pub none_said : (n : ℕ) → (0 < n → false ≡ true) → n ≡ 0
 none_said zero said = refl
 none_said (suc n) said = absurd (cc (said (omega arith)))
@@ -186,7 +186,7 @@ none_said (suc n) said = absurd (cc (said (omega arith)))
 pub none_held : (slots : List Slot) (i : ℕ) → false ≡ is_some (slot_at slots i) → slot_at slots i ≡ None
 none_held slots i none = no_some (slot_at slots i) none
 
--- where there is an empty slot for none of the messages, the slots stay as they are
+-- If there is no empty slot for any of the messages, the slots are unchanged.
 pub filled_none : (slots : List Slot) (first : ℕ) (ms : List Message) → length (fresh slots first ms) ≡ 0 →
     filled slots first ms ≡ slots
 filled_none slots first [] none = refl

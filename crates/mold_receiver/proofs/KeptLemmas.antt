@@ -1,4 +1,4 @@
--- A shelf stays as it should be.
+-- The fields of a shelf stay consistent.
 use Rattle.std.proofs.Common.{◌≡◌, ℕ, ◌+◌, ◌-◌, ◌<◌, ◌≤◌, ◌^◌, ◌⊎◌, max, true, cond, List, [], ◌∷◌, ◌++◌, length, drop}
 use Rattle.std.proofs.Common.{slice_set, replicate, length-append, refl, sym, ap, subst, ◌∙◌, arith, Vec, Global}
 use Rattle.std.specs.Prelude.{Option, None, Some, is_some, is_none}
@@ -20,7 +20,7 @@ use Rattle.mold_receiver.proofs.SlotLemmas.{all_empty, are_empty, are_moved, are
 use Rattle.mold_receiver.proofs.StoreLemmas.{none_some}
 use Rattle.mold_receiver.proofs.SlotLemmas.{bytes_none, bytes_put, bytes_released, empty_view, moved_view}
 
--- more bytes behind the others
+-- Bytes are appended.
 pub more_on : (old : Shelf) (bytes : Vec ℕ Global) (more : List ℕ) → IsKept old → bytes.items ≡ old.bytes.items ++ more →
     slots_on (record old { bytes = bytes }) ≡ slots_on old
 more_on old bytes more kept joins =
@@ -43,7 +43,7 @@ kept_more old bytes more kept joins few =
       few = omega (arith, few, long);
     }
 
--- a message in a slot that was empty
+-- A message is put into an empty slot.
 pub put_on : (old : Shelf) (ring : Buffer (Option Span)) (slot : ℕ) (span : Span) →
     ring ≡ record old.ring { items = slice_set old.ring.items slot (Some span) }
     → slots_in old.bytes.items ring.items ≡
@@ -94,7 +94,7 @@ kept_put old ring slot span clear kept is free ordered ends behind before known 
       few = kept.few;
     }
 
--- the slots moved on
+-- The slots move by one.
 pub moved_on : (old : Shelf) (ring : Buffer (Option Span)) →
     ring ≡ record old.ring { items = drop 1 old.ring.items ++ None ∷ [] }
     → slots_in old.bytes.items ring.items ≡ drop 1 (slots_on old) ++ None ∷ []
@@ -122,7 +122,7 @@ kept_moved old ring held used clear reach kept is counted sum less empties reach
       few = kept.few;
     }
 
--- the first slot had no message
+-- The first slot was empty.
 pub kept_moved_none : (old : Shelf) (ring : Buffer (Option Span)) (clear reach : ℕ) → IsKept old →
     ring ≡ record old.ring { items = drop 1 old.ring.items ++ None ∷ [] } → span_at old.ring.items 0 ≡ None
     → clear ≡ old.clear - 1 → reach ≡ old.reach - 1
@@ -142,7 +142,7 @@ kept_moved_none old ring clear reach kept is first empties reaches =
     (same ∙ ap (λ (o : Option Message). old.held - cond (is_some o) 1 0) (sym none))
     (kept.used ∙ sym (bytes_moved (slots_on old) none)) (omega arith) empties reaches
 
--- the first slot had a message
+-- The first slot had a message.
 pub kept_moved_some : (old : Shelf) (ring : Buffer (Option Span)) (span : Span) (clear reach : ℕ) → IsKept old →
     ring ≡ record old.ring { items = drop 1 old.ring.items ++ None ∷ [] } → span_at old.ring.items 0 ≡ Some span
     → clear ≡ old.clear - 1 → reach ≡ old.reach - 1
@@ -174,7 +174,7 @@ count_first [] m is = absurd (none_some is)
 count_first (None ∷ slots) m is = absurd (none_some is)
 count_first (Some x ∷ slots) m is = omega arith
 
--- of the first slot's message
+-- Facts about the first slot's message.
 pub first_fits : (old : Shelf) (span : Span) → IsKept old → span_at old.ring.items 0 ≡ Some span →
     (0 < old.held) × (span.start ≤ span.end) × (span.end - span.start ≤ old.used)
 first_fits old span kept first =
@@ -192,7 +192,7 @@ first_fits old span kept first =
       ),
     )
 
--- empty slots, and no bytes
+-- All slots are empty, and there are no bytes.
 pub kept_new : (ring : Buffer (Option Span)) (bytes : Vec ℕ Global) (window : ℕ) → 0 < window → window ≤ 65536 →
     ring ≡ record { items = replicate window None; capacity = window } → bytes.items ≡ [] →
     IsKept (record { ring = ring; bytes = bytes; held = 0; used = 0; clear = 0; reach = 0 })
@@ -210,7 +210,7 @@ kept_new ring bytes window some few is none_yet =
       few = omega (arith, ap (λ (t : List ℕ). length t) none_yet);
     })
 
--- the bytes go where no slot has a message
+-- The bytes are removed if all slots are empty.
 pub gone_on : (old : Shelf) (bytes : Vec ℕ Global) → IsKept old → old.held ≡ 0 →
     slots_in bytes.items old.ring.items ≡ slots_on old
 gone_on old bytes kept none =
@@ -245,7 +245,7 @@ kept_gone old bytes kept none gone =
       few = omega (arith, ap (λ (t : List ℕ). length t) gone);
     }
 
--- more slots from the front are known to be empty
+-- More slots at the start of the ring are known to be empty.
 pub kept_clear : (old : Shelf) (clear : ℕ) → IsKept old → ((i : ℕ) → i < clear → slot_at (slots_on old) i ≡ None) →
     IsKept (record old { clear = clear })
 kept_clear old clear kept empty = record {
@@ -264,7 +264,7 @@ kept_clear old clear kept empty = record {
   few = kept.few;
 }
 
--- the messages joined, and their spans closed up
+-- The messages are joined, and their spans follow one another without waste.
 pub packed_on : (old : Shelf) (ring : Buffer (Option Span)) (bytes : Vec ℕ Global) → IsKept old →
     ring ≡ record old.ring { items = closed_up 0 old.ring.items } → bytes.items ≡ joined (slots_on old) →
     slots_in bytes.items ring.items ≡ slots_on old

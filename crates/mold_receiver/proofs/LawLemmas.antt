@@ -1,4 +1,4 @@
--- The laws, over the definitions alone.
+-- The laws of the definitions.
 use Rattle.std.proofs.Common.{◌≡◌, ℕ, zero, suc, ◌+◌, ◌-◌, ◌<◌, ◌≤◌, ◌^◌, ◌⊎◌, max, min, Bool, true, not, cond, eqb}
 use Rattle.std.proofs.Common.{get_or, [], ltb, ◌&&◌, List, refl, sym, ap, subst, ◌∙◌, inl, inr, arith}
 use Rattle.std.specs.Prelude.{Option, None, Some, Result, Ok, Err, is_some, slice_get}
@@ -39,7 +39,7 @@ same_ok e = cc
 err_ok : {x : Refusal} {y : Reception} → ◌≡◌ {A = Result Reception Refusal} (Err x) (Ok y) → ⊥
 err_ok e = cc
 
--- past what was heard of nothing is available
+-- No number at or above both `known` and the packet's top is available.
 past_known : (v : View) (p : Packet) → IsWellFormed v →
     finite.get (available v.store v.next p.sequence (messages_of p.body))
     (v.next + (max v.known (top_of p) - v.next)) ≡ None
@@ -153,7 +153,7 @@ receives_well v bytes r well is =
     let taken = is_taken v bytes r is in
     subst (λ (r : Reception). IsWellFormed r.view) (sym taken.taken) (takes_well v taken.packet well taken.accepted)
 
--- a packet that begins at or below `next` is handed on to its end
+-- A packet that begins at or below `next` is delivered to its end.
 pub goes_through : (v : View) (p : Packet) → IsWellFormed v → p.sequence ≤ v.next → top_of p ≤ (view_after v p).next
 goes_through v p well begun =
     let new = (view_after v p).next in
@@ -169,7 +169,7 @@ goes_through v p well begun =
           ∙ ap (λ (o : Option Message). option_or o (finite.get v.store new)) there))
     ]
 
--- what is wanted
+-- The request that is wanted.
 ask : View → Request
 ask v = record { session = v.session; sequence = v.next; count = min 65534 (gap_end v - v.next) }
 
@@ -193,7 +193,7 @@ wanted_is v r is =
       ap (λ (q : Request). q.count) (sym asked),
     )
 
--- the gap ends at a stored message or at `known`
+-- The gap ends at a stored message or at `known`.
 gap_stops : (look : ℕ → Option Message) (number most : ℕ) →
     (lacking_run look number most ≡ most) ⊎ (is_some (look (number + lacking_run look number most)) ≡ true)
 unfolding lacking_run

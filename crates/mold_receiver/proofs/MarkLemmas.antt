@@ -1,4 +1,4 @@
--- Message blocks in bytes that were copied, and the messages that are marked there.
+-- Message blocks in copied bytes, and the messages that are marked there.
 use Rattle.std.proofs.Common.{◌≡◌, ℕ, ◌+◌, ◌≤◌, List, [], ◌∷◌, ◌++◌, length, length-append, take, drop}
 use Rattle.std.proofs.Common.{append_assoc, refl, sym, ap, ◌∙◌, arith}
 use Rattle.std.proofs.lemmas.List.{append-nil, drop-drop, drop_at, length-drop, take_at}
@@ -9,7 +9,7 @@ use Rattle.mold_receiver.specs.Store.{Message}
 two_long : (n : ℕ) → length (be16 n) ≡ 2
 two_long n = refl
 
--- where a message lies whose block stands at a place in some bytes, and what stands behind it
+-- A message block is at the offset `at` of the bytes, and the blocks of other messages follow it.
 pub record IsThere (bytes : List ℕ) (at : ℕ) (message : Message) (messages : List Message) : Type 0 where
   pub within : at + 2 + length message ≤ length bytes
   pub lies : take (length message) (drop (at + 2) bytes) ≡ message
@@ -43,7 +43,7 @@ is_there bytes at message messages there =
           ∙ drop_at message (blocks messages) (length message) refl;
     }
 
--- while messages are marked: those that were, and those that are left
+-- The state of a loop that marks messages: those already marked, and those that remain.
 pub record IsMarking (old new left whole : List Message) : Type 0 where
   pub more : List Message
   pub messages : new ≡ old ++ more

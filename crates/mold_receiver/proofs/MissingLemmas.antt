@@ -1,4 +1,4 @@
--- How many messages are missing: those that the store lacks below `known`.
+-- The number of missing messages: those below `known` that the store lacks.
 use Rattle.std.proofs.Common.{◌≡◌, ℕ, zero, suc, ◌+◌, ◌-◌, ◌<◌, ◌≤◌, Bool, true, false, cond, eqb}
 use Rattle.std.proofs.Common.{refl, sym, ap, subst, ◌∙◌, inl, inr, arith, nat_cmp}
 use Rattle.std.specs.Prelude.{Option, None, Some, is_none, is_some}
@@ -12,7 +12,7 @@ use Rattle.mold_receiver.specs.Wanted.{lacks, missing}
 use Rattle.mold_receiver.proofs.RuleLemmas.{none_unless}
 use Rattle.mold_receiver.proofs.StoreLemmas.{none_some, same_store}
 
--- what the ranges' crate says of the count
+-- The laws of `mold_rule` on counting missing numbers.
 pub record CountsLacking : Type 0 where
   pub parts : (f : ℕ → Bool) (low count more : ℕ) →
       lacking f low (count + more) ≡ lacking f low count + lacking f (low + count) more
@@ -23,7 +23,7 @@ pub record CountsLacking : Type 0 where
   pub same : (f g : ℕ → Bool) (low count : ℕ) →
       ((q : ℕ) → low ≤ q → q < low + count → f q ≡ g q) → lacking f low count ≡ lacking g low count
 
--- each stored message has one of so many numbers from the lowest on
+-- Each stored message has one of the `count` numbers from `low` on.
 abbrev Lies : Store → ℕ → ℕ → Type 0
 Lies s low count = (q : ℕ) (m : Message) → finite.get s q ≡ Some m → (low ≤ q) × (q < low + count)
 
@@ -81,7 +81,7 @@ lacking_one counts f low count =
 at_low : (f : ℕ → Bool) (b : Bool) (low : ℕ) → f low ≡ b → (q : ℕ) → low ≤ q → q < low + 1 → f q ≡ b
 at_low f b low here q from below = ap f (let e : q ≡ low = omega (arith, from, below) in e) ∙ here
 
--- what is lacking and what is stored are all numbers
+-- The missing and the stored numbers together are all numbers.
 pub lacking_stored : CountsLacking → (count low : ℕ) (s : Store) → Lies s low count →
     lacking (lacks s) low count + finite.len s ≡ count
 lacking_stored counts zero low s lies =

@@ -1,4 +1,4 @@
--- What becomes of a view over slots where a packet has the message `next`.
+-- The view over slots after a packet that has the message `next`.
 use Rattle.std.proofs.Common.{◌≡◌, ℕ, ◌+◌, ◌-◌, ◌<◌, ◌≤◌, max, min, cond, ltb, List, [], ◌++◌, length, length-append}
 use Rattle.std.proofs.Common.{length-drop, drop, replicate, get_or, sym, ap, subst, ◌∙◌, inl, inr, arith}
 use Rattle.std.specs.Prelude.{Option, None, Some, slice_get}
@@ -18,7 +18,7 @@ use Rattle.mold_receiver.proofs.SlotLemmas.{slot_past, slot_moved}
 use Rattle.mold_receiver.proofs.StoreLemmas.{run_reads, run_ends, run_short}
 use Rattle.mold_receiver.proofs.ViewLemmas.{between_of, get_from, get_below}
 
--- what is stored when the slots have moved on
+-- What is stored after the slots moved.
 pub moved_looks : (next new : ℕ) (slots : List Slot) (count : ℕ) → next ≤ new →
     count ≡ min (new - next) (length slots) → (q : ℕ)
     → finite.get (store_of new (drop count slots ++ replicate count None)) q ≡ cond (ltb q new) None
@@ -39,7 +39,7 @@ moved_looks next new slots count ahead is q =
           ∙ sym (cond-false (ltb q new) None (finite.get (store_of next slots) q) (le-ltb q new low))
     ]
 
--- the stored run behind a packet
+-- The stored messages that follow a packet.
 pub record IsRun (next known top : ℕ) (slots : List Slot) (stored : List Message) : Type 0 where
   pub each : (i : ℕ) (m : Message) → slice_get stored i ≡ Some m → finite.get (store_of next slots) (top + i) ≡ Some m
   pub stops : finite.get (store_of next slots) (top + length stored) ≡ None
@@ -75,7 +75,7 @@ run_of_slots session next known ended slots top well ahead =
           ];
     }
 
--- a packet that has the message `next`: what is handed on
+-- The messages that such a packet delivers.
 pub at_run : (session : Session) (next known : ℕ) (ended : Option ℕ) (slots : List Slot) (n top : ℕ) (ms : List Message)
     → IsWellFormed (view_over session next known ended slots) → n ≤ next → next < top → n + length ms ≡ top
     → handed_on (view_over session next known ended slots) n ms ≡ run_of slots next n top ms
@@ -92,7 +92,7 @@ pub length-run_of : (slots : List Slot) (next n top : ℕ) (ms : List Message) �
 length-run_of slots next n top ms low high tops =
     omega (arith, tops, length-append (drop (next - n) ms) (run_in slots (top - next)), length-drop (next - n) ms)
 
--- and the new view is over the slots that moved on
+-- The new view is over the slots that moved.
 pub at_view : (session : Session) (next known : ℕ) (ended : Option ℕ) (slots : List Slot) (n top : ℕ)
     (ms : List Message) (new count : ℕ)
     → IsWellFormed (view_over session next known ended slots) → n ≤ next → next < top → n + length ms ≡ top
@@ -172,7 +172,7 @@ handed_view session next known ended slots n top ms new count new_known new_slot
     (λ i. view_over session new (knows i) ended (moved i))
     ∙ sym (at_view session next known ended slots n top ms new count well low high tops is counted)
 
--- a run is no longer than the packet and the slots
+-- A run has at most as many messages as the packet and the slots together.
 pub run_few : (slots : List Slot) (next n top : ℕ) (ms : List Message) → n ≤ next → next < top → n + length ms ≡ top →
     length (run_of slots next n top ms) ≤ length ms + length slots
 run_few slots next n top ms low high tops =
@@ -183,7 +183,7 @@ run_few slots next n top ms low high tops =
       run_short (slot_at slots) (top - next) (length slots - (top - next)),
     )
 
--- a packet that has the message `next` hands something on
+-- A packet that has the message `next` delivers at least one message.
 pub some_handed : (session : Session) (next known : ℕ) (ended : Option ℕ) (slots : List Slot) (n top : ℕ)
     (ms : List Message)
     → IsWellFormed (view_over session next known ended slots) → n ≤ next → next < top → n + length ms ≡ top

@@ -1,4 +1,4 @@
--- What becomes of a view where a packet has no message from `next` on.
+-- The view after a packet that has no message from `next` on.
 use Rattle.std.proofs.Common.{◌≡◌, ℕ, suc, ◌+◌, ◌-◌, ◌≤◌, max, leb, List, [], ◌∷◌, length, refl, ap, ◌∙◌, inl, inr}
 use Rattle.std.proofs.Common.{◌⊎◌, arith, nat_cmp}
 use Rattle.std.specs.Prelude.{Option, None, Some, slice_get}
@@ -14,7 +14,7 @@ use Rattle.mold_receiver.proofs.CaseLemmas.{nothing_handed, nothing_stored, noth
 use Rattle.mold_receiver.proofs.RuleLemmas.{message_below, message_past, message_within, count_from}
 use Rattle.mold_receiver.proofs.ViewLemmas.{between_of}
 
--- a packet of which nothing is at or above `next`
+-- The packet has no message at or above `next`.
 pub nothing_view : (v : View) (p : Packet) (top : ℕ) → IsWellFormed v → top_of p ≡ top →
     ((q : ℕ) → v.next ≤ q → message_at p.sequence (messages_of p.body) q ≡ None)
     → view_after v p ≡ record v { known = max v.known top; ended = ended_after p.body p.sequence v.ended }
@@ -51,7 +51,7 @@ nothing_taken v p top well tops nothing past =
           past i;
     })
 
--- where the packet ends at or below `next`, or has no messages, nothing of it is at or above `next`
+-- If the packet ends at or below `next`, or has no messages, it has no message at or above `next`.
 pub nothing_there : (next n : ℕ) (ms : List Message) → (n + length ms ≤ next) ⊎ (ms ≡ []) → (q : ℕ) → next ≤ q →
     message_at n ms q ≡ None
 nothing_there next n ms (inl below) q low = message_past n ms q (omega arith)
@@ -73,7 +73,7 @@ none_handed v n ms well nothing =
     nothing_handed v.store v.next v.window (max v.known (n + length ms) - v.next) n ms (between_of v well)
     (nothing_there v.next n ms nothing)
 
--- a packet wholly below `next` meets no conflict, and none does where nothing is stored
+-- A packet wholly below `next` has no conflict. If nothing is stored, no packet has one.
 pub below_no_conflict : (s : Store) (next n : ℕ) (ms : List Message) → n + length ms ≤ next →
     first_conflict s (from_next next n ms) ≡ None
 below_no_conflict s next n [] below = refl

@@ -1,4 +1,4 @@
--- Messages that are packed: they are joined, and their spans lie one behind the other.
+-- Compaction: the messages are joined, and their spans follow one another.
 use Rattle.std.proofs.Common.{◌≡◌, ℕ, zero, suc, ◌+◌, ◌-◌, ◌<◌, ◌≤◌, List, [], ◌∷◌, ◌++◌, length, take, drop, slice_set}
 use Rattle.std.proofs.Common.{length-append, append_assoc, add-one, refl, sym, ap, subst, ◌∙◌, arith}
 use Rattle.std.specs.Prelude.{Option, None, Some}
@@ -16,7 +16,7 @@ length-joined [] = refl
 length-joined (None ∷ slots) = length-joined slots
 length-joined (Some m ∷ slots) = length-append m (joined slots) ∙ ap (λ (n : ℕ). length m + n) (length-joined slots)
 
--- the messages of the first slots, and of one more that is empty, or has a message
+-- The joined messages of one more slot, if it is empty and if it has a message.
 joined_none : (slots : List Slot) (i : ℕ) → slot_at slots i ≡ None → joined (take (suc i) slots) ≡ joined (take i slots)
 joined_none [] zero none = refl
 joined_none [] (suc i) none = refl
@@ -41,7 +41,7 @@ pub joined_more : (slots : List Slot) (i : ℕ) (m : Message) → slot_at slots 
     joined (take (i + 1) slots) ≡ joined (take i slots) ++ m
 joined_more slots i m is = ap (λ (n : ℕ). joined (take n slots)) (add-one i) ∙ joined_some slots i m is
 
--- empty slots have no messages
+-- Empty slots have no messages.
 joined_empty : (slots : List Slot) → ((i : ℕ) → slot_at slots i ≡ None) → joined slots ≡ []
 joined_empty [] none = refl
 joined_empty (None ∷ slots) none = joined_empty slots (λ i. none (suc i))
@@ -118,7 +118,7 @@ closing_length spans i within =
       length-drop i spans,
     )
 
--- while spans are closed up, a slot that wasn't reached has its span yet
+-- The state of a loop that closes spans up: a slot that wasn't reached yet has its old span.
 pub closing_at : (spans : List (Option Span)) (i : ℕ) → i < length spans →
     span_at (closed_up 0 (take i spans) ++ drop i spans) i ≡ span_at spans i
 closing_at spans i within =
@@ -129,7 +129,7 @@ closing_at spans i within =
     ∙ ap (span_at (front ++ span_at spans i ∷ drop (suc i) spans)) (sym long)
     ∙ at_behind front (span_at spans i) (drop (suc i) spans)
 
--- and one more is moved
+-- One more span is moved.
 pub closing_more : (spans : List (Option Span)) (i : ℕ) → i < length spans →
     slice_set (closed_up 0 (take i spans) ++ drop i spans) i (moved_to (joined_length (take i spans)) (span_at spans i)) ≡
     closed_up 0 (take (i + 1) spans) ++ drop (i + 1) spans
@@ -161,7 +161,7 @@ closed_front at (slot ∷ spans) (suc n) none =
     ap (λ (t : List (Option Span)). moved_to at slot ∷ t)
     (closed_front (at + size_of slot) spans n (λ i from. none (suc i) (omega (arith, from))))
 
--- once each span up to the last is moved, all are closed up
+-- After the last span is moved, all are closed up.
 pub closing_done : (spans : List (Option Span)) (reach : ℕ) → AreNoneFrom reach spans →
     closed_up 0 (take reach spans) ++ drop reach spans ≡ closed_up 0 spans
 closing_done spans reach none = closed_front 0 spans reach none
@@ -174,7 +174,7 @@ message_behind front m rest at n long wide =
     ∙ ap (λ (k : ℕ). take k (m ++ rest)) same
     ∙ take_at m rest n wide
 
--- spans that are closed up have the same messages in the joined ones
+-- Closed-up spans have the same messages in the joined bytes.
 closed_slots : (bytes front : List ℕ) (at : ℕ) (spans : List (Option Span)) → AreWithin spans (length bytes) →
     length front ≡ at → slots_in (front ++ joined (slots_in bytes spans)) (closed_up at spans) ≡ slots_in bytes spans
 closed_slots bytes front at [] within long = refl

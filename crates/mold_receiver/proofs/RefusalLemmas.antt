@@ -1,4 +1,4 @@
--- What the rule refuses of a packet by a view.
+-- The refusals of a packet by a view.
 use Rattle.std.proofs.Common.{◌≡◌, ℕ, suc, ◌+◌, false, not, leb, List, [], ◌∷◌, refl, sym, ap, subst, ◌∙◌}
 use Rattle.std.proofs.Common.{inl, inr, arith}
 use Rattle.std.specs.Prelude.{Option, None, Some, Result, Ok, Err, slice_get}
@@ -16,19 +16,19 @@ use Rattle.mold_receiver.specs.Store.{Message, Store, differs, first_conflict, f
 use Rattle.mold_receiver.specs.View.{View}
 use Rattle.mold_receiver.proofs.StoreLemmas.{none_some}
 
--- what the rule's law says of packets that it admits
+-- The rule's law on packets that it admits.
 abbrev pub Admits : Type 0
 Admits = (session : Option (List ℕ)) (known : ℕ) (ended : Option ℕ) (p : Packet) →
     IsAdmitted session known ended p → refusal_of session known ended None p ≡ None
 
--- a packet that is admitted, and differs from the store at no number, is refused by nothing
+-- If a packet is admitted and differs from the store at no number, no refusal applies to it.
 pub admitted_none : Admits → (v : View) (p : Packet) → IsAdmitted (Some v.session.0) v.known v.ended p →
     first_conflict v.store (from_next v.next p.sequence (messages_of p.body)) ≡ None → refusal v p ≡ None
 admitted_none admits v p is same =
     ap (λ (o : Option ℕ). refusal_of (Some v.session.0) v.known v.ended o p) same
     ∙ admits (Some v.session.0) v.known v.ended p is
 
--- each of some refusals is none
+-- None of these refusals applies.
 abbrev pub AllNone : List (Option Refusal) → Type 0
 AllNone [] = Unit {0}
 AllNone (r ∷ rs) = (r ≡ None) × AllNone rs
@@ -38,7 +38,7 @@ all_none [] none = tt
 all_none (None ∷ rs) none = (refl, all_none rs none)
 all_none (Some r ∷ rs) none = absurd (none_some (sym none))
 
--- of a packet that nothing refuses, each refusal is none
+-- If no refusal applies to a packet, each single one is none.
 pub each_none : (v : View) (p : Packet) → refusal v p ≡ None →
     AllNone (refusals (Some v.session.0) v.known v.ended
     (first_conflict v.store (from_next v.next p.sequence (messages_of p.body))) p)
@@ -46,7 +46,7 @@ each_none v p none =
     all_none (refusals (Some v.session.0) v.known v.ended
     (first_conflict v.store (from_next v.next p.sequence (messages_of p.body))) p) none
 
--- what the rule's law says of memory
+-- The rule's law on `Memory`.
 abbrev pub NamesNoMemory : Type 0
 NamesNoMemory = (session : Option (List ℕ)) (known : ℕ) (ended number : Option ℕ) (p : Packet) →
     refusal_of session known ended number p ≡ Some Memory → ⊥
@@ -64,7 +64,7 @@ decided : (o : Option Refusal) (r : Reception) (x : Refusal) → decide o r ≡ 
 decided None r x is = absurd (ok_err is)
 decided (Some y) r x is = ap (λ (z : Refusal). Some z) (same_refused is)
 
--- so the receiving rule never answers it
+-- The receiving rule never refuses with `Memory`.
 pub never_memory : NamesNoMemory → (v : View) (read : Result Packet DecodeError) → receive_read v read ≡ Err Memory → ⊥
 never_memory never v (Ok p) is =
     never (Some v.session.0) v.known v.ended
@@ -76,7 +76,7 @@ same_message : (o : Option Message) (m : Message) → ((x : Message) → o ≡ S
 same_message None m same = refl
 same_message (Some x) m same = ap not ((bytes_eq-Decides x m).1 (same x refl))
 
--- messages that agree with the store at each number meet no conflict
+-- Messages that agree with the store at each number have no conflict.
 pub no_first_conflict : (s : Store) (next n : ℕ) (ms : List Message)
     → ((i : ℕ) (m x : Message) → slice_get ms i ≡ Some m → finite.get s (n + i) ≡ Some x → x ≡ m)
     → first_conflict s (from_next next n ms) ≡ None

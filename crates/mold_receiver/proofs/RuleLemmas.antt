@@ -1,5 +1,5 @@
--- What the receiving rule says in its three cases: nothing of the packet is at or above `next`, the packet
--- begins above `next`, or it has the message `next`.
+-- The receiving rule in its three cases: the packet has nothing at or above `next`, it begins above `next`, or it has
+-- the message `next`.
 use Rattle.std.proofs.Common.{◌≡◌, ℕ, suc, ◌+◌, ◌-◌, ◌<◌, ◌≤◌, max, Bool, false, leb, ltb, ◌&&◌, List, [], ◌∷◌, length}
 use Rattle.std.proofs.Common.{refl, sym, ap, ◌∙◌, inl, inr, ◌⊎◌, arith, nat_le}
 use Rattle.std.specs.Prelude.{Option, None, Some, slice_get}
@@ -14,11 +14,11 @@ use Rattle.mold_receiver.specs.Store.{Message, Store, numbered, available, cut}
 use Rattle.mold_receiver.specs.Receive.{count_beyond}
 use Rattle.mold_receiver.proofs.StoreLemmas.{get-available, get-cut, same_store, none_some}
 
--- what is stored lies between `next` and the window's end
+-- Stored messages are above `next` and in the window.
 abbrev pub IsBetween : Store → ℕ → ℕ → Type 0
 IsBetween store next window = (q : ℕ) (m : Message) → finite.get store q ≡ Some m → (next < q) × (q < next + window)
 
--- an option that is none, as nothing that it could be is there
+-- An option is none if it can be nothing else.
 pub none_unless : {X : Type 0} (o : Option X) → ((x : X) → o ≡ Some x → ⊥) → o ≡ None
 none_unless None never = refl
 none_unless (Some x) never = absurd (never x refl)
@@ -36,7 +36,7 @@ message_past n ms q past = cond-true _ _ _ (le-leb n q (omega arith)) ∙ slice_
 pub message_within : (n : ℕ) (ms : List Message) (q : ℕ) → n ≤ q → message_at n ms q ≡ slice_get ms (q - n)
 message_within n ms q low = cond-true _ _ _ (le-leb n q low)
 
--- a packet's message stands within the packet's numbers
+-- Each message of a packet has one of the packet's numbers.
 pub message_bounds : (n : ℕ) (ms : List Message) (q : ℕ) (m : Message) → message_at n ms q ≡ Some m →
     (n ≤ q) × (q < n + length ms)
 message_bounds n ms q m is =
@@ -59,7 +59,7 @@ available_from s next n ms q low =
     get-available s next n ms q
     ∙ ap (λ (o : Option Message). option_or o (finite.get s q)) (cond-true _ _ _ (le-leb next q low))
 
--- what is available is the packet's, or it was stored
+-- An available message is the packet's, or it was stored.
 pub available_cases : (s : Store) (next n : ℕ) (ms : List Message) (q : ℕ) (m : Message) →
     finite.get (available s next n ms) q ≡ Some m
     → ((next ≤ q) × (message_at n ms q ≡ Some m)) ⊎ (finite.get s q ≡ Some m)
@@ -79,7 +79,7 @@ available_cases s next n ms q m is =
           ] refl
     ]
 
--- the store and a packet of which nothing is at or above `next` have only the store available
+-- If the packet has nothing at or above `next`, only the stored messages are available.
 pub available_nothing : (s : Store) (next n : ℕ) (ms : List Message) →
     ((q : ℕ) → next ≤ q → message_at n ms q ≡ None) → available s next n ms ≡ s
 available_nothing s next n ms nothing = same_store _ _ (λ q.
@@ -89,7 +89,7 @@ available_nothing s next n ms nothing = same_store _ _ (λ q.
           ∙ ap (λ (o : Option Message). option_or o (finite.get s q)) (nothing q low)
     ])
 
--- a store whose messages lie between, and that agrees there, is the cut
+-- A store is the cut if all its messages are within the limits and the stores agree there.
 pub cut_is : (s t : Store) (next window : ℕ) → IsBetween t next window →
     ((q : ℕ) → next < q → q < next + window → finite.get s q ≡ finite.get t q) → cut s next window ≡ t
 cut_is s t next window between agrees = same_store _ _ (λ q.
@@ -107,7 +107,7 @@ cut_is s t next window between agrees = same_store _ _ (λ q.
           ∙ outside)))
     ])
 
--- what is stored isn't at or below `next`
+-- Nothing is stored at or below `next`.
 pub stored_none : (s : Store) (next window : ℕ) → IsBetween s next window → (q : ℕ) → q ≤ next → finite.get s q ≡ None
 stored_none s next window between q low =
     none_unless (finite.get s q) (λ m is. let lies = between q m is in omega (arith, lies.0))
@@ -117,7 +117,7 @@ pub stored_past : (s : Store) (next window : ℕ) → IsBetween s next window �
 stored_past s next window between q past =
     none_unless (finite.get s q) (λ m is. let lies = between q m is in omega (arith, lies.1))
 
--- numbers are counted by a test of them
+-- Two tests that agree count the same numbers.
 pub count_same : (P Q : ℕ → Bool) (n f : ℕ) (ms : List Message) → ((i : ℕ) → i < length ms → P (n + i) ≡ Q (f + i))
     → length (filter (λ (p : ℕ × Message). P p.0) (numbered n ms)) ≡ length
     (filter (λ (p : ℕ × Message). Q p.0) (numbered f ms))

@@ -1,4 +1,4 @@
--- Spans, and the slots that they stand for.
+-- Spans, and the slots that they represent.
 use Rattle.std.proofs.Common.{◌≡◌, ℕ, zero, suc, ◌-◌, ◌<◌, ◌≤◌, List, [], ◌∷◌, ◌++◌, length, take, drop, slice_set}
 use Rattle.std.proofs.Common.{refl, sym, ap, subst, ◌∙◌, inl, inr, arith}
 use Rattle.std.specs.Prelude.{Option, None, Some}
@@ -13,7 +13,7 @@ use Rattle.mold_receiver.specs.Store.{Message}
 use Rattle.mold_receiver.proofs.SlotLemmas.{all_empty}
 use Rattle.mold_receiver.proofs.StoreLemmas.{none_some}
 
--- a slot's message, by its span
+-- A slot's message, from its span.
 pub slot_in : (bytes : List ℕ) (spans : List (Option Span)) (i : ℕ) →
     slot_at (slots_in bytes spans) i ≡ option_map (message_in bytes) (span_at spans i)
 slot_in bytes [] i = refl
@@ -25,7 +25,7 @@ no_message : (bytes : List ℕ) (slot : Option Span) → option_map (message_in 
 no_message bytes None none = refl
 no_message bytes (Some span) none = absurd (cc none)
 
--- an empty slot has no span
+-- An empty slot has no span.
 pub no_span : (bytes : List ℕ) (spans : List (Option Span)) (i : ℕ) → slot_at (slots_in bytes spans) i ≡ None →
     span_at spans i ≡ None
 no_span bytes spans i none = no_message bytes (span_at spans i) (sym (slot_in bytes spans i) ∙ none)
@@ -41,7 +41,7 @@ message_more bytes more span ordered ends =
     ap (λ (t : List ℕ). take (span.end - span.start) t) (drop-append-le span.start bytes more (omega arith))
     ∙ take-append-le (span.end - span.start) (drop span.start bytes) more (omega (arith, length-drop span.start bytes))
 
--- bytes behind the others change no message
+-- Appended bytes change no message.
 pub slots_more : (bytes more : List ℕ) (spans : List (Option Span)) → AreWithin spans (length bytes) →
     slots_in (bytes ++ more) spans ≡ slots_in bytes spans
 slots_more bytes more [] within = refl
@@ -67,14 +67,14 @@ span_put_other (s ∷ spans) zero slot (suc at) other = refl
 span_put_other (s ∷ spans) (suc i) slot zero other = refl
 span_put_other (s ∷ spans) (suc i) slot (suc at) other = span_put_other spans i slot at (λ e. other (ap suc e))
 
--- an empty slot that is emptied stays as it is
+-- Emptying an empty slot changes nothing.
 pub set_none : (spans : List (Option Span)) (i : ℕ) → span_at spans i ≡ None → slice_set spans i None ≡ spans
 set_none [] i none = refl
 set_none (None ∷ spans) zero none = refl
 set_none (Some span ∷ spans) zero none = absurd (none_some (sym none))
 set_none (slot ∷ spans) (suc i) none = ap (λ (t : List (Option Span)). slot ∷ t) (set_none spans i none)
 
--- a span that is written lies within the bytes, and so do the others
+-- If a span within the bytes is written, all spans are within the bytes.
 pub within_put : (spans : List (Option Span)) (total i : ℕ) (span : Span) → AreWithin spans total → i < length spans →
     span.start ≤ span.end → span.end ≤ total → AreWithin (slice_set spans i (Some span)) total
 within_put spans total i span within there ordered ends = λ at s is. elim (cases_eq at i) [
@@ -106,7 +106,7 @@ pub within_more : (spans : List (Option Span)) (total more : ℕ) → AreWithin 
 within_more spans total more within longer =
     λ i s is. let here = within i s is in (here.0, omega (arith, here.1, longer))
 
--- where no slot has a message, the bytes don't count
+-- If all slots are empty, the spans are within any bytes.
 pub none_within : (bytes : List ℕ) (spans : List (Option Span)) (total : ℕ) → count_held (slots_in bytes spans) ≡ 0 →
     AreWithin spans total
 none_within bytes spans total none =
@@ -119,7 +119,7 @@ none_slots bytes others (None ∷ spans) none =
     ap (λ (t : List Slot). None ∷ t) (none_slots bytes others spans (omega (arith, none)))
 none_slots bytes others (Some span ∷ spans) none = absurd (omega (arith, none))
 
--- spans are as long as their messages
+-- Spans are as long as their messages.
 pub joined_held : (bytes : List ℕ) (spans : List (Option Span)) → AreWithin spans (length bytes) →
     joined_length spans ≡ held_bytes (slots_in bytes spans)
 joined_held bytes [] within = refl

@@ -1,4 +1,4 @@
--- Slots and the store that they hold.
+-- Slots, and the store that they represent.
 use Rattle.std.proofs.Common.{◌≡◌, ℕ, zero, suc, ◌+◌, ◌-◌, ◌<◌, ◌≤◌, ◌⊎◌, Bool, true, false, cond, eqb, leb, ◌&&◌, List}
 use Rattle.std.proofs.Common.{[], ◌∷◌, ◌++◌, length, length-append, drop, replicate, slice_set, append_assoc, refl, sym, max}
 use Rattle.std.proofs.Common.{ap, subst, ◌∙◌, inl, inr, arith, nat_cmp}
@@ -21,7 +21,7 @@ count_within [] = omega arith
 count_within (None ∷ slots) = omega (arith, count_within slots)
 count_within (Some m ∷ slots) = omega (arith, count_within slots)
 
--- where the first slot has none, fewer slots have a message than there are
+-- If the first slot is empty, not all slots have a message.
 pub count_below : (slots : List Slot) → 0 < length slots → slot_at slots 0 ≡ None → count_held slots < length slots
 count_below [] some first = absurd (omega (arith, some))
 count_below (None ∷ slots) some first = omega (arith, count_within slots)
@@ -58,7 +58,7 @@ bytes-push [] = refl
 bytes-push (None ∷ slots) = bytes-push slots
 bytes-push (Some m ∷ slots) = ap (λ (n : ℕ). length m + n) (bytes-push slots)
 
--- how many bytes are held when the slots move on: all but the first slot's
+-- The bytes that are held after the slots move: all but those of the first slot.
 pub bytes_moved : (slots : List Slot) → slot_at slots 0 ≡ None → held_bytes (drop 1 slots ++ None ∷ []) ≡ held_bytes slots
 bytes_moved [] none = refl
 bytes_moved (None ∷ slots) none = bytes-push slots
@@ -101,7 +101,7 @@ slot_put_other (s ∷ slots) zero slot (suc at) other = refl
 slot_put_other (s ∷ slots) (suc i) slot zero other = refl
 slot_put_other (s ∷ slots) (suc i) slot (suc at) other = slot_put_other slots i slot at (λ e. other (ap suc e))
 
--- a slot that is written has the message, and the others have what they had
+-- A slot that is written has the message, and the others are unchanged.
 pub slot_put : (slots : List Slot) (i : ℕ) (slot : Slot) (at : ℕ) → i < length slots →
     slot_at (slice_set slots i slot) at ≡ cond (eqb at i) slot (slot_at slots at)
 slot_put slots i slot at within =
@@ -130,12 +130,12 @@ slot_dropped (suc count) [] at = refl
 slot_dropped (suc count) (slot ∷ slots) at = slot_dropped count slots at
     ∙ ap (slot_at (slot ∷ slots)) (let e : suc (count + at) ≡ suc count + at = omega arith in e)
 
--- when the slots have moved on, each has what was so many slots behind it
+-- After the slots move by `count`, each has what the slot `count` after it had.
 pub slot_moved : (count : ℕ) (slots : List Slot) (at : ℕ) →
     slot_at (drop count slots ++ replicate count None) at ≡ slot_at slots (count + at)
 slot_moved count slots at = slot_padded (drop count slots) count at ∙ slot_dropped count slots at
 
--- so many slots and one more
+-- Moving by `count` slots and one more.
 pub moved_more : (count : ℕ) (slots : List Slot) → count < length slots →
     drop 1 (drop count slots ++ replicate count None) ++ None ∷ [] ≡ drop (count + 1) slots ++ replicate
     (count + 1) None
@@ -154,7 +154,7 @@ pushed_view : {V : Type 0} (g : V → Message) (xs : List (Option V)) →
 pushed_view g [] = refl
 pushed_view g (x ∷ xs) = ap (λ (t : List Slot). option_map g x ∷ t) (pushed_view g xs)
 
--- what the ring holds, when it has moved on by a slot
+-- What the ring has after it moves by one slot.
 pub moved_view : {V : Type 0} (g : V → Message) (xs : List (Option V)) →
     map (option_map g) (drop 1 xs ++ None ∷ []) ≡ drop 1 (map (option_map g) xs) ++ None ∷ []
 moved_view g [] = refl
@@ -180,7 +180,7 @@ all_empty (None ∷ slots) none zero = refl
 all_empty (None ∷ slots) none (suc i) = all_empty slots (omega (arith, none)) i
 all_empty (Some m ∷ slots) none i = absurd (omega (arith, none))
 
--- the ring stays one
+-- The ring stays valid.
 pub are_moved : (slots : List Slot) (capacity count clear reach : ℕ) → AreSlots slots capacity count clear reach →
     AreSlots (drop 1 slots ++ None ∷ []) capacity (count - cond (is_some (slot_at slots 0)) 1 0) (clear - 1) (reach - 1)
 are_moved slots capacity count clear reach are =
@@ -243,7 +243,7 @@ are_empty n some few =
       reached = omega arith;
     }
 
--- a slot before others, whose look-ups are told
+-- Look-ups in a list of slots, from look-ups in its rest.
 lookup_behind : (number : ℕ) (slot : Slot) (slots : List Slot) (at : ℕ)
     → lookup (eqb at) (slot_entries (suc number) slots) ≡ cond (leb (suc number) at)
     (slot_at slots (at - suc number)) None
@@ -289,7 +289,7 @@ lookup-slots number [] at =
     ]
 lookup-slots number (slot ∷ slots) at = lookup_behind number slot slots at (lookup-slots (suc number) slots at)
 
--- the store has at each number what its slot has
+-- The store has at each number what its slot has.
 pub get-slots : (number : ℕ) (slots : List Slot) (at : ℕ) →
     finite.get (store_of number slots) at ≡ cond (leb number at) (slot_at slots (at - number)) None
 get-slots number slots at = get_made (slot_entries number slots) at ∙ lookup-slots number slots at
@@ -306,7 +306,7 @@ len-slots number (Some message ∷ slots) =
     ∙ (let more : finite.len (store_of (suc number) slots) + 1 ≡ 1 + count_held slots =
     omega (arith, len-slots (suc number) slots) in more)
 
--- a stored message differs at a number where its slot's does
+-- A stored message differs exactly when its slot's message does.
 pub conflict_is : (slots : List Slot) (next number : ℕ) (message : Message) → next ≤ number
     → (leb next number && differs (finite.get (store_of next slots) number) message) ≡ differs
     (slot_at slots (number - next)) message
@@ -328,7 +328,7 @@ moved_empty count n within =
     ∙ sym (replicate-append-replicate (n - count) count None)
     ∙ ap (λ (t : List Slot). t ++ replicate count None) (sym (drop-replicate {X = Slot} count n None))
 
--- empty slots that move on stay as they are
+-- Empty slots that move are unchanged.
 pub moved_none : (count : ℕ) (slots : List Slot) → count ≤ length slots → count_held slots ≡ 0 →
     slots ≡ drop count slots ++ replicate count None
 moved_none count slots within none =

@@ -71,7 +71,7 @@ lookup-from_next next number messages at =
     (numbered number messages)
     ∙ ap (λ (o : Option Message). cond (leb next at) o None) (lookup-numbered number messages at)
 
--- what is available is the packet's from `next` on, and else the store's
+-- What is available is the packet's message from `next` on, and otherwise the stored one.
 pub get-available : (store : Store) (next number : ℕ) (messages : List Message) (at : ℕ) →
     finite.get (available store next number messages) at ≡ option_or
     (cond (leb next at) (message_at number messages at) None) (finite.get store at)
@@ -82,18 +82,18 @@ get-available store next number messages at =
     (lookup-from_next next number messages at)
     ∙ ap (option_or (cond (leb next at) (message_at number messages at) None)) (get-entries_of store at)
 
--- what is cut is as before between `next` and the window's end, and nothing else
+-- A cut store is unchanged above `next` and in the window, and has nothing elsewhere.
 pub get-cut : (store : Store) (next window at : ℕ) →
     finite.get (cut store next window) at ≡ cond (ltb next at && ltb at (next + window)) (finite.get store at) None
 get-cut store next window at =
     finite.get-retain_keys store (λ k. nat_lt next k && nat_lt k (next + window)) at
     (λ k tied. ap (λ (k : ℕ). ltb next k && ltb k (next + window)) (sym (finite.nat_cmp-IsAntisymmetric at k tied)))
 
--- two stores that answer alike are one
+-- Two stores with the same message at each number are equal.
 pub same_store : (one other : Store) → ((at : ℕ) → finite.get one at ≡ finite.get other at) → one ≡ other
 same_store = finite.same_map nat_cmp_total finite.nat_cmp-IsAntisymmetric
 
--- a run of which each message is the one looked up, and behind which one is lacking
+-- Messages are the run if each is the one looked up and none follows the last.
 pub run_is : (look : ℕ → Option Message) (number most : ℕ) (messages : List Message)
     → ((i : ℕ) (message : Message) → slice_get messages i ≡ Some message → look (number + i) ≡ Some message)
     → look (number + length messages) ≡ None → length messages ≤ most → run_from look number most ≡ messages
@@ -120,7 +120,7 @@ run_is look number (suc most) (m ∷ ms) each stops few =
 pub none_some : {X : Type 0} {x : X} → ◌≡◌ {A = Option X} None (Some x) → ⊥
 none_some e = cc
 
--- each message of a run is the one looked up
+-- Each message of a run is the one looked up.
 pub run_reads : (look : ℕ → Option Message) (number most : ℕ) (i : ℕ) (message : Message) →
     slice_get (run_from look number most) i ≡ Some message → look (number + i) ≡ Some message
 unfolding run_from
@@ -150,7 +150,7 @@ run_short look number (suc most) =
       | Some m ↦ omega (arith, run_short look (suc number) most)
     ]
 
--- behind a run one is lacking, where one is at its greatest end
+-- No message follows a run, if none is at its greatest end.
 pub run_ends : (look : ℕ → Option Message) (number most : ℕ) → look (number + most) ≡ None →
     look (number + length (run_from look number most)) ≡ None
 unfolding run_from
@@ -168,7 +168,7 @@ run_ends look number (suc most) stops =
           (run_ends look (suc number) most (subst (λ (n : ℕ). look n ≡ None) at stops))
     ] refl
 
--- each number of a run has a message
+-- Each number of a run has a message.
 pub run_had : (look : ℕ → Option Message) (number most : ℕ) (at : ℕ) → number ≤ at →
     at < number + length (run_from look number most) → is_some (look at) ≡ true
 run_had look number most at low high =

@@ -1,4 +1,4 @@
--- What holds of a view over slots.
+-- Views over slots.
 use Rattle.std.proofs.Common.{◌≡◌, ℕ, zero, suc, ◌+◌, ◌-◌, ◌<◌, ◌≤◌, ◌^◌, max, leb, ltb, ◌&&◌, List, length}
 use Rattle.std.proofs.Common.{replicate, refl, sym, ap, ◌∙◌, inl, inr, arith, nat_cmp}
 use Rattle.std.specs.Prelude.{Option, None, Some}
@@ -53,7 +53,7 @@ ends_well ended End sequence known top tops ends below past end is =
       | inr high ↦ omega (arith, at, tops)
     ]
 
--- a view that takes a packet stays well formed
+-- A view that accepts a packet stays well formed.
 pub stays_well : (v : View) (p : Packet) → IsWellFormed v → top_of p < 2 ^ 64 →
     end_below p.body p.sequence v.known ≡ None → past_end v.ended p.body (top_of p) ≡ None
     → IsWellFormed (view_after v p)
@@ -88,7 +88,7 @@ stays_well v p well fits below past =
       ends = ends_well v.ended p.body p.sequence v.known (top_of p) refl well.ends below past;
     }
 
--- the store over slots, by number
+-- The store over slots, by number.
 pub get_from : (next : ℕ) (slots : List Slot) (q : ℕ) → next ≤ q →
     finite.get (store_of next slots) q ≡ slot_at slots (q - next)
 get_from next slots q low = get-slots next slots q
@@ -98,7 +98,7 @@ pub get_below : (next : ℕ) (slots : List Slot) (q : ℕ) → q < next → fini
 get_below next slots q low = get-slots next slots q
     ∙ cond-false (leb next q) (slot_at slots (q - next)) None (lt-leb next q low)
 
--- what is stored has a number below the last
+-- One more than a stored number has 64 bits.
 pub slot_numbers : (session : Session) (next known : ℕ) (ended : Option ℕ) (slots : List Slot) →
     IsWellFormed (view_over session next known ended slots)
     → (i : ℕ) (m : Message) → slot_at slots i ≡ Some m → next + i + 1 < 2 ^ 64
@@ -108,7 +108,7 @@ slot_numbers session next known ended slots well i m is =
     ∙ is) in
     omega (arith, lies.2, well.last)
 
--- the first slot is that of `next`, of which no message is stored
+-- The first slot is that of `next`, which is never stored.
 pub first_empty : (session : Session) (next known : ℕ) (ended : Option ℕ) (slots : List Slot) →
     IsWellFormed (view_over session next known ended slots) → slot_at slots 0 ≡ None
 first_empty session next known ended slots well =
@@ -117,7 +117,7 @@ first_empty session next known ended slots well =
     let lies = well.stored next m (get_from next slots next (omega arith) ∙ ap (slot_at slots) place ∙ is) in
     omega (arith, lies.0))
 
--- empty slots hold an empty store
+-- Empty slots represent an empty store.
 pub empty_store : (next n : ℕ) → store_of next (replicate n None) ≡ finite.empty
 empty_store next zero = refl
 empty_store next (suc n) = empty_store (suc next) n

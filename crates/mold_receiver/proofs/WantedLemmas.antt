@@ -1,4 +1,4 @@
--- How long the gap at `next` is.
+-- The length of the gap at `next`.
 use Rattle.std.proofs.Common.{◌≡◌, ℕ, zero, suc, ◌+◌, ◌-◌, ◌<◌, ◌≤◌, min, Bool, true, cond, List, sym, ap, subst, ◌∙◌}
 use Rattle.std.proofs.Common.{inl, inr, arith}
 use Rattle.std.specs.Prelude.{Option, None, Some, is_some}
@@ -17,7 +17,7 @@ lacking_short look number (suc most) =
       | Some m ↦ omega arith
     ]
 
--- as long as no number has a message, the gap goes on
+-- The gap goes on while no number has a message.
 pub lacking_long : (look : ℕ → Option Message) (number most count : ℕ) → count ≤ most →
     ((i : ℕ) → i < count → look (number + i) ≡ None) → count ≤ lacking_run look number most
 unfolding lacking_run
@@ -33,7 +33,7 @@ lacking_long look number (suc most) (suc count) few none =
     (sym (ap (λ (o : Option Message). cond (is_some o) 0 (suc (lacking_run look (suc number) most))) empty))
     (omega (arith, rest))
 
--- and it ends where one has
+-- It ends at a number that has one.
 pub lacking_ends : (look : ℕ → Option Message) (number most count : ℕ) → count ≤ most →
     is_some (look (number + count)) ≡ true → lacking_run look number most ≤ count
 unfolding lacking_run
@@ -52,7 +52,7 @@ lacking_ends look number (suc most) (suc count) few some =
       | Some m ↦ omega arith
     ]
 
--- the lesser of a bound and the gap is what the search among so many slots finds
+-- The first slot with a message among a limited number of slots is the length of the gap, up to that limit.
 pub gap_found : (next known bound : ℕ) (slots : List Slot) (slot : ℕ) →
     IsFirstHeld slots (min (known - next) bound) slot
     → min bound (next + lacking_run (finite.get (store_of next slots)) next (known - next) - next) ≡ slot

@@ -1,4 +1,4 @@
--- An arbiter of two lines as its users see it.
+-- The arbiter of two lines as contracts describe it.
 use Rattle.std.specs.Prelude.{◌≡◌, ◌⊎◌, ℕ, ◌+◌, ◌≤◌, max, List, Option, None, Some, Result, Ok, Err, refl}
 use Rattle.std.specs.Io.Iter.{u64_saturate}
 use Rattle.std.specs.Coded.{Coded, code_by, coded×, coded_ℕ}
@@ -14,30 +14,31 @@ use Rattle.mold_receiver.specs.Batch.{Handed, followed_by}
 use Rattle.mold_receiver.specs.Receive.{IsCopied, Reception, receive, top_read}
 use Rattle.mold_receiver.specs.View.{View, view_code}
 
--- the receiver's view, and what came on each line
+-- The model of an arbiter: the receiver's view and the reports of both lines.
 pub record Arbitration : Type 0 where
   pub view : View
   pub reports : LineReports
 
--- an arbitration is stored as the tuple of its fields
+-- The code of a line's report: the tuple of its fields.
 abbrev pub report_code : Coded LineReport
 report_code = code_by (ℕ × (ℕ × ℕ)) (coded× coded_ℕ (coded× coded_ℕ coded_ℕ))
     (λ r. (r.datagrams, (r.refused, r.front)))
     (λ p. record { datagrams = p.0; refused = p.1.0; front = p.1.1 })
     (λ _. refl)
 
+-- The code of an arbitration: the tuple of its view and its reports.
 abbrev pub arbitration_code : Coded Arbitration
 arbitration_code = code_by (View × (LineReport × LineReport)) (coded× view_code (coded× report_code report_code))
     (λ a. (a.view, (a.reports.a, a.reports.b)))
     (λ p. record { view = p.0; reports = record { a = p.1.0; b = p.1.1 } })
     (λ _. refl)
 
+-- The report of a line.
 abbrev pub report_on : Line → LineReports → LineReport
 report_on A reports = reports.a
 report_on B reports = reports.b
 
--- a line's report, once a packet with this top was taken on it, and once a datagram was refused on it; a count stands
--- at its limit once it is there
+-- The report of a line after a packet with this top was accepted on it. A count that reaches 2^64 - 1 stays there.
 abbrev pub report_taken : LineReport → ℕ → LineReport
 report_taken report top = record {
   datagrams = u64_saturate (report.datagrams + 1);
@@ -45,6 +46,7 @@ report_taken report top = record {
   front = max report.front top;
 }
 
+-- The report of a line after a datagram was refused on it. A count that reaches 2^64 - 1 stays there.
 abbrev pub report_refused : LineReport → LineReport
 report_refused report = record {
   datagrams = report.datagrams;
@@ -52,17 +54,18 @@ report_refused report = record {
   front = report.front;
 }
 
--- the reports, once one of them changed so
+-- The reports of both lines after a packet with this top was accepted on one of them.
 abbrev pub reports_taken : Line → LineReports → ℕ → LineReports
 reports_taken A reports top = record { a = report_taken reports.a top; b = reports.b }
 reports_taken B reports top = record { a = reports.a; b = report_taken reports.b top }
 
+-- The reports of both lines after a datagram was refused on one of them.
 abbrev pub reports_refused : Line → LineReports → LineReports
 reports_refused A reports = record { a = report_refused reports.a; b = reports.b }
 reports_refused B reports = record { a = reports.a; b = report_refused reports.b }
 
--- an arbitration when a datagram came, on a line or as the answer to a request, by what the receiving rule
--- makes of it
+-- The arbitration after a datagram arrived, given the result of the receiving rule. The datagram came on a line, or
+-- it is a server's response if there is no line.
 abbrev pub arbitrated : Option Line → List ℕ → Arbitration → Result Reception Refusal → Arbitration
 arbitrated None bytes old (Ok reception) = record { view = reception.view; reports = old.reports }
 arbitrated None bytes old (Err refused) = old
@@ -72,26 +75,29 @@ arbitrated (Some line) bytes old (Ok reception) = record {
 }
 arbitrated (Some line) bytes old (Err refused) = record { view = old.view; reports = reports_refused line old.reports }
 
--- an arbiter after a datagram came
+-- The arbitration after a datagram arrived on a line, or as a server's response if there is no line.
 abbrev pub arbitrates : Option Line → List ℕ → Arbitration → Arbitration
 arbitrates line bytes old = arbitrated line bytes old (receive old.view bytes)
 
--- no line has gone further than what is known
+-- No line's `front` is above the receiver's `known`.
 pub record IsArbitration (a : Arbitration) : Type 0 where
   pub front_a : a.reports.a.front ≤ a.view.known
   pub front_b : a.reports.b.front ≤ a.view.known
 
--- an arbiter took a datagram: it and the batch are what the rules say, and so is what it tells
+-- The arbiter accepted a datagram. Its new arbitration and the batch are what the receiving rule states, and `taken`
+-- has the rule's counts.
 pub record HasArbitrated (line : Option Line) (old : Arbitration) (bytes : List ℕ) (before : Handed)
     (new : Arbitration) (after : Handed) (taken : Taken) : Type 0 where
+  -- The effect of the datagram by the receiving rule.
   pub reception : Reception
   pub received : receive old.view bytes ≡ Ok reception
   pub arbitration : new ≡ arbitrates line bytes old
   pub batch : after ≡ followed_by before old.view.next reception.handed
+  -- The counts that the arbiter returned are the rule's.
   pub told : taken ≡ reception.taken
 
--- an arbiter refused a datagram: the memory for a copy was refused, and nothing has changed; or the rule refuses
--- it, and the arbiter is what the rules say
+-- The arbiter refused a datagram. Either an allocation failed and nothing changed, or the receiving rule refuses the
+-- datagram and the arbitration is the rule's.
 abbrev pub HasRefused : Option Line → Arbitration → List ℕ → Arbitration → Refusal → Type 0
 HasRefused line old bytes new refused =
     ((refused ≡ Memory) × IsCopied old.view bytes × (new ≡ old)) ⊎

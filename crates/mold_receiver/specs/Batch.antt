@@ -1,48 +1,53 @@
--- A batch of messages that were handed on, as its users see it.
+-- The batch of delivered messages as contracts describe it.
 use Rattle.std.specs.Prelude.{◌≡◌, ℕ, ◌+◌, List, [], ◌∷◌, ◌++◌, length, Option, None, Some}
 use Rattle.mold_receiver.specs.Store.{Message}
 
--- messages with consecutive numbers, and the number of the first; 0 where there is none
+-- The model of a batch: messages with consecutive numbers, and the number of the first. That number is 0 if the batch
+-- is empty.
 pub record Handed : Type 0 where
   pub first : ℕ
   pub messages : List Message
 
--- so many messages from a number on, as a batch; the number of no messages is forgotten
+-- The batch of these messages, the first of which has the number `first`. An empty batch always has the number 0.
 abbrev pub handed_from : ℕ → List Message → Handed
 handed_from first [] = record { first = 0; messages = [] }
 handed_from first (message ∷ messages) = record { first = first; messages = message ∷ messages }
 
--- the number of the first message of some from a number on, and the one behind the last
+-- The number of the first message, or none if there are no messages.
 abbrev pub first_in : ℕ → List Message → Option ℕ
 first_in first [] = None
 first_in first (message ∷ messages) = Some first
 
+-- One more than the number of the last message, or none if there are no messages.
 abbrev pub after_in : ℕ → List Message → Option ℕ
 after_in first [] = None
 after_in first (message ∷ messages) = Some (first + length (message ∷ messages))
 
--- no message, or the last is just before `next`
+-- There are no messages, or the last one has the number just before `next`.
 abbrev pub FollowsIn : ℕ → List Message → ℕ → Type 0
 FollowsIn first [] next = Unit {0}
 FollowsIn first (message ∷ messages) next = first + length (message ∷ messages) ≡ next
 
--- the number of the first message, and the one behind the last; none where there is no message
+-- The number of the first message of a batch, or none if the batch is empty.
 abbrev pub first_of : Handed → Option ℕ
 first_of batch = first_in batch.first batch.messages
 
+-- One more than the number of the last message of a batch, or none if the batch is empty.
 abbrev pub after_of : Handed → Option ℕ
 after_of batch = after_in batch.first batch.messages
 
--- a batch of which the message with the number is the next one: it is empty or ends just before it
+-- The message with the number `next` may follow in the batch. The batch is empty, or its last message has the number
+-- just before `next`.
 abbrev pub Follows : Handed → ℕ → Type 0
 Follows batch next = FollowsIn batch.first batch.messages next
 
--- the number of the first of some messages and others behind them, which begin at `next`
+-- The first number of a batch after messages from `next` on were appended. It is `first` if there were messages
+-- before, otherwise `next`.
 abbrev pub joined_first : ℕ → List Message → ℕ → ℕ
 joined_first first [] next = next
 joined_first first (message ∷ messages) next = first
 
--- the batch with messages behind its own, which are numbered from `next` where it has none
+-- The batch with these messages appended. If the batch is empty, the first of them has the number `next`.
 abbrev pub followed_by : Handed → ℕ → List Message → Handed
 followed_by batch next [] = batch
 followed_by batch next (message ∷ messages) = record {

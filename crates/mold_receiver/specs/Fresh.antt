@@ -1,15 +1,15 @@
--- An arbiter that begins.
+-- A new arbiter.
 use Rattle.std.specs.Prelude.{ℕ}
 use Rattle.mold_wire.specs.declared.session.Session.{Session}
 use Rattle.mold_receiver.specs.Arbiter.{Arbitration}
 use Rattle.mold_receiver.specs.View.{fresh}
 use Rattle.mold_receiver.specs.declared.line.LineReport.{LineReport}
 
--- the report of a line on which nothing came
+-- The report of a line on which nothing was received, if the receiver started at `next`.
 abbrev pub fresh_report : ℕ → LineReport
 fresh_report next = record { datagrams = 0; refused = 0; front = next }
 
--- the arbitration of a receiver that begins at `next`: nothing came on either line
+-- The arbitration of a new receiver that starts at `next`. Nothing was received on either line.
 abbrev pub fresh_arbitration : Session → ℕ → ℕ → Arbitration
 fresh_arbitration session next window = record {
   view = fresh session next window;

@@ -1,4 +1,4 @@
--- The receiving rule: what any datagram does to a view, as a function of whole maps.
+-- The receiving rule: what a datagram does to a view. It is a function over whole maps of stored messages.
 use Rattle.std.specs.Prelude.{◌≡◌, ◌⊎◌, ◌<◌, ℕ, ◌+◌, ◌-◌, max, ◌&&◌, nat_le, List, length, Option, None, Some}
 use Rattle.std.specs.Prelude.{is_some, is_none, Result, Ok, Err}
 use Rattle.std.specs.List.{filter}
@@ -18,43 +18,43 @@ use Rattle.mold_receiver.specs.Batch.{Handed, followed_by}
 use Rattle.mold_receiver.specs.Store.{Message, Store, numbered, from_next, available, run_from, cut, first_conflict}
 use Rattle.mold_receiver.specs.View.{View}
 
--- why a packet is refused, if it is: the first refusal of the rule. Messages differ where packet and store have
--- different ones at a number not below `next`
+-- The first refusal that applies to the packet, or none. A conflict is a number from `next` on at which the packet
+-- and the store have different messages.
 abbrev pub refusal : View → Packet → Option Refusal
 refusal v p =
     refusal_of (Some v.session.0) v.known v.ended
     (first_conflict v.store (from_next v.next p.sequence (messages_of p.body))) p
 
--- what is handed on of a packet that is taken: what is available from `next` on up to the first number
--- that is lacking. No number from the greater of `known` and the packet's top on is available.
+-- The messages that an accepted packet delivers: the available ones from `next` on, up to the first number that is
+-- not available. No number at or above both `known` and the packet's top is available.
 abbrev pub handed_on : View → ℕ → List Message → List Message
 handed_on v number messages =
     run_from (finite.get (available v.store v.next number messages)) v.next
     (max v.known (number + length messages) - v.next)
 
--- the number of the packet's messages that are in the new store and weren't in the old one
+-- The number of the packet's messages that are in the new store but not in the old one.
 abbrev pub count_kept : Store → Store → List (ℕ × Message) → ℕ
 count_kept old new pairs =
     length (filter (λ pair. is_some (finite.get new pair.0) && is_none (finite.get old pair.0)) pairs)
 
--- the number of the packet's messages from a limit on
+-- The number of the packet's messages whose number is at least `limit`.
 abbrev pub count_beyond : ℕ → List (ℕ × Message) → ℕ
 count_beyond limit pairs = length (filter (λ pair. nat_le limit pair.0) pairs)
 
--- an end packet tells the end
+-- The session's end as known after a packet. An end packet sets it to its sequence number.
 abbrev pub ended_after : Body → ℕ → Option ℕ → Option ℕ
 ended_after (Data messages) sequence ended = ended
 ended_after Heartbeat sequence ended = ended
 ended_after End sequence ended = Some sequence
 
--- what a datagram that is taken does: the new view, what is handed on from the old `next` on, and the
--- three counts that the receiver tells
+-- The effect of an accepted datagram: the new view, the delivered messages from the old `next` on, and the receiver's
+-- counts.
 pub record Reception : Type 0 where
   pub view : View
   pub handed : List Message
   pub taken : Taken
 
--- the new view where the new `next` is the given one
+-- The view after an accepted packet, given the new `next`.
 abbrev pub view_at : View → Packet → ℕ → View
 view_at v p next = record {
   session = v.session;
@@ -65,7 +65,7 @@ view_at v p next = record {
   window = v.window;
 }
 
--- the counts that are told, by the new view
+-- The receiver's counts for an accepted packet, given the new view.
 abbrev pub taken_of : View → Packet → View → Taken
 taken_of v p new = record {
   handed = new.next - v.next;
@@ -73,23 +73,23 @@ taken_of v p new = record {
   beyond = count_beyond (new.next + v.window) (numbered p.sequence (messages_of p.body));
 }
 
--- the new view of a packet that is taken
+-- The view after an accepted packet.
 abbrev pub view_after : View → Packet → View
 view_after v p = view_at v p (v.next + length (handed_on v p.sequence (messages_of p.body)))
 
--- and the counts that are told of it
+-- The receiver's counts for an accepted packet.
 abbrev pub taken_after : View → Packet → Taken
 taken_after v p = taken_of v p (view_after v p)
 
--- a packet was taken: the new view, and what is told, are what the rule says
+-- The receiver accepted the packet. The new view and the counts are those of the rule.
 abbrev pub HasTakenPacket : View → Packet → View → Taken → Type 0
 HasTakenPacket old p new taken = (new ≡ view_after old p) × (taken ≡ taken_after old p)
 
--- something of a packet that is taken is handed on or stored: it is copied, and that takes memory
+-- The packet delivers or stores at least one message, so the receiver copies messages and may allocate.
 abbrev pub TakesMemory : View → Packet → Type 0
 TakesMemory v p = 0 < (taken_after v p).handed + (taken_after v p).kept
 
--- a packet is taken
+-- The effect of an accepted packet.
 abbrev pub reception : View → Packet → Reception
 reception v p = record {
   view = view_after v p;
@@ -97,32 +97,35 @@ reception v p = record {
   taken = taken_after v p;
 }
 
--- a data packet
+-- The data packet with this session, sequence number and messages.
 abbrev pub data_packet : Session → ℕ → List Message → Packet
 data_packet session sequence messages = record { session = session; sequence = sequence; body = Data messages }
 
--- a packet is refused or taken
+-- The refusal if there is one, otherwise the reception.
 abbrev pub decide : Option Refusal → Reception → Result Reception Refusal
 decide None taken = Ok taken
 decide (Some refused) taken = Err refused
 
+-- The refusal or the reception of a packet.
 abbrev pub receive_packet : View → Packet → Result Reception Refusal
 receive_packet v p = decide (refusal v p) (reception v p)
 
+-- The refusal or the reception of what was decoded. A decode fault is refused as `Malformed`.
 abbrev pub receive_read : View → Result Packet DecodeError → Result Reception Refusal
 receive_read v (Ok packet) = receive_packet v packet
 receive_read v (Err error) = Err (Malformed error)
 
--- a datagram is refused or taken
+-- The receiving rule: the refusal or the reception of a datagram.
 abbrev pub receive : View → List ℕ → Result Reception Refusal
 receive v bytes = receive_read v (reading bytes)
 
--- the top of the packet that was read
+-- The top of the packet that was decoded, or 0 if the datagram doesn't encode a packet.
 abbrev pub top_read : Result Packet DecodeError → ℕ
 top_read (Ok packet) = top_of packet
 top_read (Err error) = 0
 
--- a datagram is taken: it spells a packet of the session that meets no refusal
+-- The datagram is accepted. It encodes a packet of the view's session to which no refusal applies, and the reception
+-- is that packet's.
 pub record IsTakenPacket (v : View) (bytes : List ℕ) (r : Reception) : Type 0 where
   pub packet : Packet
   pub read : reading bytes ≡ Ok packet
@@ -130,21 +133,26 @@ pub record IsTakenPacket (v : View) (bytes : List ℕ) (r : Reception) : Type 0 
   pub accepted : refusal v packet ≡ None
   pub taken : r ≡ reception v packet
 
--- a receiver took a datagram: its view and the batch are what the rule says, and so is what it tells
+-- The receiver accepted the datagram. The new view and the batch are what the receiving rule states, and `taken` has
+-- the rule's counts.
 pub record HasTaken (old : View) (bytes : List ℕ) (before : Handed) (new : View) (after : Handed)
     (taken : Taken) : Type 0 where
+  -- The effect of the datagram by the receiving rule.
   pub reception : Reception
   pub received : receive old bytes ≡ Ok reception
   pub view : new ≡ reception.view
   pub batch : after ≡ followed_by before old.next reception.handed
+  -- The counts that the receiver returned are the rule's.
   pub told : taken ≡ reception.taken
 
--- a datagram that is taken, and of which something is handed on or stored: it is copied
+-- The datagram is accepted and delivers or stores at least one message. The receiver copies messages, so an
+-- allocation may fail.
 pub record IsCopied (v : View) (bytes : List ℕ) : Type 0 where
   pub reception : Reception
   pub received : receive v bytes ≡ Ok reception
   pub some : 0 < reception.taken.handed + reception.taken.kept
 
--- why a datagram is refused: the rule refuses it, or the memory for a copy was refused
+-- The datagram is refused for this reason. Either the receiving rule refuses it, or the rule accepts it and an
+-- allocation for its messages failed.
 abbrev pub IsRefusedFor : View → List ℕ → Refusal → Type 0
 IsRefusedFor v bytes refused = ((refused ≡ Memory) × IsCopied v bytes) ⊎ (receive v bytes ≡ Err refused)

@@ -1,27 +1,28 @@
--- Messages by their numbers: what a receiver stores, and what a packet and a store have together.
+-- Messages by number: what a receiver stores, and what a packet and a store have together.
 use Rattle.std.specs.Prelude.{ℕ, zero, suc, ◌+◌, ◌&&◌, nat_le, nat_lt, List, [], ◌∷◌, ◌++◌, Option, None, Some}
 use Rattle.std.specs.List.{filter}
 use Rattle.std.specs.FinMap as finite
 pub use Rattle.mold_rule.specs.Held.{Message, Store, numbered, differs, first_conflict}
 
--- those of the numbered messages whose number is at least `next`
+-- The messages whose number is at least `next`, each with its number. The first of the messages has the number
+-- `number`.
 abbrev pub from_next : ℕ → ℕ → List Message → List (ℕ × Message)
 from_next next number messages = filter (λ pair. nat_le next pair.0) (numbered number messages)
 
--- the store joined with a packet's messages whose number is at least `next`
+-- The available messages: the stored ones, and the packet's messages whose number is at least `next`.
 abbrev pub available : Store → ℕ → ℕ → List Message → Store
 available store next number messages = finite.from_entries (from_next next number messages ++ finite.entries store)
 
--- a message before others, where there is one
+-- The messages with another one before them, if there is one.
 abbrev pub behind_some : Option Message → List Message → List Message
 behind_some None messages = []
 behind_some (Some message) messages = message ∷ messages
 
--- the messages from a number on up to the first that is lacking, at most so many
+-- The messages from `number` on, up to the first number without one, but at most `most`.
 unfoldable pub run_from : (ℕ → Option Message) → ℕ → ℕ → List Message
 run_from look number zero = []
 run_from look number (suc most) = behind_some (look number) (run_from look (suc number) most)
 
--- the store without what isn't above `next` and below the end of the window that begins there
+-- The part of the store that is above `next` and in the window that starts there.
 abbrev pub cut : Store → ℕ → ℕ → Store
 cut store next window = finite.retain_keys store (λ number. nat_lt next number && nat_lt number (next + window))

@@ -1,4 +1,4 @@
--- A receiver as its users see it.
+-- The receiver as contracts describe it.
 use Rattle.std.specs.Prelude.{◌≡◌, ℕ, ◌+◌, ◌<◌, ◌≤◌, ◌^◌, List, length, Option, None, Some, refl}
 use Rattle.std.specs.Coded.{Coded, code_by, coded×, coded_list, coded_ℕ, coded_option}
 use Rattle.std.specs.FinMap as finite
@@ -8,21 +8,22 @@ use Rattle.mold_receiver.specs.Slots.{Slot, store_of}
 use Rattle.mold_receiver.specs.Store.{Message, Store}
 use Rattle.mold_wire.specs.declared.limits.TheConstants.{MAX_WINDOW}
 
+-- The model of a receiver: everything that its behavior depends on.
 pub record View : Type 0 where
-  -- the session that it receives
+  -- The session that the receiver receives.
   pub session : Session
-  -- the number of the message to be handed on next
+  -- The number of the next message to deliver.
   pub next : ℕ
-  -- one more than the greatest number that it has heard of
+  -- One more than the greatest number that the receiver knows of.
   pub known : ℕ
-  -- one more than the number of messages of the session, once an end packet told it
+  -- One more than the number of the session's last message, once an end packet was accepted.
   pub ended : Option ℕ
-  -- the messages that came before one that is lacking
+  -- The stored messages: those that arrived above a gap.
   pub store : Store
-  -- how many numbers from `next` on it looks at
+  -- How many numbers from `next` on the receiver keeps messages for.
   pub window : ℕ
 
--- a view is stored as the tuple of its fields
+-- The code of a view: the tuple of its fields.
 abbrev pub view_code : Coded View
 view_code = code_by (List ℕ × (ℕ × (ℕ × (Option ℕ × (Store × ℕ)))))
     (coded× (coded_list coded_ℕ)
@@ -40,8 +41,8 @@ view_code = code_by (List ℕ × (ℕ × (ℕ × (Option ℕ × (Store × ℕ)))
     })
     (λ _. refl)
 
--- `next` and `known` are numbers of 64 bits from 1 on; each stored number is above `next`, in the window
--- and below `known`; an end is what is known
+-- What holds of every receiver's view. The numbers `next` and `known` are 1 to 2^64 - 1, in this order. Stored
+-- messages are above `next`, in the window and below `known`. A known end equals `known`.
 pub record IsWellFormed (v : View) : Type 0 where
   pub first : 1 ≤ v.next
   pub ahead : v.next ≤ v.known
@@ -50,12 +51,12 @@ pub record IsWellFormed (v : View) : Type 0 where
       (v.next < number) × (number < v.next + v.window) × (number < v.known)
   pub ends : (end : ℕ) → v.ended ≡ Some end → end ≡ v.known
 
--- the view of a receiver that begins at `next`: nothing heard, nothing stored
+-- The view of a new receiver that starts at `next`. It knows of no message and stores none.
 abbrev pub fresh : Session → ℕ → ℕ → View
 fresh session next window =
     record { session = session; next = next; known = next; ended = None; store = finite.empty; window = window }
 
--- a view whose store is in slots, the first of which is for `next`
+-- The view of a receiver whose stored messages are in these slots. The first slot has the number `next`.
 abbrev pub view_over : Session → ℕ → ℕ → Option ℕ → List Slot → View
 view_over session next known ended slots =
     record {
@@ -68,6 +69,6 @@ view_over session next known ended slots =
           length slots;
     }
 
--- the windows that a receiver may have
+-- The window is valid: 1 to `MAX_WINDOW` messages.
 abbrev pub IsWindow : ℕ → Type 0
 IsWindow window = (1 ≤ window) × (window ≤ MAX_WINDOW)

@@ -1,4 +1,4 @@
-//! The arbiter of two lines.
+//! The arbiter of line A and line B: one receiver and a report for each line.
 
 ghost use Rattle.std.specs.Prelude.{◌≡◌, ◌-◌, ◌≤◌, None, Some, IfOk, IfErr, OnErr};
 ghost use Rattle.mold_receiver.specs.Arbiter.{HasArbitrated, HasRefused, report_on};
@@ -14,8 +14,8 @@ use crate::taken::{Accepted, Taken};
 use mold_rule::Refusal;
 use std::marker::Model;
 
-/// A receiver of packets that come on two lines, and what came on each of these. It doesn't matter which
-/// line brings a packet first: the receiver does by each packet what it does without lines.
+/// A receiver of packets that arrive on two lines, with a report for each line. It doesn't matter on which line a
+/// packet arrives first: the receiver handles it as it would without lines.
 #[derive(Debug, Drop)]
 pub struct Arbiter {
     receiver: Receiver,
@@ -35,7 +35,7 @@ impl Model for Arbiter {
 }
 
 impl Arbiter {
-    /// An arbiter over a receiver; nothing came on either line.
+    /// Returns an arbiter over `receiver`. Nothing was received on either line yet.
     pub fn new(receiver: Receiver) -> Arbiter
         ensures view { result.view ≡ receiver }
         ensures line_a { result.reports.a ≡ record { datagrams = 0; refused = 0; front = receiver.known } }
@@ -45,9 +45,9 @@ impl Arbiter {
         Arbiter { receiver, reports }
     }
 
-    /// Takes a datagram as the receiver does. If it came on a line, that line's report counts it as taken or
-    /// refused; an allocation that fails changes no report. The batch must be empty or end just before the
-    /// receiver's `next`.
+    /// Takes a datagram as the receiver does. If it came on a line, that line's report counts it as accepted or
+    /// refused. A failed allocation changes no report. The batch must be empty or end just before the receiver's
+    /// `next`.
     #[inline(always)]
     pub fn take_from(
         &mut self,
@@ -63,8 +63,8 @@ impl Arbiter {
         ensures batch { OnErr result (batch.new ≡ batch.old) }
     {
         match self.receiver.accept(bytes, batch) {
-            // For the optimizer: `Taken` is rebuilt field by field. A copy of the whole struct waits until its
-            // fields, which were written just before, have reached memory.
+            // For the optimizer: `Taken` is rebuilt field by field. A copy of the whole struct would wait until its
+            // fields, which were written just before, reach memory.
             Ok(
                 Accepted {
                     taken: Taken {
@@ -93,7 +93,7 @@ impl Arbiter {
         }
     }
 
-    /// Takes a datagram that came on a line, as `take_from` does.
+    /// Takes a datagram that came on `line`, as `take_from` does.
     #[inline(always)]
     pub fn take(&mut self, line: Line, bytes: &[u8], batch: &mut Batch) -> Result<Taken, Refusal>
         requires { Follows batch.old self.old.view.next }
@@ -106,8 +106,7 @@ impl Arbiter {
         self.take_from(Origin::Line(line), bytes, batch)
     }
 
-    /// Takes a datagram that a re-request server sent, as `take_from` does. It is on no line, so no report
-    /// changes.
+    /// Takes a re-request server's response, as `take_from` does. The response is on no line, so no report changes.
     #[inline(always)]
     pub fn take_answer(&mut self, bytes: &[u8], batch: &mut Batch) -> Result<Taken, Refusal>
         requires { Follows batch.old self.old.view.next }
@@ -121,14 +120,14 @@ impl Arbiter {
         self.take_from(Origin::Response, bytes, batch)
     }
 
-    /// What came on a line.
+    /// Returns the report of a line.
     pub fn report(&self, line: Line) -> LineReport
         ensures { result ≡ report_on line self.now.reports }
     {
         self.reports.of(line)
     }
 
-    /// How far a line is behind what is known.
+    /// Returns how far a line lags, in messages: the receiver's `known` minus the line's `front`.
     pub fn lag(&self, line: Line) -> u64
         ensures lag { result ≡ self.now.view.known - (report_on line self.now.reports).front }
         ensures front { (report_on line self.now.reports).front ≤ self.now.view.known }
@@ -136,7 +135,7 @@ impl Arbiter {
         self.receiver.known() - self.reports.of(line).front
     }
 
-    /// The receiver.
+    /// Returns the receiver.
     pub fn receiver(&self) -> &Receiver
         ensures { result.now ≡ self.now.view }
     {

@@ -1,7 +1,7 @@
-//! A batch of messages that were handed on.
+//! The batch of messages that a receiver delivers.
 
-// `#[inline(always)]` marks what is on the way of each datagram. The compiler's own choice puts calls there, which
-// return structs through memory: a third of the time of a datagram with one message.
+// For the optimizer: `#[inline(always)]` marks the functions that run for each datagram. Without it, the compiler
+// emits calls that return structs through memory. They take a third of the time of a datagram with one message.
 
 ghost use Rattle.std.specs.Prelude.{◌≡◌, ◌==◌, ◌+◌, ◌↔◌, ◌<◌, ◌≤◌, ◌^◌, ◌++◌, ◌∷◌, [], length, take, drop, slice_get};
 ghost use Rattle.std.specs.Prelude.{IsTrue, OnOk, OnErr};
@@ -15,11 +15,11 @@ use mold_wire::{Blocks, LENGTH_BYTES};
 use std::alloc::{AllocError, Global};
 use std::marker::Model;
 
-/// Messages with consecutive numbers, as a receiver handed them on, copied one behind the other. Its room
-/// grows with what is handed on, by more than is asked for, and stays with the batch.
+/// A list of delivered messages with consecutive sequence numbers. The messages are copied one after the other into
+/// one buffer. The buffer grows ahead of need, and its memory is freed only when the batch is dropped.
 #[derive(Debug, Drop)]
 pub struct Batch {
-    // The number of the first message, where there is one.
+    // The number of the first message, if there is one.
     first: u64,
     list: PartList,
 }
@@ -36,7 +36,7 @@ impl Model for Batch {
 }
 
 impl Batch {
-    /// An empty batch, which takes no memory yet.
+    /// Returns an empty batch. It allocates nothing yet.
     pub fn new(alloc: Global) -> Batch
         ensures { result ≡ record { first = 0; messages = [] } }
     {
@@ -46,7 +46,7 @@ impl Batch {
         }
     }
 
-    /// The number of the first message; none where there is no message.
+    /// Returns the number of the first message, or `None` if the batch is empty.
     pub fn first(&self) -> Option<u64>
         ensures { result ≡ first_of self.now }
     {
@@ -57,7 +57,7 @@ impl Batch {
         }
     }
 
-    /// The number behind the last message; none where there is no message.
+    /// Returns one more than the number of the last message, or `None` if the batch is empty.
     pub fn after(&self) -> Option<u64>
         ensures { result ≡ after_of self.now }
     {
@@ -68,7 +68,7 @@ impl Batch {
         }
     }
 
-    /// How many messages there are.
+    /// Returns the number of messages.
     pub fn len(&self) -> usize
         ensures length { result ≡ length self.now.messages }
         ensures numbered { self.now ≡ handed_from self.now.first self.now.messages }
@@ -76,43 +76,44 @@ impl Batch {
         self.list.len()
     }
 
-    /// Whether there is no message.
+    /// Returns whether the batch has no messages.
     pub fn is_empty(&self) -> bool
         ensures { result ≡ (length self.now.messages == 0) }
     {
         self.list.is_empty()
     }
 
-    /// The message at place `i`, counted from 0; none where there are no more than `i`.
+    /// Returns the message with index `i`, counted from 0, or `None` if there are at most `i` messages.
     pub fn get(&self, i: usize) -> Option<&[u8]>
         ensures { option_copied result ≡ slice_get self.now.messages i }
     {
         self.list.get(i)
     }
 
-    /// The messages in order, from the first.
+    /// Returns an iterator over the messages in order.
     pub fn iter(&self) -> PartIterator<'_>
         ensures { result ≡ self.now.messages }
     {
         self.list.iter()
     }
 
-    /// Keeps the first `keep` messages, all where there are no more, and the room of all.
+    /// Keeps the first `keep` messages and removes the others. If there are no more than `keep`, it does nothing. The
+    /// buffer keeps its capacity.
     pub fn truncate(&mut self, keep: usize)
         ensures { self.new ≡ handed_from self.old.first (take keep self.old.messages) }
     {
         self.list.truncate(keep);
     }
 
-    /// Takes all messages away and keeps their room.
+    /// Removes all messages. The buffer keeps its capacity.
     pub fn clear(&mut self)
         ensures { self.new ≡ record { first = 0; messages = [] } }
     {
         self.list.clear();
     }
 
-    /// Whether the message with the number `next` may come behind the batch's: it is empty, or its last
-    /// message is the one before.
+    /// Returns whether the message with the number `next` may follow. This is so if the batch is empty or its last
+    /// message has the number just before.
     pub fn follows(&self, next: u64) -> bool
         ensures { IsTrue result ↔ Follows self.now next }
     {
@@ -122,7 +123,7 @@ impl Batch {
         }
     }
 
-    /// Adds the message with the number `next`. An error comes where a growth is refused.
+    /// Appends the message with the number `next`. Returns an error if an allocation fails.
     pub(crate) fn push(&mut self, next: u64, message: &[u8]) -> Result<(), AllocError>
         requires follows { Follows self.old next }
         requires counted { next + 1 < 2 ^ 64 }
@@ -135,8 +136,8 @@ impl Batch {
         self.list.push(message)
     }
 
-    /// Adds the messages of a packet, the first of which has the number `next`; their bytes are copied at
-    /// once. An error comes where a growth is refused; the batch then ends with some of them.
+    /// Appends the messages of a packet. The first of them has the number `next`. All their bytes are copied at once.
+    /// If an allocation fails, it returns an error, and the batch may end with some of the messages.
     #[inline(always)]
     pub(crate) fn push_blocks(&mut self, next: u64, blocks: &Blocks<'_>) -> Result<(), AllocError>
         requires follows { Follows self.old next }
@@ -164,7 +165,7 @@ impl<'a> IntoIterator for &'a Batch {
     }
 }
 
-// Makes the blocks that stand from `begin` on messages.
+// Appends to the list the messages whose blocks start at the offset `begin`.
 #[inline(always)]
 fn mark_blocks(list: &mut PartList, begin: usize, blocks: &Blocks<'_>) -> Result<(), AllocError>
     requires behind { list.old.end ≤ begin }

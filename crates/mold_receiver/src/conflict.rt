@@ -1,4 +1,4 @@
-//! A packet whose messages differ from the stored ones.
+//! The comparison of a packet's messages with the stored ones.
 
 ghost use Rattle.std.specs.Prelude.{◌≡◌, ◌+◌, ◌<◌, ◌^◌, ◌&&◌, length, nat_le};
 ghost use Rattle.std.specs.FinMap as finite;
@@ -9,7 +9,7 @@ ghost use Rattle.mold_receiver.specs.Store.{differs, first_conflict, from_next};
 use crate::slots::Slots;
 use mold_wire::{Blocks, Body, Packet};
 
-// Whether another message is stored at the number.
+// Returns whether a different message is stored with this number.
 fn is_conflict(slots: &Slots, next: u64, number: u64, message: &[u8]) -> bool
     ensures { result ≡ (nat_le next number && differs (finite.get (store_of next slots.now) number) message.now) }
 {
@@ -22,7 +22,7 @@ fn is_conflict(slots: &Slots, next: u64, number: u64, message: &[u8]) -> bool
     }
 }
 
-// The least of the packet's numbers at which another message is stored.
+// Returns the least number of the packet with which a different message is stored.
 fn find_conflict(slots: &Slots, next: u64, first: u64, blocks: &Blocks<'_>) -> Option<u64>
     requires { first + length blocks.now < 2 ^ 64 }
     ensures { result ≡ first_conflict (store_of next slots.now) (from_next next first blocks.now) }
@@ -37,9 +37,9 @@ fn find_conflict(slots: &Slots, next: u64, first: u64, blocks: &Blocks<'_>) -> O
     None
 }
 
-/// The least number from `next` on at which the packet and the store have different messages. Where nothing
-/// is stored, or the packet lies wholly below `next`, its messages aren't looked at.
-// On the way of each datagram: see `receiver.rt` on `inline(always)`.
+/// Returns the least number from `next` on at which the packet and the store have different messages. If nothing is
+/// stored, or the packet is wholly below `next`, it doesn't look at the messages.
+// This runs for each datagram. `receiver.rt` says why it is `inline(always)`.
 #[inline(always)]
 pub(crate) fn conflict_of(slots: &Slots, next: u64, packet: &Packet<'_>, top: u64) -> Option<u64>
     requires { top_of packet.now ≡ top }

@@ -1,17 +1,17 @@
-//! Why a receiver is not made.
+//! Why a receiver cannot be created.
 
 use thiserror::Error;
 
-/// Why a receiver is not made, in order of precedence.
+/// Why a receiver cannot be created. If several reasons apply, the first in this order is returned.
 #[derive(Clone, Copy, Debug, PartialEq, Eq, Error)]
 pub enum ReceiverError {
-    /// The first message of a session has number 1, so none has number 0.
+    /// The first number is 0. The first message of a session has number 1.
     #[error("the next message can't have number 0")]
     NextZero,
-    /// A window that is not 1 to `MAX_WINDOW` messages.
+    /// The window is not 1 to `MAX_WINDOW` messages.
     #[error("a window is 1 to 65,536 messages")]
     Window,
-    /// The memory for the window was refused.
+    /// The allocation of the window failed.
     #[error("out of memory")]
     Memory,
 }

@@ -1,7 +1,7 @@
-//! A packet with the message that is to be handed on next.
+//! Delivery: a packet that has the next message, and the stored messages that follow it.
 
-// `#[inline(always)]` marks what is on the way of each datagram. The compiler's own choice puts calls there, which
-// return structs through memory: a third of the time of a datagram with one message.
+// For the optimizer: `#[inline(always)]` marks the functions that run for each datagram. Without it, the compiler
+// emits calls that return structs through memory. They take a third of the time of a datagram with one message.
 
 ghost use Rattle.std.specs.Prelude.{◌≡◌, ◌+◌, ◌-◌, ◌<◌, ◌≤◌, ◌^◌, ◌++◌, ◌∷◌, [], max, nat_lt, if◌then◌else◌, length};
 ghost use Rattle.std.specs.Prelude.{drop, OnOk, OnErr, IfOk};
@@ -13,7 +13,7 @@ use crate::slots::Slots;
 use mold_wire::Blocks;
 use std::alloc::AllocError;
 
-// Adds a message of the packet, where its number isn't below `next`.
+// Appends a message of the packet, unless its number is below `next`.
 fn push_from(batch: &mut Batch, next: u64, number: u64, message: &[u8]) -> Result<(), AllocError>
     requires follows { Follows batch.old (max number next) }
     requires counted { number + 1 < 2 ^ 64 }
@@ -27,7 +27,7 @@ fn push_from(batch: &mut Batch, next: u64, number: u64, message: &[u8]) -> Resul
     batch.push(number, message)
 }
 
-// Adds the packet's messages from `next` on.
+// Appends the packet's messages from `next` on.
 #[inline(always)]
 fn push_messages(
     batch: &mut Batch,
@@ -52,8 +52,8 @@ fn push_messages(
     Ok(())
 }
 
-// Adds the messages from a slot on up to the first empty one, and tells that one; `next` is the number of the
-// first slot.
+// Appends the messages from the slot `start` on, up to the first empty slot, and returns that slot. The first slot
+// has the number `next`.
 fn push_held(batch: &mut Batch, next: u64, slots: &Slots, start: usize) -> Result<usize, AllocError>
     requires follows { Follows batch.old (next + start) }
     requires counted { next + start < 2 ^ 64 }
@@ -71,7 +71,7 @@ fn push_held(batch: &mut Batch, next: u64, slots: &Slots, start: usize) -> Resul
     Ok(end)
 }
 
-// The same, and it looks at no slot where none has a message.
+// Does the same as `push_held`, but looks at no slot if all are empty.
 #[inline(always)]
 fn push_stored(
     batch: &mut Batch,
@@ -93,7 +93,7 @@ fn push_stored(
     push_held(batch, next, slots, start)
 }
 
-// Adds the packet's messages from `next` on, and the stored ones behind them; the new `next`.
+// Appends the packet's messages from `next` on and the stored messages that follow them. Returns the new `next`.
 #[inline(always)]
 fn push_run(
     batch: &mut Batch,
@@ -114,8 +114,8 @@ fn push_run(
     Ok(next + end as u64)
 }
 
-/// Hands on the packet's messages from `next` on, and the stored ones behind them; the new `next`. An error
-/// comes where a growth is refused, and the batch is then as before.
+/// Delivers the packet's messages from `next` on and the stored messages that follow them. Returns the new `next`. If
+/// an allocation fails, it returns an error and the batch is unchanged.
 #[inline(always)]
 pub(crate) fn hand_on(
     batch: &mut Batch,

@@ -1,4 +1,4 @@
-//! A packet above a gap: its messages join the store.
+//! Storage: the messages of a packet above a gap.
 
 ghost use Rattle.std.specs.Prelude.{◌≡◌, ◌↔◌, ◌+◌, ◌<◌, ◌≤◌, ◌^◌, length, drop, IfOk, OnOk, OnErr, IsTrue};
 ghost use Rattle.mold_receiver.specs.Keeping.{filled, fresh};
@@ -11,7 +11,7 @@ use crate::span::Span;
 use mold_wire::{Blocks, LENGTH_BYTES};
 use std::alloc::{AllocError, Global};
 
-// Whether there is an empty slot for one of the packet's messages; `first` is the slot of its first message.
+// Returns whether there is an empty slot for one of the packet's messages. `first` is the slot of its first message.
 fn has_fresh(shelf: &Shelf, first: u64, blocks: &Blocks<'_>) -> bool
     requires { first + length blocks.now < 2 ^ 64 }
     ensures { IsTrue result ↔ (0 < length (fresh (slots_on shelf.now) first blocks.now)) }
@@ -26,8 +26,8 @@ fn has_fresh(shelf: &Shelf, first: u64, blocks: &Blocks<'_>) -> bool
     false
 }
 
-// Makes the blocks that stand from `begin` on the messages in their slots, where these are empty; how many these
-// are.
+// Puts the messages whose blocks start at the offset `begin` into their slots, if these are empty. Returns how many
+// it put.
 fn mark_blocks(shelf: &mut Shelf, first: u64, begin: usize, blocks: &Blocks<'_>) -> u32
     requires kept { IsKept shelf.old }
     requires numbered { first + length blocks.now < 2 ^ 64 }
@@ -56,9 +56,9 @@ fn mark_blocks(shelf: &mut Shelf, first: u64, begin: usize, blocks: &Blocks<'_>)
     count
 }
 
-/// Puts each of the packet's messages into its slot, where there is such a slot and it is empty; how many these
-/// are. `first` is the slot of its first message. The packet's blocks are copied at once. An error comes where
-/// a growth is refused; the slots are then as before.
+/// Puts each of the packet's messages into its slot, if the slot is in the window and empty. Returns how many it put.
+/// `first` is the slot of the packet's first message. All blocks of the packet are copied at once. If an allocation
+/// fails, it returns an error and the slots are unchanged.
 pub(crate) fn keep_fresh(
     alloc: Global,
     shelf: &mut Shelf,

@@ -1,5 +1,5 @@
-//! What holds of the definitions alone, for all views and all datagrams. Each law is a function that does
-//! nothing: its contract is the law.
+//! Laws of the receiver's definitions, for all views and all datagrams. Each law is a function with an empty body
+//! whose contract is the law.
 
 ghost use Rattle.std.specs.Prelude.{◌≡◌, ◌⊎◌, ◌+◌, ◌-◌, ◌<◌, ◌≤◌, ◌^◌, ◌++◌, ◌∷◌, [], max, min, length, Bool, true};
 ghost use Rattle.std.specs.Prelude.{false, List, ℕ, Option, None, Some, Ok, Err, is_some, slice_get};
@@ -24,8 +24,9 @@ ghost use Rattle.mold_receiver.specs.Gap.{IsTakenInGap};
 use mold_rule::laws::{cause_law, lacking_law, ranges_size_law, refusal_law};
 use mold_wire::laws::{reading_law, true_packet_law};
 
-/// The new `next` of a packet that is taken is the least number from the old one on that is lacking in what
-/// is available, and what is handed on is what is available there, in order.
+/// States delivery number by number. The packet's messages from the old `next` on and the stored messages are
+/// available. The new `next` is the least number from the old one on that is not available. The delivered messages
+/// are the available ones in between, in order.
 #[tactic(auto, using(crate::proofs::LawLemmas::next_lacks, crate::proofs::LawLemmas::handed_reads))]
 pub fn least_missing_law()
     ensures lacks { (v : View) (p : Packet) → IsWellFormed v →
@@ -35,7 +36,8 @@ pub fn least_missing_law()
         finite.get (available v.store v.next p.sequence (messages_of p.body)) (v.next + i) ≡ Some m }
 {}
 
-/// Nothing is handed on or stored but what the store had at that number or the packet carries there.
+/// A receiver invents nothing. Each message that it delivers or stores was stored with that number, or the packet
+/// carries it with that number.
 #[tactic(auto, using(crate::proofs::LawLemmas::handed_had, crate::proofs::LawLemmas::stored_had))]
 pub fn nothing_new_law()
     ensures handed { (v : View) (p : Packet) (i : ℕ) (m : Message) →
@@ -46,14 +48,14 @@ pub fn nothing_new_law()
         (finite.get v.store number ≡ Some m) ⊎ Carries p number m }
 {}
 
-/// A view that takes a datagram stays well formed; one that was made is.
+/// A well-formed view that accepts a datagram stays well formed.
 pub fn well_formed_law()
     ensures received { (v : View) (bytes : List ℕ) (r : Reception) →
         IsWellFormed v → receive v bytes ≡ Ok r → IsWellFormed r.view }
 {}
 
-/// Honest taking: an honest view refuses nothing that spells a true packet of its session, and is honest
-/// afterwards. What it hands on is what was published with these numbers.
+/// An honest view accepts every datagram that encodes a true packet of its session, and stays honest. Each message
+/// that it delivers is the one that was published with its number.
 pub fn honest_take_law()
     ensures { (v : View) (packet : Packet) (bytes : List ℕ) (published : List Message) (closed : Bool) →
         IsHonest v published closed → Spells packet bytes → packet.session ≡ v.session →
@@ -64,8 +66,8 @@ pub fn honest_take_law()
     refusal_law();
 }
 
-/// A view stays honest while messages are published, and when the session is closed. The view of a receiver
-/// that begins at a published message, or at the next one, is honest.
+/// A view stays honest when a message is published and when the session is closed. The view of a new receiver is
+/// honest if it starts at a published message or at the next one.
 pub fn honest_stays_law()
     ensures published { (v : View) (published : List Message) (message : Message) →
         IsHonest v published false → IsHonest v (published ++ message ∷ []) false }
@@ -76,27 +78,28 @@ pub fn honest_stays_law()
         IsHonest (fresh session next window) published closed }
 {}
 
-/// What is taken is a packet of the view's session that meets no refusal, and it does what the rule says.
+/// A datagram that is accepted encodes a packet of the view's session to which no refusal applies. The result is the
+/// one that the receiving rule states.
 pub fn taken_law()
     ensures { (v : View) (bytes : List ℕ) (r : Reception) →
         receive v bytes ≡ Ok r → IsTakenPacket v bytes r }
 {}
 
-/// The receiving rule never answers that memory is wanting.
+/// The receiving rule never refuses with `Memory`. Only an implementation can run out of memory.
 pub fn no_memory_law()
     ensures { (v : View) (bytes : List ℕ) → receive v bytes ≡ Err Memory → ⊥ }
 {
     cause_law();
 }
 
-/// A packet that is taken and doesn't begin above `next` is handed on to its end.
+/// If an accepted packet doesn't begin above `next`, the new `next` is at least the packet's top.
 pub fn through_law()
     ensures { (v : View) (p : Packet) →
         IsWellFormed v → p.sequence ≤ v.next → top_of p ≤ (view_after v p).next }
 {}
 
-/// What is wanted is asked from `next` on, for the gap there as far as a request may ask; nothing is wanted
-/// exactly where nothing below `known` is lacking.
+/// The wanted request starts at `next` and asks for the gap there, up to `MAX_COUNT` messages. If nothing is wanted,
+/// no message below `known` is missing.
 pub fn wanted_law()
     ensures asks { (v : View) (r : Request) → wanted v ≡ Some r →
         (r.session ≡ v.session) × (r.sequence ≡ v.next) × (r.count ≡ min MAX_COUNT (gap_end v - v.next)) }
@@ -104,8 +107,8 @@ pub fn wanted_law()
     ensures none { (v : View) → wanted v ≡ None → v.next ≡ v.known }
 {}
 
-/// How many messages are missing: as many as the store lacks of the numbers from `next` to below `known`,
-/// which are those in the gaps.
+/// The number of missing messages is the number of messages from `next` to just below `known` that the store lacks.
+/// It is also the sum of the sizes of the gaps.
 pub fn missing_law()
     ensures lacking { (v : View) → IsWellFormed v →
         missing v ≡ lacking (lacks v.store) v.next (v.known - v.next) }
@@ -115,8 +118,8 @@ pub fn missing_law()
     ranges_size_law();
 }
 
-/// A data packet that begins at `next` and goes no further than the gap there is refused by nothing, and
-/// as many messages less are missing as it has. So is one that answers what is wanted.
+/// A data packet that begins at `next` and doesn't go past the gap there is accepted. The number of missing messages
+/// falls by the number of its messages. The same holds for a packet that responds to the wanted request.
 pub fn round_law()
     ensures gap { (v : View) (end : ℕ) (messages : List Message) (bytes : List ℕ) →
         IsWellFormed v → IsGap v end → v.next + length messages ≤ end →
@@ -130,7 +133,8 @@ pub fn round_law()
     refusal_law();
 }
 
-/// A batch that follows goes on to follow, and messages may join it in parts.
+/// Messages that are appended to a batch leave it ready for the next number. Appending messages in two parts is the
+/// same as appending them at once.
 #[tactic(auto, using(crate::proofs::BatchLemmas::follows_after, crate::proofs::BatchLemmas::followed_twice))]
 pub fn followed_law()
     ensures follows { (batch : Handed) (next : ℕ) (messages : List Message) →

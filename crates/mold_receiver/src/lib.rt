@@ -1,5 +1,5 @@
-//! The receiver of MoldUDP64 downstream packets: it hands messages on in sequence, each once, and stores
-//! what comes above a gap. An arbiter takes the packets of two lines.
+//! The receiver of MoldUDP64 downstream packets. It delivers each message once, in sequence, and stores messages that
+//! arrive above a gap. An arbiter receives the packets of two lines.
 #![tactic(auto)]
 
 mod arbiter;

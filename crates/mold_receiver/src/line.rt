@@ -1,4 +1,4 @@
-//! The two lines that a session's packets come on.
+//! The two lines that carry a session's packets, and the report of each.
 
 ghost use Rattle.std.specs.Prelude.{◌≡◌};
 ghost use Rattle.mold_receiver.specs.Arbiter.{report_on, report_refused, report_taken, reports_refused, reports_taken};
@@ -6,21 +6,24 @@ ghost use Rattle.mold_rule.specs.declared.refusal.Refusal.TheVariants.{Memory};
 
 use mold_rule::Refusal;
 
-/// A line. Both carry the same packets, so that one stands in for what the other lost.
+/// One of the two lines. Both carry the same packets, so each can supply what the other lost.
 #[derive(Clone, Copy, Debug, PartialEq, Eq, Hash)]
 pub enum Line {
+    /// The first line.
     A,
+    /// The second line.
     B,
 }
 
-/// What came on a line. Both counts stay at 18446744073709551615.
+/// What was received on one line. A count that reaches 18446744073709551615 stays there.
 #[derive(Clone, Copy, Debug, PartialEq, Eq, Hash)]
 pub struct LineReport {
-    /// How many datagrams were taken.
+    /// The number of datagrams that were accepted.
     pub datagrams: u64,
-    /// How many datagrams were refused for another cause than want of memory.
+    /// The number of datagrams that were refused, without those for which an allocation failed.
     pub refused: u64,
-    /// The greatest top of a packet that was taken, and at least what was known when the arbiter was made.
+    /// The greatest top of a packet that was accepted on this line. It starts at what the receiver knew when the
+    /// arbiter was created.
     pub front: u64,
 }
 
@@ -31,7 +34,7 @@ pub(crate) struct LineReports {
     b: LineReport,
 }
 
-// A line's report when a packet with this top was taken on it.
+// Returns a line's report after a packet with this top was accepted on it.
 fn with_taken(report: LineReport, top: u64) -> LineReport
     ensures { result ≡ report_taken report top }
 {
@@ -42,7 +45,7 @@ fn with_taken(report: LineReport, top: u64) -> LineReport
     }
 }
 
-// A line's report when a datagram was refused on it.
+// Returns a line's report after a datagram was refused on it.
 fn with_refused(report: LineReport) -> LineReport
     ensures { result ≡ report_refused report }
 {
@@ -53,7 +56,7 @@ fn with_refused(report: LineReport) -> LineReport
 }
 
 impl LineReports {
-    /// The reports where nothing came yet, and `known` is known.
+    /// Returns the reports of two lines on which nothing was received. `known` is what the receiver knows.
     pub(crate) fn new(known: u64) -> LineReports
         ensures a { result.a ≡ record { datagrams = 0; refused = 0; front = known } }
         ensures b { result.b ≡ record { datagrams = 0; refused = 0; front = known } }
@@ -69,6 +72,7 @@ impl LineReports {
         }
     }
 
+    /// Returns the report of a line.
     pub(crate) fn of(&self, line: Line) -> LineReport
         ensures { result ≡ report_on line self.now }
     {
@@ -78,7 +82,7 @@ impl LineReports {
         }
     }
 
-    /// A packet with this top was taken on the line.
+    /// Records that a packet with this top was accepted on the line.
     pub(crate) fn note_taken(&mut self, line: Line, top: u64)
         ensures { self.new ≡ reports_taken line self.old top }
     {
@@ -88,7 +92,7 @@ impl LineReports {
         }
     }
 
-    // A datagram was refused on the line for another cause than want of memory.
+    // Counts a datagram that was refused on the line for another reason than a failed allocation.
     fn count_refused(&mut self, line: Line)
         ensures { self.new ≡ reports_refused line self.old }
     {
@@ -98,7 +102,7 @@ impl LineReports {
         }
     }
 
-    /// A datagram was refused on the line; want of memory isn't counted.
+    /// Records that a datagram was refused on the line. A failed allocation isn't counted.
     pub(crate) fn note_refused(&mut self, line: Line, refused: Refusal)
         ensures memory { refused ≡ Memory → self.new ≡ self.old }
         ensures other { (refused ≡ Memory → ⊥) → self.new ≡ reports_refused line self.old }

@@ -1,7 +1,7 @@
-//! The receiver.
+//! The receiver of one session: what it knows, delivers, stores and requests.
 
-// `#[inline(always)]` marks what is on the way of each datagram. The compiler's own choice puts calls there, which
-// return structs through memory: a third of the time of a datagram with one message.
+// For the optimizer: `#[inline(always)]` marks the functions that run for each datagram. Without it, the compiler
+// emits calls that return structs through memory. They take a third of the time of a datagram with one message.
 
 ghost use Rattle.std.specs.Prelude.{◌≡◌, ◌↔◌, IsTrue, ◌⊎◌, [], ◌+◌, ◌-◌, ◌<◌, ◌≤◌, ◌^◌, min, length, Some, None, Ok};
 ghost use Rattle.std.specs.Prelude.{Err, IfOk, IfErr, OnOk, OnErr};
@@ -31,7 +31,8 @@ use mold_wire::{Blocks, Body, MAX_COUNT, MAX_WINDOW, Packet, Request, Session, d
 use std::alloc::{AllocError, Global};
 use std::marker::Model;
 
-// How many of a packet's messages lie behind the window, by its top and the number of its messages.
+// Returns how many of a packet's messages are past the window. `top` is the packet's top and `count` is the number of
+// its messages.
 fn count_beyond(next: u64, window: usize, top: u64, count: u16) -> u32
     requires { next ≤ top }
     ensures { result ≡ min (top - next - window) count }
@@ -40,7 +41,7 @@ fn count_beyond(next: u64, window: usize, top: u64, count: u16) -> u32
     past.min(u64::from(count)) as u32
 }
 
-// The end that is known when the packet was taken.
+// Returns the session's end as known after the packet was accepted.
 fn known_end(packet: &Packet<'_>, ended: Option<u64>) -> Option<u64>
     ensures { result ≡ ended_after packet.now.body packet.now.sequence ended }
 {
@@ -50,9 +51,9 @@ fn known_end(packet: &Packet<'_>, ended: Option<u64>) -> Option<u64>
     }
 }
 
-/// A receiver of one session's downstream packets. It hands each message on once, in the order of their
-/// numbers from the first one that it was made for, and stores what comes above a gap, as far as its
-/// window goes. Packets may come late, repeated and in any order.
+/// A receiver of one session's downstream packets. It delivers each message once, in the order of the sequence
+/// numbers, starting at the number given to `new`. It stores messages that arrive above a gap, if they are in its
+/// window. Packets may arrive late, repeatedly and in any order.
 #[derive(Debug, Drop)]
 pub struct Receiver {
     session: Session,
@@ -76,8 +77,8 @@ impl Model for Receiver {
 }
 
 impl Receiver {
-    /// A receiver that begins at the message `next` and stores messages of less than `next + window`. It
-    /// makes its window here; later only messages take memory.
+    /// Returns a receiver that starts at the message `next`. It stores messages with numbers below the current `next`
+    /// plus `window`. The window is allocated here; later only messages need memory.
     pub fn new(
         alloc: Global,
         session: Session,
@@ -133,7 +134,7 @@ impl Receiver {
         })
     }
 
-    // Hands on from a packet that has the message `next`.
+    // Delivers from a packet that has the message `next`.
     #[inline(always)]
     fn hand(
         &mut self,
@@ -167,7 +168,7 @@ impl Receiver {
         })
     }
 
-    // Notes what a packet tells that has no message from `next` on.
+    // Records what is known from a packet that has no message from `next` on.
     #[inline(always)]
     fn note(&mut self, packet: &Packet<'_>, top: u64) -> Taken
         requires top { top_of packet.now ≡ top }
@@ -187,7 +188,7 @@ impl Receiver {
         }
     }
 
-    // The packet's top, or the first refusal that it meets.
+    // Returns the packet's top, or the first refusal that applies to it.
     #[inline(always)]
     fn check(&self, packet: &Packet<'_>) -> Result<u64, Refusal>
         ensures top { IfOk result (λ top. top ≡ top_of packet.now) }
@@ -201,7 +202,7 @@ impl Receiver {
         }
     }
 
-    // Takes a packet that meets no refusal.
+    // Takes a packet to which no refusal applies.
     #[inline(always)]
     fn take_packet(
         &mut self,
@@ -233,7 +234,7 @@ impl Receiver {
         self.hand(packet.sequence, top, blocks, batch)
     }
 
-    /// Takes a datagram as `take` does, and tells the packet's top too.
+    /// Takes a datagram as `take` does, and returns the packet's top too.
     #[inline(always)]
     pub(crate) fn accept(&mut self, bytes: &[u8], batch: &mut Batch) -> Result<Accepted, Refusal>
         requires { Follows batch.old self.old.next }
@@ -250,7 +251,8 @@ impl Receiver {
         };
         let top = self.check(&packet)?;
         match self.take_packet(&packet, top, batch) {
-            // Field by field: a copy of the whole waits for what was just written in parts.
+            // For the optimizer: a copy of the whole struct would wait until its fields, which were written just
+            // before, reach memory.
             Ok(
                 Taken {
                     handed,
@@ -269,9 +271,9 @@ impl Receiver {
         }
     }
 
-    /// Takes a datagram: what it brings is handed on to the end of `batch`, or stored, or known already.
-    /// Every refusal but `Memory` is found before any memory is asked for, and after each of them receiver
-    /// and batch are as before. The batch must be empty or end just before `next`.
+    /// Takes a datagram. New messages are appended to `batch`, or stored if they are above a gap. Above a gap,
+    /// messages past the window are dropped. Every refusal except `Memory` is found before anything is allocated.
+    /// After a refusal, the receiver and the batch are unchanged. The batch must be empty or end just before `next`.
     pub fn take(&mut self, bytes: &[u8], batch: &mut Batch) -> Result<Taken, Refusal>
         requires { Follows batch.old self.old.next }
         ensures taken { IfOk result (λ taken. HasTaken self.old bytes.now batch.old self.new batch.new taken) }
@@ -283,42 +285,43 @@ impl Receiver {
         Ok(accepted.taken)
     }
 
-    /// The session that it receives.
+    /// Returns the session of the receiver.
     pub fn session(&self) -> Session
         ensures { result ≡ self.now.session }
     {
         self.session
     }
 
-    /// The number of the message to be handed on next.
+    /// Returns the number of the next message to deliver.
     pub fn next(&self) -> u64
         ensures { result ≡ self.now.next }
     {
         self.next
     }
 
-    /// One more than the greatest number that it has heard of; `next` where it has heard of none above.
+    /// Returns the greatest top of an accepted packet, or the number that the receiver started at if that is greater.
+    /// It is one more than the greatest number that the receiver knows of.
     pub fn known(&self) -> u64
         ensures { result ≡ self.now.known }
     {
         self.known
     }
 
-    /// One more than the number of messages of the session, once an end packet told it.
+    /// Returns one more than the number of the session's last message, or `None` before an end packet was accepted.
     pub fn ended(&self) -> Option<u64>
         ensures { result ≡ self.now.ended }
     {
         self.ended
     }
 
-    /// Whether every message up to the session's end was handed on.
+    /// Returns whether an end packet was accepted and all messages of the session were delivered.
     pub fn finished(&self) -> bool
         ensures { IsTrue result ↔ (self.now.ended ≡ Some self.now.next) }
     {
         self.ended == Some(self.next)
     }
 
-    /// How many messages are stored, fewer than the window.
+    /// Returns the number of stored messages. It is less than the window.
     pub fn stored(&self) -> u32
         ensures count { result ≡ finite.len self.now.store }
         ensures bound { result < self.now.window }
@@ -326,7 +329,7 @@ impl Receiver {
         self.slots.held()
     }
 
-    /// How many numbers from `next` on it stores messages for, 1 to `MAX_WINDOW`.
+    /// Returns the window: how many numbers from `next` on the receiver keeps messages for, 1 to `MAX_WINDOW`.
     pub fn window(&self) -> u32
         ensures window { result ≡ self.now.window }
         ensures range { IsWindow self.now.window }
@@ -334,8 +337,9 @@ impl Receiver {
         self.slots.len() as u32
     }
 
-    /// The request for what is lacking: from `next` on to below the first stored message, or to below
-    /// `known` where nothing is stored, but for no more than `MAX_COUNT`. None where nothing is lacking.
+    /// Returns the request for the first gap, or `None` if no message below `known` is missing. The request covers
+    /// the numbers from `next` to just below the first stored message, or below `known` if none is stored. It asks
+    /// for at most `MAX_COUNT` messages.
     pub fn wanted(&self) -> Option<Request>
         ensures wanted { result ≡ wanted self.now }
         ensures well_formed { IsWellFormed self.now }

@@ -1,4 +1,4 @@
-//! The ring of spans: a slot is empty or has the span of its message.
+//! The ring of spans. A slot is empty or has the span of its message.
 
 ghost use Rattle.std.specs.Prelude.{◌≡◌, ◌+◌, ◌<◌, ◌≤◌, ◌^◌, ◌++◌, ◌∷◌, [], length, drop, replicate, slice_set, IfOk};
 ghost use Rattle.std.specs.Prelude.{None, Some};
@@ -10,7 +10,7 @@ use crate::span::Span;
 use circular_buffer::HeapCircularBuffer;
 use std::alloc::{AllocError, Global};
 
-/// A ring of so many empty slots.
+/// Returns a ring of `window` empty slots.
 pub(crate) fn empty_ring(
     alloc: Global,
     window: u32,
@@ -24,7 +24,7 @@ pub(crate) fn empty_ring(
     Ok(ring)
 }
 
-/// Drops the first slot, and has an empty one behind the last. What was in the first.
+/// Drops the first slot, appends an empty one, and returns what was in the first.
 pub(crate) fn advance(ring: &mut HeapCircularBuffer<Option<Span>>) -> Option<Span>
     requires some { 0 < length ring.old.items }
     requires full { length ring.old.items ≡ ring.old.capacity }
@@ -36,7 +36,7 @@ pub(crate) fn advance(ring: &mut HeapCircularBuffer<Option<Span>>) -> Option<Spa
     first
 }
 
-/// The span in a slot; none where the slot is empty or there is no such slot.
+/// Returns the span in a slot, or `None` if the slot is empty or doesn't exist.
 pub(crate) fn span_in(ring: &HeapCircularBuffer<Option<Span>>, slot: usize) -> Option<Span>
     ensures { result ≡ span_at ring.now.items slot }
 {
@@ -56,7 +56,8 @@ pub(crate) fn write(ring: &mut HeapCircularBuffer<Option<Span>>, slot: usize, sp
     }
 }
 
-// Writes the span of a slot that is as long, and begins at a place; where that ends.
+// Moves the span of a slot to the offset `at` and keeps its length. Returns the offset where the span now ends, or
+// `at` if the slot is empty.
 fn move_span(ring: &mut HeapCircularBuffer<Option<Span>>, slot: usize, at: u32) -> u32
     requires there { slot < length ring.old.items }
     requires ordered { (span : Span) → span_at ring.old.items slot ≡ Some span → span.start ≤ span.end }
@@ -76,7 +77,8 @@ fn move_span(ring: &mut HeapCircularBuffer<Option<Span>>, slot: usize, at: u32) 
     }
 }
 
-/// Writes the spans anew, so that they lie one behind the other from 0 on. From `reach` on there is none.
+/// Moves the spans so that they follow one another without waste from the offset 0 on. The slots from `reach` on are
+/// empty.
 pub(crate) fn close_up(ring: &mut HeapCircularBuffer<Option<Span>>, reach: usize)
     requires within { reach ≤ length ring.old.items }
     requires none { AreNoneFrom reach ring.old.items }

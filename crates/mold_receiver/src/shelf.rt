@@ -1,4 +1,4 @@
-//! The gap store: a ring of slots, and the bytes of their messages.
+//! The store: a ring of slots, and the bytes of the stored messages.
 
 ghost use Rattle.std.specs.Prelude.{◌≡◌, ◌+◌, ◌-◌, ◌*◌, ◌^◌, ◌<◌, ◌≤◌, ◌++◌, ◌∷◌, ◌⊎◌, [], length, drop, max};
 ghost use Rattle.std.specs.Prelude.{replicate};
@@ -15,16 +15,16 @@ use crate::span::Span;
 use circular_buffer::HeapCircularBuffer;
 use std::alloc::{AllocError, Global};
 
-// The most bytes: an offset is a number of 32 bits.
+// The most bytes that the store can have, since an offset has 32 bits.
 const MAX_BYTES: usize = u32::MAX as usize;
 
-// Packing never starts below this much waste, in bytes that belong to no message.
+// Compaction never starts below this much waste. Waste is the number of bytes that belong to no stored message.
 const MIN_WASTE: usize = 65536;
 
-// Nor below this much for each slot that packing walks.
+// Compaction also never starts below this much waste for each slot that it visits.
 const WASTE_OF_A_SLOT: usize = 32;
 
-// How many slots from the front have no message when one is written into a slot.
+// Returns how many slots at the start of the ring are known to be empty, after a message is written into `slot`.
 fn clear_with(clear: usize, held: u32, slot: usize) -> usize
     ensures before { result ≤ slot }
     ensures known { (held ≡ 0) ⊎ (result ≤ clear) }
@@ -32,25 +32,25 @@ fn clear_with(clear: usize, held: u32, slot: usize) -> usize
     if held == 0 { slot } else { clear.min(slot) }
 }
 
-/// As many slots as a receiver's window, each empty or with a message. The messages lie in one list of bytes,
-/// as they came in their packets, and a slot has the place. The ring is made once. The bytes grow with what
-/// is stored, to less than 4 GiB, and keep their room.
+/// A ring with one slot for each number of a receiver's window. A slot is empty or has a message. The messages are in
+/// one byte buffer, as they were in their packets, and a slot has the span of its message. The ring is allocated
+/// once. The buffer grows with the stored messages, to less than 4 GiB, and keeps its capacity.
 #[derive(Debug, Drop)]
 pub(crate) struct Shelf {
     ring: HeapCircularBuffer<Option<Span>>,
     bytes: Vec<u8>,
-    // How many slots have a message.
+    // The number of slots that have a message.
     held: u32,
-    // How many bytes these messages have together.
+    // The number of bytes of these messages together.
     used: usize,
-    // So many slots from the front are known to have none.
+    // This many slots at the start of the ring are known to be empty.
     clear: usize,
-    // The slots from this one on are known to have none.
+    // The slots from this index on are known to be empty.
     reach: usize,
 }
 
 impl Shelf {
-    /// Empty slots, as many as the window, and no bytes.
+    /// Returns `window` empty slots and no bytes.
     pub(crate) fn new(alloc: Global, window: u32) -> Result<Shelf, AllocError>
         requires some { 0 < window }
         requires few { window ≤ MAX_WINDOW }
@@ -68,6 +68,7 @@ impl Shelf {
         })
     }
 
+    /// Returns the number of slots.
     pub(crate) fn len(&self) -> usize
         requires { IsKept self.now }
         ensures length { result ≡ length (slots_on self.now) }
@@ -76,7 +77,7 @@ impl Shelf {
         self.ring.len()
     }
 
-    /// How many slots have a message.
+    /// Returns the number of slots that have a message.
     pub(crate) fn held(&self) -> u32
         requires { IsKept self.now }
         ensures count { result ≡ count_held (slots_on self.now) }
@@ -85,7 +86,7 @@ impl Shelf {
         self.held
     }
 
-    /// The message in a slot; none where the slot is empty or there is no such slot.
+    /// Returns the message in a slot, or `None` if the slot is empty or doesn't exist.
     pub(crate) fn get(&self, slot: usize) -> Option<&[u8]>
         requires { IsKept self.now }
         ensures { option_copied result ≡ slot_at (slots_on self.now) slot }
@@ -96,22 +97,22 @@ impl Shelf {
         }
     }
 
-    /// Whether there is such a slot and it has a message.
+    /// Returns whether the slot exists and has a message.
     pub(crate) fn has(&self, slot: usize) -> bool
         ensures { result ≡ is_some (slot_at (slots_on self.now) slot) }
     {
         span_in(&self.ring, slot).is_some()
     }
 
-    /// Whether there is such a slot and it is empty.
+    /// Returns whether the slot exists and is empty.
     pub(crate) fn is_free(&self, slot: u64) -> bool
         ensures { result ≡ is_fresh (slots_on self.now) slot }
     {
         slot < self.ring.len() as u64 && !self.has(slot as usize)
     }
 
-    /// Copies bytes behind the others, of which `mark` makes messages, and tells where they begin. An error
-    /// comes where a growth is refused, or would reach 4 GiB; the slots are then as before.
+    /// Appends bytes that `mark` can make into messages, and returns the offset where they begin. If an allocation
+    /// fails, or the buffer would reach 4 GiB, it returns an error and the slots are unchanged.
     pub(crate) fn append(&mut self, bytes: &[u8]) -> Result<usize, AllocError>
         requires { IsKept self.old }
         ensures kept { IsKept self.new }
@@ -128,7 +129,8 @@ impl Shelf {
         Ok(begin)
     }
 
-    // Makes the bytes of a span the message in an empty slot. They lie behind as many as are used.
+    // Puts a message into an empty slot. The message is the bytes of `span`, which begins at or after the offset
+    // `used`.
     fn mark(&mut self, slot: usize, span: Span)
         requires kept { IsKept self.old }
         requires free { IsTrue (is_fresh (slots_on self.old) slot) }
@@ -148,8 +150,8 @@ impl Shelf {
         write(&mut self.ring, slot, span);
     }
 
-    /// Makes the bytes of a span the message in a slot, where there is such a slot and it is empty; whether it
-    /// was. They lie behind as many as are used.
+    /// Puts a message into a slot, if the slot exists and is empty, and returns whether it did. The message is the
+    /// bytes of `span`, which begins at or after the offset `used`.
     pub(crate) fn mark_free(&mut self, slot: u64, span: Span) -> bool
         requires kept { IsKept self.old }
         requires behind { self.old.used ≤ span.start }
@@ -169,7 +171,7 @@ impl Shelf {
         true
     }
 
-    // The messages, joined.
+    // Returns a copy of all stored messages, joined.
     fn gather(&self, alloc: Global) -> Result<Vec<u8>, AllocError>
         requires { IsKept self.now }
         ensures { IfOk result (λ packed. packed.items ≡ joined (slots_on self.now)) }
@@ -183,7 +185,7 @@ impl Shelf {
         Ok(packed)
     }
 
-    // Lets the bytes go that belong to no message. An error comes where a growth is refused.
+    // Removes the bytes that belong to no message. Returns an error if an allocation fails.
     fn pack(&mut self, alloc: Global) -> Result<(), AllocError>
         requires { IsKept self.old }
         ensures kept { IsKept self.new }
@@ -196,9 +198,9 @@ impl Shelf {
         Ok(())
     }
 
-    /// Lets the bytes go that belong to no message, where these are more than is borne: so many that what
-    /// packing walks and copies is paid by what was stored since the last time. An error comes where a growth is
-    /// refused; the slots are then as before.
+    /// Removes the bytes that belong to no message, if there are more than a limit. The limit is high enough that the
+    /// messages stored since the last compaction pay for the slots visited and bytes copied. If an allocation fails,
+    /// it returns an error and the slots are unchanged.
     pub(crate) fn tidy(&mut self, alloc: Global) -> Result<(), AllocError>
         requires { IsKept self.old }
         ensures kept { IsKept self.new }
@@ -214,7 +216,7 @@ impl Shelf {
         self.pack(alloc)
     }
 
-    // Drops the first slot with what is in it, and has an empty one behind the last.
+    // Drops the first slot with its message and appends an empty slot.
     fn advance(&mut self)
         requires { IsKept self.old }
         ensures kept { IsKept self.new }
@@ -231,9 +233,9 @@ impl Shelf {
         }
     }
 
-    /// Moves on by so many slots: the first ones are dropped, and empty ones follow the last. Where no slot
-    /// has a message, they stay as they are.
-    // On the way of each datagram: see `receiver.rt` on `inline(always)`.
+    /// Drops the first `count` slots and appends as many empty ones. If no slot has a message, nothing needs to
+    /// change.
+    // This runs for each datagram. `receiver.rt` says why it is `inline(always)`.
     #[inline(always)]
     pub(crate) fn skip(&mut self, count: usize)
         requires kept { IsKept self.old }
@@ -247,7 +249,7 @@ impl Shelf {
         }
     }
 
-    // Drops so many slots from the front, and has as many empty ones behind the last.
+    // Drops the first `count` slots and appends as many empty ones, one at a time.
     fn drop_first(&mut self, count: usize)
         requires kept { IsKept self.old }
         requires within { count ≤ length (slots_on self.old) }
@@ -259,8 +261,8 @@ impl Shelf {
         }
     }
 
-    // Where no slot has a message, lets the bytes go and keeps their room. Else looks for the first slot that
-    // has one, where it isn't known that the first has none.
+    // If no slot has a message, removes all bytes and keeps the buffer's capacity. Otherwise it looks for the first
+    // slot that has a message, unless the first slots are known to be empty.
     fn settle(&mut self)
         requires { IsKept self.old }
         ensures kept { IsKept self.new }
@@ -274,7 +276,7 @@ impl Shelf {
         }
     }
 
-    /// The first slot that has a message, among so many from the front; their number where none has.
+    /// Returns the first slot that has a message among the first `most` slots, or `most` if they are empty.
     pub(crate) fn first_held(&self, most: usize) -> usize
         requires { IsKept self.now }
         ensures { IsFirstHeld (slots_on self.now) most result }
@@ -285,7 +287,7 @@ impl Shelf {
         self.search(most)
     }
 
-    // The first slot that has a message, as `first_held` tells it.
+    // Does the same as `first_held`, also if no slot has a message.
     fn search(&self, most: usize) -> usize
         requires { IsKept self.now }
         ensures { IsFirstHeld (slots_on self.now) most result }

@@ -1,4 +1,4 @@
-//! The slots of the gap store.
+//! The slots of the store, as the receiver uses them.
 
 ghost use Rattle.std.specs.Prelude.{◌≡◌, ◌+◌, ◌^◌, ◌<◌, ◌≤◌, ◌++◌, length, drop, replicate, IfOk, OnOk, OnErr, None};
 ghost use Rattle.std.specs.Option.{option_copied};
@@ -13,11 +13,12 @@ use mold_wire::Blocks;
 use std::alloc::{AllocError, Global};
 use std::marker::Model;
 
-/// As many slots as a receiver's window, each empty or with a message. Slot i is for the number `next + i`,
-/// so the slots move on with `next`. They are made once; afterwards only messages take memory.
-// `Slots` only forwards to `Shelf`, and they are two types for the prover. The invariant of a type holds before and
-// after each call that takes it. `Shelf` has none, and its contracts state `IsKept` where it holds, so its methods
-// can call one another while it does not hold for a moment.
+/// A ring with one slot for each number of a receiver's window. A slot is empty or has a message. Slot i is for the
+/// number `next + i`, so the slots move when `next` moves. The slots are allocated once; later only messages need
+/// memory.
+// For the prover: `Slots` only forwards to `Shelf`, but they are two types. The invariant of a type must hold before
+// and after each call that takes it. `Shelf` has no invariant, and its contracts state `IsKept` where it holds. So
+// its methods can call one another while `IsKept` doesn't hold for a moment.
 #[derive(Debug, Drop)]
 pub(crate) struct Slots {
     shelf: Shelf,
@@ -36,7 +37,7 @@ impl Model for Slots {
 }
 
 impl Slots {
-    /// Empty slots, as many as the window.
+    /// Returns `window` empty slots.
     pub(crate) fn new(alloc: Global, window: u32) -> Result<Slots, AllocError>
         requires some { 0 < window }
         requires few { window ≤ MAX_WINDOW }
@@ -46,6 +47,7 @@ impl Slots {
         Ok(Slots { shelf })
     }
 
+    /// Returns the number of slots.
     pub(crate) fn len(&self) -> usize
         ensures length { result ≡ length self.now }
         ensures range { (0 < length self.now) × (length self.now ≤ MAX_WINDOW) }
@@ -53,7 +55,7 @@ impl Slots {
         self.shelf.len()
     }
 
-    /// How many slots have a message.
+    /// Returns the number of slots that have a message.
     pub(crate) fn held(&self) -> u32
         ensures count { result ≡ count_held self.now }
         ensures some { 0 < length self.now }
@@ -61,16 +63,16 @@ impl Slots {
         self.shelf.held()
     }
 
-    /// The message in a slot; none where the slot is empty or there is no such slot.
+    /// Returns the message in a slot, or `None` if the slot is empty or doesn't exist.
     pub(crate) fn get(&self, slot: usize) -> Option<&[u8]>
         ensures { option_copied result ≡ slot_at self.now slot }
     {
         self.shelf.get(slot)
     }
 
-    /// Puts each of the packet's messages into its slot, where there is such a slot and it is empty; how many
-    /// these are. `first` is the slot of its first message. An error comes where a growth is refused, and only
-    /// where there is such a message; the slots are then as before.
+    /// Puts each of the packet's messages into its slot, if the slot exists and is empty. Returns how many it put.
+    /// `first` is the slot of the packet's first message. If an allocation fails, it returns an error and the slots
+    /// are unchanged. An allocation is only needed if there is a message to put.
     pub(crate) fn keep(
         &mut self,
         alloc: Global,
@@ -87,9 +89,9 @@ impl Slots {
         keep_fresh(alloc, &mut self.shelf, first, blocks)
     }
 
-    /// Moves on by so many slots: the first ones are dropped, and empty ones follow the last. Where no slot
-    /// has a message, they stay as they are.
-    // On the way of each datagram: see `receiver.rt` on `inline(always)`.
+    /// Drops the first `count` slots and appends as many empty ones. If no slot has a message, nothing needs to
+    /// change.
+    // This runs for each datagram. `receiver.rt` says why it is `inline(always)`.
     #[inline(always)]
     pub(crate) fn skip(&mut self, count: usize)
         requires { count ≤ length self.old }
@@ -98,7 +100,7 @@ impl Slots {
         self.shelf.skip(count);
     }
 
-    /// The first slot that has a message, among so many from the front; their number where none has.
+    /// Returns the first slot that has a message among the first `most` slots, or `most` if they are empty.
     pub(crate) fn first_held(&self, most: usize) -> usize
         ensures { IsFirstHeld self.now most result }
     {

@@ -1,6 +1,7 @@
-//! Where a message lies in the bytes of the gap store.
+//! The position of a stored message in the bytes of the store.
 
-/// The bytes from one place up to another. A ring has many: places of 32 bits keep it small.
+/// A range of bytes, from the offset `start` to just before the offset `end`. A ring has many spans, so the offsets
+/// have 32 bits.
 #[derive(Clone, Copy, Debug)]
 pub(crate) struct Span {
     pub start: u32,

@@ -1,17 +1,19 @@
 //! What a receiver did with a datagram.
 
-/// What a receiver did with a datagram that it took.
+/// The counts of what a receiver did with the messages of a datagram that it accepted.
 #[derive(Clone, Copy, Debug, PartialEq, Eq, Hash)]
 pub struct Taken {
-    /// How many messages were handed on; they stand at the end of the batch.
+    /// The number of messages that were delivered. They are the last messages of the batch, and may include messages
+    /// that were stored before.
     pub handed: u32,
-    /// How many messages of this datagram were stored.
+    /// The number of messages of this datagram that were added to the store.
     pub kept: u32,
-    /// How many messages of this datagram lie behind the window. They are lost, and have to come again.
+    /// The number of messages of this datagram that are past the window. The receiver drops them, so they have to be
+    /// received again.
     pub beyond: u32,
 }
 
-/// What a receiver did with a packet that it took, and the packet's top.
+/// What a receiver did with a packet that it accepted, and the packet's top.
 #[derive(Clone, Copy, Debug)]
 pub(crate) struct Accepted {
     pub taken: Taken,

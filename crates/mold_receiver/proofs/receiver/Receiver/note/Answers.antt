@@ -7,7 +7,7 @@ use Rattle.mold_receiver.specs.View.{View, view_over}
 use Rattle.mold_receiver.proofs.NothingLemmas.{nothing_there, nothing_beyond, nothing_view, nothing_taken, none_handed}
 use Rattle.mold_receiver.proofs.receiver.Receiver.note.Goals as goal
 
--- at the fields, where the packet ends by its own numbers
+-- The same in terms of the fields, since the packet's numbers give its top.
 at_fields : (n top next : ℕ) (ms : List Message) → n + length ms ≡ top → (top ≤ next) ⊎ (ms ≡ []) →
     (n + length ms ≤ next) ⊎ (ms ≡ [])
 at_fields n top next ms tops (inl below) = inl (omega (arith, tops, below))
