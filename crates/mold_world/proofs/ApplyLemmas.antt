@@ -1,4 +1,4 @@
--- What holds of a world when an event happened, or was refused.
+-- A world after an event was applied or refused.
 use Rattle.std.proofs.Common.{◌≡◌, ℕ, cond, ltb, List, sym, ap, subst, ◌∙◌, inl, inr}
 use Rattle.std.proofs.Common.{leb}
 use Rattle.std.specs.Prelude.{◌&&◌, Bool, true, false, Option, None, Some, Result, Ok, Err, IfOk, IfErr, OnOk, OnErr, slice_get}
@@ -69,7 +69,7 @@ pub applied_heard :
 applied_heard heard old new happening (Ok says) is applied = heard old new happening says is applied
 applied_heard heard old new happening (Err error) is applied = tt
 
--- the rule never answers that memory is wanting
+-- The rule of events never refuses with `Memory`.
 ok_none :
     (done : Report × WorldState) → ◌≡◌ {A = Outcome} (Ok done) (Err Memory) → ⊥
 ok_none done is = let e = is in cc
@@ -147,7 +147,7 @@ effect_never_wants w (Noise receiver way bytes) is =
     (is_own w.publisher.journal.session (reading bytes)) is
 effect_never_wants w (Restart receiver next) is = restart_none w receiver next (slice_get w.subscribers receiver) is
 
--- so where memory is answered it may be wanting
+-- If `Memory` is returned, an allocation can fail at this event.
 pub wanting_where_memory :
     (w : WorldState) (happening : Happening) (error : WorldError) → error ≡ Memory → Refuses w happening error →
     MayWant w happening

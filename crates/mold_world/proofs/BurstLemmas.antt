@@ -9,7 +9,7 @@ use Rattle.mold_session.specs.Answer.{PlanState}
 use Rattle.mold_session.specs.Server.{ServerState}
 use Rattle.mold_world.specs.Sending.{SendsFirst}
 
--- what was sent so far stands behind what was sent before, and with what is left it is all of the plan
+-- What was sent so far follows what was sent before. Together with the remaining packets it is the whole plan.
 pub record SentSoFar (before : List (List ℕ)) (packets : List Packet) (now : List (List ℕ)) (left : List Packet) : Type 0 where
   pub more : List (List ℕ)
   pub behind : now ≡ before ++ more

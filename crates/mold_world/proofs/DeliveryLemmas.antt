@@ -1,4 +1,4 @@
--- What the receivers of a world do with what comes to them.
+-- What the receivers of a world do with the datagrams that they receive.
 use Rattle.std.proofs.Common.{◌≡◌, ℕ, List, [], refl, sym, ap, ◌∙◌, inl, inr}
 use Rattle.std.specs.Prelude.{Option, None, Some, Bool, true, false, Result, Ok, Err, slice_get}
 use Rattle.std.specs.Str.{bytes_eq}
@@ -33,13 +33,13 @@ use Rattle.mold_world.specs.declared.way.Way.{Way}
 use Rattle.mold_world.proofs.OutcomeLemmas.{ok_so, err_so, ok_refused}
 use Rattle.mold_world.proofs.SettingLemmas.{map_set}
 
--- what the receiver's law says of what is true
+-- The receiver's law on true packets.
 abbrev pub TakesTruth : Type 0
 TakesTruth = (v : View) (packet : Packet) (bytes : List ℕ) (published : List (List ℕ)) (closed : Bool) →
     IsHonest v published closed → Spells packet bytes → packet.session ≡ v.session →
     IsTruePacket packet published closed → IsTakenHonestly v bytes published closed
 
--- a receiver of the world takes what was sent
+-- A receiver of the world accepts what was sent.
 pub sent_taken :
     (take : TakesTruth) (w : WorldState) (receiver at : ℕ) (place : SubscriberState) (bytes : List ℕ) → IsWorld w →
     slice_get w.subscribers receiver ≡ Some place → slice_get w.sent at ≡ Some bytes →
@@ -50,7 +50,7 @@ sent_taken take w receiver at place bytes is here found =
     take place.arbitration.view said.packet bytes w.publisher.journal.messages w.publisher.journal.closed kept.honest
     said.spelled (said.session ∙ sym kept.session) said.so
 
--- a receiver that refuses bytes
+-- A receiver that refuses bytes.
 pub unmoved :
     (place : SubscriberState) (way : Way) (bytes : List ℕ) (refused : Refusal) →
     receive place.arbitration.view bytes ≡ Err refused → IsUnmoved place way bytes
@@ -72,7 +72,7 @@ noise_unmoved w receiver way bytes place is here other =
     in
     unmoved place way bytes refused.0 refused.1
 
--- bytes that spell no packet of the session are read as none
+-- Bytes that encode no packet of the session are not decoded as one.
 read_strange :
     (spelled : (packet : Packet) (bytes : List ℕ) → IsBytes bytes → reading bytes ≡ Ok packet → Spells packet bytes)
     (session : Session) (bytes : List ℕ) (read : Result Packet DecodeError) → IsBytes bytes → reading bytes ≡ read →
@@ -95,7 +95,7 @@ strange_unmoved spelled w receiver place way bytes is here are strange =
     noise_unmoved w receiver way bytes place is here
     (read_strange spelled w.publisher.journal.session bytes (reading bytes) are refl strange)
 
--- noise hands nothing on
+-- Noise delivers nothing.
 noise_hands :
     (w : WorldState) (receiver : ℕ) (way : Way) (bytes : List ℕ) (place : Option SubscriberState) (own : Bool) →
     IsWorld w → slice_get w.subscribers receiver ≡ place → is_own w.publisher.journal.session (reading bytes) ≡ own →
@@ -113,7 +113,7 @@ noise_hands_nothing w receiver way bytes is =
     noise_hands w receiver way bytes (slice_get w.subscribers receiver)
     (is_own w.publisher.journal.session (reading bytes)) is refl refl
 
--- nor does an event that is refused
+-- A refused event delivers nothing.
 refused_delivery :
     (w : WorldState) (receiver : ℕ) (way : Way) (place : Option SubscriberState) (datagram : Option (List ℕ))
     (error : WorldError) → delivered w receiver way place datagram ≡ Err error → handed_at receiver place datagram ≡ []
@@ -180,7 +180,7 @@ noise_heard w receiver way bytes (Some place) false done is here mine same =
       },
     )
 
--- every event that is not refused
+-- Every event that is not refused.
 pub event_heard :
     (take : TakesTruth) (w : WorldState) (happening : Happening) (done : Report × WorldState) → IsWorld w →
     effect w happening ≡ Ok done → HasReceived happening done.0 w done.1

@@ -49,7 +49,7 @@ use Rattle.mold_world.specs.declared.way.Way.{Way}
 use Rattle.mold_world.proofs.OutcomeLemmas.{ok_so, err_so}
 use Rattle.mold_world.proofs.SettingLemmas.{set_cases}
 
--- what the laws of session and wire say
+-- The laws of `mold_session` and `mold_wire`.
 pub record SendingLaws : Type 0 where
   pub may : (publisher : PublisherState) (message : List ℕ) → append_refusal publisher.journal message ≡ None →
       MayPublish publisher message
@@ -73,8 +73,8 @@ pub record SendingLaws : Type 0 where
       IsTruePacket packet (published ++ message ∷ []) false
   pub closes : (packet : Packet) (published : List (List ℕ)) → IsTruePacket packet published false → IsTruePacket packet published true
 
--- a publisher with another journal of the same session, with messages that are as long: what was sent is true of
--- it too, and receivers were told nothing else
+-- Suppose a publisher with another journal of the same session and the same longest message. If what was sent is true
+-- of the new journal, and the receivers stay honest, the world stays valid.
 world_with_publisher :
     (w : WorldState) (new : PublisherState) → IsWorld w → IsPublisher new →
     new.journal.session ≡ w.publisher.journal.session → new.journal.max_message ≡ w.publisher.journal.max_message →
@@ -101,7 +101,7 @@ world_with_publisher w new is publisher named longest still kept = record {
   subscribers = λ receiver place found. kept place (is.subscribers receiver place found);
 }
 
--- a message that is published
+-- A message is published.
 world_published :
     (laws : SendingLaws) (receivers : ReceiverLaws) (w : WorldState) (message : List ℕ) → IsWorld w →
     MayPublish w.publisher message → IsWorld (record w { publisher = published w.publisher message })
@@ -121,7 +121,7 @@ true_once_closed :
 true_once_closed laws packet messages true is = is
 true_once_closed laws packet messages false is = laws.closes packet messages is
 
--- the session's end
+-- The session is closed.
 world_closed :
     (laws : SendingLaws) (receivers : ReceiverLaws) (w : WorldState) → IsWorld w →
     w.publisher.sent ≡ length w.publisher.journal.messages → IsWorld (record w { publisher = closed w.publisher })
@@ -130,7 +130,7 @@ world_closed laws receivers w is all =
     (λ packet so. true_once_closed laws packet w.publisher.journal.messages w.publisher.journal.closed so)
     (λ place kept. place_closed receivers w.publisher.journal w.sent place kept)
 
--- datagrams that tell the truth are sent, by a publisher with the same journal
+-- True datagrams are sent by a publisher with the same journal.
 world_sent :
     (w : WorldState) (publisher : PublisherState) (more : List (List ℕ)) → IsWorld w → IsPublisher publisher →
     publisher.journal ≡ w.publisher.journal →
@@ -166,7 +166,7 @@ world_with_place w receiver new is kept = record {
       ];
 }
 
--- what is answered is what it says
+-- Two outcomes that are equal have the same world.
 ok_world :
     (here done : Report × WorldState) → IsWorld here.1 → ◌≡◌ {A = Outcome} (Ok here) (Ok done) → IsWorld done.1
 ok_world here done is same = ok_so (λ (t : Report × WorldState). IsWorld t.1) here done same is
@@ -183,7 +183,7 @@ publish_kept laws receivers w message None done is none same =
     ok_world _ done (world_published laws receivers w message is (laws.may w.publisher message none)) same
 publish_kept laws receivers w message (Some refusal) done is some same = err_world _ done same
 
--- what is sent next tells the truth, and leaves a publisher with the same journal
+-- The next datagram is true and leaves a publisher with the same journal.
 pub record IsSendable (w : WorldState) (publisher : PublisherState) (packet : Packet) : Type 0 where
   pub still : IsPublisher publisher
   pub same : publisher.journal ≡ w.publisher.journal
@@ -221,7 +221,7 @@ deliver_kept receivers w receiver at way (Some place) (Some bytes) done is here 
     (given_kept receivers w.publisher.journal w.sent place way bytes (is.subscribers receiver place here)
     (record { place = at; found = sent; told = is.said at bytes sent }))) same
 
--- bytes that are no packet of the session are refused
+-- Bytes that are not a packet of the session are refused.
 pub not_own :
     (view : View) (own : Session) (read : Result Packet DecodeError) → view.session ≡ own → is_own own read ≡ false →
     (refused : Refusal) × (receive_read view read ≡ Err refused)
@@ -276,7 +276,7 @@ restart_kept receivers w receiver next (Some place) done is here same =
     restart_given receivers w receiver next place (leb 1 next && leb next place.arbitration.view.next) done is here refl
     same
 
--- what the laws of answers and of requests say
+-- The laws on responses and requests.
 pub record AnswerLaws : Type 0 where
   pub answerable : (journal : JournalState) (request : Asked) (bytes : List ℕ) → asking journal bytes ≡ Ok request →
       IsAnswerable journal request
@@ -303,7 +303,7 @@ map_cases [] place bytes is = absurd (none-some bytes is)
 map_cases (packet ∷ packets) zero bytes is = (packet, refl, same_Some (spelling_of packet) bytes is)
 map_cases (packet ∷ packets) (suc place) bytes is = map_cases packets place bytes is
 
--- every packet of an answer tells the truth
+-- Every response is true.
 pub answer_told :
     (answers : AnswerLaws) (w : WorldState) (request : Asked) → IsWorld w →
     IsAnswerable w.publisher.journal request → (place : ℕ) (bytes : List ℕ) →
@@ -321,7 +321,7 @@ answer_told answers w request is may place bytes found =
     (ap (λ (t : List Packet). slice_get t place) (answers.answer_is journal w.server_limit w.burst request may)
     ∙ here.1))
 
--- an answer is sent
+-- The responses to a request are sent.
 answer_kept :
     (answers : AnswerLaws) (w : WorldState) (request : Asked) (done : Report × WorldState) → IsWorld w →
     IsAnswerable w.publisher.journal request → answered w request ≡ Ok done → IsWorld done.1
@@ -338,7 +338,7 @@ request_kept answers w bytes (Ok request) done is asked_now same =
     answer_kept answers w request done is (answers.answerable w.publisher.journal request bytes asked_now) same
 request_kept answers w bytes (Err refusal) done is asked_now same = err_world _ done same
 
--- what a receiver of the world wants, the journal has
+-- The journal has what a receiver of the world wants.
 pub wanted_answerable :
     (answers : AnswerLaws) (journal : JournalState) (sent : List (List ℕ)) (place : SubscriberState) (request : Asked) →
     IsSubscriberKept journal sent place → wanted place.arbitration.view ≡ Some request → IsAnswerable journal request
@@ -374,7 +374,7 @@ pub record AllLaws : Type 0 where
   pub receivers : ReceiverLaws
   pub answers : AnswerLaws
 
--- every event that is not refused
+-- Every event that is not refused.
 pub event_kept :
     (laws : AllLaws) (w : WorldState) (happening : Happening) (done : Report × WorldState) → IsWorld w →
     effect w happening ≡ Ok done → IsWorld done.1
@@ -420,7 +420,7 @@ pub outcome_kept :
 outcome_kept laws w (Ok done) is kept = kept done refl
 outcome_kept laws w (Err refused) is kept = is
 
--- and every list of events, refused ones among them
+-- Every list of events, with refused ones among them.
 pub run_kept :
     (laws : AllLaws) (w : WorldState) (happenings : List Happening) → IsWorld w → IsWorld (run_events w happenings)
 run_kept laws w [] is = is
@@ -428,7 +428,7 @@ run_kept laws w (happening ∷ happenings) is =
     run_kept laws (after_event w happening) happenings
     (outcome_kept laws w (effect w happening) is (λ done same. event_kept laws w happening done is same))
 
--- each book is a prefix of what was published
+-- Each book is a prefix of the published messages.
 pub world_books :
     (w : WorldState) (receiver : ℕ) (place : SubscriberState) → IsWorld w → slice_get w.subscribers receiver ≡ Some place →
     IsPrefix place.book.messages w.publisher.journal.messages
@@ -441,7 +441,7 @@ world_books w receiver place is here =
           ∙ ap (λ (t : List (List ℕ)). t ++ drop front w.publisher.journal.messages) (sym kept.book);
     }
 
--- and all of it where the receiver is finished
+-- If the receiver is finished, its book is all of them.
 pub world_whole :
     (w : WorldState) (receiver : ℕ) (place : SubscriberState) → IsWorld w → slice_get w.subscribers receiver ≡ Some place →
     place.arbitration.view.ended ≡ Some place.arbitration.view.next →

@@ -1,4 +1,4 @@
--- What leaves a receiver as far as it was: every event but a datagram of new messages, and a restart of it.
+-- The events that keep a receiver's progress: all but a data packet of new messages and a restart of that receiver.
 use Rattle.std.proofs.Common.{◌≡◌, ℕ, ◌≤◌, List, cond, leb, ltb}
 use Rattle.std.proofs.Common.{refl, sym, ap, subst, ◌∙◌, inl, inr, arith}
 use Rattle.std.specs.Prelude.{◌&&◌, Bool, true, false, Option, None, Some, Result, Ok, Err, slice_get}
@@ -32,17 +32,17 @@ use Rattle.mold_world.specs.declared.way.Way.{Way}
 use Rattle.mold_world.proofs.OutcomeLemmas.{ok_so, err_so}
 use Rattle.mold_world.proofs.SettingLemmas.{set_at}
 
--- what the receiver's law says of what is taken
+-- The receiver's law on accepted datagrams.
 abbrev pub TakenLaw : Type 0
 TakenLaw = (v : View) (bytes : List ℕ) (r : Reception) → receive v bytes ≡ Ok r → IsTakenPacket v bytes r
 
--- the receiver got as far as a number
+-- The receiver's next number is at least this number.
 pub record IsReached (w : WorldState) (receiver next : ℕ) : Type 0 where
   pub place : SubscriberState
   pub here : slice_get w.subscribers receiver ≡ Some place
   pub far : next ≤ place.arbitration.view.next
 
--- an event after which no more is put in datagrams than before, and the receiver is no less far
+-- The event sends no new messages, and the receiver's next number doesn't fall.
 pub record IsAsFar (w new : WorldState) (receiver : ℕ) : Type 0 where
   pub sent : new.publisher.sent ≡ w.publisher.sent
   pub reached : (place : SubscriberState) → slice_get w.subscribers receiver ≡ Some place →
@@ -59,7 +59,7 @@ err_far :
     ◌≡◌ {A = Outcome} (Err refused) (Ok done) → IsAsFar w done.1 receiver
 err_far w receiver refused done same = err_so (λ (t : Report × WorldState). IsAsFar w t.1 receiver) refused done same
 
--- the receivers are the same
+-- The receivers are unchanged.
 same_far :
     (w new : WorldState) (receiver : ℕ) → new.publisher.sent ≡ w.publisher.sent → new.subscribers ≡ w.subscribers →
     IsAsFar w new receiver
@@ -72,7 +72,7 @@ same_far w new receiver sent subscribers = record {
   };
 }
 
--- a receiver is set to a state in which it is no less far
+-- A receiver is replaced by one whose next number isn't less.
 pub with_far :
     (w : WorldState) (receiver other : ℕ) (old new : SubscriberState) → slice_get w.subscribers other ≡ Some old →
     (receiver ≡ other → old.arbitration.view.next ≤ new.arbitration.view.next) →
@@ -94,7 +94,7 @@ with_far w receiver other old new is far = record {
       ];
 }
 
--- what a datagram does to a receiver's next number
+-- A datagram never lowers a receiver's next number.
 outcome_next :
     (law : TakenLaw) (place : SubscriberState) (way : Way) (bytes : List ℕ)
     (outcome : Result Reception Refusal) → receive place.arbitration.view bytes ≡ outcome →
@@ -122,7 +122,7 @@ pub given_next :
 given_next law place way bytes =
     outcome_next law place way bytes (receive place.arbitration.view bytes) refl
 
--- every event but a datagram of new messages, and a restart of the receiver
+-- Every event except a data packet of new messages and a restart of the receiver.
 publish_far :
     (w : WorldState) (receiver : ℕ) (message : List ℕ) (refusal : Option AppendError) (done : Report × WorldState) →
     publishing w message refusal ≡ Ok done → IsAsFar w done.1 receiver

@@ -1,4 +1,4 @@
--- What every step of the machine keeps, and so every list of steps that may be made.
+-- What every allowed step of the machine keeps, and so every list of allowed steps.
 use Rattle.std.proofs.Common.{◌≡◌, ℕ, zero, suc, ◌+◌, ◌-◌, ◌<◌, leb, List, [], ◌∷◌, ◌++◌, length, length-append}
 use Rattle.std.proofs.Common.{take, drop, refl, sym, ap, subst, ◌∙◌, inl, inr, arith}
 use Rattle.std.specs.Prelude.{Some, None, Bool, true, false, ◌⊎◌, slice_get, ◌==◌}
@@ -14,7 +14,7 @@ use Rattle.mold_world.specs.Machine.{AreAllowed, IsAllowed, IsEndSent, IsSaid, I
 use Rattle.mold_world.specs.Machine.{after, end_packet, run, with_log, start}
 use Rattle.mold_world.specs.Machine.Step.{Publish, Close, Send, Deliver, Restart, Nothing}
 
--- what holds of packets, whatever is published
+-- The laws of packets, for any published messages.
 pub record Laws : Type 0 where
   pub one_packet : (one other : Packet) (bytes : List ℕ) → Spells one bytes → Spells other bytes → one ≡ other
   pub grows : (packet : Packet) (published : List (List ℕ)) (message : List ℕ) →
@@ -26,7 +26,7 @@ pub record Laws : Type 0 where
   pub keeps : (published behind : List (List ℕ)) (number : ℕ) (message : List ℕ) →
       published_at published number ≡ Some message → published_at (published ++ behind) number ≡ Some message
 
--- each message of the book is the one published with its number
+-- Each message of the book is the one that was published with its number.
 abbrev Within : List (List ℕ) → List (List ℕ) → Type 0
 Within book published =
     (number : ℕ) (message : List ℕ) → published_at book number ≡ Some message → published_at published number ≡ Some message
@@ -37,7 +37,7 @@ pub record IsKept (machine : Machine) : Type 0 where
   pub whole : (receiver : ℕ) → (machine.logs receiver).ended ≡ true →
       (machine.closed ≡ true) × (length (machine.logs receiver).book ≡ length machine.published)
 
--- what stands in two lists, one behind the other, stands in one of them
+-- An element of two joined lists is in one of them.
 pub append_cases :
     {X : Type 0} (front back : List X) (place : ℕ) (element : X) → slice_get (front ++ back) place ≡ Some element →
     (slice_get front place ≡ Some element)
@@ -50,13 +50,13 @@ append_cases (first ∷ front) back (suc place) element is =
       | inr after_it ↦ inr (after_it.0, omega (arith, after_it.1), after_it.2)
     ]
 
--- the first message has number 1
+-- The first message has number 1.
 pub at_place : (messages : List (List ℕ)) (place : ℕ) → published_at messages (1 + place) ≡ slice_get messages place
 at_place messages place =
     cond-true (leb 1 (1 + place)) (slice_get messages (1 + place - 1)) None (le-leb 1 (1 + place) (omega arith))
     ∙ ap (λ (t : ℕ). slice_get messages t) (omega arith)
 
--- what a number has in two lists, one behind the other
+-- A message of two joined lists is in one of them, with its number.
 published_cases :
     (front back : List (List ℕ)) (number : ℕ) (message : List ℕ) →
     published_at (front ++ back) number ≡ Some message → (published_at front number ≡ Some message)
@@ -72,14 +72,14 @@ published_cases front back (suc place) message is =
       | inr behind ↦ inr (behind.0, omega (arith, behind.1), behind.2)
     ]
 
--- one receiver's standing is another, and the others' stay
+-- One receiver is replaced, and the others are unchanged.
 at_standing :
     (P : ReceiverLog → Type 0) (logs : ℕ → ReceiverLog) (receiver : ℕ) (log : ReceiverLog) (other : ℕ) →
     P log → P (logs other) → P (with_log logs receiver log other)
 at_standing P logs receiver log other new old =
     cond_both (other == receiver) log (logs other) P (λ _. new) (λ _. old)
 
--- a publication
+-- A publication.
 kept_published :
     (laws : Laws) (machine : Machine) (message : List ℕ) → IsKept machine → IsAllowed machine (Publish message) →
     IsKept (after machine (Publish message))
@@ -105,7 +105,7 @@ true_once_closed :
 true_once_closed laws packet published true is = is
 true_once_closed laws packet published false is = laws.closes packet published is
 
--- the session's end
+-- The closing of the session.
 kept_closed : (laws : Laws) (machine : Machine) → IsKept machine → IsKept (after machine Close)
 kept_closed laws machine kept = record {
   said = λ place bytes found.
@@ -124,7 +124,7 @@ pub one_alone : (bytes other : List ℕ) (place : ℕ) → slice_get (bytes ∷ 
 one_alone bytes other zero is = same_Some bytes other is
 one_alone bytes other (suc place) is = absurd (none-some other is)
 
--- a datagram that is sent
+-- A datagram that is sent.
 kept_sent :
     (machine : Machine) (bytes : List ℕ) → IsKept machine → IsSaid machine bytes → IsKept (after machine (Send bytes))
 kept_sent machine bytes kept said = record {
@@ -140,7 +140,7 @@ kept_sent machine bytes kept said = record {
   whole = kept.whole;
 }
 
--- what was sent with a number was published with it
+-- What was sent with a number was published with it.
 sent_is_published :
     (laws : Laws) (machine : Machine) (number : ℕ) (message : List ℕ) → IsKept machine →
     IsSentAs machine.sent number message → published_at machine.published number ≡ Some message
@@ -150,7 +150,7 @@ sent_is_published laws machine number message kept sent =
     laws.carried said.packet machine.published machine.closed number message said.is_true
     (subst (λ (t : Packet). Carries t number message) same sent.carried)
 
--- an end packet that was sent tells that the session is closed, and its length
+-- If an end packet was sent, the session is closed and the packet has its length.
 end_is_true :
     (laws : Laws) (machine : Machine) (number : ℕ) → IsKept machine → IsEndSent machine.sent machine.session number →
     (machine.closed ≡ true) × (number ≡ length machine.published + 1)
@@ -160,7 +160,7 @@ end_is_true laws machine number kept sent =
     let told = subst (λ (t : Packet). IsTruePacket t machine.published machine.closed) same said.is_true in
     told.said
 
--- a receiver stands otherwise, as what is kept allows, and the others as before
+-- A receiver is replaced by a valid one, and the others are unchanged.
 kept_standing :
     (machine : Machine) (receiver : ℕ) (log : ReceiverLog) → IsKept machine →
     Within log.book machine.published →
@@ -179,7 +179,7 @@ kept_standing machine receiver log kept within whole = record {
       other whole (kept.whole other);
 }
 
--- messages that are handed on
+-- A delivery.
 kept_delivered :
     (laws : Laws) (machine : Machine) (receiver : ℕ) (messages : List (List ℕ)) (ended : Bool) → IsKept machine →
     IsAllowed machine (Deliver receiver messages ended) → IsKept (after machine (Deliver receiver messages ended))
@@ -200,7 +200,7 @@ kept_delivered laws machine receiver messages ended kept allowed =
     in
     kept_standing machine receiver log kept longer whole
 
--- a receiver that begins anew
+-- A restart.
 kept_restarted :
     (laws : Laws) (machine : Machine) (receiver next : ℕ) → IsKept machine →
     IsKept (after machine (Restart receiver next))
@@ -240,7 +240,7 @@ kept_run laws machine [] kept allowed = kept
 kept_run laws machine (step ∷ steps) kept allowed =
     kept_run laws (after machine step) steps (kept_after laws machine step kept allowed.0) allowed.1
 
--- what was published stays so while the machine runs
+-- Published messages keep their numbers while the machine runs.
 published_after :
     (laws : Laws) (machine : Machine) (step : Step) (number : ℕ) (message : List ℕ) →
     published_at machine.published number ≡ Some message →
@@ -261,7 +261,7 @@ published_later laws machine [] number message is = is
 published_later laws machine (step ∷ steps) number message is =
     published_later laws (after machine step) steps number message (published_after laws machine step number message is)
 
--- messages that are handed on from a number on, each of which was published with its own
+-- Delivered messages with consecutive numbers, each published with its number.
 pub handed_published :
     (published : List (List ℕ)) (receiver number : ℕ) (messages : List (List ℕ)) →
     ((place : ℕ) (message : List ℕ) → slice_get messages place ≡ Some message →
@@ -288,7 +288,7 @@ handed_in_step laws machine (Deliver receiver messages ended) kept allowed =
 handed_in_step laws machine (Restart receiver next) kept allowed = tt
 handed_in_step laws machine Nothing kept allowed = tt
 
--- what was published with its number before is so later
+-- A message that was published with its number stays published with it.
 pub each_later :
     (before later : List (List ℕ)) (handed : List HandOn) →
     ((number : ℕ) (message : List ℕ) → published_at before number ≡ Some message →
@@ -316,7 +316,7 @@ handed_run laws machine (step ∷ steps) kept allowed =
     (handed_in_step laws machine step kept allowed.0))
     (handed_run laws next steps (kept_after laws machine step kept allowed.0) allowed.1)
 
--- a list that agrees with another at each of its places is a front of it
+-- A list that agrees with another at each of its indexes is a prefix of it.
 pub prefix_from :
     (front whole : List (List ℕ)) →
     ((place : ℕ) (message : List ℕ) → slice_get front place ≡ Some message → slice_get whole place ≡ Some message) →
@@ -331,7 +331,7 @@ prefix_from (message ∷ front) (other ∷ whole) agrees =
           ∙ ap (λ (t : List (List ℕ)). message ∷ t) rest.parts;
     }
 
--- each book is a front of what was published
+-- Each book is a prefix of the published messages.
 pub book_is_prefix :
     (machine : Machine) (receiver : ℕ) → IsKept machine →
     IsPrefix (machine.logs receiver).book machine.published
@@ -353,7 +353,7 @@ prefix_same front whole is same =
     in
     sym (is.parts ∙ ap (λ (t : List (List ℕ)). front ++ t) none ∙ append-nil front)
 
--- and is all of it where the end is reported
+-- If a receiver reports the end, its book is all of them.
 pub ended_has_all :
     (machine : Machine) (receiver : ℕ) → IsKept machine → (machine.logs receiver).ended ≡ true →
     HasAll machine receiver

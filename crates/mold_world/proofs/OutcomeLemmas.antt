@@ -1,4 +1,4 @@
--- What holds of an event that happens, and of one that is refused.
+-- Outcomes of events, and refusals.
 use Rattle.std.proofs.Common.{◌≡◌, subst}
 use Rattle.std.specs.Prelude.{Ok, Err}
 use Rattle.mold_world.specs.Effect.{Outcome}
@@ -6,7 +6,7 @@ use Rattle.mold_world.specs.World.{WorldState}
 use Rattle.mold_world.specs.declared.report.Report.{Report}
 use Rattle.mold_world.specs.declared.report.WorldError.{WorldError}
 
--- what holds of what an event answers, and of what another one does not
+-- Equal outcomes have the same properties.
 pub ok_so :
     (P : Report × WorldState → Type 0) (here done : Report × WorldState) →
     ◌≡◌ {A = Outcome} (Ok here) (Ok done) → P here → P done
@@ -19,7 +19,7 @@ pub err_so :
     ◌≡◌ {A = Outcome} (Err refused) (Ok done) → P done
 err_so P refused done same = absurd (let e = same in cc)
 
--- what is answered is no refusal
+-- An outcome is not a refusal.
 pub ok_refused :
     {P : Type 0} (done : Report × WorldState) (error : WorldError) → ◌≡◌ {A = Outcome} (Ok done) (Err error) → P
 ok_refused done error same = absurd (let e = same in cc)

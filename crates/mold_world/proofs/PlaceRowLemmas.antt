@@ -1,4 +1,4 @@
--- What an event does to a receiver, by what the receiver's calls ensure.
+-- What an event does to a receiver, from the contracts of the receiver's functions.
 use Rattle.std.proofs.Common.{◌≡◌, ℕ, ◌<◌, cond, leb, ltb, List, length}
 use Rattle.std.proofs.Common.{refl, sym, ap, subst, ◌∙◌, inl, inr, arith}
 use Rattle.std.specs.Prelude.{◌&&◌, Option, None, Some, Bool, true, false, Result, Ok, Err, IsOk, slice_get}
@@ -21,7 +21,7 @@ use Rattle.mold_world.specs.declared.report.WorldError.TheVariants.{Memory, NoRe
 use Rattle.mold_world.specs.declared.way.Way.{Way}
 use Rattle.mold_world.proofs.SettingLemmas.{set_back}
 
--- no element behind the last
+-- There is no element after the last one.
 past_end :
     {X : Type 0} (xs : List X) (count at : ℕ) (within : Bool) → ltb at count ≡ within → count ≡ length xs →
     (at < count → false ≡ true) → slice_get xs at ≡ None
@@ -48,7 +48,7 @@ unfolding effect
 deliver_nobody w receiver way at none =
     inr (ap (λ (t : Option SubscriberState). delivered w receiver way t (slice_get w.sent at)) none)
 
--- the row at a receiver and a datagram that are known to be there, or not
+-- The rule of a delivery, for a receiver and a datagram that are known to exist or not.
 deliver_at :
     (w : WorldState) (receiver : ℕ) (way : Way) (at : ℕ) (place : SubscriberState)
     (datagram : Option (List ℕ)) → slice_get w.subscribers receiver ≡ Some place → slice_get w.sent at ≡ datagram →
@@ -112,7 +112,7 @@ noise_done w receiver way bytes place new says here other reported is =
     noise_at w receiver way bytes (Some place) false here other
     ∙ (λ j. Ok (sym reported j, with_subscriber w receiver (sym is j)))
 
--- nothing of bytes that are no packet of the session is copied
+-- Nothing is copied from bytes that are not a packet of the session.
 pub noise_never_wants :
     (w : WorldState) (receiver : ℕ) (bytes : List ℕ) (place : SubscriberState) → IsWorld w →
     slice_get w.subscribers receiver ≡ Some place → false ≡ is_own w.publisher.journal.session (reading bytes) →
@@ -126,7 +126,7 @@ noise_never_wants w receiver bytes place is here other copied =
     in
     (let e = both in cc)
 
--- the row of a restart
+-- The rule of a restart.
 restart_at :
     (w : WorldState) (receiver next : ℕ) (place : SubscriberState) (reached : Bool) →
     slice_get w.subscribers receiver ≡ Some place → (leb 1 next && leb next place.arbitration.view.next) ≡ reached →

@@ -1,4 +1,4 @@
--- What a request and a receiver's wish do, by what the server ensures.
+-- What requests do, from the contracts of the server's functions.
 use Rattle.std.proofs.Common.{◌≡◌, ℕ, List, refl, sym, ap, subst, ◌∙◌, inl, inr}
 use Rattle.std.specs.Prelude.{Option, None, Some, Result, Ok, Err, IsOk, IfOk, IfErr, OnErr, slice_get}
 use Rattle.mold_wire.specs.declared.request.Request.{Request as Asked}
@@ -17,7 +17,7 @@ use Rattle.mold_session.specs.declared.error.SessionError.TheVariants.{Answer}
 use Rattle.mold_world.specs.declared.report.WorldError.{WorldError}
 use Rattle.mold_world.specs.declared.report.WorldError.TheVariants.{Layer, Memory, NoReceiver}
 
--- the plan is that of the request, or the request's refusal is the plan's
+-- The plan and the request are refused for the same reason.
 refused_plan :
     (journal : JournalState) (burst : ℕ) (asks : Result Asked AnswerError) (cause : AnswerError) →
     ◌≡◌ {A = Result PlanState AnswerError} (Err cause) (plan_of journal burst asks) → asks ≡ Err cause
@@ -105,7 +105,7 @@ pub ask_nothing :
     None ≡ wanted place.arbitration.view → effect w (Ask receiver) ≡ Ok (Nothing, w)
 ask_nothing w receiver place here none = asked_at w receiver place None here none
 
--- a wish is a request for what is wanted
+-- Asking for a receiver is the request that it wants.
 pub ask_applied :
     (w new : WorldState) (receiver : ℕ) (place : SubscriberState) (request : Asked) (bytes : List ℕ)
     (result : Result Report WorldError) → slice_get w.subscribers receiver ≡ Some place →

@@ -1,4 +1,4 @@
--- What an event does, by what the calls of publisher and server ensure.
+-- What an event does, from the contracts of the functions of publisher and server.
 use Rattle.std.proofs.Common.{◌≡◌, ℕ, zero, suc, ◌+◌, ◌≤◌, cond, ltb, List, [], ◌∷◌, ◌++◌, length, drop}
 use Rattle.std.proofs.Common.{refl, sym, ap, subst, ◌∙◌, inl, inr, arith}
 use Rattle.std.specs.Prelude.{◌==◌, Option, None, Some, Bool, true, false, Ok, Err, unwrap_or, IsOk, IfSome, IsSome, Result, IfOk, IfErr, OnOk, OnErr}
@@ -28,7 +28,7 @@ use Rattle.mold_session.specs.declared.error.SessionError.TheVariants as session
 use Rattle.mold_world.specs.declared.report.WorldError.{WorldError}
 use Rattle.mold_world.specs.declared.report.WorldError.TheVariants.{Memory, Layer as Refusal}
 
--- a message is published
+-- A message is published.
 pub publish_done :
     (w : WorldState) (message : List ℕ) (number : ℕ) (new : PublisherState) →
     append_refusal w.publisher.journal message ≡ None → number ≡ length w.publisher.journal.messages + 1 →
@@ -39,7 +39,7 @@ publish_done w message number new none counted is =
     ap (λ (t : Option AppendError). publishing w message t) none
     ∙ (λ j. Ok (report.Published (sym counted j), record w { publisher = sym is j }))
 
--- what refuses a message is none of memory
+-- The rule never refuses a message with `Memory`.
 refused_by :
     (shut long full : Bool) (len : ℕ) (cause : AppendError) →
     cond {A = Option AppendError} shut (Some Closed)
@@ -76,7 +76,7 @@ publish_refused w message cause error new is told same = (
   ap (λ (t : PublisherState). record w { publisher = t }) same,
 )
 
--- what is lent next is stored
+-- The next datagram is stored.
 send_stored :
     (w : WorldState) (next : Option Packet) (publisher : PublisherState) (lent : Option (List ℕ)) →
     Lends next lent → (next ≡ None → publisher ≡ w.publisher) →
@@ -90,7 +90,7 @@ send_stored w (Some packet) publisher (Some bytes) lends idle =
     ap (λ (t : List ℕ). Ok (report.Sent (length w.sent), record w { publisher = publisher; sent = w.sent ++ t ∷ [] }))
     (sym lends.spelled)
 
--- a call of the publisher that lends something left it so, and what it lent was stored
+-- A function of the publisher returned a datagram, and that was stored.
 pub record IsStored (w : WorldState) (next : Option Packet) (publisher : PublisherState) (told : Report)
     (new : PublisherState) (sent : List (List ℕ)) : Type 0 where
   pub lent : Option (List ℕ)
@@ -107,7 +107,7 @@ sent_row w next publisher told new sent idle is =
     send_stored w next publisher is.lent is.lends idle
     ∙ (λ j. Ok (sym is.reported j, record w { publisher = sym is.left j; sent = sym is.now j }))
 
--- it is stored, or the room for it is wanting
+-- The datagram is stored, or the allocation failed.
 pub record IsStoredOr (w : WorldState) (next : Option Packet) (result : Result Report WorldError)
     (new : PublisherState) (sent : List (List ℕ)) : Type 0 where
   pub lent : Option (List ℕ)
@@ -124,7 +124,7 @@ lends_some None None lends some = some
 lends_some None (Some bytes) lends some = absurd lends
 lends_some (Some packet) lent lends some = refl
 
--- so an event that sends it happens, or is refused
+-- So the event that sends the datagram is applied or refused.
 pub sent_applied :
     (w : WorldState) (happening : Happening) (next : Option Packet) (result : Result Report WorldError)
     (new : PublisherState) (sent : List (List ℕ)) → effect w happening ≡ sending w next w.publisher →
@@ -151,7 +151,7 @@ unfolding front
 front_nothing limit zero = refl
 front_nothing limit (suc most) = refl
 
--- where nothing is unsent a datagram changes nothing
+-- If no message is unsent, a data packet event changes nothing.
 idle_datagram :
     (publisher : PublisherState) (none : Bool) → (publisher.sent == length publisher.journal.messages) ≡ none →
     cond {A = Option Packet} none None (Some (record {
@@ -179,7 +179,7 @@ datagram_row w told new sent is =
     sent_row w (next_datagram w.publisher) (after_datagram w.publisher) told new sent
     (idle_datagram w.publisher (w.publisher.sent == length w.publisher.journal.messages) refl) is
 
--- a datagram that is lent keeps the publisher's limit
+-- A datagram that the publisher returns is within its limit.
 within_limit :
     (publisher : PublisherState) (none : Bool) (bytes : List ℕ) →
     ((packet : Packet) (bytes : List ℕ) (limit : ℕ) → Spells packet bytes → Fits limit (messages_of packet.body) →
@@ -192,7 +192,7 @@ within_limit :
 within_limit publisher true bytes law fits lends = absurd lends
 within_limit publisher false bytes law fits lends = law _ bytes publisher.limit lends fits
 
--- so it has the room that was made for the greatest
+-- So it fits the space that was allocated for the longest datagram.
 pub datagram_room :
     (publisher : PublisherState) (list : Listed) (limit : ℕ) (lent : Option (List ℕ)) →
     ((limit : ℕ) (messages : List (List ℕ)) (most : ℕ) → 20 ≤ limit →
@@ -208,7 +208,7 @@ datagram_room publisher list limit (Some bytes) longest law is same room lends =
     in
     record { messages = room.messages; bytes = omega (arith, room.bytes, within, same) }
 
--- the session's end
+-- The closing of the session.
 pub close_done :
     (w : WorldState) (new : PublisherState) → w.publisher.sent ≡ length w.publisher.journal.messages →
     new ≡ closed w.publisher → effect w Close ≡ Ok (report.Closed, record w { publisher = new })

@@ -1,4 +1,4 @@
--- What every run of events from the start shows.
+-- What holds of every run of events from the start.
 use Rattle.std.proofs.Common.{◌≡◌, ℕ, zero, suc, List, [], ◌∷◌, ◌++◌, map}
 use Rattle.std.proofs.Common.{refl, sym, ap, subst, ◌∙◌, arith}
 use Rattle.std.specs.Prelude.{Option, None, Some, Result, Ok, Err, false, slice_get}
@@ -44,7 +44,7 @@ use Rattle.mold_world.specs.declared.report.WorldError.TheVariants.{NotReached, 
 use Rattle.mold_world.specs.declared.way.Way.{Way}
 use Rattle.mold_world.proofs.OutcomeLemmas.{ok_so, err_so}
 
--- a world that begins is one
+-- `IsWorld` holds of a new world.
 place_of :
     (session : Session) (windows : List ℕ) (receiver : ℕ) (place : SubscriberState) →
     slice_get (map (subscriber_at session) windows) receiver ≡ Some place → (window : ℕ) × (subscriber_at session window ≡ place)
@@ -85,7 +85,7 @@ begins laws session limit server_limit burst windows may =
           });
     }
 
--- messages are only ever published behind others
+-- Publishing only appends messages.
 abbrev GrowsTo : WorldState → WorldState → Type 0
 GrowsTo w new = (more : List (List ℕ)) × (new.publisher.journal.messages ≡ w.publisher.journal.messages ++ more)
 
@@ -197,7 +197,7 @@ outcome_grows :
 outcome_grows w (Ok done) grows = grows done refl
 outcome_grows w (Err refused) grows = stays w
 
--- what has a number keeps it, whatever is published behind it
+-- A message keeps its number, whatever is appended.
 pub record Keeps : Type 0 where
   pub keeps : (published behind : List (List ℕ)) (number : ℕ) (message : List ℕ) →
       published_at published number ≡ Some message → published_at (published ++ behind) number ≡ Some message
@@ -220,7 +220,7 @@ later_at laws w (happening ∷ happenings) number message is =
     (grown_at laws w (after_event w happening) number message
     (outcome_grows w (effect w happening) (event_grows w happening)) is)
 
--- what a delivery hands on was published
+-- The messages that a delivery delivers were published.
 handed_here :
     (laws : AllLaws) (w : WorldState) (receiver at : ℕ) (place : Option SubscriberState) (datagram : Option (List ℕ)) →
     IsWorld w → slice_get w.subscribers receiver ≡ place → slice_get w.sent at ≡ datagram →
@@ -251,7 +251,7 @@ handed_in_event laws w (Noise receiver way bytes) is =
     (sym (noise_hands_nothing w receiver way bytes is)) tt
 handed_in_event laws w (Restart receiver next) is = tt
 
--- and stays so to the end of a run
+-- They stay published with their numbers to the end of a run.
 pub handed_run :
     (laws : AllLaws) (keep : Keeps) (w : WorldState) (happenings : List Happening) → IsWorld w →
     ArePublished (run_events w happenings).publisher.journal.messages (handed_by_all w happenings)

@@ -1,4 +1,4 @@
--- A run of events, one after the other.
+-- The loop that runs events in order.
 use Rattle.std.proofs.Common.{◌≡◌, ℕ, ◌+◌, ◌<◌, ◌≤◌, List, [], ◌∷◌, ◌++◌, length, map, take, get_or, append_assoc, Bor}
 use Rattle.std.proofs.Common.{refl, sym, ap, subst, ◌∙◌, arith}
 use Rattle.std.specs.Prelude.{true, false, Some, Result, Ok, Err, OnErr, OnOk, is_err, slice_get}
@@ -18,7 +18,7 @@ use Rattle.mold_world.specs.World.{SubscriberState, WorldState}
 use Rattle.mold_world.specs.declared.event.EventOf.{EventOf}
 use Rattle.mold_world.specs.declared.report.Report.{Report}
 
--- the laws of runs
+-- The laws of runs.
 pub record RunLaws : Type 0 where
   pub run : (w : WorldState) (happenings : List Happening) → IsWorld w → IsWorld (run_events w happenings)
   pub books : (w : WorldState) (receiver : ℕ) (place : SubscriberState) → IsWorld w →
@@ -30,7 +30,7 @@ pub record RunLaws : Type 0 where
   pub steps : (w new : WorldState) (happening : Happening) (report : Report) → IsWorld w →
       effect w happening ≡ Ok (report, new) → AreSteps w happening new
 
--- what holds after success, and after an error
+-- What holds after success, and after an error.
 pub on_ok : {T E X : Type 0} (result : Result T E) → false ≡ is_err result → OnOk result X → X
 on_ok (Ok done) is holds = holds
 on_ok (Err error) is holds = absurd (let e = is in cc)
@@ -45,7 +45,7 @@ run_more :
 run_more w [] happening = refl
 run_more w (first ∷ happenings) happening = run_more (after_event w first) happenings happening
 
--- an event of the program
+-- An event of the program.
 abbrev Event : Type 0
 Event = EventOf (Bor (List ℕ))
 
@@ -56,7 +56,7 @@ seen_at events at none within = get_or-map seen events at none (seen none) withi
 within_seen : (events : List Event) (at : ℕ) → at < length events → at < length (map seen events)
 within_seen events at within = omega (arith, within, length-map events seen)
 
--- one event more
+-- One more event.
 pub passed_more :
     (w now new : WorldState) (events : List Event) (at : ℕ) (none : Event) → at < length events →
     now ≡ run_events w (take at (map seen events)) → new ≡ after_event now (seen (get_or events at none)) →
@@ -80,7 +80,7 @@ stopped_at w now events at none within so wants = record {
   wanting = subst (λ (t : WorldState). MayWant t (seen (get_or events at none))) so wants;
 }
 
--- all events
+-- All events.
 pub passed_all :
     (w now : WorldState) (events : List Event) (at : ℕ) → length events ≤ at →
     now ≡ run_events w (take at (map seen events)) → now ≡ run_events w (map seen events)
@@ -97,7 +97,7 @@ headline_of laws w happenings is =
       whole = λ receiver place here ended. laws.whole (run_events w happenings) receiver place kept here ended;
     }
 
--- steps behind steps
+-- Two lists of allowed steps, one after the other.
 allowed_both :
     (machine : Machine) (first second : List Step) → AreAllowed machine first → AreAllowed (run machine first) second →
     AreAllowed machine (first ++ second)
@@ -118,7 +118,7 @@ handed_both machine (step ∷ first) second =
     ap (λ (t : List HandOn). handed_in machine step ++ t) (handed_both next first second)
     ∙ sym (append_assoc (handed_in machine step) (all_handed next first) (all_handed (run next first) second))
 
--- an event is the steps that it names, and none where it is refused
+-- An event is the steps that it names. If it is refused, it has none.
 record AreStepsOf (w : WorldState) (happening : Happening) (outcome : Outcome) : Type 0 where
   steps : List Step
   named : NamesAfter w happening outcome steps

@@ -1,4 +1,4 @@
--- What an event sends is steps of the machine.
+-- What an event sends, as steps of the machine.
 use Rattle.std.proofs.Common.{◌≡◌, ℕ, zero, suc, ◌+◌, ◌-◌, ◌≤◌, List, [], ◌∷◌, ◌++◌, length, map}
 use Rattle.std.proofs.Common.{take, refl, sym, ap, ◌∙◌, append_assoc, arith}
 use Rattle.std.specs.Prelude.{Option, None, Some, Result, Ok, Err, slice_get}
@@ -28,7 +28,7 @@ use Rattle.mold_world.specs.World.{SubscriberState, WorldState}
 use Rattle.mold_world.specs.declared.report.Report.{Report}
 use Rattle.mold_world.proofs.OutcomeLemmas.{ok_so, err_so}
 
--- datagrams are sent, no more than so many
+-- At most `most` datagrams were sent.
 pub record DidSend (most : ℕ) (w new : WorldState) : Type 0 where
   more : List (List ℕ)
   few : length more ≤ most
@@ -38,11 +38,11 @@ pub record DidSend (most : ℕ) (w new : WorldState) : Type 0 where
 abbrev IsSent : ℕ → WorldState → Report × WorldState → Type 0
 IsSent most w done = DidSend most w done.1
 
--- none is, in a world that stays
+-- If nothing is sent, the world is unchanged.
 none : (most : ℕ) (w : WorldState) → DidSend most w w
 none most w = record { more = []; few = omega arith; allowed = tt; made = refl }
 
--- what sends hands nothing on
+-- Sending delivers nothing.
 sends_handed : (machine : Machine) (more : List (List ℕ)) → all_handed machine (map Send more) ≡ []
 sends_handed machine [] = refl
 sends_handed machine (bytes ∷ more) = sends_handed (after machine (Send bytes)) more
@@ -59,7 +59,7 @@ sent_steps w happening most done names nothing sent = record {
   handed = sends_handed (machine_of w) sent.more ∙ sym nothing;
 }
 
--- what tells the truth may be said
+-- True datagrams may be sent.
 said_of :
     (w : WorldState) (bytes : List ℕ) → IsTrueDatagram w.publisher.journal bytes → IsSaid (machine_of w) bytes
 said_of w bytes told =
@@ -85,7 +85,7 @@ send_steps w (Some packet) publisher done journal told same =
       }) journal;
     })
 
--- datagrams that are sent one after the other
+-- Datagrams that are sent one after the other.
 sends_allowed :
     (machine : Machine) (more : List (List ℕ)) →
     ((place : ℕ) (bytes : List ℕ) → slice_get more place ≡ Some bytes → IsSaid machine bytes) →

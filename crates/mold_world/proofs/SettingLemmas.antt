@@ -1,9 +1,9 @@
--- A list of which one element is another.
+-- A list in which one element is replaced.
 use Rattle.std.proofs.Common.{◌≡◌, ℕ, zero, suc, List, [], ◌∷◌, map, refl, sym, ap, ◌∙◌, inl, inr, arith}
 use Rattle.std.specs.Prelude.{◌⊎◌, Some, slice_get, slice_set}
 use Rattle.std.proofs.lemmas.Option.{none-some, same_Some}
 
--- the element that is set
+-- The element that is set.
 pub set_here :
     {X : Type 0} (xs : List X) (at : ℕ) (new x : X) → slice_get xs at ≡ Some x →
     slice_get (slice_set xs at new) at ≡ Some new
@@ -11,7 +11,7 @@ set_here [] at new x is = absurd (none-some x is)
 set_here (first ∷ xs) zero new x is = refl
 set_here (first ∷ xs) (suc at) new x is = set_here xs at new x is
 
--- every other element
+-- Every other element.
 pub set_elsewhere :
     {X : Type 0} (xs : List X) (at : ℕ) (new : X) (place : ℕ) → (place ≡ at → ⊥) →
     slice_get (slice_set xs at new) place ≡ slice_get xs place
@@ -22,7 +22,7 @@ set_elsewhere (x ∷ xs) (suc at) new zero other = refl
 set_elsewhere (x ∷ xs) (suc at) new (suc place) other =
     set_elsewhere xs at new place (λ same. other (let z : suc place ≡ suc at = omega (arith, same) in z))
 
--- an element afterwards: the one that is set, or one from before
+-- An element of the new list is the one that was set or an old one.
 pub set_cases :
     {X : Type 0} (xs : List X) (at : ℕ) (new : X) (place : ℕ) (x : X) → slice_get (slice_set xs at new) place ≡ Some x →
     (new ≡ x) ⊎ (slice_get xs place ≡ Some x)
@@ -32,7 +32,7 @@ set_cases (first ∷ xs) zero new (suc place) x is = inr is
 set_cases (first ∷ xs) (suc at) new zero x is = inr is
 set_cases (first ∷ xs) (suc at) new (suc place) x is = set_cases xs at new place x is
 
--- what becomes of an element from before
+-- What happens to an old element.
 pub set_at :
     {X : Type 0} (xs : List X) (at : ℕ) (new : X) (other : ℕ) (x : X) → slice_get xs other ≡ Some x →
     ((other ≡ at) × (slice_get (slice_set xs at new) other ≡ Some new))
@@ -47,7 +47,7 @@ set_at (first ∷ xs) (suc at) new (suc other) x is =
       | inr there ↦ inr there
     ]
 
--- an element that is put in place of another of which the same is told
+-- If the new element has the same image, so does the list.
 pub map_set :
     {X Y : Type 0} (f : X → Y) (xs : List X) (at : ℕ) (old new : X) → slice_get xs at ≡ Some old → f new ≡ f old →
     map f (slice_set xs at new) ≡ map f xs
@@ -57,7 +57,7 @@ map_set {Y = Y} f (x ∷ xs) zero old new is same =
 map_set {Y = Y} f (x ∷ xs) (suc at) old new is same =
     ap (λ (t : List Y). f x ∷ t) (map_set f xs at old new is same)
 
--- an element put where it was
+-- Setting an element to itself changes nothing.
 pub set_back : {X : Type 0} (xs : List X) (at : ℕ) (x : X) → slice_get xs at ≡ Some x → slice_set xs at x ≡ xs
 set_back [] at x is = refl
 set_back (first ∷ xs) zero x is = let e : first ≡ x = (let s = is in cc) in ap (λ t. t ∷ xs) (sym e)

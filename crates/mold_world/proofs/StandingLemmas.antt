@@ -1,4 +1,4 @@
--- What the machine sees of a world: its receivers, one of which is another; and the start.
+-- What the machine knows of a world: its receivers after one was replaced, and its start.
 use Rattle.std.proofs.Common.{◌≡◌, ℕ, zero, suc, ◌+◌, ◌-◌, List, [], ◌∷◌, length, map}
 use Rattle.std.proofs.Common.{refl, sym, ap, ◌∙◌, inl, inr, arith}
 use Rattle.std.specs.Prelude.{◌==◌, Option, None, Some, true, false, slice_get, slice_set}
@@ -64,7 +64,7 @@ stands_same w receiver place here other =
           (ne_eqb other receiver differs)
     ]
 
--- how long a book is
+-- The length of a book.
 pub book_length :
     (journal : JournalState) (sent : List (List ℕ)) (place : SubscriberState) → IsSubscriberKept journal sent place →
     length place.book.messages + 1 ≡ place.arbitration.view.next
@@ -78,7 +78,7 @@ book_length journal sent place kept =
       kept.honest.known,
     )
 
--- at the start no receiver has handed anything on
+-- At the start no receiver has delivered anything.
 empty_standing :
     (session_name : Session) (windows : List ℕ) (receiver : ℕ) →
     log_of (slice_get (map (subscriber_at session_name) windows) receiver) ≡ record { book = []; ended = false }

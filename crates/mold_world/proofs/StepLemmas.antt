@@ -1,4 +1,4 @@
--- What an event does to the world is made of steps of the machine.
+-- What an event does, as steps of the machine.
 use Rattle.std.proofs.Common.{◌≡◌, ℕ, ◌+◌, ◌-◌, cond, leb, ltb, List, [], ◌∷◌, ◌++◌, length}
 use Rattle.std.proofs.Common.{take, refl, sym, ap, subst, ◌∙◌, inl, inr, arith}
 use Rattle.std.specs.Prelude.{◌⊎◌, ◌&&◌, Option, None, Some, Bool, true, false, Result, Ok, Err, slice_get}
@@ -41,7 +41,7 @@ use Rattle.mold_world.proofs.OutcomeLemmas.{ok_so, err_so}
 use Rattle.mold_world.proofs.StandingLemmas.{stands_at, machine_with, end_is, stands_same, book_length}
 use Rattle.mold_world.proofs.SendStepLemmas.{sent_steps, send_steps, request_steps, ask_steps}
 
--- an event of a kind is its steps
+-- The event is the steps that it names.
 abbrev IsDone : WorldState → Happening → Report × WorldState → Type 0
 IsDone w happening done = AreSteps w happening done.1
 
@@ -69,7 +69,7 @@ close_steps w false done same =
     ok_so (IsDone w CloseEvent) _ done same
     (record { steps = Close ∷ []; named = refl; allowed = (tt, tt); made = refl; handed = refl })
 
--- what is handed on was sent
+-- Each delivered message was sent.
 pub record HandsOnSent (w : WorldState) (receiver : ℕ) (old new : SubscriberState) (handed : List (List ℕ)) : Type 0 where
   pub here : slice_get w.subscribers receiver ≡ Some old
   pub kept : IsSubscriberKept w.publisher.journal w.sent old
@@ -118,13 +118,13 @@ deliver_made w receiver at way old new handed hands so =
           ∙ sym so;
     }
 
--- what the receiver's law says of what is handed on
+-- The receiver's law on delivered messages.
 pub record HandsOnLaw : Type 0 where
   pub handed : (v : View) (p : Packet) (i : ℕ) (m : List ℕ) →
       slice_get (handed_on v p.sequence (messages_of p.body)) i ≡ Some m →
       (finite.get v.store (v.next + i) ≡ Some m) ⊎ Carries p (v.next + i) m
 
--- a receiver takes what was sent
+-- A receiver accepts what was sent.
 taken_hands :
     (laws : AllLaws) (law : HandsOnLaw) (w : WorldState) (receiver at : ℕ) (way : Way) (place : SubscriberState)
     (bytes : List ℕ) (r : Reception) → IsWorld w → slice_get w.subscribers receiver ≡ Some place →
@@ -162,7 +162,7 @@ taken_hands laws law w receiver at way place bytes r is here found received =
           ];
     }
 
--- so what its event hands on is what its step does
+-- So the event delivers what its step delivers.
 handed_taken :
     (w : WorldState) (receiver at : ℕ) (way : Way) (place : SubscriberState) (bytes : List ℕ) (r : Reception) →
     slice_get w.subscribers receiver ≡ Some place → slice_get w.sent at ≡ Some bytes →
@@ -188,7 +188,7 @@ deliver_steps laws law w receiver at way (Some place) (Some bytes) done is here 
     (taken_hands laws law w receiver at way place bytes took.reception is here found took.received)
     (handed_taken w receiver at way place bytes took.reception here found took.received))
 
--- a receiver that refuses bytes is the same to the machine
+-- A receiver that refuses bytes is unchanged for the machine.
 refused_made :
     (w : WorldState) (receiver : ℕ) (way : Way) (bytes : List ℕ) (place : SubscriberState) → IsWorld w →
     slice_get w.subscribers receiver ≡ Some place → IsUnmoved place way bytes →
@@ -275,7 +275,7 @@ restart_steps w receiver next None done is here same = err_so (IsDone w (Restart
 restart_steps w receiver next (Some place) done is here same =
     restart_at_steps w receiver next place (leb 1 next && leb next place.arbitration.view.next) done is here refl same
 
--- every event that is not refused
+-- Every event that is not refused.
 pub event_steps :
     (laws : AllLaws) (law : HandsOnLaw) (w : WorldState) (happening : Happening) (done : Report × WorldState) →
     IsWorld w → effect w happening ≡ Ok done → AreSteps w happening done.1

@@ -1,4 +1,4 @@
--- A receiver that is given each datagram of new messages as soon as it is sent has all of them.
+-- A receiver that gets each data packet of new messages right after it is sent has all of them.
 use Rattle.std.proofs.Common.{◌≡◌, ℕ, zero, suc, ◌+◌, ◌-◌, ◌<◌, ◌≤◌, List, [], ◌∷◌, ◌++◌, length, take, drop}
 use Rattle.std.proofs.Common.{refl, sym, ap, subst, ◌∙◌, inl, inr, arith, length-append}
 use Rattle.std.specs.Prelude.{◌⊎◌, Bool, Option, None, Some, Ok, slice_get}
@@ -32,7 +32,7 @@ use Rattle.mold_world.specs.declared.way.Way.{Way}
 use Rattle.mold_world.proofs.FarLemmas.{TakenLaw, IsAsFar, event_far, outcome_far}
 use Rattle.mold_world.proofs.SettingLemmas.{set_here}
 
--- what the laws say
+-- The laws that are used.
 pub record StraightLaws : Type 0 where
   pub run : (w : WorldState) (happenings : List Happening) → IsWorld w → IsWorld (run_events w happenings)
   pub spelled : (publisher : PublisherState) (packet : Packet) → IsPublisher publisher →
@@ -48,13 +48,13 @@ pub record StraightLaws : Type 0 where
   pub through : (v : View) (p : Packet) → IsWellFormed v → p.sequence ≤ v.next → top_of p ≤ (view_after v p).next
   pub read : (packet : Packet) (bytes : List ℕ) → Spells packet bytes → reading bytes ≡ Ok packet
 
--- the receiver's next number is beyond all messages that were put in datagrams
+-- The receiver's next number is above all messages that were sent in datagrams.
 record IsBeyond (w : WorldState) (receiver : ℕ) : Type 0 where
   place : SubscriberState
   here : slice_get w.subscribers receiver ≡ Some place
   beyond : w.publisher.sent < place.arbitration.view.next
 
--- which is the same as that its book begins with them
+-- This is the same as a book that begins with them.
 beyond_of : (w : WorldState) (receiver : ℕ) → IsWorld w → HasSent w receiver → IsBeyond w receiver
 beyond_of w receiver is has =
     let kept = is.subscribers receiver has.place has.here in
@@ -115,7 +115,7 @@ is_datagram (Deliver receiver way at) = inr (λ same. let e = same in cc)
 is_datagram (Noise receiver way bytes) = inr (λ same. let e = same in cc)
 is_datagram (Restart receiver next) = inr (λ same. let e = same in cc)
 
--- the datagram that is sent next begins behind what was put in one, and ends with what is then
+-- The next data packet begins after the messages sent so far and ends with those sent then.
 pub record IsNextDatagram (publisher : PublisherState) (packet : Packet) : Type 0 where
   pub begins : packet.sequence ≡ publisher.sent + 1
   pub ends : top_of packet ≡ (after_datagram publisher).sent + 1
@@ -138,7 +138,7 @@ next_is publisher packet next =
           (record { begins = refl; ends = omega arith })
     ]
 
--- a receiver that is given it goes on to its end
+-- A receiver that gets it reaches its end.
 given_next_datagram :
     (laws : StraightLaws) (w : WorldState) (receiver : ℕ) (place : SubscriberState) (packet : Packet) (way : Way) →
     IsWorld w → slice_get w.subscribers receiver ≡ Some place → w.publisher.sent < place.arbitration.view.next →
@@ -170,7 +170,7 @@ last_at : {X : Type 0} (xs : List X) (x : X) → slice_get (xs ++ x ∷ []) (len
 last_at [] x = refl
 last_at (first ∷ xs) x = last_at xs x
 
--- the delivery of the datagram that was sent at once before
+-- The delivery right after the datagram was sent.
 deliver_beyond :
     (laws : StraightLaws) (w : WorldState) (receiver : ℕ) (packet : Packet) (way : Way) → IsWorld w →
     IsBeyond w receiver → next_datagram w.publisher ≡ Some packet →
@@ -196,7 +196,7 @@ deliver_beyond laws w receiver packet way is up next =
       beyond = given_next_datagram laws w receiver up.place packet way is up.here up.beyond next;
     })
 
--- a datagram of new messages, and what comes right behind it: either nothing was sent, or the delivery
+-- After a data packet event and the event after it: nothing was sent, or the datagram was delivered.
 abbrev IsBeyondSoon : WorldState → ℕ → Option Happening → Type 0
 IsBeyondSoon w receiver behind =
     IsBeyond (after_event w Datagram) receiver
@@ -229,7 +229,7 @@ datagram_effect :
 unfolding effect
 datagram_effect w = refl
 
--- the events behind the first
+-- The events after the first.
 straight_behind :
     (w : WorldState) (receiver : ℕ) (happening : Happening) (happenings : List Happening) →
     IsStraight w receiver (happening ∷ happenings) → IsStraight (after_event w happening) receiver happenings
@@ -240,7 +240,7 @@ straight_behind w receiver happening happenings path = record {
   stays = λ at next done found applied. path.stays (suc at) next done found applied;
 }
 
--- one event that is no datagram of new messages
+-- One event that sends no data packet.
 other_beyond :
     (laws : StraightLaws) (w : WorldState) (receiver : ℕ) (happening : Happening) (happenings : List Happening) →
     IsStraight w receiver (happening ∷ happenings) → IsBeyond w receiver → (happening ≡ Datagram → ⊥) →
@@ -286,7 +286,7 @@ all_beyond laws w receiver (happening ∷ second ∷ happenings) is path up =
           (other_beyond laws w receiver happening (second ∷ happenings) path up quiet)
     ]
 
--- all that is put in datagrams is in the book
+-- All messages that were sent in datagrams are in the book.
 pub straight :
     (laws : StraightLaws) (w : WorldState) (happenings : List Happening) (receiver : ℕ) → IsWorld w →
     IsStraight w receiver happenings → HasSent w receiver → HasSent (run_events w happenings) receiver

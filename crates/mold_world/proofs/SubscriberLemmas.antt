@@ -1,5 +1,5 @@
--- What a receiver of the world stays while the session goes on, when it is given what was sent, when it
--- refuses bytes, and when it begins anew.
+-- A receiver of the world stays valid. This holds while the session goes on, when the receiver accepts or refuses a
+-- datagram, and when it restarts.
 use Rattle.std.proofs.Common.{◌≡◌, ℕ, zero, suc, ◌+◌, ◌-◌, ◌<◌, ◌≤◌, List, [], ◌∷◌, ◌++◌, length}
 use Rattle.std.proofs.Common.{take, drop, refl, sym, ap, subst, ◌∙◌, inl, inr, arith}
 use Rattle.std.specs.Prelude.{◌⊎◌, Option, Some, Bool, true, false, Result, Ok, Err, slice_get}
@@ -32,7 +32,7 @@ use Rattle.mold_world.specs.Event.{line_of}
 use Rattle.mold_world.specs.declared.way.Way.{Way}
 use Rattle.mold_world.specs.declared.way.Way.TheVariants.{Answer, Line}
 
--- what the laws of the receiver and of the wire say
+-- The laws of the receiver and of `mold_wire`.
 pub record ReceiverLaws : Type 0 where
   pub take : (v : View) (packet : Packet) (bytes : List ℕ) (published : List (List ℕ)) (closed : Bool) →
       IsHonest v published closed → Spells packet bytes → packet.session ≡ v.session →
@@ -57,7 +57,7 @@ get_longer [] behind place element is = absurd (none-some element is)
 get_longer (first ∷ front) behind zero element is = is
 get_longer (first ∷ front) behind (suc place) element is = get_longer front behind place element is
 
--- what was sent stays so
+-- A datagram that was sent stays sent.
 sent_longer :
     (sent more : List (List ℕ)) (number : ℕ) (message : List ℕ) → IsSentAs sent number message →
     IsSentAs (sent ++ more) number message
@@ -92,7 +92,7 @@ place_sent journal sent more place kept = record {
   ends = λ end told. end_longer sent more journal.session end (kept.ends end told);
 }
 
--- how far a receiver may have got
+-- A receiver's next number is at most the next number to publish.
 next_within :
     (journal : JournalState) (sent : List (List ℕ)) (place : SubscriberState) → IsSubscriberKept journal sent place →
     place.arbitration.view.next - 1 ≤ length journal.messages
@@ -134,7 +134,7 @@ place_closed laws journal sent place kept = record {
   ends = kept.ends;
 }
 
--- a receiver by what the rule makes of what it is given
+-- The receiver after a datagram, given the receiving rule's result.
 abbrev given_by : SubscriberState → Way → List ℕ → Result Reception Refusal → SubscriberState
 given_by place way bytes outcome = record {
   arbitration = arbitrated (line_of way) bytes place.arbitration outcome;
@@ -168,7 +168,7 @@ get_dropped (suc number) (element ∷ elements) place =
     let next : suc (number + place) ≡ suc number + place = omega arith in
     get_dropped number elements place ∙ ap (λ (t : ℕ). slice_get (element ∷ elements) t) next
 
--- messages that are the published ones from a number on make the book longer
+-- Published messages from the next number on extend the book.
 book_longer :
     (published handed : List (List ℕ)) (next : ℕ) → 1 ≤ next →
     ((i : ℕ) (message : List ℕ) → slice_get handed i ≡ Some message →
@@ -189,7 +189,7 @@ book_longer published handed next first each =
     (ap (λ (t : List (List ℕ)). take (length handed) t) front.parts
     ∙ take_at handed front.behind (length handed) refl))
 
--- an end that is known after a packet was known before, or is the packet's
+-- An end that is known after a packet was known before or is the packet's.
 end_told :
     (body : Body) (sequence end : ℕ) (ended : Option ℕ) → ended_after body sequence ended ≡ Some end →
     (ended ≡ Some end) ⊎ ((body ≡ End) × (sequence ≡ end))
@@ -197,7 +197,7 @@ end_told (Data messages) sequence end ended is = inl is
 end_told Heartbeat sequence end ended is = inl is
 end_told End sequence end ended is = inr (refl, same_Some sequence end is)
 
--- what a receiver needs to know of a datagram that was sent
+-- A true datagram was sent.
 pub record IsSentTruly (journal : JournalState) (sent : List (List ℕ)) (bytes : List ℕ) : Type 0 where
   pub place : ℕ
   pub found : slice_get sent place ≡ Some bytes
@@ -206,14 +206,14 @@ pub record IsSentTruly (journal : JournalState) (sent : List (List ℕ)) (bytes 
 pub same_Ok : {T E : Type 0} (one other : T) (r : Result T E) → r ≡ Ok one → r ≡ Ok other → one ≡ other
 same_Ok one other r is too = let e = is in let f = too in cc
 
--- the packet of a session whose body is an end is the end packet with its number
+-- A packet of the session whose body is an end is the end packet with its number.
 is_end_packet :
     (packet : Packet) (session : Session) (end : ℕ) → packet.session ≡ session → packet.body ≡ End →
     packet.sequence ≡ end → packet ≡ end_packet session end
 is_end_packet packet session end named body number =
     λ i. record { session = named i; sequence = number i; body = body i }
 
--- a receiver that took a packet which was sent
+-- The receiver accepted a packet that was sent.
 taken_kept :
     (laws : ReceiverLaws) (journal : JournalState) (sent : List (List ℕ)) (place : SubscriberState) (way : Way)
     (bytes : List ℕ) (r : Reception) → IsSubscriberKept journal sent place → IsSentTruly journal sent bytes →
@@ -274,7 +274,7 @@ taken_kept laws journal sent place way bytes r kept truly received honest handed
           ];
     }
 
--- so a receiver stays what it is when it is given what was sent
+-- So a receiver stays valid when it receives what was sent.
 pub given_kept :
     (laws : ReceiverLaws) (journal : JournalState) (sent : List (List ℕ)) (place : SubscriberState) (way : Way)
     (bytes : List ℕ) → IsSubscriberKept journal sent place → IsSentTruly journal sent bytes →
@@ -289,7 +289,7 @@ given_kept laws journal sent place way bytes kept truly =
     (sym took.received)
     (taken_kept laws journal sent place way bytes took.reception kept truly took.received took.honest took.handed)
 
--- or refuses bytes: then only a report changes
+-- It stays valid when it refuses bytes, since only a report changes.
 refused_kept :
     (journal : JournalState) (sent : List (List ℕ)) (place : SubscriberState) (way : Way) (bytes : List ℕ)
     (refused : Refusal) → IsSubscriberKept journal sent place →
@@ -317,7 +317,7 @@ noise_kept journal sent place way bytes refused is kept =
     subst (λ (t : Result Reception Refusal). IsSubscriberKept journal sent (given_by place way bytes t)) (sym is)
     (refused_kept journal sent place way bytes refused kept)
 
--- some messages cut to their first ones
+-- Messages that are cut to their first ones.
 cut_from :
     (first : ℕ) (messages : List (List ℕ)) (next kept count : ℕ) → count ≡ kept + 1 →
     Follows (record { first = first; messages = messages }) next → length messages ≡ next - 1 → 1 ≤ next →
@@ -327,7 +327,7 @@ cut_from first [] next (suc kept) count is follows whole some one few = tt
 cut_from first (message ∷ messages) next (suc kept) count is follows whole some one few =
     omega (arith, is, follows, whole, few, length-take kept messages)
 
--- a batch cut to its first messages ends before the number that it is cut to
+-- A book that is cut to its first messages ends just before the restart's number.
 cut_follows :
     (book : Handed) (next count : ℕ) → Follows book next → length book.messages ≡ next - 1 → 1 ≤ next →
     1 ≤ count → count ≤ next → Follows (handed_from book.first (take (count - 1) book.messages)) count
@@ -345,7 +345,7 @@ take_twice (suc few) (suc many) [] less = refl
 take_twice {X = X} (suc few) (suc many) (x ∷ xs) less =
     ap (λ (t : List X). x ∷ t) (take_twice few many xs (omega (arith, less)))
 
--- or begins anew
+-- It stays valid when it restarts.
 pub renewed_kept :
     (laws : ReceiverLaws) (journal : JournalState) (sent : List (List ℕ)) (place : SubscriberState) (next : ℕ) →
     length journal.messages < 18446744073709551615 → 1 ≤ next → next ≤ place.arbitration.view.next →

@@ -1,4 +1,4 @@
--- What the receivers of a world do with what comes to them.
+-- What the receivers of a world do with the datagrams that they receive.
 use Rattle.std.specs.Prelude.{◌≡◌, ℕ, List, map, Err}
 use Rattle.mold_receiver.specs.Receive.{receive}
 use Rattle.mold_rule.specs.declared.refusal.Refusal.{Refusal}
@@ -12,32 +12,32 @@ use Rattle.mold_world.specs.declared.report.Report.{Report}
 use Rattle.mold_world.specs.declared.report.Report.TheVariants.{Delivered, NoiseRefused}
 use Rattle.mold_world.specs.declared.way.Way.{Way}
 
--- a receiver refuses bytes that come on a line or as an answer, and its view and its book stay
+-- The receiver refuses the bytes, and its view and its book are unchanged.
 pub record IsUnmoved (place : SubscriberState) (way : Way) (bytes : List ℕ) : Type 0 where
   pub refused : Refusal
   pub received : receive place.arbitration.view bytes ≡ Err refused
   pub view : (given place way bytes).arbitration.view ≡ place.arbitration.view
   pub book : (given place way bytes).book ≡ place.book
 
--- a datagram was taken
+-- A datagram was reported as accepted.
 pub record ReportsTaken (told : Report) : Type 0 where
   pub taken : Taken
   pub so : told ≡ Delivered taken
 
--- bytes were refused
+-- Bytes were reported as refused.
 pub record ReportsRefused (told : Report) : Type 0 where
   pub refused : Refusal
   pub so : told ≡ NoiseRefused refused
 
--- every receiver's view and book are as they were
+-- Every receiver's view and book are unchanged.
 pub record KeepsBooks (old new : WorldState) : Type 0 where
   pub views : map (λ (place : SubscriberState). place.arbitration.view) new.subscribers
       ≡ map (λ (place : SubscriberState). place.arbitration.view) old.subscribers
   pub books : map (λ (place : SubscriberState). place.book) new.subscribers
       ≡ map (λ (place : SubscriberState). place.book) old.subscribers
 
--- what is told of what came to a receiver: a datagram that was sent is taken; bytes that are no packet of the
--- session are refused, and no view and no book is another
+-- What a receiver's report states. A delivered datagram was accepted. Noise was refused, and every view and every
+-- book is unchanged. Other events state nothing here.
 abbrev pub HasReceived : Happening → Report → WorldState → WorldState → Type 0
 HasReceived (Publish message) told old new = Unit {0}
 HasReceived Datagram told old new = Unit {0}

@@ -1,5 +1,4 @@
--- What an event does to the world: the one rule of events. A refusal leaves the world as it is, since its
--- outcome has none.
+-- The rule of events: what each event does to a world. A refusal has no outcome, so it leaves the world unchanged.
 use Rattle.std.specs.Prelude.{ℕ, ◌+◌, ◌-◌, List, [], ◌∷◌, ◌++◌, length, map, take, Bool, true, false}
 use Rattle.std.specs.Prelude.{Option, None, Some, Result, Ok, Err, ◌&&◌, nat_le, nat_lt, if◌then◌else◌, slice_get}
 use Rattle.std.specs.Prelude.{slice_set}
@@ -35,11 +34,11 @@ use Rattle.mold_world.specs.declared.report.WorldError.TheVariants.{NoReceiver, 
 use Rattle.mold_world.specs.declared.report.WorldError.TheVariants.{Layer as Refuses}
 use Rattle.mold_world.specs.declared.way.Way.{Way}
 
--- what is reported and the world afterwards, or why the event is refused
+-- The report and the new world, or the reason why the event is refused.
 abbrev pub Outcome : Type 0
 Outcome = Result (Report × WorldState) WorldError
 
--- a message is published, unless there is a reason against it
+-- The outcome of publishing a message, given the reason against it if there is one.
 abbrev pub publishing : WorldState → List ℕ → Option AppendError → Outcome
 publishing w message None =
     Ok (
@@ -48,92 +47,102 @@ publishing w message None =
     )
 publishing w message (Some refusal) = Err (Refuses (session.Append refusal))
 
--- the packet's one spelling goes to the end of those sent, and the publisher is another
+-- The outcome of sending a packet, if there is one. Its encoding is appended to the sent datagrams, and `publisher`
+-- is the new publisher.
 abbrev pub sending : WorldState → Option Packet → PublisherState → Outcome
 sending w None publisher = Ok (report.Nothing, w)
 sending w (Some packet) publisher =
     Ok (report.Sent (length w.sent), record w { publisher = publisher; sent = w.sent ++ spelling_of packet ∷ [] })
 
--- how many messages were not yet put in a datagram
+-- The number of published messages that were not sent in a datagram yet.
 abbrev pub unsent_count : PublisherState → ℕ
 unsent_count publisher = length publisher.journal.messages - publisher.sent
 
+-- The outcome of closing the session. It is refused while messages are unsent.
 abbrev pub closing : WorldState → Outcome
 closing w = if nat_lt 0 (unsent_count w.publisher)
     then Err (Refuses (session.Close (record { count = unsent_count w.publisher })))
     else Ok (report.Closed, record w { publisher = closed w.publisher })
 
--- all packets of the answer are sent, in order
+-- The outcome of sending all responses to a request, in order.
 abbrev pub bursting : WorldState → List Packet → Outcome
 bursting w packets =
     Ok (report.Burst (length w.sent) (length packets), record w { sent = w.sent ++ map spelling_of packets })
 
+-- The outcome of responding to a request.
 abbrev pub answered : WorldState → Asked → Outcome
 answered w request = bursting w
     (answer w.publisher.journal.messages w.publisher.journal.session w.server_limit
     request.sequence request.count w.burst)
 
+-- The outcome of a request that the server accepts, or of one that it refuses.
 abbrev pub requested : WorldState → Result Asked AnswerError → Outcome
 requested w (Ok request) = answered w request
 requested w (Err refusal) = Err (Refuses (session.Answer refusal))
 
--- what a receiver wants is answered
+-- The outcome of responding to the request that a receiver wants, if it wants one.
 abbrev pub asked_for : WorldState → Option Asked → Outcome
 asked_for w None = Ok (report.Nothing, w)
 asked_for w (Some request) = answered w request
 
+-- The outcome of asking for what a receiver wants, if the receiver exists.
 abbrev pub asked : WorldState → Option SubscriberState → Outcome
 asked w None = Err NoReceiver
 asked w (Some place) = asked_for w (wanted place.arbitration.view)
 
--- the world with another receiver in a place
+-- The world in which the receiver with this number is replaced.
 abbrev pub with_subscriber : WorldState → ℕ → SubscriberState → WorldState
 with_subscriber w receiver place = record w { subscribers = slice_set w.subscribers receiver place }
 
--- a book when a receiver was given a datagram: what is handed on stands behind it
+-- The book after a datagram: the delivered messages are appended. After a refusal, it is unchanged.
 abbrev pub book_after : Handed → ℕ → Result Reception Refusal → Handed
 book_after book next (Ok reception) = followed_by book next reception.handed
 book_after book next (Err refused) = book
 
--- a receiver when it was given a datagram, taken or refused
+-- The receiver and its book after it received a datagram, accepted or refused.
 abbrev pub given : SubscriberState → Way → List ℕ → SubscriberState
 given place way bytes = record {
   arbitration = arbitrates (line_of way) bytes place.arbitration;
   book = book_after place.book place.arbitration.view.next (receive place.arbitration.view bytes);
 }
 
+-- The report of what a receiver did with a datagram.
 abbrev pub told : Result Reception Refusal → Report
 told (Ok reception) = report.Delivered reception.taken
 told (Err refused) = report.NoiseRefused refused
 
+-- The outcome of giving a receiver a datagram.
 abbrev pub giving : WorldState → ℕ → SubscriberState → Way → List ℕ → Outcome
 giving w receiver place way bytes =
     Ok (told (receive place.arbitration.view bytes), with_subscriber w receiver (given place way bytes))
 
--- a datagram comes that was sent before
+-- The outcome of delivering a datagram that was sent, if the receiver and the datagram exist.
 abbrev pub delivered : WorldState → ℕ → Way → Option SubscriberState → Option (List ℕ) → Outcome
 delivered w receiver way None datagram = Err NoReceiver
 delivered w receiver way (Some place) None = Err NoSuchDatagram
 delivered w receiver way (Some place) (Some bytes) = giving w receiver place way bytes
 
--- bytes come that are no packet of the session
+-- What was decoded is a packet of the session `own`.
 abbrev pub is_own : Session → Result Packet DecodeError → Bool
 is_own own (Ok packet) = bytes_eq packet.session.0 own.0
 is_own own (Err error) = false
 
+-- The outcome of giving a receiver bytes as noise. It is refused if the bytes are a packet of the session.
 abbrev pub noised : WorldState → ℕ → Way → List ℕ → Option SubscriberState → Bool → Outcome
 noised w receiver way bytes None own = Err NoReceiver
 noised w receiver way bytes (Some place) true = Err NotNoise
 noised w receiver way bytes (Some place) false = giving w receiver place way bytes
 
--- a receiver that begins anew at a number that it had reached: its view and its reports are new, and its
--- book is cut to the messages before
+-- The receiver after a restart at `next`. Its view and its reports are new, and its book keeps only the messages
+-- before `next`.
 abbrev pub restarted_at : SubscriberState → ℕ → SubscriberState
 restarted_at place next = record {
   arbitration = fresh_arbitration place.arbitration.view.session next place.arbitration.view.window;
   book = handed_from place.book.first (take (next - 1) place.book.messages);
 }
 
+-- The outcome of a restart at `next`, if the receiver exists. It is refused unless the receiver had reached that
+-- number.
 abbrev pub restarted : WorldState → ℕ → ℕ → Option SubscriberState → Outcome
 restarted w receiver next None = Err NoReceiver
 restarted w receiver next (Some place) =
@@ -141,7 +150,7 @@ restarted w receiver next (Some place) =
     then Ok (report.Restarted next, with_subscriber w receiver (restarted_at place next))
     else Err (NotReached place.arbitration.view.next)
 
--- the rule
+-- The rule of events: the outcome of an event in a world.
 unfoldable pub effect : WorldState → Happening → Outcome
 effect w (Publish message) = publishing w message (append_refusal w.publisher.journal message)
 effect w Datagram = sending w (next_datagram w.publisher) (after_datagram w.publisher)
@@ -156,14 +165,16 @@ effect w (Noise receiver way bytes) =
     noised w receiver way bytes (slice_get w.subscribers receiver) (is_own w.publisher.journal.session (reading bytes))
 effect w (Restart receiver next) = restarted w receiver next (slice_get w.subscribers receiver)
 
--- the world after an event, refused or not, and after some events in order
+-- The world after an outcome. A refusal leaves it unchanged.
 abbrev pub after_outcome : WorldState → Outcome → WorldState
 after_outcome w (Ok done) = done.1
 after_outcome w (Err refused) = w
 
+-- The world after an event, accepted or refused.
 abbrev pub after_event : WorldState → Happening → WorldState
 after_event w happening = after_outcome w (effect w happening)
 
+-- The world after the events in order. Refused events change nothing.
 abbrev pub run_events : WorldState → List Happening → WorldState
 run_events w [] = w
 run_events w (happening ∷ happenings) = run_events (after_event w happening) happenings

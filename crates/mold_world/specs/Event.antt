@@ -1,4 +1,4 @@
--- What may happen to a world: the events of the program, but with their bytes as lists.
+-- The events of a world, with their bytes as lists.
 use Rattle.std.specs.Prelude.{ℕ, List, Option, None, Some}
 use Rattle.std.specs.Borrow.{Bor}
 use Rattle.mold_receiver.specs.declared.line.Line.{Line as ReceiverLine}
@@ -8,11 +8,11 @@ use Rattle.mold_world.specs.declared.event.EventOf.TheVariants.{Request, Ask, De
 use Rattle.mold_world.specs.declared.way.Way.{Way}
 use Rattle.mold_world.specs.declared.way.Way.TheVariants.{Answer, Line}
 
--- what may happen: an event with its bytes
+-- An event with its bytes as a list.
 abbrev pub Happening : Type 0
 Happening = EventOf (List ℕ)
 
--- what happens in an event of the program, which lends its bytes
+-- The event of the definitions for an event of the program, which borrows its bytes.
 abbrev pub seen : EventOf (Bor (List ℕ)) → Happening
 seen (Publish message) = Publish message.now
 seen Datagram = Datagram
@@ -25,7 +25,7 @@ seen (Deliver receiver way sent) = Deliver receiver way sent
 seen (Noise receiver way bytes) = Noise receiver way bytes.now
 seen (Restart receiver next) = Restart receiver next
 
--- the line that a datagram comes on; none for the answer to a request
+-- The line that a datagram comes on, or none for a re-request server's response.
 abbrev pub line_of : Way → Option ReceiverLine
 line_of (Line line) = Some line
 line_of Answer = None

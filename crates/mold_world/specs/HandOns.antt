@@ -1,4 +1,4 @@
--- What is handed on by the events of a run.
+-- The messages that the events of a run deliver.
 use Rattle.std.specs.Prelude.{ℕ, List, [], ◌∷◌, ◌++◌, Bool, true, false, Option, None, Some, Result, Ok, Err, slice_get}
 use Rattle.mold_wire.specs.Reading.{reading}
 use Rattle.mold_receiver.specs.Receive.{Reception, receive}
@@ -10,24 +10,26 @@ use Rattle.mold_world.specs.declared.event.EventOf.TheVariants.{Request, Ask, De
 use Rattle.mold_world.specs.Headline.{HandOn, handed_from}
 use Rattle.mold_world.specs.World.{SubscriberState, WorldState}
 
--- what is handed on of bytes that were taken, from the receiver's next number on
+-- The messages that a receiver delivers from a datagram, given the receiving rule's result. The first has the
+-- receiver's next number.
 abbrev pub handed_of : ℕ → ℕ → Result Reception Refusal → List HandOn
 handed_of receiver next (Ok reception) = handed_from receiver next reception.handed
 handed_of receiver next (Err refused) = []
 
--- what a receiver hands on when a datagram comes, where both are there
+-- The messages that a receiver delivers when it receives a datagram, if both exist.
 abbrev pub handed_at : ℕ → Option SubscriberState → Option (List ℕ) → List HandOn
 handed_at receiver None datagram = []
 handed_at receiver (Some place) None = []
 handed_at receiver (Some place) (Some bytes) =
     handed_of receiver place.arbitration.view.next (receive place.arbitration.view bytes)
 
--- what a receiver hands on when bytes come as noise, unless these are a packet of the session, which is refused
+-- The messages that a receiver delivers from noise. Bytes that are a packet of the session are refused as noise, so
+-- there are none.
 abbrev pub handed_of_noise : ℕ → Option SubscriberState → List ℕ → Bool → List HandOn
 handed_of_noise receiver place bytes true = []
 handed_of_noise receiver place bytes false = handed_at receiver place (Some bytes)
 
--- what is handed on by an event: nothing, unless something comes to a receiver
+-- The messages that an event delivers. Only a delivery or noise can deliver any.
 abbrev pub handed_by : WorldState → Happening → List HandOn
 handed_by w (Publish message) = []
 handed_by w Datagram = []
@@ -43,7 +45,7 @@ handed_by w (Noise receiver way bytes) =
     (is_own w.publisher.journal.session (reading bytes))
 handed_by w (Restart receiver next) = []
 
--- all that is handed on by some events, also by receivers that begin anew later
+-- The messages that the events deliver in order, also those of receivers that restart later.
 abbrev pub handed_by_all : WorldState → List Happening → List HandOn
 handed_by_all w [] = []
 handed_by_all w (happening ∷ happenings) = handed_by w happening ++ handed_by_all (after_event w happening) happenings

@@ -1,4 +1,4 @@
--- What holds of every world: all that was sent is true, and receivers were told nothing else.
+-- What holds of every world: everything sent is true, and receivers know nothing false.
 use Rattle.std.specs.Prelude.{◌≡◌, ℕ, ◌-◌, List, take, Some, slice_get}
 use Rattle.std.specs.FinMap as finite
 use Rattle.mold_receiver.specs.Batch.{Follows}
@@ -9,20 +9,27 @@ use Rattle.mold_session.specs.Truthful.{MayAnswer, IsTrueDatagram}
 use Rattle.mold_world.specs.Machine.{IsEndSent, IsSentAs}
 use Rattle.mold_world.specs.World.{SubscriberState, WorldState}
 
--- a receiver of the session to which nothing but the truth was told, whose book is what was published before
--- its next number; what it stores was sent, and so was the end that it knows
+-- The receiver is honest, and its book is the published messages before its next number. Each stored message was
+-- sent, and so was the end packet of a known end.
 pub record IsSubscriberKept (journal : JournalState) (sent : List (List ℕ)) (place : SubscriberState) : Type 0 where
   pub session : place.arbitration.view.session ≡ journal.session
   pub honest : IsHonest place.arbitration.view journal.messages journal.closed
   pub book : place.book.messages ≡ take (place.arbitration.view.next - 1) journal.messages
+  -- The book is empty or ends just before the receiver's next number.
   pub follows : Follows place.book place.arbitration.view.next
+  -- Each stored message was sent with its number.
   pub stored : (number : ℕ) (message : List ℕ) → finite.get place.arbitration.view.store number ≡ Some message →
       IsSentAs sent number message
+  -- The end packet of a known end was sent.
   pub ends : (end : ℕ) → place.arbitration.view.ended ≡ Some end → IsEndSent sent journal.session end
 
+-- What holds of every world. Its publisher and server are valid, everything sent is true of the journal, and its
+-- receivers are as `IsSubscriberKept` states.
 pub record IsWorld (w : WorldState) : Type 0 where
   pub publisher : IsPublisher w.publisher
+  -- The server can send the journal's longest messages.
   pub answers : MayAnswer w.publisher.journal w.server_limit
+  -- Each datagram that was sent is true of the journal.
   pub said : (place : ℕ) (bytes : List ℕ) → slice_get w.sent place ≡ Some bytes →
       IsTrueDatagram w.publisher.journal bytes
   pub subscribers : (receiver : ℕ) (place : SubscriberState) → slice_get w.subscribers receiver ≡ Some place →

@@ -1,6 +1,6 @@
--- The world of one session as a machine: what may happen to its publisher, its network and its receivers.
--- Nothing here scans, packs, stores or has a window: a book may grow by whatever somebody sent with the
--- numbers that it gets there.
+-- One session as a machine: its steps are all that can happen to its publisher, its network and its receivers.
+-- Nothing here parses, packs, stores or has a window. A book can grow by any messages that were sent with the numbers
+-- that they get in it.
 use Rattle.std.specs.Prelude.{◌≡◌, ℕ, ◌+◌, ◌-◌, ◌<◌, ◌≤◌, List, [], ◌∷◌, ◌++◌, length, take, Some, Bool, true, false}
 use Rattle.std.specs.Prelude.{◌==◌, if◌then◌else◌, slice_get}
 use Rattle.mold_session.specs.declared.journal.TheConstants.{MAX_MESSAGES}
@@ -10,14 +10,14 @@ use Rattle.mold_wire.specs.declared.packet.Packet.{Packet}
 use Rattle.mold_wire.specs.declared.packet.Body.TheVariants.{End}
 use Rattle.mold_wire.specs.declared.session.Session.{Session}
 
--- a receiver as the world sees it: the messages that it handed on, from message 1 on, and whether it
--- reports the end of the session
+-- One receiver of the machine: its book and whether it reports the end of the session. The book has the messages that
+-- it delivered, from message 1 on.
 pub record ReceiverLog : Type 0 where
   pub book : List (List ℕ)
   pub ended : Bool
 
--- the session, what was published in it, whether it is closed, all datagrams that were ever sent, and the
--- receivers by their numbers
+-- The state of one session: its name, the published messages, whether it is closed, all datagrams that were ever
+-- sent, and the receivers by number.
 pub record Machine : Type 0 where
   pub session : Session
   pub published : List (List ℕ)
@@ -25,23 +25,24 @@ pub record Machine : Type 0 where
   pub sent : List (List ℕ)
   pub logs : ℕ → ReceiverLog
 
--- a step, with the choices that it makes
+-- A step of the machine, with the choices that it makes.
 pub data Step : Type 0 where
-  -- the publisher takes a message
+  -- The publisher publishes a message.
   Publish : List ℕ → Step
-  -- the publisher ends the session
+  -- The publisher closes the session.
   Close : Step
-  -- publisher or re-request server send a datagram
+  -- The publisher or the re-request server sends a datagram.
   Send : List ℕ → Step
-  -- a receiver is given datagrams that were sent, hands these messages on, and reports the end or doesn't
+  -- A receiver receives datagrams that were sent, delivers these messages, and reports the end or doesn't.
   Deliver : ℕ → List (List ℕ) → Bool → Step
-  -- a receiver begins anew at a number that it had reached
+  -- A receiver restarts at a number that it had reached.
   Restart : ℕ → ℕ → Step
-  -- nothing happens: a datagram is lost, or it is refused
+  -- Nothing happens: a datagram is lost or refused.
   Nothing : Step
 
--- a datagram was sent that carries the message at this number
+-- A datagram that carries this message with this number was sent.
 pub record IsSentAs (sent : List (List ℕ)) (number : ℕ) (message : List ℕ) : Type 0 where
+  -- The index of the datagram among those that were sent.
   pub place : ℕ
   pub bytes : List ℕ
   pub packet : Packet
@@ -49,28 +50,29 @@ pub record IsSentAs (sent : List (List ℕ)) (number : ℕ) (message : List ℕ)
   pub spelled : Spells packet bytes
   pub carried : Carries packet number message
 
--- the end packet of a session with this number
+-- The end packet of a session with this sequence number.
 abbrev pub end_packet : Session → ℕ → Packet
 end_packet session number = record { session = session; sequence = number; body = End }
 
--- it was sent
+-- The end packet of the session with this sequence number was sent.
 pub record IsEndSent (sent : List (List ℕ)) (session : Session) (number : ℕ) : Type 0 where
+  -- The index of the datagram among those that were sent.
   pub place : ℕ
   pub bytes : List ℕ
   pub found : slice_get sent place ≡ Some bytes
   pub spelled : Spells (end_packet session number) bytes
 
--- a datagram that may be sent: it spells a packet of the session that is true now
+-- The datagram may be sent. It encodes a packet of the session, and what the packet states is true now.
 pub record IsSaid (machine : Machine) (bytes : List ℕ) : Type 0 where
   pub packet : Packet
   pub spelled : Spells packet bytes
   pub named : packet.session ≡ machine.session
   pub is_true : IsTruePacket packet machine.published machine.closed
 
--- which steps may be made. A message is published while the session is open and has a number left;
--- datagrams are sent by publisher and server alone, and say what is true; each message that is handed on
--- was sent with the number that it gets in the book, and the end is reported only where the end packet
--- of just this book was sent; a restart is at a number that was reached.
+-- The step may be made now. A message is published only in an open session with a number left, and only true packets
+-- of the session are sent. Each delivered message was sent with the number that it gets in the book. A receiver
+-- reports the end only if the end packet of exactly its book was sent. A restart is at a number that the receiver had
+-- reached.
 abbrev pub IsAllowed : Machine → Step → Type 0
 IsAllowed machine (Publish message) =
     (machine.closed ≡ false) × (length machine.published < MAX_MESSAGES)
@@ -84,11 +86,11 @@ IsAllowed machine (Deliver receiver messages ended) =
 IsAllowed machine (Restart receiver next) = (1 ≤ next) × (next ≤ length (machine.logs receiver).book + 1)
 IsAllowed machine Nothing = Unit {0}
 
--- the receivers, one of which stands so
+-- The receivers, with the one of this number replaced.
 abbrev pub with_log : (ℕ → ReceiverLog) → ℕ → ReceiverLog → ℕ → ReceiverLog
 with_log logs receiver log other = if other == receiver then log else logs other
 
--- the machine after a step
+-- The machine after a step.
 abbrev pub after : Machine → Step → Machine
 after machine (Publish message) = record machine { published = machine.published ++ message ∷ [] }
 after machine Close = record machine { closed = true }
@@ -103,7 +105,7 @@ after machine (Restart receiver next) = record machine {
 }
 after machine Nothing = machine
 
--- at the start: nothing is published, nothing sent, and every book is empty
+-- The machine at its start: nothing is published or sent, and every book is empty.
 abbrev pub start : Session → Machine
 start session = record {
   session = session;
@@ -113,12 +115,12 @@ start session = record {
   logs = λ _. record { book = []; ended = false };
 }
 
--- the machine after some steps
+-- The machine after the steps in order.
 abbrev pub run : Machine → List Step → Machine
 run machine [] = machine
 run machine (step ∷ steps) = run (after machine step) steps
 
--- each step may be made after those before it
+-- Each step may be made after the steps before it.
 abbrev pub AreAllowed : Machine → List Step → Type 0
 AreAllowed machine [] = Unit {0}
 AreAllowed machine (step ∷ steps) = IsAllowed machine step × AreAllowed (after machine step) steps

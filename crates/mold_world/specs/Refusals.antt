@@ -1,4 +1,4 @@
--- Why a world is not made, why an event is refused, and where memory may be wanting.
+-- Why a world can't be created, why an event is refused, and when an allocation can fail.
 use Rattle.std.specs.Prelude.{◌≡◌, ◌⊎◌, ℕ, List, Option, Some, Result, Ok, Err, IsOk, IsSome, not, Bool, ◌&&◌, nat_le}
 use Rattle.std.specs.Prelude.{if◌then◌else◌, slice_get, position}
 use Rattle.std.specs.Option.{option_map}
@@ -22,25 +22,27 @@ use Rattle.mold_world.specs.declared.report.WorldError.{WorldError}
 use Rattle.mold_world.specs.declared.report.WorldError.TheVariants.{Memory, BadLimit, BadBurst, BadWindow}
 use Rattle.mold_world.specs.declared.report.WorldError.TheVariants.{Layer as Refusal}
 
--- a datagram's limit, a burst and a window that there may be
+-- The datagram limit is valid: `MIN_LIMIT` to `MAX_LIMIT` bytes.
 abbrev pub is_limit : ℕ → Bool
 is_limit limit = nat_le MIN_LIMIT limit && nat_le limit MAX_LIMIT
 
+-- The burst is valid: 1 to `MAX_BURST` responses to a request.
 abbrev pub is_burst : ℕ → Bool
 is_burst burst = nat_le 1 burst && nat_le burst MAX_BURST
 
+-- The window is valid: 1 to `MAX_WINDOW` messages.
 abbrev pub is_window : ℕ → Bool
 is_window window = nat_le 1 window && nat_le window MAX_WINDOW
 
--- why a world is not made, the first reason of several, and of several windows the first; none where only
--- memory may be wanting
+-- The first reason why a world can't be created with these settings, if there is one. For windows, it names the first
+-- one that isn't valid. A failed allocation isn't covered.
 abbrev pub world_refusal : ℕ → ℕ → ℕ → List ℕ → Option WorldError
 world_refusal limit server_limit burst windows =
     if not (is_limit limit && is_limit server_limit && nat_le limit server_limit) then Some BadLimit
     else if not (is_burst burst) then Some BadBurst
     else option_map (λ r. BadWindow r) (position (λ window. not (is_window window)) windows)
 
--- a datagram that was sent comes to a receiver, which hands something on of it or stores something
+-- A datagram that was sent is delivered to a receiver, which delivers or stores at least one of its messages.
 pub record IsCopying (w : WorldState) (receiver sent : ℕ) : Type 0 where
   pub place : SubscriberState
   pub bytes : List ℕ
@@ -48,16 +50,15 @@ pub record IsCopying (w : WorldState) (receiver sent : ℕ) : Type 0 where
   pub found : slice_get w.sent sent ≡ Some bytes
   pub copied : IsCopied place.arbitration.view bytes
 
--- a receiver lacks messages, for which it asks
+-- The receiver exists and misses messages, so it wants a request.
 pub record IsAsking (w : WorldState) (receiver : ℕ) : Type 0 where
   pub place : SubscriberState
   pub request : Asked
   pub here : slice_get w.subscribers receiver ≡ Some place
   pub lacks : wanted place.arbitration.view ≡ Some request
 
--- where memory may be wanting: in place of a message's publication, before new messages are sent, in place of a
--- heartbeat, an end packet or an answer, where a receiver asks for something, where a datagram is copied, and in place
--- of a restart; so an event that is refused for another cause is refused for that
+-- An allocation can fail at this event. It can't if the event needs no memory or is refused for another reason. The
+-- publisher allocates space before it knows whether there is anything to send.
 abbrev pub MayWant : WorldState → Happening → Type 0
 MayWant w (Publish message) = IsOk (effect w (Publish message))
 MayWant w Datagram = Unit {0}
@@ -70,16 +71,17 @@ MayWant w (Deliver receiver way sent) = IsCopying w receiver sent
 MayWant w (Noise receiver way bytes) = ⊥
 MayWant w (Restart receiver next) = IsOk (effect w (Restart receiver next))
 
--- why an event is refused: memory is wanting where it may, or the rule refuses it
+-- The event is refused for this reason: either the rule of events states it, or an allocation failed at an event that
+-- needs memory.
 abbrev pub Refuses : WorldState → Happening → WorldError → Type 0
 Refuses w happening error = ((error ≡ Memory) × MayWant w happening) ⊎ (effect w happening ≡ Err error)
 
--- an event happens as the rule says, or it is refused and nothing changes
+-- The event is applied as the rule of events states, or it is refused and nothing changes.
 abbrev pub Applies : WorldState → Happening → Result Report WorldError → WorldState → Type 0
 Applies old happening (Ok report) new = effect old happening ≡ Ok (report, new)
 Applies old happening (Err error) new = Refuses old happening error × (new ≡ old)
 
--- what the publisher's and the server's refusals are to the world
+-- The world's error for a refusal of the publisher.
 abbrev pub append_error : AppendError → WorldError
 append_error append.Memory = Memory
 append_error append.Closed = Refusal (session.Append append.Closed)

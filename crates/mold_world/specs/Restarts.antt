@@ -1,4 +1,4 @@
--- A receiver that begins anew, and why it doesn't.
+-- The restart of a receiver, and why it is refused.
 use Rattle.std.specs.Prelude.{◌≡◌, ◌⊎◌, ℕ, ◌≤◌, Result, Ok, Err}
 use Rattle.mold_world.specs.Effect.{restarted_at}
 use Rattle.mold_world.specs.World.{SubscriberState}
@@ -7,11 +7,12 @@ use Rattle.mold_world.specs.declared.report.Report.TheVariants as report
 use Rattle.mold_world.specs.declared.report.WorldError.{WorldError}
 use Rattle.mold_world.specs.declared.report.WorldError.TheVariants.{Memory, NotReached}
 
--- a number that the receiver had reached
+-- The receiver had reached the number, which is at least 1.
 abbrev pub HasReached : SubscriberState → ℕ → Type 0
 HasReached place next = (1 ≤ next) × (next ≤ place.arbitration.view.next)
 
--- a receiver begins anew at a number that it had reached; else it stays, and so it does where memory is wanting
+-- The result of a restart. The receiver restarts if it had reached the number. Otherwise, or if an allocation fails,
+-- it is unchanged and the error states the reason.
 abbrev pub Restarts : SubscriberState → ℕ → Result Report WorldError → SubscriberState → Type 0
 Restarts old next (Ok told) new = HasReached old next × (told ≡ report.Restarted next) × (new ≡ restarted_at old next)
 Restarts old next (Err error) new = (new ≡ old) × ((HasReached old next × (error ≡ Memory))

@@ -1,4 +1,4 @@
--- A run of events, and what it promises.
+-- A run of events, and what its contract promises.
 use Rattle.std.specs.Prelude.{◌≡◌, ℕ, List, take, Some, Result, Ok, Err, true, slice_get}
 use Rattle.mold_world.specs.Event.{Happening}
 use Rattle.mold_world.specs.Effect.{run_events}
@@ -7,19 +7,20 @@ use Rattle.mold_world.specs.Refusals.{MayWant}
 use Rattle.mold_world.specs.World.{SubscriberState, WorldState}
 use Rattle.mold_world.specs.declared.stopped.Stopped.{Stopped}
 
--- the events of a run that were applied: all, or those before the one at which it stopped
+-- The events of a run that were applied: all, or those before the event at which the run stopped.
 abbrev pub applied : {T : Type 0} → Result T Stopped → List Happening → List Happening
 applied (Ok done) happenings = happenings
 applied (Err stopped) happenings = take stopped.at happenings
 
--- a run stopped at an event at which memory may be wanting
+-- The run stopped at an event at which an allocation can fail.
 pub record IsStopped (w : WorldState) (happenings : List Happening) (at : ℕ) : Type 0 where
   pub happening : Happening
   pub found : slice_get happenings at ≡ Some happening
+  -- An allocation can fail at the event, after the events before it.
   pub wanting : MayWant (run_events w (take at happenings)) happening
 
--- the headline of a world: each book is a prefix of what was published, and all of the closed session where
--- the receiver's end is its next number
+-- The headline of a world. Each book is a prefix of the published messages. If a receiver has delivered up to a known
+-- end, its book is the whole closed session.
 pub record IsHeadline (w : WorldState) : Type 0 where
   pub books : (receiver : ℕ) (place : SubscriberState) → slice_get w.subscribers receiver ≡ Some place →
       IsPrefix place.book.messages w.publisher.journal.messages

@@ -1,4 +1,4 @@
--- The world as the machine sees it, and an event as steps of the machine.
+-- The world as the machine sees it, and events as steps of the machine.
 use Rattle.std.specs.Prelude.{◌≡◌, ℕ, ◌≤◌, Bool, false, List, [], ◌∷◌, ◌++◌, length, map}
 use Rattle.std.specs.Prelude.{Option, None, Some, Ok, Err, ◌==◌, slice_get}
 use Rattle.mold_receiver.specs.View.{View}
@@ -13,21 +13,22 @@ use Rattle.mold_world.specs.Machine.{AreAllowed, Machine, ReceiverLog, Step, run
 use Rattle.mold_world.specs.Machine.Step.{Publish, Close, Send, Deliver, Restart}
 use Rattle.mold_world.specs.World.{SubscriberState, WorldState}
 
--- an end that is known is the number to be handed on next
+-- The known end is the number `next`.
 abbrev pub is_end : Option ℕ → ℕ → Bool
 is_end None next = false
 is_end (Some end) next = end == next
 
--- a receiver reports the end of the session
+-- The view knows the session's end, and all messages up to it were delivered.
 abbrev pub is_finished : View → Bool
 is_finished view = is_end view.ended view.next
 
--- what the machine sees of a receiver: its book, and whether it reports the end; where there is none, an empty
--- book
+-- What the machine knows of a receiver: its book, and whether it reports the end. A receiver that doesn't exist has
+-- an empty book.
 abbrev pub log_of : Option SubscriberState → ReceiverLog
 log_of None = record { book = []; ended = false }
 log_of (Some place) = record { book = place.book.messages; ended = is_finished place.arbitration.view }
 
+-- The world as the machine's state.
 abbrev pub machine_of : WorldState → Machine
 machine_of w = record {
   session = w.publisher.journal.session;
@@ -37,20 +38,20 @@ machine_of w = record {
   logs = λ receiver. log_of (slice_get w.subscribers receiver);
 }
 
--- datagrams are sent one after the other, no more than so many
+-- The steps send at most `most` datagrams.
 pub record AreSends (most : ℕ) (steps : List Step) : Type 0 where
   pub sent : List (List ℕ)
   pub few : length sent ≤ most
   pub so : steps ≡ map Send sent
 
--- one delivery to a receiver
+-- The steps are one delivery to this receiver.
 pub record AreDelivery (receiver : ℕ) (steps : List Step) : Type 0 where
   pub messages : List (List ℕ)
   pub ended : Bool
   pub so : steps ≡ Deliver receiver messages ended ∷ []
 
--- which steps an event names: a publication is one publication, what sends one datagram or a burst of them, the
--- session's end is that, a delivery one delivery, a restart one restart, and noise none
+-- The steps that an event names. A publication, a closing and a restart are one step each. Sending is a step for each
+-- datagram, a delivery is one delivery, and noise is no step.
 abbrev pub Names : WorldState → Happening → List Step → Type 0
 Names w (PublishEvent message) steps = steps ≡ Publish message ∷ []
 Names w Datagram steps = AreSends 1 steps
@@ -63,29 +64,33 @@ Names w (DeliverEvent receiver way place) steps = AreDelivery receiver steps
 Names w (Noise receiver way bytes) steps = steps ≡ []
 Names w (RestartEvent receiver next) steps = steps ≡ Restart receiver next ∷ []
 
--- a world became another by an event: the steps that it names lead there, the machine may make them, and what is
--- handed on in them is what the event hands on
+-- The event led from `old` to `new` by steps that it names. The machine allows these steps, and they deliver the same
+-- messages as the event.
 pub record AreSteps (old : WorldState) (happening : Happening) (new : WorldState) : Type 0 where
   pub steps : List Step
   pub named : Names old happening steps
   pub allowed : AreAllowed (machine_of old) steps
+  -- The world is then the machine after the steps.
   pub made : machine_of new ≡ run (machine_of old) steps
   pub handed : all_handed (machine_of old) steps ≡ handed_by old happening
 
--- which steps the events of a run name, one after the other; one that is refused names none
+-- The steps of an event with this outcome. A refused event has none.
 abbrev pub NamesAfter : WorldState → Happening → Outcome → List Step → Type 0
 NamesAfter w happening (Ok done) steps = Names w happening steps
 NamesAfter w happening (Err refused) steps = steps ≡ []
 
+-- The steps of all events of a run, in order.
 abbrev pub NameAll : WorldState → List Happening → List Step → Type 0
 NameAll w [] steps = steps ≡ []
 NameAll w (happening ∷ happenings) steps = (first : List Step) × (others : List Step) × (steps ≡ first ++ others)
     × NamesAfter w happening (effect w happening) first × NameAll (after_event w happening) happenings others
 
--- a world became another by a run of events, refused ones among them: the same of all of them
+-- The events of a run led from `old` to `new` by steps that they name. The machine allows these steps, and they
+-- deliver the same messages as the events.
 pub record AreStepsOfAll (old : WorldState) (happenings : List Happening) (new : WorldState) : Type 0 where
   pub steps : List Step
   pub named : NameAll old happenings steps
   pub allowed : AreAllowed (machine_of old) steps
+  -- The world is then the machine after the steps.
   pub made : machine_of new ≡ run (machine_of old) steps
   pub handed : all_handed (machine_of old) steps ≡ handed_by_all old happenings

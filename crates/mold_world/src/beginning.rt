@@ -1,4 +1,4 @@
-//! What a world begins with.
+//! The start of a world: checks of its settings, and its receivers.
 
 ghost use Rattle.std.specs.Prelude.{◌≡◌, ◌≤◌, None, Some, IfErr, IfOk, OnOk, length, map, not, position};
 ghost use Rattle.mold_wire.specs.Packer.{IsLimit};
@@ -12,21 +12,21 @@ use mold_session::MAX_BURST;
 use mold_wire::{MAX_LIMIT, MIN_LIMIT, Session};
 use std::alloc::{AllocError, Global};
 
-// Whether a receiver may have this window.
+// Returns whether the window is valid for a receiver.
 fn is_window(window: u32) -> bool
     ensures { result ≡ is_window window }
 {
     1 <= window && window <= MAX_WINDOW
 }
 
-// The place of the first window that no receiver may have.
+// Returns the index of the first window that is not valid.
 fn first_bad(windows: &[u32]) -> Option<usize>
     ensures { result ≡ position (λ window. not (is_window window)) windows.now }
 {
     windows.iter().position(|window| !is_window(*window))
 }
 
-/// The first reason not to make a world, if there is one.
+/// Returns the first reason against creating a world with these settings, if there is one.
 pub(crate) fn check_world(
     limit: usize,
     server_limit: usize,
@@ -49,8 +49,8 @@ pub(crate) fn check_world(
     }
 }
 
-/// A receiver from message 1 on for each window. An error comes where a growth is refused, and where no
-/// receiver may have a window.
+/// Returns one receiver for each window. Each starts at message 1. It returns an error if an allocation fails or a
+/// window is not valid.
 pub(crate) fn make_subscribers(
     alloc: Global,
     session: Session,
@@ -65,10 +65,10 @@ pub(crate) fn make_subscribers(
     Ok(subscribers)
 }
 
-/// A session's name has ten bytes.
+/// States that a session's name has ten bytes.
 pub(crate) fn has_name(session: Session)
     ensures { length session.0 ≡ 10 }
 {
-    // The prover knows the length of an array where it is read.
+    // For the prover: it knows the length of an array where the array is read.
     let _name = session.0;
 }

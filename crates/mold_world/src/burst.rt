@@ -1,4 +1,4 @@
-//! The datagrams that answer a request.
+//! The responses to a request.
 
 ghost use Rattle.std.specs.Prelude.{◌≡◌, ◌≤◌, ◌+◌, ◌++◌, length, map, take, IfOk, OnErr, OnOk};
 ghost use Rattle.mold_session.specs.Answer.{planned};
@@ -10,8 +10,8 @@ use mold_session::laws::{answer_not_empty_law, planned_law};
 use mold_session::{Journal, Plan, Server};
 use std::alloc::AllocError;
 
-// Sends the next datagram of a plan, and answers whether there was one. An error comes where a growth is
-// refused, and nothing was sent then.
+// Sends the next datagram of a plan. Returns whether there was one. If an allocation fails, it returns an error and
+// sends nothing.
 fn send_next(
     server: &mut Server,
     journal: &Journal,
@@ -40,8 +40,8 @@ fn send_next(
     }
 }
 
-/// Sends all datagrams that are left of a plan. After an error, which comes where a growth is refused, some
-/// of them stand behind those that were sent before.
+/// Sends all remaining datagrams of a plan. If an allocation fails, it returns an error, and some of them may have
+/// been sent. The datagrams that were sent before are unchanged.
 pub(crate) fn send_all(
     server: &mut Server,
     journal: &Journal,

@@ -1,33 +1,33 @@
-//! What may happen to the world.
+//! The events that can happen in a world.
 
 use crate::way::Way;
 
-/// What may happen to the world, with its bytes as a `B`. Receivers have the numbers from 0 on in the order of
-/// the windows that the world was made of, and datagrams the places from 0 on in the order in which they were
-/// sent.
+/// An event in a world, with its bytes as a `B`. Receivers are numbered from 0 in the order of the windows given to
+/// `World::new`. Datagrams are numbered from 0 in the order in which they were sent.
 #[derive(Clone, Copy, Debug, PartialEq, Eq)]
 pub enum EventOf<B> {
-    /// The publisher takes a message.
+    /// The publisher publishes a message.
     Publish(B),
-    /// The publisher sends the messages that were not yet put in a datagram, as far as one goes.
+    /// The publisher sends the next data packet, with as many unsent messages as fit.
     Datagram,
     /// The publisher sends a heartbeat.
     Heartbeat,
-    /// The publisher ends the session.
+    /// The publisher closes the session.
     Close,
     /// The publisher sends an end packet.
     End,
-    /// The re-request server gets these bytes, and sends the answer to them.
+    /// The re-request server receives these bytes as a request and sends its responses.
     Request(B),
-    /// The re-request server gets what the receiver of this number wants, and sends the answer.
+    /// The re-request server receives the request that this receiver wants, and sends its responses. If the receiver
+    /// misses no message, nothing happens.
     Ask(usize),
-    /// The datagram at the place `sent` comes to receiver `r`.
+    /// Receiver `r` receives the datagram with the number `sent`.
     Deliver { r: usize, way: Way, sent: usize },
-    /// Bytes that are no packet of the session come to receiver `r`.
+    /// Receiver `r` receives bytes that don't encode a packet of the session.
     Noise { r: usize, way: Way, bytes: B },
-    /// Receiver `r` begins anew at the message `next`, with the window that it had.
+    /// Receiver `r` restarts at the message `next`, with the same window.
     Restart { r: usize, next: u64 },
 }
 
-/// An event that lends its bytes. The definitions have it with lists of bytes in their place.
+/// An event that borrows its bytes. The definitions have lists of bytes instead.
 pub type Event<'a> = EventOf<&'a [u8]>;

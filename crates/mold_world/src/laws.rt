@@ -1,4 +1,4 @@
-//! What holds of the definitions alone. Each law is a function that does nothing: its contract is the law.
+//! The laws of a world. Each law is a function with an empty body whose contract is the law.
 
 ghost use Rattle.std.specs.Prelude.{◌≡◌, ℕ, Bool, List, Ok, Option, Some, slice_get, true};
 ghost use Rattle.mold_receiver.specs.Honest.{IsHonest, IsTakenHonestly};
@@ -28,15 +28,17 @@ use mold_receiver::laws::{
 use mold_session::laws::{answered_law, publisher_law, sending_law};
 use mold_wire::laws::{one_spelling_law, reading_law, true_packet_law, true_stays_law};
 
-/// The headline: for every list of publications, sendings, deliveries that are lost, late, repeated or
-/// reordered, and restarts, each receiver's book is a prefix of what was published, every message ever
-/// handed on at a number is the one published with that number, and a receiver that reports the end has
-/// the whole session. Premises: what is delivered was sent by the session's publisher or re-request
-/// server, and a restart is at a number that the receiver had reached. Each beginning of a list of allowed
-/// steps is one, so this holds at every moment.
+/// States the headline for the machine of one session. The machine takes any list of allowed steps: publications,
+/// sent datagrams, deliveries and restarts. Datagrams may be lost, late, repeated or reordered. At every moment, each
+/// receiver's book is a prefix of the published messages. Every message that was ever delivered is the one that was
+/// published with its number. If a receiver reports the end, the session is closed and its book is all of it.
 ///
-/// And what is true of the session is never refused: a receiver to which nothing else was told takes it,
-/// stays so, and hands on what was published (but for want of memory, of which a law can't speak).
+/// `IsAllowed` states the premises. Messages are published while the session is open, and only true packets of the
+/// session are sent. A delivered message was sent with its number, and a reported end was sent. A restart is at a
+/// number that the receiver had reached.
+///
+/// The last clause is about this repository's receiver. An honest view accepts what is true of its session, stays
+/// honest and delivers what was published. A law doesn't cover failed allocations.
 pub fn safety_law()
     ensures books { (session : Session) (steps : List Step) (receiver : ℕ) → AreAllowed (start session) steps →
         IsPrefix ((run (start session) steps).logs receiver).book (run (start session) steps).published }
@@ -55,16 +57,15 @@ pub fn safety_law()
     true_packet_law();
 }
 
-/// The headline for publisher, server and receivers together, by the rule of events: a world that begins
-/// as it may is one of which `IsWorld` holds, and every event keeps that, refused or not. In each such world
-/// every receiver's book is a prefix of what was published, and one whose known end is its next number has
-/// all of the closed session. Each message ever handed on in a run of events is, at the run's end, the one
-/// published with its number.
+/// States the headline for a publisher, a server and receivers of this repository. `IsWorld` holds of a new world,
+/// and every event keeps it, accepted or refused. In such a world each receiver's book is a prefix of the published
+/// messages. If a receiver has delivered up to a known end, its book is the whole closed session. Each message that
+/// was ever delivered in a run is the one that was published with its number.
 ///
-/// And what an event does is steps of the machine of `safety_law`, those that it names: a publication is one
-/// publication, a datagram or a burst so many sendings, a delivery one delivery, a restart one restart, noise
-/// none. What is handed on in them is what the event hands on. The world at the start is the machine at its
-/// start.
+/// The law also connects a world with the machine of `safety_law`. A new world is the machine's start, and each event
+/// is the steps that `Names` lists for it. A publication is one publication, and a datagram or a burst is that many
+/// sends. A delivery is one delivery, a restart is one restart, and noise is no step. The steps deliver the same
+/// messages as the event.
 pub fn run_law()
     ensures begins { (session : Session) (limit server_limit burst : ℕ) (windows : List ℕ) →
         MayBegin session limit server_limit → IsWorld (beginning session limit server_limit burst windows) }
@@ -97,11 +98,9 @@ pub fn run_law()
     answered_law();
 }
 
-/// The receivers of a world hear the truth alone. None of them refuses a datagram that was sent: it takes it
-/// as a receiver does to which nothing but the truth was told. Each of them refuses bytes that spell no
-/// packet of the session, and its view and its book stay. So a delivery is never told as refused, and noise
-/// always is, with every view and every book as they were (but for want of memory, of which a law can't
-/// speak).
+/// States what the receivers of a world do with datagrams. No receiver refuses a datagram that was sent. Each
+/// receiver refuses bytes that don't encode a packet of the session, and its view and its book are unchanged. So a
+/// delivery is always reported as accepted and noise as refused. A law doesn't cover failed allocations.
 pub fn delivery_law()
     ensures sent { (w : WorldState) (receiver at : ℕ) (place : SubscriberState) (bytes : List ℕ) → IsWorld w →
         slice_get w.subscribers receiver ≡ Some place → slice_get w.sent at ≡ Some bytes →
@@ -116,9 +115,8 @@ pub fn delivery_law()
     honest_take_law();
 }
 
-/// The straight path: a receiver whose book begins with all that was put in datagrams, to which each
-/// datagram of new messages comes as soon as it is sent, and which does not begin anew, has a book that
-/// begins with all that was put in datagrams afterwards.
+/// States the straight path. A receiver gets each data packet of new messages right after it is sent, and it doesn't
+/// restart. If its book begins with all messages sent in datagrams so far, it does so afterwards too.
 pub fn straight_law()
     ensures { (w : WorldState) (happenings : List Happening) (receiver : ℕ) → IsWorld w →
         IsStraight w receiver happenings → HasSent w receiver → HasSent (run_events w happenings) receiver }

@@ -1,4 +1,5 @@
-//! The world of a MoldUDP64 session: what is promised of its receivers, whatever the network does.
+//! A whole MoldUDP64 session as a model: a publisher, a re-request server, the network and receivers. Its laws state
+//! what every receiver delivers, whatever the network does.
 #![tactic(auto)]
 
 mod beginning;

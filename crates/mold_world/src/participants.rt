@@ -1,4 +1,4 @@
-//! What a world is made of.
+//! The parts of a world, and what each event does to them.
 
 ghost use Rattle.std.specs.Prelude.{◌≡◌, ◌≤◌, ◌+◌, None, Some, Ok, length};
 ghost use Rattle.std.specs.Prelude.{IfOk, IfErr, IfSome, IsOk, IsSome, OnOk, OnErr};
@@ -28,7 +28,7 @@ use mold_wire::laws::{front_law, spelling_length_law};
 use mold_wire::{MESSAGE_OVERHEAD, Session, decode};
 use std::alloc::Global;
 
-/// A publisher, a re-request server, all that they ever sent, and receivers.
+/// A publisher, a re-request server, all datagrams that they ever sent, and the receivers.
 #[derive(Debug, Drop)]
 pub(crate) struct Participants {
     pub(crate) alloc: Global,
@@ -38,7 +38,7 @@ pub(crate) struct Participants {
     pub(crate) subscribers: Vec<Subscriber>,
 }
 
-// Puts a datagram, if there is one, behind those sent, and reports its place.
+// Appends the datagram, if there is one, to the datagrams that were sent. Reports its index.
 fn store(sent: &mut MessageList, datagram: Option<&[u8]>) -> Result<Report, WorldError>
     ensures stored { OnOk result (sent.new.messages ≡ stored sent.old.messages (option_copied datagram.entry)) }
     ensures told { IfOk result (λ report. report ≡ stored_report sent.old.messages (option_copied datagram.entry)) }
@@ -55,7 +55,7 @@ fn store(sent: &mut MessageList, datagram: Option<&[u8]>) -> Result<Report, Worl
     Ok(Report::Sent { place })
 }
 
-// Whether the bytes are a packet of the session.
+// Returns whether the bytes encode a packet of the session.
 fn is_own(session: Session, bytes: &[u8]) -> bool
     ensures { result ≡ is_own session (reading bytes.now) }
 {
@@ -74,8 +74,8 @@ impl Participants {
         Ok(Report::Published { number })
     }
 
-    // Sends what was not yet put in a datagram. Room for the greatest datagram is made before the publisher
-    // counts messages as sent.
+    // Sends the next data packet. Space for the longest datagram is allocated before the publisher counts messages as
+    // sent.
     fn datagram(&mut self) -> Result<Report, WorldError>
         requires { AreParts self.old }
         ensures applied { Applies (world_of self.old) Datagram result (world_of self.new) }
@@ -89,7 +89,6 @@ impl Participants {
         Ok(stored.unwrap())
     }
 
-    // Sends a heartbeat.
     fn heartbeat(&mut self) -> Result<Report, WorldError>
         ensures applied { Applies (world_of self.old) Heartbeat result (world_of self.new) }
         ensures serves { KeepsServing self.old self.new }
@@ -107,7 +106,6 @@ impl Participants {
         }
     }
 
-    // Sends an end packet.
     fn end(&mut self) -> Result<Report, WorldError>
         ensures applied { Applies (world_of self.old) End result (world_of self.new) }
         ensures serves { KeepsServing self.old self.new }
@@ -115,7 +113,7 @@ impl Participants {
         store(&mut self.sent, self.publisher.end())
     }
 
-    // Sends all that a plan has left, or nothing of it where memory is refused.
+    // Sends all remaining datagrams of a plan. If an allocation fails, none is sent.
     fn send(&mut self, mut plan: Plan) -> Result<Report, WorldError>
         requires serves { self.old.publisher.journal.max_message ≤ self.old.server.max_message }
         requires session { plan.session ≡ self.old.publisher.journal.session }
@@ -145,7 +143,7 @@ impl Participants {
         }
     }
 
-    // The plan is counted as answered even where memory is refused.
+    // The server counts the request as answered even if an allocation fails.
     fn request(&mut self, bytes: &[u8]) -> Result<Report, WorldError>
         requires { AreParts self.old }
         ensures applied { Applies (world_of self.old) (Request bytes.now) result (world_of self.new) }
@@ -211,7 +209,7 @@ impl Participants {
         }
     }
 
-    /// Lets an event happen.
+    /// Applies an event.
     pub(crate) fn change(&mut self, event: &Event<'_>) -> Result<Report, WorldError>
         requires { AreParts self.old }
         ensures applied { Applies (world_of self.old) (seen event.now) result (world_of self.new) }

@@ -1,4 +1,4 @@
-//! What refusals of the layers below are to the world.
+//! Conversions of the other layers' refusals into `WorldError`.
 
 use crate::report::WorldError;
 use mold_session::{AnswerError, AppendError, SessionError};

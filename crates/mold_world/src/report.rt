@@ -1,60 +1,60 @@
-//! What became of an event.
+//! The result of an event.
 
 use mold_receiver::{Refusal, Taken};
 use mold_session::SessionError;
 use thiserror::Error;
 
-/// What an event did to the world.
+/// What an event did in the world.
 #[derive(Clone, Copy, Debug, PartialEq, Eq, Hash)]
 pub enum Report {
-    /// A message was published, with this number.
+    /// A message was published with this number.
     Published { number: u64 },
-    /// A datagram was sent; its place among those sent, the first of which has place 0.
+    /// A datagram was sent. `place` is its index among all datagrams that were sent, counted from 0.
     Sent { place: usize },
-    /// The datagrams that answer a request were sent; the first one's place, and how many there are.
+    /// The `count` responses to a request were sent. `first` is the index of the first of them.
     Burst { first: usize, count: usize },
-    /// There was nothing to send, or nothing is wanted.
+    /// There was nothing to send, or the receiver misses no message.
     Nothing,
-    /// The session is closed.
+    /// The session was closed.
     Closed,
-    /// A receiver took a datagram.
+    /// A receiver accepted a datagram, with these counts.
     Delivered(Taken),
-    /// A receiver refused a datagram.
+    /// A receiver refused the bytes for this reason.
     NoiseRefused(Refusal),
-    /// A receiver begins anew at this number.
+    /// A receiver restarted at this number.
     Restarted { next: u64 },
 }
 
-/// Why an event is refused, or a world is not made. The world is then as it was. The last three are of
-/// `World::new` alone, which answers, where several apply, `BadLimit` before `BadBurst` before `BadWindow`
-/// before `Memory`.
+/// Why an event is refused or a world can't be created. A refused event leaves the world unchanged. `BadLimit`,
+/// `BadBurst` and `BadWindow` come from `World::new` alone. If several reasons apply to it, it returns the first in
+/// the order `BadLimit`, `BadBurst`, `BadWindow`, `Memory`.
 #[derive(Clone, Copy, Debug, PartialEq, Eq, Error)]
 pub enum WorldError {
     /// No receiver has this number.
     #[error("there is no receiver of this number")]
     NoReceiver,
-    /// No datagram was sent at this place.
+    /// No datagram that was sent has this number.
     #[error("no datagram was sent at this place")]
     NoSuchDatagram,
-    /// The bytes are a packet of the session.
+    /// The bytes of a noise event encode a packet of the session.
     #[error("the bytes are a packet of the session")]
     NotNoise,
-    /// A receiver can't begin anew at this number: it is 0 or above `next`.
+    /// A receiver can't restart at this number, which is 0 or above its next number `next`.
     #[error("the receiver has reached {next}")]
     NotReached { next: u64 },
-    /// The publisher or the server refused.
+    /// The publisher or the re-request server refused.
     #[error("{0}")]
     Layer(SessionError),
-    /// A growth was refused.
+    /// An allocation failed.
     #[error("out of memory")]
     Memory,
-    /// No world is made with a limit that is not `MIN_LIMIT` to `MAX_LIMIT`, or a server's below the publisher's.
+    /// A datagram limit is not `MIN_LIMIT` to `MAX_LIMIT`, or the server's limit is below the publisher's.
     #[error("a datagram's limit is 64 to 65,507 bytes, and the server's no less than the publisher's")]
     BadLimit,
-    /// No world is made with a window that is not 1 to `MAX_WINDOW` messages; the first receiver with such a window.
+    /// A window is not 1 to `MAX_WINDOW` messages. `r` is the first receiver with such a window.
     #[error("the window of receiver {r} is not 1 to 65,536 messages")]
     BadWindow { r: usize },
-    /// No world is made with a burst that is not 1 to `MAX_BURST` datagrams.
+    /// The burst is not 1 to `MAX_BURST` datagrams.
     #[error("a request is answered by at most 1 to 64 datagrams")]
     BadBurst,
 }

@@ -1,4 +1,4 @@
-//! A receiver of the world.
+//! A receiver of a world, with its arbiter and its book.
 
 ghost use Rattle.std.specs.Prelude.{◌≡◌, None, Some, IfOk, OnOk, OnErr};
 ghost use Rattle.mold_receiver.specs.Arbiter.{report_on};
@@ -16,7 +16,8 @@ use mold_wire::Session;
 use std::alloc::{AllocError, Global};
 use std::marker::Model;
 
-/// A receiver behind its arbiter, and its book: all that it handed on, from message 1 on.
+/// A receiver with its arbiter and its book. The book has all messages that the receiver delivered, from message 1
+/// on.
 #[derive(Debug, Drop)]
 pub(crate) struct Subscriber {
     arbiter: Arbiter,
@@ -35,8 +36,8 @@ impl Model for Subscriber {
 }
 
 impl Subscriber {
-    /// A receiver from message 1 on. It makes its window; an error comes where that is refused, and where no
-    /// receiver may have this window.
+    /// Returns a receiver that starts at message 1. It returns an error if the allocation of the window fails or the
+    /// window is not valid.
     pub(crate) fn new(
         alloc: Global,
         session: Session,
@@ -53,26 +54,29 @@ impl Subscriber {
         }
     }
 
+    /// Returns the receiver.
     pub(crate) fn receiver(&self) -> &Receiver
         ensures { result.now ≡ self.now.arbitration.view }
     {
         self.arbiter.receiver()
     }
 
+    /// Returns the book.
     pub(crate) fn book(&self) -> &Batch
         ensures { result.now ≡ self.now.book }
     {
         &self.book
     }
 
+    /// Returns the report of a line.
     pub(crate) fn report(&self, line: Line) -> LineReport
         ensures { result ≡ report_on line self.now.arbitration.reports }
     {
         self.arbiter.report(line)
     }
 
-    /// Takes or refuses bytes that came in some way; what is handed on joins the book. An error comes where
-    /// a growth is refused.
+    /// Gives the receiver bytes that came in this way. It appends the messages that are delivered to the book.
+    /// Returns an error if an allocation fails.
     pub(crate) fn give(&mut self, way: Way, bytes: &[u8]) -> Result<Report, AllocError>
         requires { Follows self.old.book self.old.arbitration.view.next }
         ensures told { IfOk result (λ report. report ≡ told (receive self.old.arbitration.view bytes.now)) }
@@ -88,7 +92,7 @@ impl Subscriber {
         }
     }
 
-    /// Begins anew at a number that it had reached, with the same window.
+    /// Restarts at a number that the receiver had reached, with the same window.
     pub(crate) fn restart(&mut self, alloc: Global, next: u64) -> Result<Report, WorldError>
         ensures { Restarts self.old next result self.new }
     {

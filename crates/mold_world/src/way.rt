@@ -1,4 +1,4 @@
-//! How a datagram comes to a receiver.
+//! How a datagram reaches a receiver.
 
 ghost use Rattle.std.specs.Prelude.{◌≡◌};
 ghost use Rattle.mold_receiver.specs.Origin.{line_of as line_of_origin};
@@ -6,16 +6,18 @@ ghost use Rattle.mold_world.specs.Event.{line_of};
 
 use mold_receiver::{Line, Origin};
 
-/// How a datagram comes to a receiver: on one of the two lines, or as the answer to a request, of which no
-/// line's report knows.
+/// How a datagram reaches a receiver: on one of the two lines, or as a re-request server's response. A response is in
+/// no line's report.
 #[derive(Clone, Copy, Debug, PartialEq, Eq, Hash)]
 pub enum Way {
+    /// The datagram came on this line.
     Line(Line),
+    /// The datagram is a re-request server's response.
     Answer,
 }
 
 impl Way {
-    /// Where a datagram that came this way is from.
+    /// Returns the origin that the arbiter knows.
     pub(crate) fn origin(self) -> Origin
         ensures { line_of_origin result ≡ line_of self }
     {

@@ -1,4 +1,4 @@
-//! The world.
+//! The world: a publisher, a re-request server and receivers that run on events.
 
 ghost use Rattle.std.specs.Prelude.{◌≡◌, ◌<◌, ℕ, None, Some, Ok, length, map, take, slice_get, unwrap_or};
 ghost use Rattle.std.specs.Prelude.{IfOk, IfErr, OnOk, OnErr};
@@ -30,8 +30,8 @@ use mold_wire::Session;
 use std::alloc::{AllocError, Global};
 use std::marker::Model;
 
-/// A publisher, a re-request server and receivers of one session, with every datagram that was ever sent,
-/// each of which may come to any receiver at any time and any number of times.
+/// A publisher, a re-request server and receivers of one session, with every datagram that was ever sent. Any
+/// receiver may receive any of these datagrams, at any time and any number of times.
 #[derive(Debug, Drop)]
 pub struct World {
     parts: Participants,
@@ -52,11 +52,9 @@ impl Model for World {
 }
 
 impl World {
-    /// An open session without messages; `limit` is the publisher's and `server_limit` the server's most
-    /// bytes of a datagram, `burst` the most datagrams of an answer, and there is a receiver from message 1
-    /// on for each window. Refused are, in this order: a limit that is not `MIN_LIMIT` to `MAX_LIMIT` or a
-    /// server's below the publisher's, a burst that is not 1 to `MAX_BURST`, the first window that is not 1 to
-    /// `MAX_WINDOW`, and want of memory.
+    /// Returns a world with an open session and no messages. `limit` is the publisher's datagram limit in bytes, and
+    /// `server_limit` is the server's. `burst` is the greatest number of responses to one request. Each window makes
+    /// one receiver, which starts at message 1. `WorldError` describes the refusals and their order.
     pub fn new(
         alloc: Global,
         session: Session,
@@ -90,11 +88,11 @@ impl World {
         Ok(World { parts })
     }
 
-    /// Lets an event happen. A refusal leaves the world as it was. `Memory` comes only where a growth was
-    /// refused, and before anything is sent: of an answer either all datagrams are sent or none.
+    /// Applies an event. A refused event leaves the world unchanged. `Memory` is returned only if an allocation
+    /// fails, and then nothing is sent. The responses to a request are all sent, or none is.
     ///
-    /// A datagram that was sent is never reported as refused; noise always is, and changes no receiver's view
-    /// and no book.
+    /// A datagram that was sent is never reported as refused. Noise is always reported as refused, and it changes no
+    /// receiver's view and no book.
     pub fn apply(&mut self, event: &Event<'_>) -> Result<Report, WorldError>
         ensures done { IfOk result (λ report. effect self.old (seen event.now) ≡ Ok (report, self.new)) }
         ensures refused { IfErr result (λ error. Refuses self.old (seen event.now) error) }
@@ -107,15 +105,15 @@ impl World {
         self.parts.change(event)
     }
 
-    // What holds of every world.
+    // States what holds of every world.
     fn keep(&self)
         ensures { IsWorld self.now }
     {
-        // The prover knows the invariant of a type where a field is read.
+        // For the prover: it knows the invariant of a type where a field is read.
         let _ = &self.parts;
     }
 
-    // Lets an event happen, and stops only where memory is refused.
+    // Applies an event. It returns an error only if an allocation fails.
     fn apply_or_skip(&mut self, event: &Event<'_>) -> Result<(), AllocError>
         ensures passed { OnOk result (self.new ≡ after_event self.old (seen event.now)) }
         ensures same { OnErr result (self.new ≡ self.old) }
@@ -128,16 +126,17 @@ impl World {
         }
     }
 
-    /// Lets events happen in order. It stops only where memory is refused, with the events before that one
-    /// applied. An event that is refused for another cause is skipped.
+    /// Applies events in order. It stops only if an allocation fails; the events before are then applied. An event
+    /// that is refused for another reason is skipped.
     ///
-    /// Whether it stops or not: after each event every book is a prefix of what is published, and all of the
-    /// closed session where the receiver is finished; and each message that was handed on at a number, also
-    /// by a receiver that began anew since, is the one published with that number at the end. All of it is
-    /// steps of the machine of `laws::safety_law`, which hand on just these messages.
+    /// After each event, whether it stops or not, every book is a prefix of the published messages. If a receiver is
+    /// finished, its book is the whole closed session. Each message that was delivered, also before a restart, is the
+    /// one that was published with its number. The run is a list of steps of the machine of `laws::safety_law` that
+    /// deliver just these messages.
     ///
-    /// After `Ok` a receiver to which each datagram of new messages came as soon as it was sent, and which
-    /// did not begin anew, has all that was put in datagrams, if it had that before.
+    /// After `Ok`, the straight path holds. Take a receiver that got each data packet of new messages right after it
+    /// was sent, and that didn't restart. If its book began with all messages that were sent in datagrams, it still
+    /// does.
     pub fn run(&mut self, events: &[Event<'_>]) -> Result<(), Stopped>
         ensures left { self.new ≡ run_events self.old (applied result (map seen events.now)) }
         ensures place { IfErr result (λ stopped. stopped.at < length events.now) }
@@ -160,57 +159,57 @@ impl World {
         Ok(())
     }
 
-    /// The journal of what is published.
+    /// Returns the journal of the published messages.
     pub fn published(&self) -> &Journal
         ensures { result.now ≡ self.now.publisher.journal }
     {
         self.parts.publisher.journal()
     }
 
-    /// Whether the session is closed.
+    /// Returns whether the session is closed.
     pub fn is_closed(&self) -> bool
         ensures { result ≡ self.now.publisher.journal.closed }
     {
         self.parts.publisher.is_closed()
     }
 
-    /// How many datagrams were ever sent.
+    /// Returns the number of datagrams that were ever sent.
     pub fn sent_len(&self) -> usize
         ensures { result ≡ length self.now.sent }
     {
         self.parts.sent.len()
     }
 
-    /// The datagrams that were ever sent, in order.
+    /// Returns an iterator over the datagrams that were ever sent, in order.
     pub fn sent(&self) -> MessageIterator<'_>
         ensures { result ≡ self.now.sent }
     {
         self.parts.sent.iter()
     }
 
-    /// The datagram sent at place `i`, counted from 0; none where there are no more than `i`.
+    /// Returns the datagram with the index `i`, counted from 0, or `None` if at most `i` datagrams were sent.
     pub fn sent_at(&self, i: usize) -> Option<&[u8]>
         ensures { option_copied result ≡ slice_get self.now.sent i }
     {
         self.parts.sent.get(i)
     }
 
-    /// How many receivers there are.
+    /// Returns the number of receivers.
     pub fn receivers(&self) -> usize
         ensures { result ≡ length self.now.subscribers }
     {
         self.parts.subscribers.len()
     }
 
-    /// What receiver `r` handed on, from message 1 on; of its last life where it began anew, and what it had
-    /// before that. None where there is no such receiver.
+    /// Returns the book of receiver `r`: what it delivered, from message 1 on. After a restart, the book has the
+    /// messages before the restart's number and what was delivered since. It is `None` if there is no such receiver.
     pub fn book(&self, r: usize) -> Option<&Batch>
         ensures { option_copied result ≡ option_map (λ place. place.book) (slice_get self.now.subscribers r) }
     {
         Some(self.parts.subscribers.get(r)?.book())
     }
 
-    /// Whether receiver `r` handed on every message up to the session's end, which it knows. None where there
+    /// Returns whether receiver `r` knows the session's end and delivered every message up to it, or `None` if there
     /// is no such receiver.
     pub fn finished(&self, r: usize) -> Option<bool>
         ensures { result ≡ option_map (λ place. is_finished place.arbitration.view) (slice_get self.now.subscribers r) }
@@ -218,7 +217,7 @@ impl World {
         Some(self.parts.subscribers.get(r)?.receiver().finished())
     }
 
-    /// Receiver `r`; none where there is no such receiver.
+    /// Returns receiver `r`, or `None` if there is no such receiver.
     pub fn receiver(&self, r: usize) -> Option<&Receiver>
         ensures { option_copied result
             ≡ option_map (λ place. place.arbitration.view) (slice_get self.now.subscribers r) }
@@ -226,7 +225,8 @@ impl World {
         Some(self.parts.subscribers.get(r)?.receiver())
     }
 
-    /// What came to receiver `r` on a line since it began; none where there is no such receiver.
+    /// Returns what receiver `r` received on a line since it started or restarted, or `None` if there is no such
+    /// receiver.
     pub fn report(&self, r: usize, line: Line) -> Option<LineReport>
         ensures { result ≡
             option_map (λ place. report_on line place.arbitration.reports) (slice_get self.now.subscribers r) }

@@ -8,7 +8,7 @@ use Rattle.mold_world.specs.declared.report.WorldError.{WorldError}
 use Rattle.mold_world.proofs.participants.Participants.deliver.Goals.{In-Some}
 use Rattle.mold_world.proofs.participants.Participants.deliver.Goals as goal
 
--- the receiver that was found
+-- The receiver that was found.
 found_here : (c : In-Some) → slice_get c.args.self.now.subscribers.items c.args.r ≡ Some c.in-Some.place.now
 found_here c =
     slice_get_read c.args.self.now.subscribers.items _ c.args.r c.in-Some.place.now c.args.self.now.subscribers.ok.0
