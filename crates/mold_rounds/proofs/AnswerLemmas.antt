@@ -1,4 +1,4 @@
--- The packets of an answer, taken one after the other.
+-- The responses to a request, taken in order.
 use Rattle.std.proofs.Common.{◌≡◌, ℕ, zero, suc, ◌+◌, ◌-◌, ◌<◌, ◌≤◌}
 use Rattle.std.proofs.Common.{List, [], ◌∷◌, ◌++◌, length, length-drop, length-take, take, drop}
 use Rattle.std.proofs.Common.{take-append-drop, take-take, take_all, eqb, refl, sym}
@@ -26,7 +26,7 @@ use Rattle.mold_wire.specs.Packing.{front}
 use Rattle.mold_wire.specs.declared.packet.Packet.{Packet}
 use Rattle.mold_wire.specs.declared.session.Session.{Session}
 
--- one packet more of some
+-- A prefix with one packet more.
 take_more : (n : ℕ) (ps : List Packet) (p : Packet) (rest : List Packet) → drop n ps ≡ p ∷ rest →
     take (suc n) ps ≡ take n ps ++ p ∷ []
 take_more zero [] p rest is = absurd (omega (arith, ap length is))
@@ -47,7 +47,7 @@ unfolding views_after
 views_push v [] p = refl
 views_push v (q ∷ ps) p = views_push (view_after v q) ps p
 
--- so many packets of an answer were taken
+-- The receiver has taken some of the responses of a round.
 pub record InRound (v : View) (before : Handed) (journal : JournalState) (limit burst : ℕ) (now : View)
     (after : Handed) (plan : PlanState) : Type 0 where
   pub sent : ℕ
@@ -122,7 +122,7 @@ round_goes_on twice v before journal limit burst now then_view at after plan beh
           (ahead_of v (carried (take is.sent whole)) now is.took) (omega (arith, takes.took.low)) is.batch takes.batch;
     }
 
--- to take some of the first so many is to take the lesser number
+-- A prefix of a prefix is the shorter one.
 take_of_take : (m n : ℕ) (messages : List Message) → take m (take n messages) ≡ take (min m n) messages
 take_of_take m n messages =
     elim (cases_lt n m) [
@@ -135,7 +135,7 @@ take_of_take m n messages =
           ∙ ap (λ (k : ℕ). take k messages) least
     ]
 
--- the messages that an answer to what is wanted is made of: at most 65,534 of those in the gap
+-- The requested messages are at most 65,534 of those in the gap.
 asked_of_gap : (v : View) (published : List Message) →
     take 65534 (between published v.next (gap_end v))
     ≡ take (min 65534 (gap_end v - v.next)) (from_number published v.next)
@@ -148,7 +148,7 @@ brought_is v published limit burst =
     ∙ sym (ap (λ (t : List Message). carried (take burst (packing limit (record { 0 = [] }) 1 t)))
     (asked_of_gap v published))
 
--- where a first packet comes, its part has a message
+-- If there is a first packet, it has at least one message.
 none_of : (n : ℕ) (ps : List Packet) (p : Packet) (rest : List Packet) → length ps ≡ 0 → take n ps ≡ p ∷ rest → ⊥
 none_of n ps p rest none is = omega (arith, none, ap length is, length-take n ps)
 
@@ -172,7 +172,7 @@ unfolding packing
 part_some limit n session sequence messages p rest is =
     part_within limit (length messages) n session sequence messages p rest is
 
--- some message in the gap fits, where the answer has a first packet
+-- If there is a response, a message in the gap fits.
 pub gap_found : PacksFronts → (v : View) (published : List Message) (limit burst : ℕ) → 20 ≤ limit →
     HasFirst v.session v.next (round_answer v published limit burst) →
     0 < length (front limit (between published v.next (gap_end v)) 65534)
@@ -184,7 +184,7 @@ gap_found packs v published limit burst room has =
     in
     omega (arith, same, part_some limit burst v.session v.next asked _ has.rest has.sent)
 
--- all packets of the answer were taken
+-- All responses were taken.
 pub round_ends : PacksFronts → WalksRanges → (v : View) (before : Handed) (journal : JournalState) (limit burst : ℕ)
     (now : View) (at : Handed) (plan : PlanState) → 20 ≤ limit → 1 ≤ burst → 1 ≤ v.next → IsGap v (gap_end v) →
     0 < length (front limit (between journal.messages v.next (gap_end v)) 65534) →
@@ -217,7 +217,7 @@ round_ends packs walks v before journal limit burst now at plan room some first 
       fewer = omega (arith, is.fewer, counted, brings);
     }
 
--- a packet of the answer was left
+-- A response was left.
 pub round_stops : (v : View) (before : Handed) (journal : JournalState) (limit burst : ℕ) (now : View) (at : Handed)
     (plan : PlanState) → InRound v before journal limit burst now at plan →
     0 < length (planned journal.messages limit plan) → IsPartOfRound v journal.messages limit burst now

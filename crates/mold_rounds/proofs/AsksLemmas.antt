@@ -1,4 +1,4 @@
--- How many messages packets carry, and how many requests bring what is lacking.
+-- The number of messages that packets carry, and the number of requests that bring missing messages.
 use Rattle.std.proofs.Common.{◌≡◌, ℕ, zero, suc, ◌+◌, ◌-◌, ◌<◌, ◌≤◌, Bool, true, false, cond, eqb, List, [], ◌∷◌, ◌++◌}
 use Rattle.std.proofs.Common.{length, length-drop, length-take, length-append, take, drop, refl}
 use Rattle.std.proofs.Common.{sym, ap, ◌∙◌, inl, inr, arith, sum_by}
@@ -14,7 +14,7 @@ use Rattle.mold_wire.specs.Packing.{IsFront, front}
 use Rattle.mold_wire.specs.declared.packet.Packet.{Packet}
 use Rattle.mold_wire.specs.declared.session.Session.{Session}
 
--- what the laws of fronts and packings say
+-- The laws on prefixes that fit and on packings.
 pub record PacksFronts : Type 0 where
   pub front_is : (limit : ℕ) (messages : List Message) (most : ℕ) → 20 ≤ limit →
       IsFront limit messages most (front limit messages most)
@@ -25,7 +25,7 @@ pub record PacksFronts : Type 0 where
       packing limit session sequence messages
       ≡ data_packet session sequence found ∷ packing limit session (sequence + length found) behind
 
--- what packets carry is told by their numbers of messages
+-- Packets with the same numbers of messages carry the same number.
 carried_either : (none : Bool) (n : ℕ) (p q : Packet) (ps qs : List Packet) →
     length (messages_of p.body) ≡ length (messages_of q.body) → carried (take n ps) ≡ carried (take n qs) →
     carried (take (suc n) (cond none [] (p ∷ ps))) ≡ carried (take (suc n) (cond none [] (q ∷ qs)))
@@ -55,7 +55,7 @@ unfolding packing
 carried_any limit burst sequence session messages =
     carried_within burst limit (length messages) session nameless sequence 1 messages
 
--- the first packet's messages are some of them
+-- Packets carry at least the messages of the first one.
 pub carried_first : (n : ℕ) (p : Packet) (ps : List Packet) → 1 ≤ n →
     length (messages_of p.body) ≤ carried (take n (p ∷ ps))
 carried_first zero p ps some = absurd (omega arith)
@@ -82,7 +82,7 @@ brings packs limit burst messages room some found =
       carried_first burst (data_packet nameless 1 part) (packing limit nameless (1 + length part) longest.behind) some,
     )
 
--- no requests for no messages
+-- No messages need no requests.
 none_asked : (limit burst most : ℕ) (messages : List Message) → length messages ≡ 0 →
     asks_within limit burst most messages ≡ 0
 unfolding asks_within front
@@ -97,7 +97,7 @@ stops_asking limit burst zero messages none = refl
 stops_asking limit burst (suc most) messages none =
     cond-true (eqb (length (front limit messages 65534)) 0) _ _ (eq-eqb _ 0 none)
 
--- more requests are allowed than there are messages, and then it doesn't matter how many
+-- If as many requests are allowed as there are messages, the limit doesn't matter.
 enough : (limit burst : ℕ) →
     ((messages : List Message) → 0 < length (front limit messages 65534) → 0 < brought limit burst messages) →
     (a b : ℕ) (messages : List Message) → length messages ≤ a → length messages ≤ b →
@@ -168,7 +168,7 @@ pub asks_few : (limit burst : ℕ) (messages : List Message) → asks limit burs
 unfolding asks
 asks_few limit burst messages = few_within limit burst (length messages) messages
 
--- no more requests than numbers
+-- There are at most as many requests as numbers.
 pub sum_few : (limit burst : ℕ) (published : List Message) (rs : List Range) →
     sum_by (λ gap. asks limit burst (messages_in published gap)) rs ≤ sum_by size rs
 sum_few limit burst published [] = omega arith

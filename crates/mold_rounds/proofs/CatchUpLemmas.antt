@@ -1,4 +1,4 @@
--- Rounds one after the other.
+-- Rounds of catching up, one after the other.
 use Rattle.std.proofs.Common.{◌≡◌, ℕ, suc, ◌+◌, ◌-◌, ◌<◌, ◌≤◌, List, [], refl, sym, ap, subst, ◌∙◌}
 use Rattle.std.proofs.Common.{arith, min}
 use Rattle.std.specs.Prelude.{Option, None, Some}
@@ -20,7 +20,7 @@ use Rattle.mold_rounds.specs.Taking.{IsAhead, IsRound}
 use Rattle.mold_session.specs.Journal.{JournalState}
 use Rattle.mold_session.specs.Server.{IsServer, ServerState, counted}
 
--- so many rounds were made
+-- The state after `count` rounds.
 pub record StandsAfter (old : View) (before : Handed) (journal : JournalState) (server : ServerState) (count : ℕ)
     (now : View) (at : Handed) (served : ServerState) : Type 0 where
   pub view : now ≡ rounds_view old journal.messages server.limit server.burst count
@@ -45,7 +45,7 @@ stands_none old before journal server =
       answered = λ i. record server { answered = none i };
     }
 
--- one request more is counted
+-- One more request is counted.
 counted_more : (server served still : ServerState) (count : ℕ) → served ≡ counted_by server count → IsServer served →
     still ≡ counted served → still ≡ counted_by server (suc count)
 counted_more server served still count is small one =
@@ -58,7 +58,7 @@ counted_more server served still count is small one =
     in
     one ∙ ap counted is ∙ (λ i. record server { answered = more i })
 
--- the limits of a server that answered stay
+-- A server's limits stay when it counts requests.
 round_of : (w now : View) (published : List Message) (server served : ServerState) (count : ℕ) →
     served ≡ counted_by server count → IsRound now published served.limit served.burst w →
     IsRound now published server.limit server.burst w
@@ -96,7 +96,7 @@ nothing : (o : Option Message) → ((m : Message) → o ≡ Some m → ⊥) → 
 nothing None never = refl
 nothing (Some m) never = absurd (never m refl)
 
--- a view that wants nothing has nothing stored
+-- A view that wants nothing stores nothing.
 pub stands_whole : (old : View) (before : Handed) (journal : JournalState) (server : ServerState) (count : ℕ)
     (now : View) (at : Handed) (served : ServerState) → StandsAfter old before journal server count now at served →
     IsWellFormed now → now.next ≡ now.known → now ≡ caught_up old
@@ -117,7 +117,7 @@ stands_whole old before journal server count now at served is well done =
       window = is.ahead.window i;
     }
 
--- the rounds that were made are those that were needed
+-- The rounds that were done are those that were needed.
 pub stands_count : (old : View) (before : Handed) (journal : JournalState) (server : ServerState) (count : ℕ)
     (now : View) (at : Handed) (served : ServerState) → StandsAfter old before journal server count now at served →
     ranges (lacks now.store) now.next 0 ≡ [] → now.next ≡ now.known →
@@ -125,7 +125,7 @@ pub stands_count : (old : View) (before : Handed) (journal : JournalState) (serv
 stands_count old before journal server count now at served is none done =
     omega (arith, is.left, rounds_none now journal.messages server.limit server.burst done none)
 
--- a round stopped
+-- A round stopped early.
 pub stands_stopped : (old : View) (before : Handed) (journal : JournalState) (server : ServerState) (count : ℕ)
     (now w : View) (at : Handed) (served still : ServerState) →
     StandsAfter old before journal server count now at served →

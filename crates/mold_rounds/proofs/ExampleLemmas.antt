@@ -11,7 +11,7 @@ use Rattle.mold_rounds.specs.Rounds.{asks, asks_within, messages_in, rounds}
 use Rattle.mold_session.specs.Datagrams.{packing, packing_within}
 use Rattle.mold_wire.specs.Packing.{front, packet_length}
 
--- a store that is given by its entries, looked up in them, so that it computes
+-- A store given by its entries, in a form that computes.
 by_entries : (window : ℕ) (stored : List (ℕ × Message)) (burst : ℕ) → T (finite.is_sorted nat_cmp stored) →
     rounds (heard window stored) five 64 burst
     ≡ sum_by (λ gap. asks 64 burst (messages_in five gap)) (ranges (λ q. is_none (finite.find nat_cmp q stored)) 1 5)
@@ -38,7 +38,7 @@ pub three_gaps : rounds (heard 8 ((2, twenty 2) ∷ (4, twenty 4) ∷ [])) five 
 unfolding ranges asks asks_within packing packing_within front packet_length
 three_gaps = by_entries 8 ((2, twenty 2) ∷ (4, twenty 4) ∷ []) 1 tt
 
--- so many less are missing as are stored
+-- The number of missing messages is 5 minus the number of stored ones.
 pub missing_of : (window : ℕ) (stored : List (ℕ × Message)) → T (finite.is_sorted nat_cmp stored) →
     missing (heard window stored) ≡ 5 - length stored
 missing_of window stored sorted =

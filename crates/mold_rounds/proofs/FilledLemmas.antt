@@ -1,4 +1,4 @@
--- What is handed on in parts, and views one after the other.
+-- Delivery in parts, from view to view.
 use Rattle.std.proofs.Common.{◌≡◌, ℕ, zero, suc, ◌+◌, ◌-◌, ◌≤◌, List, [], ◌∷◌, ◌++◌, length, refl, sym, ap, subst}
 use Rattle.std.proofs.Common.{◌∙◌, arith}
 use Rattle.std.specs.Prelude.{Option, unwrap_or, is_some}
@@ -40,7 +40,7 @@ from_same message other number (suc count) same =
     let rest = from_same message other (suc number) count (λ at from. same at (omega (arith, from))) in
     λ i. same number (omega arith) i ∷ rest i
 
--- what is handed on up to a view, and from it on
+-- The messages delivered up to a view, followed by those delivered from it on.
 filled_parts : (v w : View) (published : List Message) (to : ℕ) → IsAhead v w → w.next ≤ to →
     filled v published w.next ++ filled w published to ≡ filled v published to
 filled_parts v w published to ahead on =
@@ -55,13 +55,13 @@ filled_parts v w published to ahead on =
     ∙ from_parts (message_of v published) v.next (w.next - v.next) (to - w.next)
     ∙ ap (messages_from (message_of v published) v.next) all
 
--- what the law of batches says
+-- The law of batches.
 abbrev pub FollowedTwice : Type 0
 FollowedTwice = (batch : Handed) (next : ℕ) (messages : List Message) (after : ℕ) (others : List Message) →
     next + length messages ≡ after →
     followed_by (followed_by batch next messages) after others ≡ followed_by batch next (messages ++ others)
 
--- the batch goes on from view to view
+-- The batch grows from view to view.
 pub batch_more : FollowedTwice → (v w : View) (published : List Message) (before at after : Handed) (to : ℕ) →
     IsAhead v w → w.next ≤ to → at ≡ followed_by before v.next (filled v published w.next) →
     after ≡ followed_by at w.next (filled w published to) →
@@ -73,7 +73,7 @@ batch_more twice v w published before at after to ahead on first then_more =
     (omega (arith, ahead.next, from_length (message_of v published) v.next (w.next - v.next)))
     ∙ ap (followed_by before v.next) (filled_parts v w published to ahead on)
 
--- nothing is handed on where `next` stays
+-- If `next` is unchanged, nothing is delivered.
 pub batch_none : (v : View) (published : List Message) (before : Handed) →
     before ≡ followed_by before v.next (filled v published v.next)
 unfolding messages_from
@@ -81,7 +81,7 @@ batch_none v published before =
     let none : 0 ≡ v.next - v.next = omega arith in
     ap (λ (n : ℕ). followed_by before v.next (messages_from (message_of v published) v.next n)) none
 
--- the batch goes on to follow
+-- The batch stays ready for the next number.
 pub batch_follows : ((batch : Handed) (next : ℕ) (messages : List Message) →
     Follows batch next → Follows (followed_by batch next messages) (next + length messages)) →
     (v w : View) (published : List Message) (before after : Handed) → IsAhead v w → Follows before v.next →
@@ -124,7 +124,7 @@ ahead_of v count w took = record {
   same = took.same;
 }
 
--- messages that come one part after the other came as one
+-- Messages that were received in two parts are the same as received at once.
 pub took_twice : (v : View) (one : ℕ) (w : View) (other : ℕ) (x : View) → Took v one w → Took w other x →
     w.next ≡ v.next + one → Took v (one + other) x
 took_twice v one w other x first second at = record {

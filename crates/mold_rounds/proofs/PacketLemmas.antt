@@ -23,11 +23,11 @@ use Rattle.mold_wire.specs.Packet.{Spells}
 use Rattle.mold_wire.specs.Truth.{Carries, IsTruePacket, published_at}
 use Rattle.mold_wire.specs.declared.packet.Packet.{Packet}
 
--- a plan that isn't spent has messages left
+-- A plan that isn't spent has messages left.
 pub has_more : (plan : PlanState) → plan.from ≤ plan.to → (IsSpent plan → ⊥) → plan.from < plan.to
 has_more plan ordered more = omega (arith, ordered, λ (none : plan.from ≡ plan.to). more (inr none))
 
--- the next packet of a plan, as it comes to the view that awaits it
+-- The next packet of a plan reaches the view that awaits it.
 pub record Comes (v : View) (journal : JournalState) (limit : ℕ) (plan : PlanState) (bytes : List ℕ) : Type 0 where
   pub awaits : Awaits v journal plan
   pub sends : SendsNext journal.messages limit plan
@@ -38,7 +38,7 @@ pub record Comes (v : View) (journal : JournalState) (limit : ℕ) (plan : PlanS
       slice_get (next_part journal.messages limit plan) (number - v.next) ≡ Some m →
       published_at journal.messages number ≡ Some m
 
--- what the law of rounds says of packets in the gap
+-- The law on packets in the gap.
 abbrev pub TakesInGap : Type 0
 TakesInGap = (v : View) (end : ℕ) (messages : List Message) (bytes : List ℕ) →
     IsWellFormed v → IsGap v end → v.next + length messages ≤ end →
@@ -78,12 +78,12 @@ comes takes one carries v journal limit plan bytes awaits more sends spelled tru
           (cond-true (leb v.next number) (slice_get part (number - v.next)) None (le-leb v.next number from) ∙ is);
     }
 
--- what is received is one thing
+-- A datagram has only one reception.
 one_reception : (v : View) (bytes : List ℕ) (r s : Reception) → receive v bytes ≡ Ok r → receive v bytes ≡ Ok s → r ≡ s
 one_reception v bytes r s one other =
     ap (λ (x : Result Reception Refusal). result_unwrap_or x r) (sym one ∙ other)
 
--- what is handed on is what was published or stored with its number
+-- Each delivered message is the one that was stored or published with its number.
 hands_filled : (v w : View) (journal : JournalState) (limit : ℕ) (plan : PlanState) (bytes : List ℕ) →
     (is : Comes v journal limit plan bytes) → w ≡ is.taken.reception.view →
     handed_on v v.next (next_part journal.messages limit plan) ≡ filled v journal.messages w.next
@@ -98,7 +98,7 @@ hands_filled v w journal limit plan bytes is same =
     sym (ap (λ (o : Option Message). unwrap_or (option_or o (published_at journal.messages number)) []) stored))
     ∙ ap (λ (x : View). filled v journal.messages x.next) (sym same)
 
--- what is left of the plan answers what is lacking then
+-- The rest of the plan is for messages that are then missing.
 still_awaits : (v w : View) (journal : JournalState) (limit : ℕ) (plan : PlanState) (bytes : List ℕ) →
     Comes v journal limit plan bytes → IsWellFormed w → Took v (length (next_part journal.messages limit plan)) w →
     Awaits w journal (moved plan (length (next_part journal.messages limit plan)))
@@ -148,7 +148,7 @@ takes_one v w before after journal limit plan behind bytes told is has now =
           ∙ hands_filled v w journal limit plan bytes is view);
     }
 
--- nothing but memory refuses the packet
+-- The packet is refused only if an allocation fails.
 pub never_refused : (v : View) (bytes : List ℕ) (r : Reception) (refused : Refusal) → receive v bytes ≡ Ok r →
     receive v bytes ≡ Err refused → ⊥
 never_refused v bytes r refused taken not_taken =

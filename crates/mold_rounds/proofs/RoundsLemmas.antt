@@ -1,4 +1,4 @@
--- What one round leaves of the rounds that are needed.
+-- How one round lowers the number of rounds that are needed.
 use Rattle.std.proofs.Common.{◌≡◌, ◌⊎◌, ℕ, suc, ◌+◌, ◌-◌, ◌<◌, ◌≤◌, Bool, true, false, List, [], ◌∷◌, length}
 use Rattle.std.proofs.Common.{length-take, take, drop, refl, sym, ap, ◌∙◌, inl, inr, arith, sum_by}
 use Rattle.std.proofs.lemmas.Bool.{true≢false, cases_lt}
@@ -16,7 +16,7 @@ use Rattle.mold_rounds.specs.Rounds.{asks, brought, messages_in, rounds}
 use Rattle.mold_session.specs.Answer.{between}
 use Rattle.mold_wire.specs.Packing.{front}
 
--- what the law of the walk over ranges says
+-- The law of finding ranges.
 pub record WalksRanges : Type 0 where
   pub skip : (lacks : ℕ → Bool) (low count more : ℕ) →
       ((number : ℕ) → low ≤ number → number < low + count → lacks number ≡ false) →
@@ -36,7 +36,7 @@ stored_there (Some m) some = refl
 nothing_there : (o : Option Message) → is_some o ≡ true → o ≡ None → ⊥
 nothing_there o some none = true≢false (sym some ∙ ap is_some none)
 
--- the gap at `next` is the first range of what is lacking
+-- The gap at `next` is the first of the gaps.
 first_gap : WalksRanges → (v : View) (end : ℕ) → IsGap v end →
     gaps v ≡ range v.next (end - 1) ∷ ranges (lacks v.store) end (v.known - end)
 first_gap walks v end gap =
@@ -55,7 +55,7 @@ first_gap walks v end gap =
     (λ number from below. ap is_none (gap.lacked number (omega (arith, below, behind)))) stops
     ∙ (λ i. range v.next (last i) ∷ ranges (lacks v.store) (behind i) (v.known - end))
 
--- the rounds of some ranges
+-- The rounds that some ranges need.
 abbrev pub rounds_of : List Message → ℕ → ℕ → List Range → ℕ
 rounds_of published limit burst rs = sum_by (λ gap. asks limit burst (messages_in published gap)) rs
 
@@ -70,7 +70,7 @@ rounds_first walks v end published limit burst gap =
     ∙ ap (λ (n : ℕ). asks limit burst (between published v.next n)
     + rounds_of published limit burst (ranges (lacks v.store) end (v.known - end))) last
 
--- messages that don't fill the gap leave the rest of it
+-- Messages that don't fill the gap leave the rest of it.
 pub record LeavesGap (v : View) (end count : ℕ) (w : View) : Type 0 where
   pub next : w.next ≡ v.next + count
   pub gap : IsGap w end
@@ -105,7 +105,7 @@ leaves_gap v end count w gap took few =
       };
     }
 
--- a gap that was filled is passed over, and what was stored behind it
+-- A gap that was filled is gone, and so are the stored messages after it.
 filled_gap : WalksRanges → (v : View) (end count : ℕ) (w : View) → IsGap v end → Took v count w → v.next + count ≡ end →
     ranges (lacks v.store) end (v.known - end) ≡ gaps w
 filled_gap walks v end count w gap took at =
@@ -120,7 +120,7 @@ filled_gap walks v end count w gap took at =
     ∙ walks.same (lacks v.store) (lacks w.store) w.next (w.known - w.next)
     (λ number from below. ap is_none (sym (took.same number from)))
 
--- what stands behind the first so many messages between two numbers
+-- The messages between two numbers, without the first `count`.
 between_behind : (published : List Message) (from to count : ℕ) → 1 ≤ from → from + count ≤ to →
     drop count (between published from to) ≡ between published (from + count) to
 between_behind published from to count first within =
@@ -131,7 +131,7 @@ between_behind published from to count first within =
     ∙ ap (λ (t : List Message). take (to - (from + count)) t) (drop-drop count (from - 1) published)
     ∙ ap (λ (n : ℕ). take (to - (from + count)) (drop n published)) place
 
--- the messages that answer what a view wants were taken
+-- The messages of the responses to a request were received.
 pub record IsAnswered (v : View) (end : ℕ) (published : List Message) (limit burst count : ℕ) (w : View) : Type 0 where
   pub room : 20 ≤ limit
   pub some : 1 ≤ burst
@@ -152,7 +152,7 @@ asks_rest packs v end published limit burst count w is =
     ∙ ap (λ (t : List Message). suc (asks limit burst t))
     (between_behind published v.next end count is.first is.within)
 
--- one round is one of those that are needed
+-- One round is one of those that are needed.
 pub one_round : PacksFronts → WalksRanges → (v : View) (end : ℕ) (published : List Message) (limit burst count : ℕ)
     (w : View) → IsAnswered v end published limit burst count w →
     rounds v published limit burst ≡ suc (rounds w published limit burst)
@@ -191,7 +191,7 @@ one_round packs walks v end published limit burst count w is =
           )
     ]
 
--- some round is needed where a message that is lacking fits
+-- If a missing message fits, at least one round is needed.
 pub rounds_some : PacksFronts → WalksRanges → (v : View) (end : ℕ) (published : List Message) (limit burst : ℕ) →
     20 ≤ limit → 1 ≤ burst → IsGap v end → 0 < length (front limit (between published v.next end) 65534) →
     0 < rounds v published limit burst
@@ -202,7 +202,7 @@ rounds_some packs walks v end published limit burst room some gap found =
       asks_more packs limit burst (between published v.next end) room some found,
     )
 
--- none is needed where nothing is lacking
+-- If nothing is missing, no round is needed.
 pub rounds_none : (v : View) (published : List Message) (limit burst : ℕ) → v.next ≡ v.known →
     ranges (lacks v.store) v.next 0 ≡ [] → rounds v published limit burst ≡ 0
 rounds_none v published limit burst none empty =

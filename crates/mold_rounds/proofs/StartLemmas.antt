@@ -1,4 +1,4 @@
--- The start of a round: the request for what is wanted is answered, and the answer brings something.
+-- The start of a round: the server accepts the request, and its responses bring messages.
 use Rattle.std.proofs.Common.{◌≡◌, ℕ, ◌+◌, ◌-◌, ◌<◌, ◌≤◌, List, [], length, refl, sym, ap, subst, ◌∙◌, arith, min}
 use Rattle.std.specs.Prelude.{Some, Ok, Result}
 use Rattle.std.specs.Result.{result_unwrap_or}
@@ -21,7 +21,7 @@ use Rattle.mold_wire.specs.Request.{SpellsRequest}
 use Rattle.mold_wire.specs.declared.request.Request.{Request}
 use Rattle.mold_wire.specs.declared.session.Session.{Session}
 
--- what the laws of answers say
+-- The laws on responses.
 pub record AnswersRequests : Type 0 where
   pub asked : (journal : JournalState) (request : Request) (bytes : List ℕ) →
       SpellsRequest request bytes → IsAnswerable journal request → asking journal bytes ≡ Ok request
@@ -36,7 +36,7 @@ pub record AnswersRequests : Type 0 where
       FitAlone limit published → 1 ≤ number → number ≤ length published → 1 ≤ count → 1 ≤ burst →
       HasFirst session number (answer published session limit number count burst)
 
--- a receiver that wants something beside a journal that has it
+-- The receiver wants messages that the journal has.
 pub record Wants (v : View) (journal : JournalState) (request : Request) : Type 0 where
   pub well_formed : IsWellFormed v
   pub session : v.session ≡ journal.session
@@ -46,7 +46,7 @@ pub record Wants (v : View) (journal : JournalState) (request : Request) : Type 
   pub asked_from : request.sequence ≡ v.next
   pub asked_count : request.count ≡ min 65534 (gap_end v - v.next)
 
--- what the law of what is wanted says
+-- The law on what is wanted.
 abbrev pub AsksWanted : Type 0
 AsksWanted = (v : View) (r : Request) → wanted v ≡ Some r →
     (r.session ≡ v.session) × (r.sequence ≡ v.next) × (r.count ≡ min 65534 (gap_end v - v.next))
@@ -78,7 +78,7 @@ answerable v journal request wants = record {
   count = omega (arith, wants.asked_count, wants.gap.after);
 }
 
--- the plan of the answer
+-- The plan of the responses.
 pub plan_made : AnswersRequests → (v : View) (journal : JournalState) (burst : ℕ) (request : Request) (bytes : List ℕ) →
     Wants v journal request → SpellsRequest request bytes →
     planning journal burst bytes ≡ Ok (plan_for journal burst request)
@@ -89,7 +89,7 @@ plan_made laws v journal burst request bytes wants spelled =
 pub one_plan : (r : Result PlanState AnswerError) (one other : PlanState) → r ≡ Ok one → r ≡ Ok other → one ≡ other
 one_plan r one other is also = ap (λ (x : Result PlanState AnswerError). result_unwrap_or x one) (sym is ∙ also)
 
--- what holds in the whole of a round
+-- What holds during the whole round.
 pub record Starts (v : View) (before : Handed) (journal : JournalState) (server : ServerState) : Type 0 where
   pub needed : 0 < rounds v journal.messages server.limit server.burst
   pub ends : (now : View) (at : Handed) (plan : PlanState) →
@@ -151,7 +151,7 @@ begins laws v before journal server request plan wants made =
     })
     wants.asked_from to sent)
 
--- a round goes on: its start, the one request that was counted, and the packets so far
+-- The state of a round: its start, the one request that was counted, and the packets so far.
 pub record IsRounding (v : View) (before : Handed) (journal : JournalState) (server : ServerState) (now : View)
     (at : Handed) (plan : PlanState) (served : ServerState) : Type 0 where
   pub start : Starts v before journal server
@@ -176,7 +176,7 @@ rounding_more twice v before journal server now then_view at after plan behind s
       (limit_is v before journal server now at plan served is) takes);
 }
 
--- fewer packets are left
+-- Fewer packets are left.
 pub rounding_shorter : (v : View) (before : Handed) (journal : JournalState) (server : ServerState)
     (now then_view : View) (at after : Handed) (plan behind : PlanState) (served : ServerState) →
     IsRounding v before journal server now at plan served →
@@ -189,7 +189,7 @@ rounding_shorter v before journal server now then_view at after plan behind serv
     in
     omega (arith, ap length here.sent)
 
--- the whole answer was taken
+-- All responses were taken.
 pub rounding_done : (v : View) (before : Handed) (journal : JournalState) (server : ServerState)
     (now then_view : View) (at after : Handed) (plan behind : PlanState) (served : ServerState) →
     IsRounding v before journal server now at plan served →
@@ -201,7 +201,7 @@ rounding_done v before journal server now then_view at after plan behind served 
     (subst (λ (n : ℕ). planned journal.messages n plan ≡ [])
     (limit_is v before journal server now at plan served is) none.spent))
 
--- so far, nothing more was taken: then or after a packet that memory refused
+-- Nothing more was taken, since an allocation failed for a packet.
 pub rounding_stopped : (v : View) (before : Handed) (journal : JournalState) (server : ServerState) (now w : View)
     (at : Handed) (plan : PlanState) (served : ServerState) → IsRounding v before journal server now at plan served →
     0 < length (planned journal.messages served.limit plan) → w ≡ now →

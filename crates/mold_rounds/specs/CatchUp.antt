@@ -15,52 +15,56 @@ use Rattle.mold_wire.specs.Truth.{published_at}
 use Rattle.mold_wire.specs.declared.limits.TheConstants.{MAX_COUNT, MAX_NUMBER}
 use Rattle.mold_wire.specs.declared.packet.Packet.{Packet}
 
--- the message with a number: the stored one, or else the published one
+-- The message with a number: the stored one, or otherwise the published one.
 abbrev pub message_of : View → List Message → ℕ → Message
 message_of v published number = unwrap_or (option_or (finite.get v.store number) (published_at published number)) []
 
--- the messages from `next` to below a number, those that are stored and else those that are published
+-- The messages from `next` to just below `to`: the stored ones, and otherwise the published ones.
 abbrev pub filled : View → List Message → ℕ → List Message
 filled v published to = messages_from (message_of v published) v.next (to - v.next)
 
--- a view that lacks nothing below `known`
+-- The view after catching up: everything below `known` was delivered, and nothing is stored.
 abbrev pub caught_up : View → View
 caught_up v = record v { next = v.known; store = finite.empty }
 
--- a server that answered so many requests more; the count stays at its limit
+-- The server after it answered `count` more requests. Its count of requests stops at `MAX_NUMBER`.
 abbrev pub counted_by : ServerState → ℕ → ServerState
 counted_by server count =
     record server { answered = server.answered + min count (MAX_NUMBER - server.answered) }
 
--- the answer to the request for what is wanted: from `next` on to the end of the gap, `MAX_COUNT` messages at most
+-- The responses to the request that the view wants. The request is for the gap at `next`, up to `MAX_COUNT` messages.
 abbrev pub round_answer : View → List Message → ℕ → ℕ → List Packet
 round_answer v published limit burst =
     answer published v.session limit v.next (min MAX_COUNT (gap_end v - v.next)) burst
 
--- a view that took packets one after the other
+-- The view after it took the packets in order.
 unfoldable pub views_after : View → List Packet → View
 views_after v [] = v
 views_after v (packet ∷ packets) = views_after (view_after v packet) packets
 
--- a view after so many rounds, in each of which the whole answer is taken
+-- The view after `count` rounds, in each of which it takes all responses.
 unfoldable pub rounds_view : View → List Message → ℕ → ℕ → ℕ → View
 rounds_view v published limit burst zero = v
 rounds_view v published limit burst (suc count) =
     views_after (rounds_view v published limit burst count)
     (round_answer (rounds_view v published limit burst count) published limit burst)
 
--- some packets of the answer to what a view wants were taken, but not all
+-- The view `new` has taken a prefix of the responses to the request that `v` wants, but not all of them.
 pub record IsPartOfRound (v : View) (published : List Message) (limit burst : ℕ) (new : View) : Type 0 where
+  -- The number of responses that were taken.
   pub taken : ℕ
   pub some_left : taken < length (round_answer v published limit burst)
   pub view : new ≡ views_after v (take taken (round_answer v published limit burst))
 
--- catching up stopped in a round: those before it are done, some packets of it were taken, and its request was
--- answered too
+-- Catching up stopped in a round. The rounds before are complete, the last round is partly done, and the server
+-- counted its request.
 pub record IsStopped (old : View) (journal : JournalState) (server : ServerState) (new : View) (served : ServerState)
     : Type 0 where
+  -- The number of complete rounds.
   pub done : ℕ
   pub some_left : done < rounds old journal.messages server.limit server.burst
+  -- The next round is partly done.
   pub part : IsPartOfRound (rounds_view old journal.messages server.limit server.burst done) journal.messages
       server.limit server.burst new
+  -- The server counted the requests of the complete rounds and of the next one.
   pub answered : served ≡ counted_by server (suc done)

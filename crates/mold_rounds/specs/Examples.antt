@@ -1,18 +1,19 @@
--- The worked example: five messages, and receivers that have heard of all of them.
+-- The worked example: five messages, and receivers that know of all of them.
 use Rattle.std.specs.Prelude.{ℕ, List, [], ◌∷◌, replicate, None}
 use Rattle.std.specs.FinMap as finite
 use Rattle.mold_receiver.specs.Store.{Message}
 use Rattle.mold_receiver.specs.View.{View}
 use Rattle.mold_rounds.specs.Rounds.{nameless}
 
--- twenty bytes of one value
+-- A message of twenty bytes with the same value.
 abbrev pub twenty : ℕ → Message
 twenty value = replicate 20 value
 
+-- The five messages of the example.
 abbrev pub five : List Message
 five = twenty 1 ∷ twenty 2 ∷ twenty 3 ∷ twenty 4 ∷ twenty 5 ∷ []
 
--- a receiver at 1 that has stored some messages and heard of number 5
+-- A receiver with the next number 1 that stores these messages and knows of numbers up to 5.
 abbrev pub heard : ℕ → List (ℕ × Message) → View
 heard window stored = record {
   session = nameless;

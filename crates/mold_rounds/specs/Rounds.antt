@@ -1,4 +1,4 @@
--- How many requests a receiver needs from a server that answers with so many datagrams of so many bytes.
+-- The number of requests that a receiver needs, given the server's datagram limit and burst.
 use Rattle.std.specs.Prelude.{ℕ, zero, suc, List, [], length, take, drop, sum_by, ◌==◌, if◌then◌else◌}
 use Rattle.mold_rule.specs.Ranges.{Range}
 use Rattle.mold_receiver.specs.Store.{Message}
@@ -12,21 +12,21 @@ use Rattle.mold_wire.specs.declared.limits.TheConstants.{MAX_COUNT}
 use Rattle.mold_wire.specs.declared.packet.Packet.{Packet}
 use Rattle.mold_wire.specs.declared.session.Session.{Session}
 
--- how many messages some packets carry
+-- The number of messages that the packets carry.
 abbrev pub carried : List Packet → ℕ
 carried packets = sum_by (λ packet. length (messages_of packet.body)) packets
 
--- a session's name; how many messages packets carry doesn't depend on it
+-- A session with an empty name. The number of messages in packets doesn't depend on the session.
 abbrev pub nameless : Session
 nameless = record { 0 = [] }
 
--- how many messages the answer to one request brings of those that are lacking: a request asks for at most
--- `MAX_COUNT` of them, and gets the first `burst` packets of their packing
+-- The number of these missing messages that one request brings. A request asks for at most `MAX_COUNT` messages, and
+-- the server sends at most `burst` responses.
 abbrev pub brought : ℕ → ℕ → List Message → ℕ
 brought limit burst messages = carried (take burst (packing limit nameless 1 (take MAX_COUNT messages)))
 
--- how many requests bring messages that are lacking one after the other, at most so many: one, and those for
--- what its answer leaves; none where no message comes
+-- The number of requests that bring these missing messages, which have consecutive numbers, but at most `most`. It
+-- counts no further than a message that fits no datagram.
 unfoldable pub asks_within : ℕ → ℕ → ℕ → List Message → ℕ
 asks_within limit burst zero messages = 0
 asks_within limit burst (suc most) messages =
@@ -34,14 +34,15 @@ asks_within limit burst (suc most) messages =
     then 0
     else suc (asks_within limit burst most (drop (brought limit burst messages) messages))
 
--- how many requests bring messages that are lacking one after the other
+-- The number of requests that bring these missing messages, which have consecutive numbers. It counts no further than
+-- a message that fits no datagram.
 unfoldable pub asks : ℕ → ℕ → List Message → ℕ
 asks limit burst messages = asks_within limit burst (length messages) messages
 
--- the published messages in a range
+-- The published messages in a range of numbers.
 abbrev pub messages_in : List Message → Range → List Message
 messages_in published r = between published r.first (suc r.last)
 
--- how many requests bring what a view lacks: those of its gaps together
+-- The number of requests that bring everything a view misses: the sum over its gaps.
 abbrev pub rounds : View → List Message → ℕ → ℕ → ℕ
 rounds v published limit burst = sum_by (λ gap. asks limit burst (messages_in published gap)) (gaps v)

@@ -1,4 +1,4 @@
-//! Catching up.
+//! Catching up, round by round, until the receiver misses nothing.
 
 ghost use Rattle.std.specs.Prelude.{◌≡◌, ◌+◌, ◌≤◌, length, IfOk, OnOk, OnErr};
 ghost use Rattle.mold_receiver.specs.Batch.{Follows, followed_by};
@@ -13,15 +13,17 @@ use mold_receiver::{Batch, Receiver};
 use mold_rule::laws::ranges_walk_law;
 use mold_session::{Journal, Server};
 
-/// Catches a receiver up with the journal of its session: while something is wanted, a request for it goes to
-/// the server, and the whole answer is taken in order. It answers the number of these rounds, which is the
-/// least that gaps, limit and burst allow, and at most the number of messages that are missing. What is
-/// handed on joins the batch. A round costs its own messages only.
+/// Brings a receiver up to date with its session's journal and returns the number of rounds. In each round, the
+/// server receives the request that the receiver wants, and the receiver takes all responses in order. The number of
+/// rounds is the least that the gaps, the server's limit and its burst allow. It is at most the number of missing
+/// messages. The delivered messages are appended to the batch. The cost of a round depends on its own messages only.
 ///
-/// The receiver and the journal are of one session, `known` is at most the journal's `next`, the journal's
-/// messages may be as long as the server answers them, and the batch is empty or ends just before the
-/// receiver's `next`. Only a growth that is refused stops it: then the rounds before are done, of the answer
-/// of the last one a front was taken, and calling again goes on from there.
+/// The receiver and the journal must be of one session, and the receiver's `known` at most one more than the number
+/// of the journal's messages. The server must allow messages as long as the journal does. The batch must be empty or
+/// end just before the receiver's `next`.
+///
+/// The function stops early only if an allocation fails. The rounds before are then complete, and the receiver has
+/// taken a prefix of the last round's responses. A further call continues from there.
 pub fn catch_up(
     receiver: &mut Receiver,
     server: &mut Server,
@@ -33,20 +35,20 @@ pub fn catch_up(
     requires longest { journal.now.max_message ≤ server.old.max_message }
     requires follows { Follows batch.old receiver.old.next }
 
-    // The rounds, and what they did.
+    // The number of rounds, and what they did.
     ensures rounds { IfOk result
         (λ count. count ≡ rounds receiver.old journal.now.messages server.old.limit server.old.burst) }
     ensures few { IfOk result (λ count. count ≤ missing receiver.old) }
     ensures whole { OnOk result (receiver.new ≡ caught_up receiver.old) }
     ensures served { IfOk result (λ count. server.new ≡ counted_by server.old count) }
 
-    // Whatever the answer.
+    // What holds after success and after an error.
     ensures batch { batch.new ≡ followed_by batch.old receiver.old.next
         (filled receiver.old journal.now.messages receiver.new.next) }
     ensures known { receiver.new.known ≡ receiver.old.known }
     ensures ended { receiver.new.ended ≡ receiver.old.ended }
 
-    // How far it came where memory is refused.
+    // How far it got if an allocation failed.
     ensures stopped { OnErr result (IsStopped receiver.old journal.now server.old receiver.new server.new) }
 {
     followed_law();

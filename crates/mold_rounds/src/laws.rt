@@ -1,4 +1,4 @@
-//! What holds of the definitions alone. Each law is a function that does nothing: its contract is the law.
+//! Laws on the number of requests. Each law is a function with an empty body whose contract is the law.
 
 ghost use Rattle.std.specs.Prelude.{◌≡◌, ◌+◌, ◌<◌, ◌≤◌, [], ◌∷◌, List, ℕ, suc, length, take, drop};
 ghost use Rattle.mold_receiver.specs.Store.{Message};
@@ -16,9 +16,10 @@ use mold_receiver::laws::missing_law;
 use mold_session::laws::{first_part_law, packing_law};
 use mold_wire::laws::front_law;
 
-/// How many requests bring what is lacking: none where no message fits; else one, and those for what is left
-/// behind the messages of its answer, which are some. They are no more than the messages. How many messages
-/// the packets of an answer carry doesn't depend on their session and their numbers.
+/// States how many requests bring missing messages. The number is 0 if there are no messages or the first one fits no
+/// datagram. Otherwise it is 1 plus the number for the messages that remain after the first request, which brings at
+/// least one. It is at most the number of messages. The number of messages in the responses depends neither on the
+/// session nor on the sequence numbers.
 pub fn asks_law()
     ensures none { (limit burst : ℕ) (messages : List Message) →
         length (front limit messages MAX_COUNT) ≡ 0 → asks limit burst messages ≡ 0 }
@@ -37,7 +38,7 @@ pub fn asks_law()
     packing_law();
 }
 
-/// No more requests are needed than messages are missing.
+/// A receiver needs at most as many requests as it misses messages.
 pub fn rounds_law()
     ensures few { (v : View) (published : List Message) (limit burst : ℕ) → IsWellFormed v →
         rounds v published limit burst ≤ missing v }
@@ -45,9 +46,9 @@ pub fn rounds_law()
     missing_law();
 }
 
-/// How many rounds the worked example needs, where a datagram has room for two of its messages: message 3 is
-/// there, and two gaps are left; nothing is there, and each round brings as many datagrams as the burst allows;
-/// messages 2 and 4 are there, and three gaps of one are left.
+/// Computes the rounds of the worked example, in which a datagram has room for two messages. In the first case
+/// message 3 is stored, so there are two gaps. In the next three cases nothing is stored, and the burst is 1, 2 and 3
+/// responses. In the last case messages 2 and 4 are stored, so there are three gaps of one message.
 pub fn example_law()
     ensures two_gaps { rounds (heard 8 ((3, twenty 3) ∷ [])) five 64 1 ≡ 2 }
     ensures one_gap { rounds (heard 1 []) five 64 1 ≡ 3 }

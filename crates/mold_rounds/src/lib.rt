@@ -1,4 +1,4 @@
-//! Catching up: a receiver beside a journal is repaired in a counted number of requests.
+//! Catching up: a receiver gets all messages that it misses from a journal, in a counted number of requests.
 #![tactic(auto)]
 
 mod catching;

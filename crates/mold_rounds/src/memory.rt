@@ -1,8 +1,8 @@
-//! Why a receiver isn't caught up.
+//! Why catching up stops early.
 
 use thiserror::Error;
 
-/// The memory for what a datagram brings was refused.
+/// An allocation for a datagram's messages failed.
 #[derive(Clone, Copy, Debug, PartialEq, Eq, Error)]
 #[error("out of memory")]
 pub struct Memory;

@@ -1,4 +1,4 @@
-//! One round: a request for what a receiver lacks, and the packets of its answer.
+//! One round of catching up: a request for missing messages, and the responses to it.
 
 ghost use Rattle.std.specs.Prelude.{◌≡◌, ◌+◌, ◌≤◌, ◌<◌, Some, length, IfOk, OnOk, OnErr};
 ghost use Rattle.mold_receiver.specs.Batch.{Follows, followed_by};
@@ -21,8 +21,8 @@ use mold_session::{Journal, Plan, Server};
 use mold_wire::Request;
 use mold_wire::laws::{front_law, one_spelling_law, true_packet_law};
 
-/// Takes the packet that a plan has next; false, and nothing changes, where nothing is left of the plan.
-/// After an error all but the plan is as it was.
+/// Takes the next response of a plan. If the plan has none left, it returns false and changes nothing. After an
+/// error, only the plan may have changed.
 pub fn take_next(
     receiver: &mut Receiver,
     server: &mut Server,
@@ -58,8 +58,7 @@ pub fn take_next(
     }
 }
 
-/// Asks for what the receiver wants, and takes the whole answer in order. After an error a front of it was
-/// taken.
+/// Requests what the receiver wants and takes all responses in order. After an error, it has taken a prefix of them.
 pub fn take_round(
     receiver: &mut Receiver,
     server: &mut Server,

@@ -4,7 +4,7 @@ use Rattle.mold_rounds.proofs.PacketLemmas.{Comes, comes, never_refused, takes_o
 use Rattle.mold_rounds.proofs.rounding.take_next.Goals.{In-Some}
 use Rattle.mold_rounds.proofs.rounding.take_next.Goals as goal
 
--- the datagram is the next packet of the plan
+-- The datagram is the next packet of the plan.
 sends_next : (c : In-Some) → SendsNext c.args.journal.now.messages c.args.server.now.limit c.args.plan.now
 sends_next c =
     let sent = c.in-Some.ensures in
@@ -12,7 +12,7 @@ sends_next c =
     (c.answer_not_empty_law.ensures.fit c.args.journal.now c.args.server.now sent.journal sent.server
     c.requires.longest) sent.plan c.requires.awaits.held sent.more
 
--- and it comes to the receiver in its gap
+-- It reaches the receiver in its gap.
 comes_next : (c : In-Some) →
     Comes c.args.receiver.now c.args.journal.now c.args.server.now.limit c.args.plan.now c.in-Some.datagram.now
 comes_next c =

@@ -10,7 +10,7 @@ use Rattle.mold_session.specs.Answer.{PlanState}
 use Rattle.mold_session.specs.Server.{counted_if}
 use Rattle.mold_session.specs.declared.error.AnswerError.{AnswerError}
 
--- the receiver wants something that the journal has
+-- The receiver wants messages that the journal has.
 wanting : (c : After-plan) → Wants c.args.receiver.now c.args.journal.now c.args.request.now
 wanting c =
     wants c.wanted_law.ensures.asks c.wanted_law.ensures.gap c.args.receiver.now c.args.journal.now c.args.request.now
