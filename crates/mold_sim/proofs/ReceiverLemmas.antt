@@ -6,17 +6,17 @@ use Rattle.std.proofs.lemmas.List.{drop_all, take-take, take_at}
 use Rattle.mold_sim.specs.Reports.{receiver_lines, some_receiver_line}
 use Rattle.mold_world.specs.World.{SubscriberState}
 
--- the lines of the first so many receivers were written behind what was there
+-- The lines of the first `count` receivers were appended.
 pub record AreShown (old new : List ℕ) (subscribers : List SubscriberState) (count : ℕ) : Type 0 where
   pub added : List ℕ
   pub written : new ≡ old ++ added
   pub rest : receiver_lines 0 subscribers ≡ added ++ receiver_lines count (drop count subscribers)
 
--- at the start there is none
+-- At the start no line was appended.
 pub none_shown : (old : List ℕ) (subscribers : List SubscriberState) → AreShown old old subscribers 0
 none_shown old subscribers = record { added = []; written = sym (append-nil old); rest = refl }
 
--- the line of the receiver at a place is the first of those from it on
+-- The lines from one receiver on begin with that receiver's line.
 one_line : (number count : ℕ) (subscribers : List SubscriberState) → count < length subscribers →
     receiver_lines number (drop count subscribers)
     ≡ some_receiver_line number (slice_get subscribers count) ++ receiver_lines (number + 1) (drop (count + 1) subscribers)
@@ -29,7 +29,7 @@ one_line number (suc count) (place ∷ subscribers) lt =
     ∙ ap (λ (n : ℕ). line ++ receiver_lines (number + 1) (drop n subscribers)) (add-one count)
     ∙ ap (λ (n : ℕ). line ++ receiver_lines (number + 1) (drop n (place ∷ subscribers))) (sym (add-one (suc count)))
 
--- one more line
+-- One more line.
 pub one_shown : (old new newer : List ℕ) (subscribers : List SubscriberState) (count : ℕ) → count < length subscribers →
     AreShown old new subscribers count → newer ≡ new ++ some_receiver_line count (slice_get subscribers count) →
     AreShown old newer subscribers (count + 1)
@@ -44,7 +44,7 @@ one_shown old new newer subscribers count lt shown written =
           ∙ sym (append_assoc shown.added line (receiver_lines (count + 1) (drop (count + 1) subscribers)));
     }
 
--- what was there stands in front of what comes behind them
+-- The old text stays a prefix of the new one.
 pub still_kept : (old mid new : List ℕ) (subscribers : List SubscriberState) (count : ℕ) → AreShown old mid subscribers count →
     take (length mid) new ≡ mid → take (length old) new ≡ old
 still_kept old mid new subscribers count shown kept =
@@ -57,7 +57,7 @@ no_lines : (number : ℕ) → receiver_lines number [] ≡ []
 unfolding receiver_lines
 no_lines number = refl
 
--- behind the last receiver all lines are there
+-- After the last receiver, all lines were appended.
 pub all_shown : (old new : List ℕ) (subscribers : List SubscriberState) (count : ℕ) → length subscribers ≤ count →
     AreShown old new subscribers count → new ≡ old ++ receiver_lines 0 subscribers
 all_shown old new subscribers count all shown =

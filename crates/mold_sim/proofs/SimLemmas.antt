@@ -1,4 +1,4 @@
--- What a line more prints, and what is printed behind the last one.
+-- What one more line prints, and what is printed after the last one.
 use Rattle.std.proofs.Common.{◌≡◌, ℕ, Bool, true, false, cond, List, [], ◌∷◌, ◌++◌, Option, None, Some, refl, sym, ap, ◌∙◌, append_assoc}
 use Rattle.std.specs.Prelude.{◌||◌, Ok, Err}
 use Rattle.mold_devices.specs.Lines.{lines_of, GivesLine}
@@ -19,7 +19,7 @@ or-false : (b : Bool) → b || false ≡ b
 or-false true = refl
 or-false false = refl
 
--- ---- the world behind a line
+-- ---- the world after a line
 
 outcome_runs : (w : WorldState) (happenings : List Happening) (outcome : Outcome) (happening : Happening) →
     effect w happening ≡ outcome →
@@ -34,7 +34,7 @@ event_runs : (w : WorldState) (happenings : List Happening) (said : Option Happe
 event_runs w happenings None = refl
 event_runs w happenings (Some happening) = outcome_runs w happenings (effect w happening) happening refl
 
--- the events of the lines behind a line go on from the world that it leaves
+-- The events of the lines after a line continue from the world that it leaves.
 line_runs : (w : WorldState) (line : List ℕ) (lines : List (List ℕ)) →
     run_events w (events_of (line ∷ lines)) ≡ run_events (line_outcome w line).world (events_of lines)
 unfolding line_outcome
@@ -51,7 +51,7 @@ first_refused : (w : WorldState) (line : List ℕ) (lines : List (List ℕ)) →
 unfolding lines_refused
 first_refused w line lines = refl
 
--- the first line prints first
+-- The first line prints first.
 script-line : (w : WorldState) (line : List ℕ) (lines : List (List ℕ)) →
     script_text w (line ∷ lines) ≡ (line_outcome w line).text ++ script_text (line_outcome w line).world lines
 script-line w line lines =
@@ -69,13 +69,13 @@ refused-nil : (w : WorldState) → lines_refused w [] ≡ false
 unfolding lines_refused
 refused-nil w = refl
 
--- ---- turns
+-- ---- iterations
 
--- a command that simulates, with one line more
+-- The command after one more line.
 abbrev pub told_more : WorldState → Bool → Bool → SimState
 told_more world refused asked = record { world = world; refused = refused || asked }
 
--- a line was found, and what comes of it was done
+-- A line was found and its event applied.
 pub record IsTold (s : SimState) (world : WorldState) (asked : Bool) (known left : Option (List ℕ)) (old new : List ℕ) :
     Type 0 where
   pub line : List ℕ
@@ -101,7 +101,7 @@ more_goes s world asked (Some xs) (Some ys) old new is gives = (
       ∙ ap (λ (b : Bool). cond b 2 0) (or_assoc s.refused asked (lines_refused world (lines_of ys))),
 )
 
--- a turn tells a line
+-- One iteration prints the result of one line.
 pub told_line : (s : SimState) (world : WorldState) (asked : Bool) {known left : Option (List ℕ)} {old new : List ℕ} →
     IsTold s world asked known left old new →
     IsTurn (sim_printing s) (sim_printing (told_more world s.refused asked)) known left old new More
@@ -111,7 +111,7 @@ told_line s world asked {known} {left} {old} {new} is = record {
   goes = more_goes s world asked known left old new is is.gives;
 }
 
--- no line was left, the receivers were written, and the status tells whether a line was refused
+-- No line was left, and the receivers were printed. The status states whether a line was refused.
 pub record IsOver (s : SimState) (known left : Option (List ℕ)) (old new : List ℕ) (status : ℕ) : Type 0 where
   pub line : List ℕ
   pub gives : GivesLine known left false line
@@ -131,7 +131,7 @@ done_goes s (Some xs) (Some ys) line status gives is = (
       ∙ sym is,
 )
 
--- the last turn tells the receivers
+-- The last iteration prints the receivers.
 pub told_all : (s : SimState) {known left : Option (List ℕ)} {old new : List ℕ} {status : ℕ} →
     IsOver s known left old new status →
     IsTurn (sim_printing s) (sim_printing s) known left old new (Done status)

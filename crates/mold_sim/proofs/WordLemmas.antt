@@ -1,18 +1,18 @@
--- Where words are cut.
+-- The places where a line is split into words.
 use Rattle.std.proofs.Common.{◌≡◌, ℕ, zero, suc, ◌+◌, ◌<◌, true, false, eqb, List, [], ◌∷◌, length, take, drop, refl, sym, ap, ◌∙◌, inl, inr, arith, add-one}
 use Rattle.std.proofs.lemmas.Bool.{cond-true, cond-false, cases_Bool}
 use Rattle.memchr.specs.Find.{NoneBefore, Nowhere, Passes, is_byte}
 use Rattle.mold_devices.specs.Lines.{onto_first}
 use Rattle.mold_sim.specs.Script.{words_of}
 
--- the byte at this place is a space
+-- The byte with this index is a space.
 abbrev pub IsSpace : List ℕ → ℕ → Type 0
 IsSpace = Passes (is_byte 32)
 
 no_space : (byte : ℕ) → (eqb byte 32 ≡ true → ⊥) → eqb byte 32 ≡ false
 no_space byte none = elim (cases_Bool (eqb byte 32)) [ inl is ↦ absurd (none is) | inr is ↦ is ]
 
--- without a space a line is one word
+-- A line without a space is one word.
 pub one_word : (line : List ℕ) → Nowhere (IsSpace line) 0 (length line) → words_of line ≡ line ∷ []
 one_word [] none = refl
 one_word (byte ∷ bytes) none =
@@ -28,7 +28,7 @@ first_cut (byte ∷ bytes) (suc at) lt is none =
     ∙ ap (onto_first byte)
     (first_cut bytes at (omega arith) is (λ k low high space. none (suc k) (omega arith) (omega arith) space))
 
--- the first space ends the first word
+-- The first space ends the first word.
 pub first_word : (line : List ℕ) (at : ℕ) → NoneBefore (IsSpace line) 0 (length line) at → IsSpace line at →
     words_of line ≡ take at line ∷ words_of (drop (at + 1) line)
 first_word line at none is =
@@ -46,7 +46,7 @@ some_word (byte ∷ bytes) = elim (cases_Bool (eqb byte 32)) [
   | inr is ↦ rw (cond-false (eqb byte 32) _ _ is) (onto_some byte (words_of bytes))
 ]
 
--- a line with four spaces has more than four words
+-- A line with four spaces has more than four words.
 pub five_words : (line one two three four first second third fourth : List ℕ) →
     words_of line ≡ first ∷ words_of one → words_of one ≡ second ∷ words_of two →
     words_of two ≡ third ∷ words_of three → words_of three ≡ fourth ∷ words_of four → 4 < length (words_of line)

@@ -1,4 +1,4 @@
--- What is printed of an event: what it did, or why it is refused; and of a receiver at the end.
+-- What `mold sim` prints for an event and for a receiver.
 use Rattle.std.specs.Prelude.{ℕ, ◌+◌, ◌-◌, List, [], ◌∷◌, ◌++◌, length, codes, decimal, Bool, nat_lt, if◌then◌else◌}
 use Rattle.std.specs.Prelude.{Option, None, Some}
 use Rattle.mold_refusals.specs.Words.{answer_words, append_words}
@@ -13,14 +13,14 @@ use Rattle.mold_world.specs.declared.report.Report.TheVariants as report
 use Rattle.mold_world.specs.declared.report.WorldError.{WorldError}
 use Rattle.mold_world.specs.declared.report.WorldError.TheVariants as error
 
--- why publisher or server refuse
+-- The words of a refusal by the publisher or the re-request server: its name and its number.
 abbrev pub session_words : SessionError → List (List ℕ)
 session_words (session.Append why) = append_words why
 session_words (session.Close unsent) = codes "Unsent" ∷ decimal unsent.count ∷ []
 session_words (session.Answer why) = answer_words why
 
--- why an event is refused; of what publisher or server refuse, their reason alone. The last four are never
--- told of an event
+-- The words of a refused event: the name of the reason and its number. A refusal by the publisher or the server has
+-- only that refusal's words. The last four are never printed for an event.
 abbrev pub error_words : WorldError → List (List ℕ)
 error_words error.NoReceiver = codes "NoReceiver" ∷ []
 error_words error.NoSuchDatagram = codes "NoSuchDatagram" ∷ []
@@ -32,14 +32,14 @@ error_words error.BadLimit = codes "BadLimit" ∷ []
 error_words (error.BadWindow r) = codes "BadWindow" ∷ decimal r ∷ []
 error_words error.BadBurst = codes "BadBurst" ∷ []
 
--- the places of the datagrams of an answer: the first, and the last too where there are several
+-- The words of a burst: the index of the first datagram, and of the last if there are several.
 abbrev pub burst_words : ℕ → ℕ → List (List ℕ)
 burst_words first count =
     if nat_lt 1 count
     then codes "sent" ∷ decimal first ∷ codes "to" ∷ decimal (first + count - 1) ∷ []
     else codes "sent" ∷ decimal first ∷ []
 
--- what an event did
+-- The words of what an event did.
 abbrev pub report_words : Report → List (List ℕ)
 report_words (report.Published number) = codes "published" ∷ decimal number ∷ []
 report_words (report.Sent place) = codes "sent" ∷ decimal place ∷ []
@@ -51,23 +51,23 @@ report_words (report.Delivered taken) =
 report_words (report.NoiseRefused why) = codes "noise" ∷ refusal_words why
 report_words (report.Restarted next) = codes "restarted" ∷ decimal next ∷ []
 
--- whether a receiver has the whole session
+-- The word for a receiver's state: `finished` if it has the whole session, otherwise `open`.
 abbrev pub state_word : Bool → List ℕ
 state_word finished = if finished then codes "finished" else codes "open"
 
--- the line of the receiver with this number
+-- The line of the receiver with this number.
 abbrev pub receiver_line : ℕ → SubscriberState → List ℕ
 receiver_line number place = line_of
     (codes "receiver" ∷ decimal number ∷ codes "next" ∷ decimal place.arbitration.view.next
     ∷ codes "known" ∷ decimal place.arbitration.view.known ∷ codes "book" ∷ decimal (length place.book.messages)
     ∷ state_word (is_finished place.arbitration.view) ∷ [])
 
--- the same where there is such a receiver
+-- The line of the receiver with this number, or nothing if there is no such receiver.
 abbrev pub some_receiver_line : ℕ → Option SubscriberState → List ℕ
 some_receiver_line number None = []
 some_receiver_line number (Some place) = receiver_line number place
 
--- the lines of receivers that are numbered from the first one's number on
+-- The lines of receivers with consecutive numbers from `number` on.
 unfoldable pub receiver_lines : ℕ → List SubscriberState → List ℕ
 receiver_lines number [] = []
 receiver_lines number (place ∷ subscribers) = receiver_line number place ++ receiver_lines (number + 1) subscribers

@@ -1,4 +1,4 @@
--- What a line of a script says: words separated by single spaces, of which the first names an event.
+-- The events of a script. A line has words separated by single spaces, and the first word names an event.
 use Rattle.std.specs.Prelude.{ℕ, List, [], ◌∷◌, codes, ◌==◌, if◌then◌else◌}
 use Rattle.std.specs.Prelude.{Option, None, Some, option_map, Result, Ok, Err}
 use Rattle.std.specs.Str.{bytes_eq}
@@ -13,23 +13,23 @@ use Rattle.mold_world.specs.declared.event.EventOf.TheVariants.{Request, Ask, De
 use Rattle.mold_world.specs.declared.way.Way.{Way}
 use Rattle.mold_world.specs.declared.way.Way.TheVariants.{Answer, Line}
 
--- the words of a line: it is cut at each space, so that a space too many makes a word without bytes
+-- The words of a line. Each space separates two words, so two spaces in a row have an empty word between them.
 abbrev pub words_of : List ℕ → List (List ℕ)
 words_of [] = [] ∷ []
 words_of (byte ∷ bytes) = if byte == 32 then [] ∷ words_of bytes else onto_first byte (words_of bytes)
 
--- the bytes that digits stand for
+-- The bytes that were decoded from hexadecimal digits, or none if the digits are not valid.
 abbrev pub spelled : Result (List ℕ) FromHexError → Option (List ℕ)
 spelled (Ok bytes) = Some bytes
 spelled (Err error) = None
 
--- the bytes that a word spells: two digits for each of them, and `-` for none
+-- The bytes that a word encodes: two hexadecimal digits for each byte, or `-` for no bytes.
 unfoldable pub bytes_in : List ℕ → Option (List ℕ)
 bytes_in [] = None
 bytes_in (byte ∷ bytes) =
     if bytes_eq (byte ∷ bytes) (codes "-") then Some [] else spelled (decode_of (byte ∷ bytes))
 
--- the way on which a datagram comes: a line, or as an answer
+-- How a datagram reaches a receiver: on line `a` or `b`, or as a response, for which the word is `answer`.
 abbrev pub way_in : List ℕ → Option Way
 way_in word =
     if bytes_eq word (codes "a") then Some (Line A)
@@ -37,7 +37,7 @@ way_in word =
     else if bytes_eq word (codes "answer") then Some Answer
     else None
 
--- the events without a number or bytes
+-- The event of one word: `datagram`, `heartbeat`, `end` or `close`.
 abbrev pub plain : List ℕ → Option Happening
 plain name =
     if bytes_eq name (codes "datagram") then Some Datagram
@@ -46,7 +46,7 @@ plain name =
     else if bytes_eq name (codes "close") then Some Close
     else None
 
--- those with one word after their name
+-- The event of two words: `publish` or `request` with bytes, or `ask` with a receiver.
 abbrev pub with_one : List ℕ → List ℕ → Option Happening
 with_one name value =
     if bytes_eq name (codes "publish") then option_map (λ bytes. Publish bytes) (bytes_in value)
@@ -54,36 +54,39 @@ with_one name value =
     else if bytes_eq name (codes "ask") then option_map (λ receiver. Ask receiver) (number_in value)
     else None
 
+-- The restart of a receiver, if both numbers are valid.
 abbrev pub restart_at : Option ℕ → Option ℕ → Option Happening
 restart_at None next = None
 restart_at (Some receiver) None = None
 restart_at (Some receiver) (Some next) = Some (Restart receiver next)
 
--- that with two
+-- The event of three words: `restart` with a receiver and a number.
 abbrev pub with_two : List ℕ → List ℕ → List ℕ → Option Happening
 with_two name receiver next =
     if bytes_eq name (codes "restart") then restart_at (number_in receiver) (number_in next) else None
 
+-- The delivery of a datagram, if all three words are valid.
 abbrev pub delivery : Option ℕ → Option Way → Option ℕ → Option Happening
 delivery None way place = None
 delivery (Some receiver) None place = None
 delivery (Some receiver) (Some way) None = None
 delivery (Some receiver) (Some way) (Some place) = Some (Deliver receiver way place)
 
+-- Noise for a receiver, if all three words are valid.
 abbrev pub noise : Option ℕ → Option Way → Option (List ℕ) → Option Happening
 noise None way bytes = None
 noise (Some receiver) None bytes = None
 noise (Some receiver) (Some way) None = None
 noise (Some receiver) (Some way) (Some bytes) = Some (Noise receiver way bytes)
 
--- those with three
+-- The event of four words: `deliver` or `noise`, with a receiver, a way, and a datagram's index or bytes.
 abbrev pub with_three : List ℕ → List ℕ → List ℕ → List ℕ → Option Happening
 with_three name receiver way value =
     if bytes_eq name (codes "deliver") then delivery (number_in receiver) (way_in way) (number_in value)
     else if bytes_eq name (codes "noise") then noise (number_in receiver) (way_in way) (bytes_in value)
     else None
 
--- the event of some words
+-- The event of these words, or none if they are not valid.
 abbrev pub happening_in : List (List ℕ) → Option Happening
 happening_in [] = None
 happening_in (name ∷ []) = plain name
@@ -92,6 +95,6 @@ happening_in (name ∷ receiver ∷ next ∷ []) = with_two name receiver next
 happening_in (name ∷ receiver ∷ way ∷ value ∷ []) = with_three name receiver way value
 happening_in (name ∷ receiver ∷ way ∷ value ∷ more ∷ words) = None
 
--- the event that a line says; none where it says none
+-- The event of a line, or none if the line has no valid event.
 unfoldable pub happening_of : List ℕ → Option Happening
 happening_of line = happening_in (words_of line)

@@ -1,9 +1,9 @@
--- The words of a line as code has them.
+-- The words of a line as a type of the code.
 use Rattle.std.specs.Prelude.{ℕ, List, [], ◌∷◌}
 use Rattle.mold_sim.specs.declared.words.Words.{Words}
 use Rattle.mold_sim.specs.declared.words.Words.TheVariants.{One, Two, Three, Four}
 
--- some words as a list
+-- The words as a list.
 abbrev pub words_in : Words → List (List ℕ)
 words_in (One first) = first.now ∷ []
 words_in (Two first second) = first.now ∷ second.now ∷ []

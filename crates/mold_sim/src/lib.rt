@@ -1,5 +1,4 @@
-//! `mold sim`: a script of events is read line by line, each event is applied to a world, and what comes of
-//! it is printed.
+//! `mold sim`: reads a script of events line by line, applies each event to a world and prints the result.
 #![tactic(auto)]
 
 mod reading;

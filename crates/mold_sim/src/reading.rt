@@ -1,4 +1,4 @@
-//! What a line says.
+//! Reads the event of a line.
 
 ghost use Rattle.std.specs.Prelude.{◌≡◌, IfOk};
 ghost use Rattle.std.specs.Option.{option_copied, option_map};
@@ -14,7 +14,7 @@ use mold_receiver::Line;
 use mold_world::{Event, Way};
 use std::alloc::AllocError;
 
-// The bytes that the word spells, if it spells any. They take the place of what `bytes` holds.
+// Returns the bytes that the word encodes, or `None` if it encodes none. They replace the contents of `bytes`.
 #[tactic(auto, unfolding(crate::specs::Script::bytes_in))]
 fn read_bytes<'a>(word: &[u8], bytes: &'a mut Vec<u8>) -> Result<Option<&'a [u8]>, AllocError>
     ensures { IfOk result (λ found. option_copied found ≡ bytes_in word.now) }
@@ -49,7 +49,7 @@ fn read_way(word: &[u8]) -> Option<Way>
     None
 }
 
-// A receiver's number or a datagram's place.
+// Reads a receiver's number or a datagram's index.
 fn read_index(word: &[u8]) -> Option<usize>
     ensures { result ≡ decimal_of word.now }
 {
@@ -167,8 +167,8 @@ fn read_with_three<'a>(
     Ok(None)
 }
 
-/// The event that the line says, if it says one. Its bytes take the place of what `bytes` holds, from which they
-/// are lent. Memory is taken only for bytes that find no room there.
+/// Returns the event of the line, or `None` if the line has no valid event. The event borrows its bytes from `bytes`,
+/// whose contents they replace. It allocates only if they don't fit there.
 #[tactic(auto, unfolding(crate::specs::Script::happening_of))]
 pub fn read_line<'a>(line: &[u8], bytes: &'a mut Vec<u8>) -> Result<Option<Event<'a>>, AllocError>
     ensures { IfOk result (λ event. option_map seen event ≡ happening_of line.now) }

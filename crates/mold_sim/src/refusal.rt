@@ -1,4 +1,4 @@
-//! Why an event is refused: a name, and the numbers that go with it.
+//! The line of an event that is refused: the reason's name, and the numbers that go with it.
 
 ghost use Rattle.std.specs.Prelude.{◌≡◌, ◌++◌, ◌∷◌, [], length, take, decimal, OnErr, OnOk};
 ghost use Rattle.mold_sim.specs.Reports.{error_words, session_words};
@@ -10,7 +10,7 @@ use mold_text::{Word, push_refused};
 use mold_world::{SessionError, WorldError};
 use std::alloc::AllocError;
 
-// The line of a name and its number.
+// Appends the line of a refusal with a name and a number.
 fn push_number(out: &mut Vec<u8>, name: &[u8], number: u64) -> Result<(), AllocError>
     ensures text { OnOk result (out.new.items ≡
         out.old.items ++ refused_line (name.now ∷ decimal number ∷ [])) }
@@ -30,8 +30,8 @@ fn push_session_refused(out: &mut Vec<u8>, why: SessionError) -> Result<(), Allo
     }
 }
 
-/// Writes the line of an event that is refused. Where that is for want of memory, nothing is written, and
-/// the answer is the same as where the line finds no memory.
+/// Appends the line of an event that is refused. For `WorldError::Memory`, it appends nothing and returns an error,
+/// as it does if an allocation fails.
 pub fn push_error(out: &mut Vec<u8>, why: WorldError) -> Result<(), AllocError>
     ensures text { OnOk result (out.new.items ≡ out.old.items ++ refused_line (error_words why)) }
     ensures other { OnOk result (why ≡ Memory → ⊥) }

@@ -1,4 +1,4 @@
-//! What an event did, and how receivers stand at the end.
+//! The line of what an event did, and the line of each receiver at the end.
 
 ghost use Rattle.std.specs.Prelude.{◌≡◌, ◌++◌, ◌∷◌, [], length, take, decimal, OnErr, OnOk, slice_get};
 ghost use Rattle.mold_sim.specs.Reports.{burst_words, receiver_lines, report_words, some_receiver_line};
@@ -50,7 +50,7 @@ fn push_taken(out: &mut Vec<u8>, taken: Taken) -> Result<(), AllocError>
     )
 }
 
-/// Writes the line of what an event did.
+/// Appends the line of what an event did.
 pub fn push_report(out: &mut Vec<u8>, report: Report) -> Result<(), AllocError>
     ensures text { OnOk result (out.new.items ≡ out.old.items ++ line_of (report_words report)) }
     ensures kept { OnErr result (take (length out.old.items) out.new.items ≡ out.old.items) }
@@ -67,7 +67,7 @@ pub fn push_report(out: &mut Vec<u8>, report: Report) -> Result<(), AllocError>
     }
 }
 
-// The line of a receiver; nothing where there is none of this number.
+// Appends the line of a receiver, or nothing if there is no such receiver.
 fn push_receiver(out: &mut Vec<u8>, world: &World, r: usize) -> Result<(), AllocError>
     ensures text { OnOk result (out.new.items ≡
         out.old.items ++ some_receiver_line r (slice_get world.now.subscribers r)) }
@@ -103,7 +103,7 @@ fn push_receiver(out: &mut Vec<u8>, world: &World, r: usize) -> Result<(), Alloc
     )
 }
 
-/// Writes a line for each receiver, in order.
+/// Appends a line for each receiver, in order.
 pub fn push_receivers(out: &mut Vec<u8>, world: &World) -> Result<(), AllocError>
     ensures text { OnOk result (out.new.items ≡ out.old.items ++ receiver_lines 0 world.now.subscribers) }
     ensures kept { OnErr result (take (length out.old.items) out.new.items ≡ out.old.items) }

@@ -1,4 +1,4 @@
-//! `mold sim`: a script of events, each of which is applied to a world.
+//! The command `sim`: it applies a script of events to a world.
 
 ghost use Rattle.std.specs.Prelude.{◌≡◌, ◌≤◌, ◌++◌, length, take, IfOk, OnErr};
 ghost use Rattle.mold_sim.specs.Sim.{sim_beginning, line_outcome};
@@ -16,11 +16,11 @@ use mold_world::World;
 use std::alloc::{AllocError, Global};
 use std::marker::Model;
 
-/// The most receivers of a script.
+/// The greatest number of receivers of a script.
 const RECEIVERS: usize = 8;
 
-// Applies the event that the line says and writes what came of it, and answers whether the line is refused.
-// The event's bytes take the place of what `bytes` holds.
+// Applies the event of the line and appends its result. Returns whether the line was refused. The event's bytes
+// replace the contents of `bytes`.
 #[tactic(auto, unfolding(crate::specs::Sim::line_outcome))]
 fn print_line(
     world: &mut World,
@@ -52,8 +52,8 @@ fn print_line(
     }
 }
 
-/// The command `sim`: it applies the events that the lines of its input say to a world, and prints what
-/// comes of each, and how the receivers stand at the end.
+/// The command `sim`. It applies the events of its input lines to a world and prints the result of each. At the end,
+/// it prints a line for each receiver.
 #[derive(Debug, Drop)]
 pub struct Sim {
     world: World,
@@ -72,8 +72,8 @@ impl Model for Sim {
 }
 
 impl Sim {
-    /// A session that begins, with so many receivers of this window. The limits are in bytes, `burst` is in
-    /// datagrams and `window` in messages. It takes the memory of two datagrams and of the windows.
+    /// Returns the command for a new session with `receivers` receivers of the same window. The limits are in bytes,
+    /// `burst` is in datagrams and `window` in messages. It allocates the windows and the memory of two datagrams.
     pub fn new(
         alloc: Global,
         session: Session,
@@ -95,7 +95,7 @@ impl Sim {
         ensures { IfOk result (λ sim. sim ≡ sim_beginning session limit server_limit burst window receivers) }
     {
         let windows = [window; RECEIVERS];
-        // The ranges are those of a world, so only memory can be wanting.
+        // The arguments are in a world's ranges, so only an allocation can fail.
         let Ok(world) = World::new(
             alloc,
             session,

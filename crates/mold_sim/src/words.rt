@@ -1,4 +1,4 @@
-//! A line cut into words.
+//! Splits a line into words.
 
 ghost use Rattle.std.specs.Prelude.{◌≡◌, ◌<◌, [], ◌∷◌, length, MatchOption};
 ghost use Rattle.mold_sim.specs.Script.{words_of};
@@ -6,16 +6,20 @@ ghost use Rattle.mold_sim.specs.Words.{words_in};
 
 use memchr::memchr;
 
-/// The words of a line, as many as an event has.
+/// The words of a line. An event has one to four words.
 #[derive(Drop)]
 pub enum Words<'a> {
+    /// The only word.
     One(&'a [u8]),
+    /// Both words, in order.
     Two(&'a [u8], &'a [u8]),
+    /// All three words, in order.
     Three(&'a [u8], &'a [u8], &'a [u8]),
+    /// All four words, in order.
     Four(&'a [u8], &'a [u8], &'a [u8], &'a [u8]),
 }
 
-// The first word and what follows the space that ends it; none where no space is left.
+// Returns the first word and what follows the space after it, or `None` if there is no space.
 fn split_word(line: &[u8]) -> Option<(&[u8], &[u8])>
     ensures { MatchOption result (words_of line.now ≡ line.now ∷ [])
         (λ parts. words_of line.now ≡ parts.0.now ∷ words_of parts.1.now) }
@@ -26,7 +30,7 @@ fn split_word(line: &[u8]) -> Option<(&[u8], &[u8])>
     Some((&line[..at], &line[at + 1..]))
 }
 
-/// The line's words; none where there are more than four.
+/// Returns the words of the line, or `None` if there are more than four.
 pub fn cut(line: &[u8]) -> Option<Words<'_>>
     ensures { MatchOption result (4 < length (words_of line.now))
         (λ words. words_of line.now ≡ words_in words) }
