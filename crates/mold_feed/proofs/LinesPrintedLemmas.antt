@@ -1,4 +1,4 @@
--- What a listener has printed at its end: the published lines, and its last line by its status.
+-- What a listener has printed at its end: the published lines, and then the last line for its status.
 use Rattle.std.proofs.Common.{◌≡◌, ℕ, ◌+◌, ◌≤◌, Bool, true, List, [], ◌++◌, length, Option, Result, ap, subst}
 use Rattle.std.proofs.Common.{arith}
 use Rattle.std.specs.Prelude.{IfOk}
@@ -14,13 +14,13 @@ use Rattle.mold_session.specs.Answer.{between}
 use Rattle.mold_session.specs.Journal.{JournalState}
 use Rattle.mold_wire.specs.declared.session.Session.{Session}
 
--- the last lines that are printed at the end
+-- the last lines of a listener
 abbrev end_lines : Bool → Progress → List ℕ
 end_lines reporting e =
     closing_lines reporting e.arbitration.reports (is_finished e) e.arbitration.view.next e.arbitration.view.known
     e.outgoing.failures
 
--- a listener that began at the line `first` has come to its end: its text and its last lines are written
+-- a listener that started at the line `first` has ended: its text and its last lines are written
 pub record HasCome {P E : Type 0} (reporting : Bool) (lines : List (List ℕ)) (first : ℕ) (end : ListenerState P)
     (result : Result ℕ E) (old new : Option (List ℕ)) : Type 0 where
   pub whole : IfOk result (λ answer.
@@ -32,7 +32,7 @@ pub record HasCome {P E : Type 0} (reporting : Bool) (lines : List (List ℕ)) (
   pub received : end.progress.arbitration.view.known ≤ length lines + 1
   pub all : is_finished end.progress ≡ true → end.progress.arbitration.view.next ≡ length lines + 1
 
--- so it has where the messages of the session are those of the lines
+-- a listener has ended in this way if the messages of the session are those of the lines
 pub has_come : {P E : Type 0} {reporting : Bool} {lines : List (List ℕ)} {first : ℕ} {end : ListenerState P} {result : Result ℕ E}
     {old new : Option (List ℕ)} (journal : JournalState) (Came : List ℕ → Type 0) → AreSpelled lines journal.messages →
     HasListened journal Came first [] end.progress → (is_finished end.progress ≡ true → HasFinished journal end.progress) →
@@ -51,11 +51,11 @@ has_come {P} {E} {reporting} {lines} {first} {end} {result} {old} {new} journal 
       all = λ over. let is = (finished over).all in omega (arith, many, is);
     }
 
--- the lines that were printed
+-- the text of the lines that were printed
 abbrev printed : {P : Type 0} → List (List ℕ) → ℕ → ListenerState P → List ℕ
 printed lines first end = lines_text first (between lines first end.progress.arbitration.view.next)
 
--- its text and the last lines are written, with the status of the end, or a beginning of them
+-- the text and the last lines are written, and the result is the status; after a fault a prefix of them is written
 written_of : {P E : Type 0} {reporting : Bool} {lines : List (List ℕ)} {first : ℕ} {end : ListenerState P}
     {result : Result ℕ E} {old new : Option (List ℕ)} → HasCome reporting lines first end result old new →
     (text : List ℕ) → end.progress.outgoing.text ≡ text →
@@ -71,7 +71,7 @@ written_of {P} {E} {reporting} {lines} {first} {end} {result} {old} {new} come t
       subst (λ (t : List ℕ). AppendsPrefix old new t) same come.front,
     )
 
--- with the lines as its text, it printed the lines
+-- a listener whose text is the lines printed the lines
 pub prints_lines : {P E : Type 0} {reporting : Bool} {lines : List (List ℕ)} {first : ℕ} {end : ListenerState P} {result : Result ℕ E}
     {old new : Option (List ℕ)} → HasCome reporting lines first end result old new →
     end.progress.outgoing.text ≡ printed lines first end → PrintsLines reporting lines first result old new
@@ -92,7 +92,7 @@ prints_lines {P} {E} {reporting} {lines} {first} {end} {result} {old} {new} come
       front = written.1;
     }
 
--- with sayings as its text whose messages are the lines, it printed the lines among refusals
+-- a listener whose printed lines deliver the lines printed the lines with refusals between them
 pub prints_among : {P E : Type 0} {reporting : Bool} {lines : List (List ℕ)} {first : ℕ} {end : ListenerState P} {result : Result ℕ E}
     {old new : Option (List ℕ)} (session : Session) (Came : List ℕ → Type 0) (printed_lines : List PrintedLine) →
     HasCome reporting lines first end result old new →
@@ -118,7 +118,7 @@ prints_among {P} {E} {reporting} {lines} {first} {end} {result} {old} {new} sess
       front = written.1;
     }
 
--- what a listener heard of the session, as lines among refusals
+-- what a listener received of the session is lines with refusals between them
 pub listened_among : {P E : Type 0} {reporting : Bool} {lines : List (List ℕ)} {first : ℕ} {end : ListenerState P} {result : Result ℕ E}
     {old new : Option (List ℕ)} (journal : JournalState) (Came : List ℕ → Type 0) → AreSpelled lines journal.messages →
     HasListened journal Came first [] end.progress → HasCome reporting lines first end result old new →

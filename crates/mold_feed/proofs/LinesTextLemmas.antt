@@ -1,4 +1,4 @@
--- What is printed of a message is the line that spells it, with its digits in lower case.
+-- The text of a message is the line that encodes it, with its digits in lower case.
 use Rattle.std.proofs.Common.{◌≡◌, ℕ, suc, ◌+◌, ◌-◌, ◌*◌, ◌/◌, ◌%◌, ◌<◌, nat_eq, Bool, true, List, [], ◌∷◌, ◌++◌, length, map}
 use Rattle.std.proofs.Common.{take, drop, slice_index, decimal, Option, None, Some, Result, Ok, Err, refl, sym, ap, ◌∙◌, arith}
 use Rattle.std.specs.List.{AllByRecursion}
@@ -19,12 +19,12 @@ use Rattle.mold_text.specs.Line.{line_of, message_digits}
 
 -- ---- a digit
 
--- whether the digit of a value is the digit in lower case that was read as it
+-- whether the digit of a value is the lower case of the digit that was read as this value
 abbrev agrees : ℕ → Option ℕ → Bool
 agrees digit None = true
 agrees digit (Some value) = nat_eq (slice_index lower_digits value) (lower_digit digit)
 
--- all digits stand below 103, and it is so at each place there
+-- every digit is below 103, and the two digits agree for each number below 103
 digit_below : (digit value : ℕ) → hex_digit_value digit ≡ Some value → digit < 103
 digit_below digit value reads = grind (arith)
 
@@ -42,7 +42,7 @@ agrees_at digit value (Some found) agree reads =
     ap (λ (v : ℕ). slice_index lower_digits v) (sym (same_Some found value reads))
     ∙ eqb-true (slice_index lower_digits found) (lower_digit digit) agree
 
--- a digit that was read
+-- a digit and the value that it was read as
 record IsRead (digit value : ℕ) : Type 0 where
   below : value < 16
   shows : slice_index lower_digits value ≡ lower_digit digit
@@ -61,7 +61,7 @@ is_read digit index value is =
 
 -- ---- a line
 
--- what an `Ok` behind `>>=` shows
+-- if `>>=` returns `Ok`, both of its steps did
 bound_ok : {A B : Type 0} (result : Result A FromHexError) (f : A → Result B FromHexError) (value : B) →
     (result >>= f) ≡ Ok value → (x : A) × (result ≡ Ok x) × (f x ≡ Ok value)
 bound_ok (Ok x) f value is = (x, refl, is)
@@ -70,7 +70,7 @@ bound_ok (Err error) f value is = cc is
 two_more : {a b c d : ℕ} {xs ys : List ℕ} → a ≡ b → c ≡ d → xs ≡ ys → a ∷ c ∷ xs ≡ b ∷ d ∷ ys
 two_more first second behind = rw (first, second, behind) refl
 
--- the digits of the bytes that digits spell are these in lower case
+-- the digits of decoded bytes are the digits that were read, in lower case
 pairs_shown : (index : ℕ) (digits bytes : List ℕ) → decode_pairs index digits ≡ Ok bytes →
     encode_lower bytes ≡ map lower_digit digits
 unfolding decode_pairs encode_with
@@ -95,7 +95,7 @@ pairs_shown index (high ∷ low ∷ digits) bytes is =
     (ap (λ (v : ℕ). slice_index lower_digits v) lower ∙ other.shows)
     (pairs_shown (index + 2) digits behind.0 behind.1)
 
--- the digits of the message that a line spells, as they are printed
+-- the digits of the message that a line encodes, as they are printed
 pub digits_shown : (line message : List ℕ) → decode_of line ≡ Ok message → message_digits message ≡ shown line
 digits_shown [] [] is = refl
 digits_shown [] (byte ∷ message) is = let long = (decode_of-ok [] (byte ∷ message) is).2 in absurd (omega (arith, long))
@@ -109,7 +109,7 @@ digits_shown (digit ∷ line) (byte ∷ message) is =
 abbrev pub AreSpelled : List (List ℕ) → List Message → Type 0
 AreSpelled lines messages = map decode_of lines ≡ map Ok messages
 
--- as many messages as lines
+-- there are as many messages as lines
 pub spelled_length : (lines : List (List ℕ)) (messages : List Message) → AreSpelled lines messages →
     length lines ≡ length messages
 spelled_length lines messages spelled =
@@ -117,7 +117,7 @@ spelled_length lines messages spelled =
     ∙ ap (λ (rs : List (Result (List ℕ) FromHexError)). length rs) spelled
     ∙ length-map messages Ok
 
--- the text of messages is that of the lines that spell them
+-- the text of messages is the text of the lines that encode them
 pub spelled_text : (number : ℕ) (lines : List (List ℕ)) (messages : List Message) → AreSpelled lines messages →
     handed_text number messages ≡ lines_text number lines
 unfolding handed_text lines_text
@@ -132,7 +132,7 @@ spelled_text number (line ∷ lines) (message ∷ messages) spelled =
     ∙ ap (λ (text : List ℕ). line_of (decimal number ∷ shown line ∷ []) ++ text)
     (spelled_text (number + 1) lines messages behind)
 
--- a piece of the lines spells that piece of the messages
+-- a part of the lines encodes the same part of the messages
 piece_map : {X Y : Type 0} (f : X → Y) (count place : ℕ) (xs : List X) →
     map f (take count (drop place xs)) ≡ take count (drop place (map f xs))
 piece_map f count place xs = sym (take-map f count (drop place xs)) ∙ ap (take count) (sym (drop-map f place xs))
@@ -144,19 +144,19 @@ spelled_between lines messages first next spelled =
     ∙ ap (λ (rs : List (Result (List ℕ) FromHexError)). take (next - first) (drop (first - 1) rs)) spelled
     ∙ sym (piece_map Ok (next - first) (first - 1) messages)
 
--- the text of the messages from a number to below another is that of the lines there
+-- the text of the messages between two numbers is the text of the lines between them
 pub text_between : (lines : List (List ℕ)) (messages : List Message) (first next : ℕ) → AreSpelled lines messages →
     handed_text first (between messages first next) ≡ lines_text first (between lines first next)
 text_between lines messages first next spelled =
     spelled_text first (between lines first next) (between messages first next)
     (spelled_between lines messages first next spelled)
 
--- ---- sayings
+-- ---- printed lines
 
 same_parts : {X : Type 0} (x y : X) (xs ys : List X) → x ∷ xs ≡ y ∷ ys → (x ≡ y) × (xs ≡ ys)
 same_parts x y xs ys same = (cc, cc)
 
--- the messages among some sayings are printed one behind the other
+-- the messages among printed lines are printed one after the other
 pub messages_said : (printed_lines : List PrintedLine) (number : ℕ) (messages : List Message) →
     handed_of printed_lines ≡ numbered number messages → messages_text printed_lines ≡ handed_text number messages
 unfolding handed_text
@@ -174,7 +174,7 @@ messages_said (Handed place said ∷ printed_lines) number (message ∷ messages
     (messages_said printed_lines (suc number) messages parts.1 ∙ ap (λ (n : ℕ). handed_text n messages) after)
 messages_said (Refuses bytes why ∷ printed_lines) number messages handed = messages_said printed_lines number messages handed
 
--- sayings none of which is a refusal are messages alone
+-- printed lines without a refusal are lines of messages
 pub all_messages : (Q : PrintedLine → Type 0) → ((bytes : List ℕ) (why : Refusal) → Q (Refuses bytes why) → ⊥) →
     (printed_lines : List PrintedLine) → AllByRecursion Q printed_lines → printed_lines_text printed_lines ≡ messages_text printed_lines
 all_messages Q none [] each = refl
@@ -182,7 +182,7 @@ all_messages Q none (Handed number message ∷ printed_lines) each =
     ap (λ (text : List ℕ). handed_line number message ++ text) (all_messages Q none printed_lines each.1)
 all_messages Q none (Refuses bytes why ∷ printed_lines) each = absurd (none bytes why each.0)
 
--- the messages among the sayings of a listener are the lines
+-- the messages among a listener's printed lines are the lines
 pub lines_said : (lines : List (List ℕ)) (messages : List Message) (printed_lines : List PrintedLine) (first next : ℕ) →
     AreSpelled lines messages → handed_of printed_lines ≡ numbered first (between messages first next) →
     messages_text printed_lines ≡ lines_text first (between lines first next)

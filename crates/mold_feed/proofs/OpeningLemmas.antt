@@ -1,4 +1,4 @@
--- A session that begins, whose messages are lines, and a listener that begins in it.
+-- A new session whose messages are lines, and a listener that starts in it.
 use Rattle.std.proofs.Common.{◌≡◌, ℕ, ◌+◌, ◌<◌, ◌≤◌, Bool, List, length, Option, None, Some}
 use Rattle.std.proofs.Common.{refl, sym, ap, subst, ◌∙◌, arith}
 use Rattle.mold_send.specs.PublishLoop.{closed_unless, left_journal}
@@ -22,7 +22,7 @@ use Rattle.mold_wire.specs.declared.session.Session.{Session}
 abbrev pub left_by : JournalState → List (List ℕ) → JournalState
 left_by journal lines = left_journal (lines_published journal lines)
 
--- closed or not, a journal is of the same session and has the same messages
+-- closing a journal, or leaving it open, keeps its session and its messages
 unless_session : (refused : Option LineRefusal) (journal : JournalState) →
     (closed_unless refused journal).session ≡ journal.session
 unless_session None journal = refl
@@ -52,7 +52,7 @@ messages_within journal lines first most =
 
 -- ---- a listener
 
--- what the laws say of a session that begins and of a listener that does
+-- the laws about a new session and about a new listener
 pub record OpeningLaws : Type 0 where
   pub lines : (limit : ℕ) (journal : JournalState) (lines : List (List ℕ)) → IsOpening journal limit →
       (lines_published journal lines).refused ≡ None → HasLines lines (left_by journal lines)
@@ -64,7 +64,7 @@ pub record OpeningLaws : Type 0 where
 
 module _ (laws : OpeningLaws) (limit : ℕ) (journal : JournalState) (lines : List (List ℕ))
     (opening : IsOpening journal limit) where
-  -- as many messages as lines
+  -- there are as many messages as lines
   pub lines_within : (lines_published journal lines).refused ≡ None → (first : ℕ) → first ≤ length lines + 1 →
       first ≤ length (left_by journal lines).messages + 1
   lines_within unrefused first most =

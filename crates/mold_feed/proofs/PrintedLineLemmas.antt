@@ -1,4 +1,4 @@
--- What stands between two numbers of a session, and the sayings of which the text that a listener prints is made.
+-- The messages between two numbers of a session, and the printed lines that make up a listener's text.
 use Rattle.std.proofs.Common.{◌≡◌, ℕ, suc, ◌+◌, ◌-◌, ◌≤◌, List, [], ◌∷◌, ◌++◌, length, get_or, take, drop}
 use Rattle.std.proofs.Common.{refl, sym, ap, ◌∙◌, arith, length-drop, take-add}
 use Rattle.std.specs.Prelude.{Some, slice_get}
@@ -17,7 +17,7 @@ use Rattle.mold_listen.specs.Text.{handed_line, handed_text}
 
 -- ---- between two numbers
 
--- nothing is between a number and itself
+-- no message is between a number and itself
 pub between_none : (published : List Message) (number : ℕ) → between published number number ≡ []
 between_none published number =
     ap (λ (n : ℕ). take n (drop (number - 1) published)) (let e : number - number ≡ 0 = omega arith in e)
@@ -28,7 +28,7 @@ length-between published from to first within =
     length-take-le (to - from) (drop (from - 1) published)
     (omega (arith, first, within, length-drop (from - 1) published))
 
--- what is between two numbers is what comes below a third one, and what comes from there on
+-- the messages between two numbers are those up to a third number and those from there on
 pub between_joined : (published : List Message) (from mid to : ℕ) → 1 ≤ from → from ≤ mid → mid ≤ to →
     between published from to ≡ between published from mid ++ between published mid to
 between_joined published from mid to first low high =
@@ -40,7 +40,7 @@ between_joined published from mid to first low high =
     ∙ ap (λ (l : List Message). take (mid - from) behind ++ take (to - mid) l)
     (drop-drop (mid - from) (from - 1) published ∙ ap (λ (n : ℕ). drop n published) place)
 
--- what is between two numbers is so among the first ones too, if they are as many
+-- the messages between two numbers are the same in a prefix of the messages that is long enough
 pub between_front : (published : List Message) (count from to : ℕ) → 1 ≤ from → from ≤ to → to ≤ count + 1 →
     between (take count published) from to ≡ between published from to
 between_front published count from to first low high =
@@ -51,7 +51,7 @@ between_front published count from to first low high =
     ∙ ap (take (to - from)) (drop-take before more published)
     ∙ take-take (to - from) more (drop before published) (omega (arith, first, low, high))
 
--- a function of numbered messages that goes over them one by one, so that it may go on at a third number
+-- a function that maps numbered messages one by one can be split at a third number
 pub counted_joined : {X : Type 0} (F : ℕ → List Message → List X) →
     ((number : ℕ) (xs ys : List Message) → F number (xs ++ ys) ≡ F number xs ++ F (number + length xs) ys) →
     (published : List Message) (from mid to : ℕ) → 1 ≤ from → from ≤ mid → mid ≤ to → mid ≤ length published + 1 →
@@ -64,7 +64,7 @@ counted_joined {X} F joins published from mid to first low high within =
     ∙ joins from front behind
     ∙ ap (λ (n : ℕ). F from front ++ F n behind) next
 
--- messages of which each stands in a list, from a place on, are what stands there
+-- messages each of which is in a list, from an index on, are the part of the list from there on
 stands_within : (place : ℕ) (messages published : List Message) → place ≤ length published →
     ((i : ℕ) (m : Message) → slice_get messages i ≡ Some m → slice_get published (place + i) ≡ Some m) →
     place + length messages ≤ length published
@@ -93,7 +93,7 @@ is_piece place messages published low each =
     (each i (get_or messages i []) (slice_get-get_or messages i [] inside))
     ∙ get_or_default messages i [] other inside))
 
--- messages of which each is the published one with its number are those between two numbers
+-- messages each of which is the published one with its number are those between two numbers
 pub handed_between : (published messages : List Message) (next after : ℕ) → 1 ≤ next → next ≤ length published + 1 →
     after ≡ next + length messages →
     ((i : ℕ) (m : Message) → slice_get messages i ≡ Some m → published_at published (next + i) ≡ Some m) →
@@ -104,7 +104,7 @@ handed_between published messages next after first within more each =
     sym (message_at-from 1 published (next + i) (next - 1 + i) (omega (arith, first))) ∙ each i m is)
     ∙ ap (λ (n : ℕ). take n (drop (next - 1) published)) count
 
--- ---- messages behind messages
+-- ---- messages after messages
 
 pub numbered-append : (number : ℕ) (xs ys : List Message) →
     numbered number (xs ++ ys) ≡ numbered number xs ++ numbered (number + length xs) ys
@@ -114,9 +114,9 @@ numbered-append number (x ∷ xs) ys =
     ∙ ap (λ (n : ℕ). (number, x) ∷ numbered (suc number) xs ++ numbered n ys)
     (let e : suc number + length xs ≡ number + suc (length xs) = omega arith in e)
 
--- ---- sayings
+-- ---- printed lines
 
--- the sayings of messages that are handed on, with numbers from the given one on
+-- the printed lines of delivered messages, with numbers from the given one on
 unfoldable pub handing : ℕ → List Message → List PrintedLine
 handing number [] = []
 handing number (message ∷ messages) = Handed number message ∷ handing (suc number) messages
@@ -150,7 +150,7 @@ unfolding handing
 refused-handing Good session number [] = tt
 refused-handing Good session number (message ∷ messages) = (tt, refused-handing Good session (suc number) messages)
 
--- sayings behind sayings
+-- printed lines after printed lines
 pub handed_of-append : (xs ys : List PrintedLine) → handed_of (xs ++ ys) ≡ handed_of xs ++ handed_of ys
 handed_of-append [] ys = refl
 handed_of-append (Handed number message ∷ xs) ys =

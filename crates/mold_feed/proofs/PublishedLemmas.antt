@@ -1,4 +1,4 @@
--- What publishing lines sends is true of the journal that is left.
+-- Everything that publishing lines sends is true of the journal that is left.
 use Rattle.std.proofs.Common.{◌≡◌, ℕ, zero, suc, ◌+◌, ◌-◌, ◌≤◌, true, false, List, [], ◌∷◌, ◌++◌, length, take, map, replicate}
 use Rattle.std.proofs.Common.{Option, None, Some, Result, Ok, Err, refl, sym, ap, subst, ◌∙◌, append_assoc, append-nil}
 use Rattle.std.proofs.Common.{arith, length-append}
@@ -32,7 +32,7 @@ use Rattle.mold_feed.specs.Sent.{AllSent, HasLines, HasLinesBefore, IsOpening}
 use Rattle.mold_feed.proofs.LinesTextLemmas.{spelled_length}
 use Rattle.mold_feed.proofs.SentLemmas.{each_append, sent_front, sent_offered}
 
--- what the session's laws say
+-- the laws of the session that are used here
 pub record PublishedLaws : Type 0 where
   pub may : (publisher : PublisherState) (message : List ℕ) →
       append_refusal publisher.journal message ≡ None → MayPublish publisher message
@@ -43,11 +43,11 @@ pub record PublishedLaws : Type 0 where
 
 -- ---- the lines
 
--- messages, as what lines of digits may spell
+-- what lines of digits decode to, if they decode to these messages
 abbrev as_spelled : List (List ℕ) → List (Result (List ℕ) FromHexError)
 as_spelled messages = map Ok messages
 
--- lines were published up to here: all of them, or to one that is refused
+-- lines were published up to this one: all of them, or those before one that is refused
 record StopsAt (lines : List (List ℕ)) (count : ℕ) (why : LineRefusal) (journal : JournalState) : Type 0 where
   pub line : List ℕ
   pub place : slice_get lines count ≡ Some line
@@ -57,7 +57,7 @@ abbrev EndsAt : List (List ℕ) → ℕ → JournalState → Option LineRefusal 
 EndsAt lines count journal None = count ≡ length lines
 EndsAt lines count journal (Some why) = StopsAt lines count why journal
 
--- with a line in front
+-- the same with one more line before them
 ends_behind : (line : List ℕ) (lines : List (List ℕ)) (count : ℕ) (journal : JournalState)
     (refused : Option LineRefusal) → EndsAt lines count journal refused →
     EndsAt (line ∷ lines) (suc count) journal refused
@@ -65,8 +65,8 @@ ends_behind line lines count journal None ends = ap suc ends
 ends_behind line lines count journal (Some why) ends =
     record { line = ends.line; place = ends.place; refused = ends.refused }
 
--- lines were published: a journal stays one, whose messages may be as long, and the messages of the first so many lines
--- are behind those that it had
+-- lines were published: the journal is still a journal with the same longest message; the messages of the first lines
+-- follow those that it had
 record HasTaken (journal : JournalState) (lines : List (List ℕ)) (after : PublishedLines) : Type 0 where
   pub is : IsJournal after.journal
   pub longest : after.journal.max_message ≡ journal.max_message
@@ -76,7 +76,7 @@ record HasTaken (journal : JournalState) (lines : List (List ℕ)) (after : Publ
   pub closed : after.journal.closed ≡ journal.closed
 
 module _ (laws : PublishedLaws) where
-  -- with a message more that nothing refuses it stays a journal
+  -- one more message that is not refused leaves a journal
   journal_stays : (journal : JournalState) (message : List ℕ) → IsJournal journal →
       append_refusal journal message ≡ None → IsJournal (appended journal message)
   journal_stays journal message is none =
@@ -101,7 +101,7 @@ module _ (laws : PublishedLaws) where
     closed = refl;
   }
 
-  -- a line more, whose message is taken or refused
+  -- one more line, whose message is appended or refused
   message_taken : (journal : JournalState) (line : List ℕ) (lines : List (List ℕ)) (message : List ℕ)
       (refusal : Option AppendError) (behind : JournalState → PublishedLines) → IsJournal journal →
       decode_of line ≡ Ok message → append_refusal journal message ≡ refusal →
@@ -128,7 +128,7 @@ module _ (laws : PublishedLaws) where
       line_refused journal line lines (NotTaken why) is
       (ap (line_outcome journal) digits ∙ ap (unless_refused message) refused)
 
-  -- a line more, whose digits spell a message or none
+  -- one more line, whose digits encode a message or do not
   line_taken : (journal : JournalState) (line : List ℕ) (lines : List (List ℕ))
       (digits : Result (List ℕ) FromHexError) (behind : JournalState → PublishedLines) →
       IsJournal journal → decode_of line ≡ digits →
@@ -154,7 +154,7 @@ module _ (laws : PublishedLaws) where
   lines_taken (line ∷ lines) journal is =
       line_taken journal line lines (decode_of line) (λ next. lines_published next lines) is refl (lines_taken lines)
 
--- a session that begins has a journal
+-- a new session has a journal
 opening_is : (journal : JournalState) (limit : ℕ) → IsOpening journal limit → IsJournal journal
 opening_is journal limit is =
     let none : length journal.messages ≡ 0 = ap (λ (messages : List (List ℕ)). length messages) is.empty in
@@ -164,7 +164,7 @@ opening_is journal limit is =
           (sym is.empty) tt;
     }
 
--- where the journal had no messages, the first so many lines spell those that it has now
+-- if the journal had no messages, the first lines encode the messages that it has now
 opening_spelled : (journal : JournalState) (lines : List (List ℕ)) (after : PublishedLines) (count : ℕ) →
     journal.messages ≡ [] →
     as_spelled journal.messages ++ map decode_of (take count lines) ≡ as_spelled after.journal.messages →
@@ -172,7 +172,7 @@ opening_spelled : (journal : JournalState) (lines : List (List ℕ)) (after : Pu
 opening_spelled journal lines after count empty spelled =
     ap (λ (messages : List (List ℕ)). as_spelled messages ++ map decode_of (take count lines)) (sym empty) ∙ spelled
 
--- they are all lines where none is refused
+-- if no line is refused, these are all lines
 all_spelled : (lines : List (List ℕ)) (count : ℕ) (journal : JournalState) (refused : Option LineRefusal) →
     map decode_of (take count lines) ≡ as_spelled journal.messages → EndsAt lines count journal refused →
     refused ≡ None → HasLines lines (closed_unless refused journal)
@@ -194,7 +194,7 @@ lines_spelled laws limit journal lines is whole =
     all_spelled lines taken.count after.journal after.refused
     (opening_spelled journal lines after taken.count is.empty taken.spelled) taken.ends whole
 
--- and the lines before the refused one where one is
+-- if a line is refused, these are the lines before it
 some_spelled : (lines : List (List ℕ)) (count : ℕ) (journal : JournalState) (why : LineRefusal) →
     map decode_of (take count lines) ≡ as_spelled journal.messages → StopsAt lines count why journal →
     journal.closed ≡ false → HasLinesBefore lines why journal
@@ -224,7 +224,7 @@ lines_spelled_before laws limit journal lines why is stopped =
 
 -- ---- a server may answer from it
 
--- closed or not, a journal may be answered from
+-- a server may answer from a journal whether it is closed or not
 left_may : (refused : Option LineRefusal) (journal : JournalState) (limit : ℕ) → MayAnswer journal limit →
     MayAnswer (closed_unless refused journal) limit
 left_may None journal limit may = record {
@@ -256,7 +256,7 @@ published_may laws limit other journal lines is limited room =
 
 -- ---- its datagrams are true
 
--- what holds of the datagram of the packet in each place holds of all
+-- what holds of the datagram of the packet at each index holds of all datagrams
 each_told : (Good : List ℕ → Type 0) (packets : List Packet) →
     ((place : ℕ) (packet : Packet) → slice_get packets place ≡ Some packet → Good (spelling_of packet)) →
     AllByRecursion Good (map spelling_of packets)
@@ -264,7 +264,7 @@ each_told Good [] told = tt
 each_told Good (packet ∷ packets) told =
     (told zero packet refl, each_told Good packets (λ place. told (suc place)))
 
--- the data packets of all messages are what a plan sends of them
+-- the data packets of all messages are those that a plan sends
 whole_plan : ℕ → JournalState → PlanState
 whole_plan limit journal = record {
   session = journal.session;
@@ -291,7 +291,7 @@ data_true laws limit journal may =
     laws.told journal limit (whole_plan limit journal) place packet may (omega arith, omega arith) (omega arith) refl
     (ap (λ (packets : List Packet). slice_get packets place) (all_planned limit journal) ∙ found))
 
--- and where the last one is left out
+-- the same without the last one
 without_last : (Good : List ℕ → Type 0) (packets : List Packet) → AllByRecursion Good (map spelling_of packets) →
     AllByRecursion Good (map spelling_of (all_but_last packets))
 unfolding all_but_last
@@ -329,7 +329,7 @@ end_true limit journal may closed = record {
   so = record { few = may.journaled.few; said = (closed, refl) };
 }
 
--- all datagrams, as a line is refused or none is
+-- all datagrams, whether a line is refused or not
 all_true : (laws : PublishedLaws) (limit beats ends : ℕ) (refused : Option LineRefusal) (journal : JournalState) →
     MayAnswer journal limit → AllByRecursion (IsTrueDatagram (closed_unless refused journal))
     (all_datagrams limit beats ends (record { journal = journal; refused = refused }))
@@ -346,7 +346,7 @@ all_true laws limit beats ends (Some why) journal may =
     each_append (IsTrueDatagram journal) (map spelling_of (all_but_last (packets_after limit 0 journal))) []
     (without_last (IsTrueDatagram journal) (packets_after limit 0 journal) (data_true laws limit journal may)) tt
 
--- all that are offered
+-- all datagrams that are offered
 pub offered_true : (laws : PublishedLaws) (beats ends limit : ℕ) (journal : JournalState) (lines : List (List ℕ)) →
     IsOpening journal limit → AllByRecursion (IsTrueDatagram (left_journal (lines_published journal lines)))
     (all_datagrams limit beats ends (lines_published journal lines))
@@ -362,7 +362,7 @@ each_both : {P : Type 0} (Good : List ℕ → Type 0) (a b : P) (datagrams : Lis
 each_both Good a b [] each = tt
 each_both Good a b (datagram ∷ datagrams) each = (each.0, (each.0, each_both Good a b datagrams each.1))
 
--- all that are offered were sent or failed
+-- each offered datagram was sent or failed
 sends_true : {P : Type 0} (Good : List ℕ → Type 0) (letters : List (P × List ℕ)) (old new : PublicationState P) →
     Sends letters old new → AllSent Good old.port.sent → AllSent Good letters → AllSent Good new.port.sent
 sends_true {P} Good [] old new same had each =

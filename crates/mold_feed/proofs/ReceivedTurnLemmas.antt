@@ -1,4 +1,4 @@
--- What an honest listener comes to by one receive, by the answers to a request, by a turn, and by a run of turns.
+-- What an honest listener does with one receive, with the responses to a request, in a turn, and in a run of turns.
 use Rattle.std.proofs.Common.{◌≡◌, ℕ, zero, suc, ◌+◌, Bool, true, false, List, [], ◌∷◌, ◌++◌, length, drop, take, refl, ap}
 use Rattle.std.proofs.Common.{◌∙◌, arith, eqb-true, inl, inr}
 use Rattle.std.specs.Prelude.{Option, None, Some, if◌then◌else◌}
@@ -39,19 +39,19 @@ pub rest_gives : {P : Type 0} (Good : List ℕ → Type 0) (comes : List (Receip
 rest_gives Good [] gives = tt
 rest_gives Good (receipt ∷ more) gives = gives.1
 
--- what was heard, and what the port of requests still gives
+-- what was received, and what the port of requests still gives
 pub record HeardAnswers {P : Type 0} (journal : JournalState) (Plain : Type 0) (Good : List ℕ → Type 0) (old : Progress)
     (new : Asking P) : Type 0 where
   pub received : HasHeard journal Plain Good old new.progress
   pub gives : GivesOnly Good new.port
 
--- what was heard, and what the three ports still give
+-- what was received, and what the three ports still give
 record HeardTurns {P : Type 0} (journal : JournalState) (Plain : Type 0) (Good : List ℕ → Type 0) (old : Progress)
     (new : ListenerState P) : Type 0 where
   received : HasHeard journal Plain Good old new.progress
   gives : ReceivesOnly Good new
 
--- the run is over behind a turn, or goes on
+-- after a turn the run ends or goes on
 either_heard : {P : Type 0} (journal : JournalState) (Plain : Type 0) (Good : List ℕ → Type 0) (old : Progress)
     (over : Bool) (one all : ListenerState P) → HeardTurns journal Plain Good old one →
     HeardTurns journal Plain Good old all → HeardTurns journal Plain Good old (if over then one else all)
@@ -74,7 +74,7 @@ module _ (journal : JournalState) (Plain : Type 0) (Good : List ℕ → Type 0) 
   unfolding with_next_receipt
   port_heard line port e sound gives = receipt_heard line (next_of port) e sound (next_gives Good port.comes gives)
 
-  -- ---- the answers to a request
+  -- ---- the responses to a request
 
   pub after_responses : {P : Type 0} (count : ℕ) (s : Asking P) → IsSound journal s.progress → GivesOnly Good s.port →
       HeardAnswers journal Plain Good s.progress (receive_responses count s)
@@ -172,7 +172,7 @@ given_all Good Came (receipt ∷ comes) came gives = (
       came from whole (Contains-append_right (receipt ∷ []) comes (Datagram from whole) is)) gives.1,
 )
 
--- what a port gives, it gives
+-- what a port gives, it gives with this property too
 port_gives : {P : Type 0} (Good Came : List ℕ → Type 0) (port : Port P) →
     ((bytes : List ℕ) → IsReceived port bytes → Came bytes) → GivesOnly Good port → GivesOnly (Both Good Came) port
 port_gives Good Came port came gives =
@@ -187,7 +187,7 @@ ports_give Good s hears = record {
   requests = port_gives Good (CanReceive s) s.requests (λ bytes is. inr (inr is)) hears.requests;
 }
 
--- where strange bytes may come
+-- a run that may receive foreign bytes
 pub run_listened : {P : Type 0} → HearingLaws → (journal : JournalState) (server : P) (burst : ℕ) (choices : List Bool)
     (start : ListenerState P) → IsHonest start.progress.arbitration.view journal.messages journal.closed →
     start.progress.arbitration.view.session ≡ journal.session → ReceivesOnly (IsHarmless journal) start →
@@ -210,7 +210,7 @@ run_listened {P} laws journal server burst choices start honest session hears =
       session = done.sound.session;
     }
 
--- where nothing but what is true comes
+-- a run that receives only what is true
 pub run_plain : {P : Type 0} → HearingLaws → (journal : JournalState) (server : P) (burst : ℕ) (choices : List Bool)
     (start : ListenerState P) → IsHonest start.progress.arbitration.view journal.messages journal.closed →
     start.progress.arbitration.view.session ≡ journal.session → ReceivesOnly (IsTrueDatagram journal) start →
@@ -234,7 +234,7 @@ pub ends_so : (ended : Option ℕ) (next : ℕ) → ends_at ended next ≡ true 
 ends_so None next is = absurd (false≢true is)
 ends_so (Some end) next is = ap Some (eqb-true end next is)
 
--- where it is finished
+-- a run that has finished
 pub run_finished : {P : Type 0} → HearingLaws → (journal : JournalState) (server : P) (burst : ℕ) (choices : List Bool)
     (start : ListenerState P) → IsHonest start.progress.arbitration.view journal.messages journal.closed →
     start.progress.arbitration.view.session ≡ journal.session → ReceivesOnly (IsHarmless journal) start →

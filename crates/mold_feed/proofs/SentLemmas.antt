@@ -1,4 +1,4 @@
--- What was sent: all of it is such where each part is.
+-- All of what was sent has a property if each part has it.
 use Rattle.std.proofs.Common.{ℕ, Bool, true, false, List, [], ◌∷◌, ◌++◌, subst}
 use Rattle.std.specs.List.{AllByRecursion, Contains}
 use Rattle.std.proofs.lemmas.List.Elements.{All-contains, All-from_recursion}
@@ -6,7 +6,7 @@ use Rattle.mold_ports.specs.Ports.{Port, offered}
 use Rattle.mold_turns.specs.Runs.{Begins}
 use Rattle.mold_feed.specs.Sent.{AllSent}
 
--- one list behind another
+-- one list after another
 pub each_append : {X : Type 0} (Good : X → Type 0) (xs ys : List X) → AllByRecursion Good xs → AllByRecursion Good ys →
     AllByRecursion Good (xs ++ ys)
 each_append Good [] ys one other = other
@@ -24,25 +24,25 @@ pub each_rest : {X : Type 0} (Good : X → Type 0) (xs ys : List X) → AllByRec
 each_rest Good [] ys each = each
 each_rest Good (x ∷ xs) ys each = each_rest Good xs ys each.1
 
--- a beginning
+-- a prefix
 pub each_begun : {X : Type 0} (Good : X → Type 0) (front whole : List X) → Begins front whole →
     AllByRecursion Good whole → AllByRecursion Good front
 each_begun {X} Good front whole begins all =
     each_front Good front begins.rest (subst (λ (xs : List X). AllByRecursion Good xs) begins.parts all)
 
--- a beginning of what was sent
+-- a prefix of what was sent
 pub sent_front : {P : Type 0} (Good : List ℕ → Type 0) (front whole : List (P × List ℕ)) → Begins front whole →
     AllSent Good whole → AllSent Good front
 sent_front {P} Good front whole begins all = each_begun (λ (letter : P × List ℕ). Good letter.1) front whole begins all
 
--- one datagram more was offered
+-- one more datagram was offered
 pub sent_offered : {P : Type 0} (Good : List ℕ → Type 0) (fails : Bool) (to : P) (bytes : List ℕ) (port : Port P) →
     AllSent Good port.sent → Good bytes → AllSent Good (offered fails to bytes port).sent
 sent_offered Good true to bytes port all one = all
 sent_offered {P} Good false to bytes port all one =
     each_append (λ (letter : P × List ℕ). Good letter.1) port.sent ((to, bytes) ∷ []) all (one, tt)
 
--- each of what was sent
+-- one of the datagrams that were sent
 pub sent_one : {P : Type 0} (Good : List ℕ → Type 0) (sent : List (P × List ℕ)) (to : P) (bytes : List ℕ) →
     AllSent Good sent → Contains sent (to, bytes) → Good bytes
 sent_one {P} Good sent to bytes all there =

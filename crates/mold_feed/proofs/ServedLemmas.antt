@@ -1,4 +1,4 @@
--- What a serving sends is true of the journal that it answers from.
+-- Everything that a server sends is true of the journal that it answers from.
 use Rattle.std.proofs.Common.{◌≡◌, ℕ, ◌+◌, ◌≤◌, suc, Bool, true, false, List, [], ◌∷◌, ◌++◌, drop, length, Some}
 use Rattle.std.proofs.Common.{Result, Ok, Err, refl, subst}
 use Rattle.std.specs.Prelude.{slice_get}
@@ -18,7 +18,7 @@ use Rattle.mold_wire.specs.declared.packet.Packet.{Packet}
 use Rattle.mold_wire.specs.declared.request.Request.{Request}
 use Rattle.mold_wire.specs.declared.limits.TheConstants.{MAX_LIMIT}
 
--- what the laws of the session say of answers
+-- the laws of the session about responses
 pub record ServingLaws : Type 0 where
   pub answerable : (journal : JournalState) (request : Request) (bytes : List ℕ) →
       asking journal bytes ≡ Ok request → IsAnswerable journal request
@@ -36,17 +36,17 @@ pub record ServingLaws : Type 0 where
 
 -- ---- packets that are offered
 
--- packets whose spellings are such
+-- packets whose encodings satisfy `Good`
 abbrev AllSpelled : (List ℕ → Type 0) → List Packet → Type 0
 AllSpelled Good packets = AllByRecursion (λ packet. Good (spelling_of packet)) packets
 
--- what holds at each place of a list holds of all of it
+-- what holds at each index of a list holds of all of it
 each_at : {X : Type 0} (Q : X → Type 0) (xs : List X) →
     ((place : ℕ) (x : X) → slice_get xs place ≡ Some x → Q x) → AllByRecursion Q xs
 each_at Q [] at = tt
 each_at Q (x ∷ xs) at = (at 0 x refl, each_at Q xs (λ place y found. at (suc place) y found))
 
--- one datagram more
+-- one more datagram
 served_more : {P : Type 0} (Good : List ℕ → Type 0) (sent : List (P × List ℕ)) (letter : P × List ℕ) →
     AllSent Good sent → Good letter.1 → AllSent Good (sent ++ letter ∷ [])
 served_more Good [] letter so good = (good, tt)
@@ -68,7 +68,7 @@ offer_all_sends_only Good to (packet ∷ packets) fails responder spelled so =
     offer_all_sends_only Good to packets (drop 1 fails) (offer to (fails_first fails) packet responder) spelled.1
     (offer_sends_only Good to (fails_first fails) packet responder spelled.0 so)
 
--- what a request is met by: packets whose spellings are such, or none
+-- the reply to a request has only packets whose encodings satisfy `Good`, or is a refusal
 abbrev RepliesOnly : (List ℕ → Type 0) → Result (List Packet) AnswerError → Type 0
 RepliesOnly Good (Ok packets) = AllSpelled Good packets
 RepliesOnly Good (Err why) = Unit {0}
@@ -79,7 +79,7 @@ replied_sends_only : {P : Type 0} (Good : List ℕ → Type 0) (to : P) (fails :
 replied_sends_only Good to fails (Ok packets) responder only so = offer_all_sends_only Good to packets fails _ only so
 replied_sends_only Good to fails (Err why) responder only so = so
 
--- ---- what is answered is true
+-- ---- responses are true
 
 module _ (laws : ServingLaws) (service : Service) (may : MayAnswer service.journal service.limit) where
   answer_tells : (request : Request) → IsAnswerable service.journal request →

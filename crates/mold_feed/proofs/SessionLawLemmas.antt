@@ -1,5 +1,5 @@
--- From the lines that are published to the lines that are heard, by what the laws of publishing, of serving and of
--- listening say.
+-- From the lines that are published to the lines that a listener prints, by the laws of publishing, serving and
+-- listening.
 use Rattle.std.proofs.Common.{◌≡◌, ℕ, ◌+◌, ◌≤◌, Bool, true, false, List, [], ◌∷◌, ◌++◌, length, take, Option, None, Some}
 use Rattle.std.proofs.Common.{Result, inl, inr, sym, ap, subst, ◌∙◌, arith}
 use Rattle.std.specs.Io.KnownBytes.{Appends}
@@ -34,7 +34,7 @@ use Rattle.mold_session.specs.Truthful.{MayAnswer, IsTrueDatagram}
 use Rattle.mold_wire.specs.Truth.{IsTruePacket}
 use Rattle.mold_wire.specs.declared.session.Session.{Session}
 
--- what the laws say that the session's law stands on
+-- the laws that the law of the session depends on
 pub record FeedLaws (P : Type 0) : Type 0 where
   pub opening : OpeningLaws
   pub published : (a b : P) (beats ends limit : ℕ) (journal : JournalState) (lines : List (List ℕ))
@@ -85,7 +85,7 @@ copy_tells journal copy bytes is modeled = record {
       (subst (λ (c : Bool). IsTruePacket modeled.packet copy.messages c) is.closed modeled.so);
 }
 
--- ---- what comes
+-- ---- what the ports give
 
 each_weaker : {X : Type 0} (Q R : X → Type 0) → ((x : X) → Q x → R x) → (xs : List X) → AllByRecursion Q xs →
     AllByRecursion R xs
@@ -174,7 +174,7 @@ module _ {P : Type 0} (laws : FeedLaws P) (limit : ℕ) (journal : JournalState)
       has_finished hears =
           laws.finished (left_by journal lines) server burst ran.choices start honest in_session hears
 
-      -- nothing but what was sent of the session
+      -- the ports give only what was sent of the session
       all_true : ReceivesOnly (IsSent P journal limit lines) start → ReceivesOnly (IsTrueDatagram (left_by journal lines)) start
       all_true sent =
           hears_weaker (IsSent P journal limit lines) (IsTrueDatagram (left_by journal lines)) sent_tells start sent
@@ -191,7 +191,7 @@ module _ {P : Type 0} (laws : FeedLaws P) (limit : ℕ) (journal : JournalState)
           laws.plain (left_by journal lines) server burst ran.choices start honest in_session hears
           ∙ ap (λ (n : ℕ). handed_text n (between (left_by journal lines).messages n next)) at_first
 
-      -- where no line is refused
+      -- no line is refused
 
       module _ (unrefused : (lines_published journal lines).refused ≡ None) where
         has_lines : HasLines lines (left_by journal lines)
@@ -217,7 +217,7 @@ module _ {P : Type 0} (laws : FeedLaws P) (limit : ℕ) (journal : JournalState)
             prints_lines (comes_to (all_harmless hears))
             (text_heard hears ∙ text_between lines (left_by journal lines).messages first next has_lines.spelled)
 
-      -- where one is
+      -- a line is refused
 
       module _ (why : LineRefusal) (refused : (lines_published journal lines).refused ≡ Some why) where
         abbrev count : ℕ

@@ -1,4 +1,4 @@
--- What an honest listener comes to by one datagram, and by one after the other.
+-- What an honest listener does with one datagram, and with one datagram after another.
 use Rattle.std.proofs.Common.{◌≡◌, ℕ, ◌+◌, ◌≤◌, Bool, List, [], ◌∷◌, ◌++◌, length, refl, sym, ap, ap₂, subst, ◌∙◌}
 use Rattle.std.proofs.Common.{inl, inr, arith, append_assoc, append-nil, not}
 use Rattle.std.specs.Prelude.{◌↔◌, Option, None, Some, Result, Ok, Err, slice_get}
@@ -36,7 +36,7 @@ use Rattle.mold_feed.proofs.PrintedLineLemmas.{between_none, counted_joined, han
 use Rattle.mold_feed.proofs.PrintedLineLemmas.{handed_of-handing, handing, handing-append, numbered-append}
 use Rattle.mold_feed.proofs.PrintedLineLemmas.{refused-append, refused-handing, text-append, text-handing}
 
--- what the laws of receiver and wire say of a datagram that comes
+-- the laws of the receiver and of the packets about a received datagram
 pub record HearingLaws : Type 0 where
   pub take : (v : View) (packet : Packet) (bytes : List ℕ) (published : List Message) (closed : Bool) →
       IsHonest v published closed → Spells packet bytes → packet.session ≡ v.session →
@@ -46,7 +46,7 @@ pub record HearingLaws : Type 0 where
   pub fault : (error : DecodeError) (bytes : List ℕ) → IsBytes bytes →
       (reading bytes ≡ Err error) ↔ FaultAt error bytes
 
--- What may come: only bytes that are harmless. Where it is plain that nothing strange comes, only what is true.
+-- What may be received: only harmless bytes. If `Plain` holds, only datagrams that are true of the session.
 pub record MayCome (journal : JournalState) (Plain : Type 0) (Good : List ℕ → Type 0) : Type 0 where
   pub harmless : (bytes : List ℕ) → Good bytes → IsHarmless journal bytes
   pub told : Plain → (bytes : List ℕ) → Good bytes → IsTrueDatagram journal bytes
@@ -56,9 +56,8 @@ pub record IsSound (journal : JournalState) (e : Progress) : Type 0 where
   pub honest : IsHonest e.arbitration.view journal.messages journal.closed
   pub session : e.arbitration.view.session ≡ journal.session
 
--- What an honest listener has come to since it was another one: it has printed some sayings, which hand on what was
--- published between their next numbers, and refuse what may come. Where it is plain that nothing strange comes, they
--- refuse nothing.
+-- What an honest listener has done between two states. It printed lines that deliver the messages published between
+-- the two next numbers, and that refuse bytes which may be received. If `Plain` holds, it refused nothing.
 pub record HasHeard (journal : JournalState) (Plain : Type 0) (Good : List ℕ → Type 0) (old new : Progress) : Type 0 where
   pub printed_lines : List PrintedLine
   pub text : new.outgoing.text ≡ old.outgoing.text ++ printed_lines_text printed_lines
@@ -73,12 +72,12 @@ pub record HasHeard (journal : JournalState) (Plain : Type 0) (Good : List ℕ �
 first_number : (journal : JournalState) (e : Progress) → IsSound journal e → 1 ≤ e.arbitration.view.next
 first_number journal e sound = sound.honest.well_formed.first
 
--- the next number is one of a message that was published, or the one behind
+-- the next number is at most the number after the last published message
 pub last_number : (journal : JournalState) (e : Progress) → IsSound journal e →
     e.arbitration.view.next ≤ length journal.messages + 1
 last_number journal e sound = omega (arith, sound.honest.well_formed.ahead, sound.honest.known)
 
--- ---- a view that stays
+-- ---- a view that stays the same
 
 still_next : (journal : JournalState) (old new : Progress) → new.arbitration.view ≡ old.arbitration.view →
     between journal.messages old.arbitration.view.next new.arbitration.view.next ≡ []
@@ -93,7 +92,7 @@ still_sound journal old new sound same = record {
   session = ap (λ (v : View). v.session) same ∙ sound.session;
 }
 
--- ---- the view behind a datagram
+-- ---- the view after a datagram
 
 view_taken : (line : Option Line) (bytes : List ℕ) (old : Arbitration) (reception : Reception) →
     (arbitrated line bytes old (Ok reception)).view ≡ reception.view
@@ -107,7 +106,7 @@ view_refused (Some line) bytes old why = refl
 
 -- ---- why bytes are refused
 
--- a packet of another session is refused as such
+-- a packet of another session is refused with `WrongSession`
 other_refused : (v : View) (packet : Packet) → (packet.session ≡ v.session → ⊥) →
     receive_packet v packet ≡ Err WrongSession
 other_refused v packet other =
@@ -125,7 +124,7 @@ other_refused v packet other =
           ∷ [])) (reception v packet)) differs
     ]
 
--- why what is no packet of the session is refused
+-- why bytes are refused that do not encode a packet of the session
 has_reason : HearingLaws → (v : View) (session : Session) (bytes : List ℕ) (read : Result Packet DecodeError)
     (why : Refusal) → v.session ≡ session → IsForeign session bytes → reading bytes ≡ read →
     receive_read v read ≡ Err why → IsReason session bytes why
@@ -137,7 +136,7 @@ has_reason laws v session bytes (Ok packet) why same strange is refused =
     let wrong : receive_packet v packet ≡ Err WrongSession = other_refused v packet (λ e. other (e ∙ same)) in
     inr (packet, spelled, other, (let e : why ≡ WrongSession = cc (wrong, refused) in e))
 
--- ---- what comes to a listener
+-- ---- what a listener receives
 
 module _ (journal : JournalState) (Plain : Type 0) (Good : List ℕ → Type 0) where
   -- nothing is printed
@@ -156,7 +155,7 @@ module _ (journal : JournalState) (Plain : Type 0) (Good : List ℕ → Type 0) 
         sound = still_sound journal old new sound same;
       }
 
-  -- messages are handed on, of which each is the published one with its number
+  -- messages are delivered, and each is the published one with its number
   messages_heard : (old new : Progress) (messages : List Message) → IsSound journal old →
       new.arbitration.view.next ≡ old.arbitration.view.next + length messages →
       new.outgoing.text ≡ old.outgoing.text ++ handed_text old.arbitration.view.next messages →
@@ -212,7 +211,7 @@ module _ (journal : JournalState) (Plain : Type 0) (Good : List ℕ → Type 0) 
       }
 
   module _ (laws : HearingLaws) (may : MayCome journal Plain Good) where
-    -- what is true is taken
+    -- a true datagram is taken
     true_heard : (line : Option Line) (bytes : List ℕ) (e : Progress) → IsSound journal e → IsTrueDatagram journal bytes →
         HasHeard journal Plain Good e (taken line bytes e)
     true_heard line bytes e sound told =
@@ -235,7 +234,7 @@ module _ (journal : JournalState) (Plain : Type 0) (Good : List ℕ → Type 0) 
               ap (λ (w : View). w.session) view ∙ ap (λ (r : Reception). r.view.session) rule.taken ∙ sound.session;
         })
 
-    -- what is no packet of the session is refused
+    -- bytes that do not encode a packet of the session are refused
     refused_heard : (line : Option Line) (bytes : List ℕ) (e : Progress) (why : Refusal) → IsSound journal e →
         Good bytes → IsForeign journal.session bytes → (Plain → ⊥) → receive e.arbitration.view bytes ≡ Err why →
         HasHeard journal Plain Good e (taken line bytes e)
@@ -269,7 +268,7 @@ module _ (journal : JournalState) (Plain : Type 0) (Good : List ℕ → Type 0) 
     strange_heard line bytes e (Err why) sound good strange never is =
         refused_heard line bytes e why sound good strange never is
 
-    -- what may come is taken or refused
+    -- what may be received is taken or refused
     pub taken_heard : (line : Option Line) (bytes : List ℕ) (e : Progress) → IsSound journal e → Good bytes →
         HasHeard journal Plain Good e (taken line bytes e)
     taken_heard line bytes e sound good =

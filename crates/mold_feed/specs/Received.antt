@@ -1,4 +1,4 @@
--- From datagrams to lines: what a listener may be given, and what it prints of it.
+-- What a listener's ports may give, and what the listener prints of it.
 use Rattle.std.specs.Prelude.{◌≡◌, ◌⊎◌, ⊤, ℕ, ◌+◌, ◌≤◌, Bool, true, false, nat_le, ◌&&◌, if◌then◌else◌}
 use Rattle.std.specs.Prelude.{List, [], ◌∷◌, ◌++◌, codes, decimal, length, map, take, Option, Result, IfOk}
 use Rattle.std.specs.Io.KnownBytes.{Appends}
@@ -29,198 +29,238 @@ use Rattle.mold_feed.specs.Sent.{IsSent}
 use Rattle.mold_listen.specs.Text.{finished_line, handed_line, open_line, reports_text}
 use Rattle.mold_wire.specs.declared.limits.TheConstants.{MAX_LIMIT}
 
--- bytes that spell no packet of the session
+-- The bytes do not encode a packet of the session.
 abbrev pub IsForeign : Session → List ℕ → Type 0
 IsForeign session bytes = IsBytes bytes × AreForeign session bytes
 
--- a datagram that is true of the session, or bytes that spell no packet of it
+-- The bytes are a datagram that is true of the journal, or do not encode a packet of its session.
 abbrev pub IsHarmless : JournalState → List ℕ → Type 0
 IsHarmless journal bytes = IsTrueDatagram journal bytes ⊎ IsForeign journal.session bytes
 
--- what a listener of the session of these lines may be given: what the session's publisher and servers sent, and bytes
--- that spell no packet of it
+-- What a listener may be given of the session of these lines. The bytes were sent by the session's publisher or by one
+-- of its servers, or do not encode a packet of the session.
 abbrev pub IsFed : (P : Type 0) → JournalState → ℕ → List (List ℕ) → List ℕ → Type 0
 IsFed P journal limit lines bytes = IsSent P journal limit lines bytes ⊎ IsForeign journal.session bytes
 
--- what a receive gives is such, as far as it is looked at
+-- If the receive gives a datagram, then the first 65,507 bytes of that datagram satisfy `Good`.
 abbrev pub Gives : {P : Type 0} → (List ℕ → Type 0) → Receipt P → Type 0
 Gives Good (Datagram from bytes) = Good (take MAX_LIMIT bytes)
 Gives Good Quiet = ⊤
 Gives Good Failure = ⊤
 
--- all that a port's receives give
+-- Every datagram that the port still gives satisfies `Good`.
 abbrev pub GivesOnly : {P : Type 0} → (List ℕ → Type 0) → Port P → Type 0
 GivesOnly Good port = AllByRecursion (Gives Good) port.comes
 
--- all that a listener's three ports give
+-- Every datagram that the listener's three ports still give satisfies `Good`.
 pub record ReceivesOnly {P : Type 0} (Good : List ℕ → Type 0) (s : ListenerState P) : Type 0 where
   pub a : GivesOnly Good s.a
   pub b : GivesOnly Good s.b
   pub requests : GivesOnly Good s.requests
 
--- a port gives these bytes: they are what is looked at of a datagram that comes there
+-- The port still gives these bytes: they are the first 65,507 bytes of a datagram that it gives.
 pub record IsReceived {P : Type 0} (port : Port P) (bytes : List ℕ) : Type 0 where
+  -- the sender of the datagram
   pub from : P
+  -- the whole datagram
   pub whole : List ℕ
   pub comes : Contains port.comes (Datagram from whole)
   pub seen : bytes ≡ take MAX_LIMIT whole
 
--- one of a listener's three ports gives them
+-- One of the listener's three ports still gives these bytes.
 abbrev pub CanReceive : {P : Type 0} → ListenerState P → List ℕ → Type 0
 CanReceive s bytes = IsReceived s.a bytes ⊎ IsReceived s.b bytes ⊎ IsReceived s.requests bytes
 
--- what a listener prints: a message that is handed on, with its number, or why it refuses some bytes
+-- A line that a listener prints: a delivered message with its number, or some bytes with the reason why they are
+-- refused.
 pub data PrintedLine : Type 0 where
   Handed : ℕ → Message → PrintedLine
   Refuses : List ℕ → Refusal → PrintedLine
 
+-- The text of one printed line.
 abbrev pub printed_line : PrintedLine → List ℕ
 printed_line (Handed number message) = handed_line number message
 printed_line (Refuses bytes why) = refused_line (refusal_words why)
 
+-- The text of printed lines, in order.
 abbrev pub printed_lines_text : List PrintedLine → List ℕ
 printed_lines_text printed_lines = flat_map printed_line printed_lines
 
--- the messages that were handed on, with their numbers
+-- The messages that the printed lines deliver, each with its number.
 abbrev pub handed_of : List PrintedLine → List (ℕ × Message)
 handed_of [] = []
 handed_of (Handed number message ∷ printed_lines) = (number, message) ∷ handed_of printed_lines
 handed_of (Refuses bytes why ∷ printed_lines) = handed_of printed_lines
 
--- why bytes are refused that are no packet of the session: for what is wrong with them, or as a packet of another one
+-- The reason why bytes are refused that do not encode a packet of the session: their decode fault, or `WrongSession`
+-- for a packet of another session.
 abbrev pub IsReason : Session → List ℕ → Refusal → Type 0
 IsReason session bytes why =
     ((error : DecodeError) × FaultAt error bytes × (why ≡ Malformed error))
     ⊎ ((packet : Packet) × Spells packet bytes × (packet.session ≡ session → ⊥) × (why ≡ WrongSession))
 
--- what is refused came, and is none of the session's packets, and that is why
+-- If the printed line refuses bytes, these satisfy `Came` and do not encode a packet of the session. The printed
+-- reason is the right one (`IsReason`).
 abbrev pub RefusesForeign : (List ℕ → Type 0) → Session → PrintedLine → Type 0
 RefusesForeign Came session (Handed number message) = ⊤
 RefusesForeign Came session (Refuses bytes why) = Came bytes × IsForeign session bytes × IsReason session bytes why
 
--- What an honest listener of a session has come to, which began at the message `first`. Behind a text it printed lines
--- of messages and lines of refusals; the messages have the numbers from `first` to below the next one, and are the
--- published ones; only what came and is no packet of the session was refused; and it is honest.
+-- The state of an honest listener that started at message `first` with the text `before`. It has appended printed
+-- lines to that text. Their messages are the published ones, from `first` to the last one before its next number. It
+-- refused only bytes that satisfy `Came` and do not encode a packet of the session. It is still honest.
 pub record HasListened (journal : JournalState) (Came : List ℕ → Type 0) (first : ℕ) (before : List ℕ) (e : Progress) :
     Type 0 where
+  -- the lines printed since the start
   pub printed_lines : List PrintedLine
   pub text : e.outgoing.text ≡ before ++ printed_lines_text printed_lines
+  -- each refusal is of received bytes that do not encode a packet of the session
   pub refused : AllByRecursion (RefusesForeign Came journal.session) printed_lines
   pub from : first ≤ e.arbitration.view.next
+  -- every delivered message was published
   pub to : e.arbitration.view.next ≤ length journal.messages + 1
+  -- the delivered messages are the published ones, with their numbers
   pub handed : handed_of printed_lines ≡ numbered first (between journal.messages first e.arbitration.view.next)
   pub honest : IsHonest e.arbitration.view journal.messages journal.closed
   pub session : e.arbitration.view.session ≡ journal.session
 
--- the session's end is known and all before it was handed on: the session is closed, and it was all of it
+-- The session is closed, and the listener has delivered all of its messages.
 pub record HasFinished (journal : JournalState) (e : Progress) : Type 0 where
   pub closed : journal.closed ≡ true
   pub all : e.arbitration.view.next ≡ length journal.messages + 1
 
--- a hexadecimal digit as it is printed, in lower case
+-- A hexadecimal digit as it is printed, in lower case.
 abbrev pub lower_digit : ℕ → ℕ
 lower_digit digit = if nat_le 65 digit && nat_le digit 70 then digit + 32 else digit
 
--- the digits of a published line as they are printed, `-` for none
+-- The digits of a published line as they are printed. An empty line is printed as `-`.
 abbrev pub shown : List ℕ → List ℕ
 shown [] = codes "-"
 shown (digit ∷ digits) = map lower_digit (digit ∷ digits)
 
--- published lines behind their numbers
+-- The text of published lines, each after its number. The first number is `number`.
 unfoldable pub lines_text : ℕ → List (List ℕ) → List ℕ
 lines_text number [] = []
 lines_text number (line ∷ lines) =
     line_of (decimal number ∷ shown line ∷ []) ++ lines_text (number + 1) lines
 
--- the last line of a listener that is finished or not, and its status
+-- The last line of a listener, which depends on whether it has finished.
 abbrev pub closing_line : Bool → ℕ → ℕ → ℕ → List ℕ
 closing_line finished next known failures =
     if finished then finished_line next failures else open_line next known failures
 
+-- The status of a listener: 0 if it has finished, otherwise 1.
 abbrev pub closing_status : Bool → ℕ
 closing_status finished = if finished then 0 else 1
 
--- the reports of the lines, where they are asked for, and then the last line
+-- The last lines of a listener: the reports of lines A and B, if they were requested, and then its last line.
 abbrev pub closing_lines : Bool → LineReports → Bool → ℕ → ℕ → ℕ → List ℕ
 closing_lines reporting reports finished next known failures =
     reports_text reporting reports known ++ closing_line finished next known failures
 
--- What a listener printed that began at the line `first`: the published lines behind their numbers, from that one to
--- below some line; where they are asked for, reports of its two lines, whose lag is from the known number of its last
--- line; and then that line, whose numbers are those of lines or the one behind. Where it is finished, which status 0
--- says, they are all from the first one on. After a fault a beginning of such a text is written.
+-- What a listener that started at line `first` has written at its end. Its text is the published lines from `first` to
+-- `next - 1`, each after its number. The reports, if requested, and its last line follow. With status 0 it has printed
+-- all lines. After a fault, a prefix of such a text is written.
 pub record PrintsLines {E : Type 0} (reporting : Bool) (lines : List (List ℕ)) (first : ℕ) (result : Result ℕ E)
     (old new : Option (List ℕ)) : Type 0 where
+  -- the number of the next message to deliver
   pub next : ℕ
   pub finished : Bool
+  -- the greatest top that the listener knows
   pub known : ℕ
+  -- the count of failed sends and receives
   pub failures : ℕ
+  -- what was received on lines A and B
   pub reports : LineReports
   pub from : first ≤ next
   pub to : next ≤ length lines + 1
+  -- the listener does not deliver more than it knows of
   pub ahead : next ≤ known
+  -- the listener knows only of published lines
   pub received : known ≤ length lines + 1
+  -- a listener that has finished printed every line
   pub all : finished ≡ true → next ≡ length lines + 1
+  -- after a success, the whole text is written
   pub text : IfOk result (λ status. (status ≡ closing_status finished) × Appends old new
       (lines_text first (between lines first next) ++ closing_lines reporting reports finished next known failures))
+  -- in any case, a prefix of the text is written
   pub front : AppendsPrefix old new
       (lines_text first (between lines first next) ++ closing_lines reporting reports finished next known failures)
 
--- What a listener printed that began at the line `first`, where the line `place` is refused: published lines behind
--- their numbers, from the first one on, each of them before the refused one; and then the same reports and its last
--- line, which tells no number behind that one, with status 1, since the session has no end. After a fault a beginning
--- of such a text is written.
+-- What a listener that started at line `first` has written at its end, if line `place` is refused. Its text is the
+-- published lines from `first` to `next - 1`. The reports, if requested, and its last line follow. `next` and `known`
+-- are at most `place`. The status is 1, since the session has no end. After a fault, a prefix of such a text is
+-- written.
 pub record PrintsOpen {E : Type 0} (reporting : Bool) (lines : List (List ℕ)) (place first : ℕ) (result : Result ℕ E)
     (old new : Option (List ℕ)) : Type 0 where
+  -- the number of the next message to deliver
   pub next : ℕ
+  -- the greatest top that the listener knows
   pub known : ℕ
+  -- the count of failed sends and receives
   pub failures : ℕ
+  -- what was received on lines A and B
   pub reports : LineReports
   pub from : first ≤ next
   pub to : next ≤ place
   pub ahead : next ≤ known
   pub received : known ≤ place
+  -- after a success, the whole text is written
   pub text : IfOk result (λ status. (status ≡ 1) × Appends old new
       (lines_text first (between lines first next) ++ closing_lines reporting reports false next known failures))
+  -- in any case, a prefix of the text is written
   pub front : AppendsPrefix old new
       (lines_text first (between lines first next) ++ closing_lines reporting reports false next known failures)
 
--- What a loop printed whose listener began at the line `first`, where the line `place` is refused: published lines
--- behind their numbers, from the first one on, each of them before the refused one; then the refusal, with status 2.
--- After a fault a beginning of such a text is written.
+-- What a loop of publisher, server and listener has written, if its listener started at line `first` and line `place`
+-- is refused. Its text is published lines from `first` on, all of them before `place`, and then the line of the
+-- refusal. The status is 2. After a fault, a prefix of such a text is written.
 pub record PrintsRefused {E : Type 0} (lines : List (List ℕ)) (place : ℕ) (why : LineRefusal) (first : ℕ)
     (result : Result ℕ E) (old new : Option (List ℕ)) : Type 0 where
+  -- the number of the next message to deliver
   pub next : ℕ
   pub from : first ≤ next
   pub to : next ≤ place
+  -- after a success, the whole text is written
   pub text : IfOk result (λ status. (status ≡ 2) × Appends old new
       (lines_text first (between lines first next) ++ refused_text place why))
+  -- in any case, a prefix of the text is written
   pub front : AppendsPrefix old new (lines_text first (between lines first next) ++ refused_text place why)
 
--- the lines of messages alone
+-- The text of those printed lines that deliver a message.
 abbrev pub messages_text : List PrintedLine → List ℕ
 messages_text [] = []
 messages_text (Handed number message ∷ printed_lines) = handed_line number message ++ messages_text printed_lines
 messages_text (Refuses bytes why ∷ printed_lines) = messages_text printed_lines
 
--- The same where also bytes came that are none of the session's packets: what is printed between the lines of messages
--- are refusals of these.
+-- What a listener that started at line `first` has written at its end, if its ports may also give foreign bytes. Such
+-- bytes do not encode a packet of the session. The text is as for `PrintsLines`, but lines that refuse such bytes may
+-- be between the lines of messages.
 pub record PrintsAmong {E : Type 0} (reporting : Bool) (session : Session) (Came : List ℕ → Type 0)
     (lines : List (List ℕ)) (first : ℕ) (result : Result ℕ E) (old new : Option (List ℕ)) : Type 0 where
+  -- the number of the next message to deliver
   pub next : ℕ
   pub finished : Bool
+  -- the greatest top that the listener knows
   pub known : ℕ
+  -- the count of failed sends and receives
   pub failures : ℕ
+  -- what was received on lines A and B
   pub reports : LineReports
+  -- what was printed before the last lines
   pub printed_lines : List PrintedLine
+  -- each refusal is of received bytes that do not encode a packet of the session
   pub refused : AllByRecursion (RefusesForeign Came session) printed_lines
+  -- without the refusals, the printed lines are the published lines
   pub messages : messages_text printed_lines ≡ lines_text first (between lines first next)
   pub from : first ≤ next
   pub to : next ≤ length lines + 1
   pub ahead : next ≤ known
   pub received : known ≤ length lines + 1
+  -- a listener that has finished printed every line
   pub all : finished ≡ true → next ≡ length lines + 1
+  -- after a success, the whole text is written
   pub text : IfOk result (λ status. (status ≡ closing_status finished) × Appends old new
       (printed_lines_text printed_lines ++ closing_lines reporting reports finished next known failures))
+  -- in any case, a prefix of the text is written
   pub front : AppendsPrefix old new
       (printed_lines_text printed_lines ++ closing_lines reporting reports finished next known failures)

@@ -1,5 +1,5 @@
-//! From the lines that are published to the lines that are heard: what holds of the definitions that the loops'
-//! contracts name. Each law is a function that does nothing: its contract is the law.
+//! Laws about the definitions that the contracts of the publishing, serving and listening loops cite. Each law is a
+//! function that does nothing; its contract is the theorem.
 
 ghost use Rattle.std.specs.Prelude.{◌≡◌, ◌+◌, ◌++◌, ◌≤◌, Bool, List, [], None, Option, Result, Some, length, true, ℕ};
 ghost use Rattle.std.specs.List.{AllByRecursion};
@@ -30,10 +30,13 @@ use mold_receiver::laws::{honest_stays_law, honest_take_law, taken_law};
 use mold_session::laws::{answered_law, publisher_law, sending_law};
 use mold_wire::laws::reading_law;
 
-/// What publishing lines offers is true of the journal that is left, also where a line is refused and where the
-/// loop ended in a fault; so is what was sent of it, and all that a port has sent that sent nothing else. Where no line
-/// is refused, that journal is closed and has the messages of the lines; where one is, it has those of the lines before
-/// it. A server may answer from it whose datagrams have room for its longest message.
+/// States that everything a publisher sends is true of the journal that it leaves. This holds for all datagrams that
+/// publishing the lines offers, also if a line is refused. It holds for the datagrams that were sent, also after a
+/// fault, if everything that the port sent earlier is true of that journal.
+///
+/// If no line is refused, that journal is closed and has the messages of the lines. If a line is refused, it is open
+/// and has the messages of the lines before that one. A server may answer from it if the server's datagrams have room
+/// for the journal's longest message.
 pub fn published_law<D: Datagrams>()
     ensures offered { (beats ends limit : ℕ) (journal : JournalState) (lines : List (List ℕ)) →
         IsOpening journal limit → AllByRecursion (IsTrueDatagram (left_journal (lines_published journal lines)))
@@ -58,8 +61,8 @@ pub fn published_law<D: Datagrams>()
     sending_law();
 }
 
-/// What serving sends is true of the journal that is answered from, whatever is asked and whichever sends fail, and so
-/// is a beginning of it; so is all that a port has sent that sent nothing else.
+/// States that everything a server sends is true of the journal that it answers from. This holds for every request and
+/// for every choice of which sends fail, if everything that the port sent earlier is true of the journal.
 pub fn served_law<D: Datagrams>()
     ensures { (service : Service) (choices : List (List Bool)) (start : ResponderState D.Peer) →
         MayAnswer service.journal service.limit → AllSent (IsTrueDatagram service.journal) start.port.sent →
@@ -69,11 +72,15 @@ pub fn served_law<D: Datagrams>()
     sending_law();
 }
 
-/// A listener that is honest, and whose ports give only what is true of the session and what is no packet of it, stays
-/// so, for any burst, any number of turns and whichever sends fail. The messages that it prints have consecutive
-/// numbers from its next one on and are the published ones, and whatever it refuses came and is no packet of the
-/// session; where all that came was true, it prints nothing else. Finished means that all to the session's end was
-/// printed.
+/// States what an honest listener prints. Its ports give only datagrams that are true of the session, and bytes that
+/// do not encode a packet of the session. The law holds for any burst, any number of turns and any choice of which
+/// sends fail.
+///
+/// - The listener stays honest. Its messages have consecutive numbers from its next one on, and are the published
+///   ones.
+/// - What it refuses was received, and does not encode a packet of the session.
+/// - If all that its ports give is true of the session, it prints only messages.
+/// - If it has finished, it printed all messages up to the end of the session.
 pub fn listened_law<D: Datagrams>()
     ensures received { (journal : JournalState) (server : D.Peer) (burst : ℕ) (choices : List Bool)
         (start : ListenerState D.Peer) → IsHonest start.progress.arbitration.view journal.messages journal.closed →
@@ -98,13 +105,17 @@ pub fn listened_law<D: Datagrams>()
     reading_law();
 }
 
-/// From the lines that are published to the lines that are heard. Lines are published into a session that begins; any
-/// number of servers answer from copies of the journal that is left; a listener begins at a message that was published
-/// or is next, and its ports give nothing else of the session than what these sent: each datagram any number of times,
-/// in any order, or never. Where no line is refused, it prints the published lines behind their numbers, from that
-/// one on, and with status 0 they are all of them. The same holds of the lines of messages that it prints where
-/// also bytes come that are no packets of the session. Where a line is refused, it prints lines before that one, and
-/// its status is 1. Reports of the two lines stand only where they are asked for, and only before the last line.
+/// States that a listener prints the lines that were published. Lines are published into a new session, and any number
+/// of servers answer from copies of the journal that is left. A listener starts at a published message or at the
+/// number after the last one. Of the session, its ports give only datagrams that the publisher and the servers sent.
+/// Each of these may come any number of times, in any order, or never.
+///
+/// - If no line is refused, the listener prints the published lines from its first one on, each after its number. With
+///   status 0 it printed all of them.
+/// - If its ports also give bytes that do not encode a packet of the session, the same holds for its lines of
+///   messages.
+/// - If a line is refused, the listener prints only lines before that one, and its status is 1.
+/// - Reports of lines A and B are printed only if they were requested, and only just before the last line.
 pub fn session_law<D: Datagrams>()
     ensures printed { (reporting : Bool) (limit first window turns burst : ℕ) (journal : JournalState)
         (lines : List (List ℕ)) (server : D.Peer) (a b requests : Port D.Peer) (arbitration : Arbitration)

@@ -1,4 +1,4 @@
-//! From the lines that are published to the lines that a listener prints: laws of publishing, serving and listening.
+//! Laws of a whole feed: from the lines that are published to the lines that a listener prints.
 #![tactic(auto)]
 
 pub mod laws;
