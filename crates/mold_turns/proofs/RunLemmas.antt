@@ -1,4 +1,4 @@
--- What is shown once for every loop that goes by turns. A loop keeps `Going`; each of its ends has a lemma.
+-- Lemmas for every loop that makes turns. A loop keeps `Going`, and each way in which it can end has a lemma.
 use Rattle.std.proofs.Common.{◌≡◌, ℕ, ◌+◌, ◌-◌, ◌<◌, Bool, true, false, List, [], ◌∷◌, ◌++◌, length, replicate}
 use Rattle.std.proofs.Common.{Option, Result, Ok, Err, refl, sym, ap, subst, ◌∙◌, arith, append_assoc, append-nil}
 use Rattle.std.proofs.Common.{length-append}
@@ -9,7 +9,7 @@ use Rattle.std.proofs.KnownBytes.{Appends-nil, Appends-trans}
 use Rattle.mold_devices.specs.Devices.{AppendsPrefix}
 use Rattle.mold_turns.specs.Runs.{Loop, run, Begins, Moves, Rests, RestsOfTwo, Ran}
 
--- ---- beginnings
+-- ---- prefixes
 
 pub begins_whole : {A : Type 0} (xs : List A) → Begins xs xs
 begins_whole xs = record { rest = []; parts = sym (append-nil xs) }
@@ -26,14 +26,14 @@ begins_trans {A} {xs} {ys} {zs} p q = record {
   parts = q.parts ∙ ap (λ (l : List A). l ++ q.rest) p.parts ∙ append_assoc xs p.rest q.rest;
 }
 
--- a front of a list, with more in front of both
+-- a prefix of a list is still a prefix with the same elements put before both
 pub begins_behind : {A : Type 0} (ws : List A) {xs ys : List A} → Begins xs ys → Begins (ws ++ xs) (ws ++ ys)
 begins_behind {A} ws {xs} {ys} p = record {
   rest = p.rest;
   parts = ap (λ (l : List A). ws ++ l) p.parts ∙ sym (append_assoc ws xs p.rest);
 }
 
--- ---- answers and faults
+-- ---- successes and faults
 
 pub on_ok : {T E : Type 0} (result : Result T E) {P : Type 0} → P → OnOk result P
 on_ok (Ok _) p = p
@@ -47,9 +47,9 @@ pub none_answered : {T E : Type 0} (result : Result T E) (P : T → Type 0) → 
 none_answered (Ok _) P failed = let no : ⊥ = cc in absurd no
 none_answered (Err _) P failed = tt
 
--- ---- what a loop has to meet
+-- ---- what a loop has to satisfy
 
--- a text in front of a state's changes nothing but its text, and a turn only prints and sends more
+-- text put before a state's text changes only that text, and a turn only appends to what is printed and sent
 pub record IsLoop {C S M : Type 0} (loop : Loop C S M) (behind : List ℕ → S → S) : Type 0 where
   pub none : (s : S) → behind [] s ≡ s
   pub twice : (front back : List ℕ) (s : S) → behind front (behind back s) ≡ behind (front ++ back) s
@@ -80,7 +80,7 @@ run_none : {C S M : Type 0} (loop : Loop C S M) (s : S) → run loop [] s ≡ s
 unfolding run
 run_none loop s = refl
 
--- the run after one turn more
+-- the run after one more turn
 behind_if : {C S M A : Type 0} (loop : Loop C S M) (part : S → List A) (over : Bool) (after rest : S) →
     Begins (part after) (part rest) → Begins (part after) (part (if over then after else rest))
 behind_if loop part true after rest grows = begins_whole (part after)
@@ -97,7 +97,7 @@ grows_in loop part grows (choice ∷ more) s =
     begins_trans (grows choice s)
     (behind_if loop part (loop.over after) after (run loop more after) (grows_in loop part grows more after))
 
--- and from the end of the first turn on
+-- it also grows from the end of the first turn on
 grows_from : {C S M A : Type 0} (loop : Loop C S M) (part : S → List A) →
     ((choice : C) (s : S) → Begins (part s) (part (loop.turn choice s))) →
     (choice : C) (more : List C) (s : S) → Begins (part (loop.turn choice s)) (part (run loop (choice ∷ more) s))
@@ -106,10 +106,10 @@ grows_from loop part grows choice more s =
     let after = loop.turn choice s in
     behind_if loop part (loop.over after) after (run loop more after) (grows_in loop part grows more after)
 
--- ---- while the turns go on
+-- ---- between turns
 
--- So many turns were made since `start`. What was written since then is known, and whatever comes, the run goes on
--- from here: from `now`, behind what was written.
+-- `count` turns were made since `start`, and the text written since then is known. For all later choices, the run
+-- continues from `now`, with the written text put before the text of `now`.
 pub record Going {C S M : Type 0} (loop : Loop C S M) (behind : List ℕ → S → S) (start : S)
     (old new : Option (List ℕ)) (count : ℕ) (now : S) : Type 0 where
   pub choices : List C
@@ -118,7 +118,7 @@ pub record Going {C S M : Type 0} (loop : Loop C S M) (behind : List ℕ → S �
   pub appended : Appends old new written
   pub goes_on : (more : List C) → run loop (choices ++ more) start ≡ run loop more (behind written now)
 
--- the choices of the turns so far, of one turn, and of as many as are left behind it
+-- the choices of the turns so far, of the present turn, and of the remaining turns
 filled : {C : Type 0} → List C → C → ℕ → ℕ → List C
 filled choices choice count turns = choices ++ choice ∷ replicate (turns - (count + 1)) choice
 
@@ -200,7 +200,7 @@ module _ {C S M : Type 0} {loop : Loop C S M} {behind : List ℕ → S → S} (i
   rests_all result {start} {now} {old} {new} {count} turns made going =
       rests_end result (subst (λ (n : ℕ). Going loop behind start old new n now) made going)
 
-  -- the loop is over with a turn
+  -- the loop ended after a turn
   pub rests_over : {T E : Type 0} (result : Result T E) {start now : S} {old new : Option (List ℕ)} {count : ℕ}
       (turns : ℕ) (choice : C) (after : S) → Going loop behind start old new count now → count < turns →
       after ≡ loop.turn choice now → loop.over after ≡ true → Rests loop behind turns start result old new after
@@ -228,7 +228,7 @@ module _ {C S M : Type 0} {loop : Loop C S M} {behind : List ℕ → S → S} (i
             (sym (ap loop.sent end ∙ is.sent going.written after)) (begins_whole (loop.sent after));
       }
 
-  -- a turn ended in a fault: it sent a beginning of what it was to send
+  -- a turn ended in a fault: it sent a prefix of what it was to send
   pub rests_failed : {T E : Type 0} (result : Result T E) {start now : S} {old new : Option (List ℕ)} {count : ℕ}
       (turns : ℕ) (choice : C) (after : S) → Going loop behind start old new count now → count < turns →
       Begins (loop.sent after) (loop.sent (loop.turn choice now)) → IsErr result →
@@ -294,7 +294,7 @@ module _ {C S M : Type 0} {loop : Loop C S M} {behind : List ℕ → S → S} (i
             (grows_from loop loop.sent is.sends choice fill here));
       }
 
-  -- after a fault it only counts what was sent
+  -- after a fault only what was sent matters
   pub rests_left : {T E : Type 0} (result : Result T E) {start now : S} {old new : Option (List ℕ)} {turns : ℕ} (left : S) →
       Rests loop behind turns start result old new now → loop.sent left ≡ loop.sent now → IsErr result →
       Rests loop behind turns start result old new left
@@ -308,7 +308,7 @@ module _ {C S M : Type 0} {loop : Loop C S M} {behind : List ℕ → S → S} (i
     sent = subst (λ (l : List M). Begins l (loop.sent (run loop rests.choices start))) (sym same) rests.sent;
   }
 
-  -- ---- of a loop that sends from two ports
+  -- ---- a loop that sends from two ports
 
   module _ (other : S → List M) (keeps : (front : List ℕ) (s : S) → other (behind front s) ≡ other s)
       (more_sent : (choice : C) (s : S) → Begins (other s) (other (loop.turn choice s))) where
@@ -352,7 +352,7 @@ module _ {C S M : Type 0} {loop : Loop C S M} {behind : List ℕ → S → S} (i
               (grows_from loop other more_sent choice fill here));
         }
 
-    -- a turn was made, and then a write failed, behind which the state is `left`
+    -- a turn was made, then a write failed, and the state after that is `left`
     pub two_cut : {T E : Type 0} (result : Result T E) {start now : S} {old mid new : Option (List ℕ)} {count : ℕ}
         (turns : ℕ) (choice : C) (after left : S) → Going loop behind start old mid count now → count < turns →
         after ≡ loop.turn choice now → AppendsPrefix mid new (loop.text after) → loop.sent left ≡ loop.sent after →
@@ -372,7 +372,7 @@ module _ {C S M : Type 0} {loop : Loop C S M} {behind : List ℕ → S → S} (i
               (grows_from loop other more_sent choice fill here));
         }
 
-  -- ---- behind the turns
+  -- ---- after the turns
 
   module _ (turns : ℕ) (start : S) (last : S → List ℕ) (status : S → ℕ) (agrees : S → Type 0) where
     -- a fault before the first turn
@@ -387,7 +387,7 @@ module _ {C S M : Type 0} {loop : Loop C S M} {behind : List ℕ → S → S} (i
       sent = grows_in loop loop.sent is.sends (replicate turns choice) start;
     }
 
-    -- a fault in a turn, or behind the turns before the rest of the text was written
+    -- a fault in a turn, or after the turns before the rest of the text was written
     pub ran_cut : {T E F : Type 0} (before : Result T F) (result : Result ℕ E) {old new : Option (List ℕ)} {now : S} →
         Rests loop behind turns start before old new now → IsErr result →
         Ran loop turns start last status agrees result old new (loop.sent now)
@@ -412,7 +412,7 @@ module _ {C S M : Type 0} {loop : Loop C S M} {behind : List ℕ → S → S} (i
     module _ (last_behind : (front : List ℕ) (s : S) → last (behind front s) ≡ last s)
         {T F : Type 0} (value : T) {old mid : Option (List ℕ)} (now : S)
         (rests : Rests {T = T} {E = F} loop behind turns start (Ok value) old mid now) where
-      -- the run's text and last line are what was written, and what is to be written
+      -- the run's text and last line are the written text followed by the text that is still to be written
       whole_text : loop.text (run loop rests.choices start) ++ last (run loop rests.choices start)
           ≡ rests.written ++ (loop.text now ++ last now)
       whole_text =
@@ -441,7 +441,7 @@ module _ {C S M : Type 0} {loop : Loop C S M} {behind : List ℕ → S → S} (i
         sent = rests.sent;
       }
 
-      -- all was written
+      -- all text was written
       pub ran_whole : {E : Type 0} (answer : ℕ) {new : Option (List ℕ)} (text : List ℕ) →
           text ≡ loop.text now ++ last now → Appends mid new text →
           answer ≡ status (behind rests.written now) → agrees (behind rests.written now) →

@@ -1,65 +1,80 @@
--- Loops that go by turns: what a run of turns comes to.
+-- Loops that make turns, and what a run of turns leaves.
 use Rattle.std.specs.Prelude.{◌≡◌, ℕ, Bool, if◌then◌else◌, List, [], ◌∷◌, ◌++◌, length, Option, Result, IfOk, OnOk}
 use Rattle.std.specs.Io.KnownBytes.{Appends}
 use Rattle.mold_devices.specs.Devices.{AppendsPrefix}
 
--- a loop over a state S: what a turn makes of it, by a choice C of what nobody can know before, as which of its
--- sends fail; whether the loop ends with it; the text printed so far; and all M that were sent so far
+-- A loop over a state `S`. A turn depends on a choice `C` of what cannot be known in advance, such as which sends
+-- fail. The loop sends values of type `M`.
 pub record Loop (C S M : Type 0) : Type 0 where
+  -- the state after one turn
   pub turn : C → S → S
+  -- whether the loop ends after a turn
   pub over : S → Bool
+  -- all text printed so far
   pub text : S → List ℕ
+  -- everything sent so far
   pub sent : S → List M
 
--- the state after a turn for each choice, or after the first at whose end the loop is over
+-- The state after one turn for each choice. The run stops early after the first turn that ends the loop.
 unfoldable pub run : {C S M : Type 0} → Loop C S M → List C → S → S
 run loop [] s = s
 run loop (choice ∷ more) s =
     let after = loop.turn choice s in
     if loop.over after then after else run loop more after
 
--- a beginning of a list
+-- The list `front` is a prefix of `whole`.
 pub record Begins {A : Type 0} (front whole : List A) : Type 0 where
+  -- the elements of `whole` after `front`
   pub rest : List A
   pub parts : whole ≡ front ++ rest
 
--- a front of the text was written, and the rest is left
+-- A prefix of `text` was written, and `left` is the rest.
 pub record Moves (old new : Option (List ℕ)) (text left : List ℕ) : Type 0 where
+  -- the text that was written
   pub front : List ℕ
   pub parts : text ≡ front ++ left
   pub appended : Appends old new front
 
--- What a loop of so many turns that begins with `start` leaves, before its last line: it has `now` in hand,
--- whose text is not written yet (`behind` puts text in front of a state's). There is a choice for each turn:
--- at an answer the run's end is what was written and then `now`, and after a fault what was written and what
--- was sent are beginnings of the run's.
+-- What a loop of at most `turns` turns that starts at `start` leaves before it prints its last line. `now` is the
+-- state that it holds, whose text is not written yet. `behind front s` is the state `s` with `front` put before its
+-- text. There is one choice for each turn.
 pub record Rests {C S M T E : Type 0} (loop : Loop C S M) (behind : List ℕ → S → S) (turns : ℕ) (start : S)
     (result : Result T E) (old new : Option (List ℕ)) (now : S) : Type 0 where
+  -- the choice of each turn
   pub choices : List C
   pub counted : length choices ≡ turns
+  -- the text that was written during the turns
   pub written : List ℕ
   pub appended : Appends old new written
+  -- after a success, the run ends in `now`, with the written text put before its text
   pub whole : OnOk result (run loop choices start ≡ behind written now)
+  -- the written text is a prefix of the text of the run
   pub front : Begins written (loop.text (run loop choices start))
+  -- what was sent is a prefix of what the run sends
   pub sent : Begins (loop.sent now) (loop.sent (run loop choices start))
 
--- of a loop that sends from two ports: what the other one sent is a beginning of the run's too
+-- The same for a loop that sends from two ports. What the other port sent is also a prefix of what the run sends
+-- there.
 pub record RestsOfTwo {C S M T E : Type 0} (loop : Loop C S M) (other : S → List M) (behind : List ℕ → S → S)
     (turns : ℕ) (start : S) (result : Result T E) (old new : Option (List ℕ)) (now : S) : Type 0 where
   pub rests : Rests loop behind turns start result old new now
   pub others : Begins (other now) (other (run loop rests.choices start))
 
--- What a loop of so many turns that begins with `start` leaves at its end. There is a choice for each turn: at
--- an answer the run's text and then its last line are written, the answer is its status, and what else the loop
--- works on agrees with the run's end; after a fault what was written and what was sent are beginnings of the
--- run's.
+-- What a loop of at most `turns` turns that starts at `start` leaves at its end. There is one choice for each turn.
+-- The run with these choices defines the text, the last line, the status and what is sent. After a fault, a prefix of
+-- the text is written, and `sendings` is a prefix of what the run sends.
 pub record Ran {C S M E : Type 0} (loop : Loop C S M) (turns : ℕ) (start : S) (last : S → List ℕ) (status : S → ℕ)
     (agrees : S → Type 0) (result : Result ℕ E) (old new : Option (List ℕ)) (sendings : List M) : Type 0 where
+  -- the choice of each turn
   pub choices : List C
   pub counted : length choices ≡ turns
+  -- after a success, the text of the run and its last line are written, and its status is returned
   pub whole : IfOk result (λ answer.
       Appends old new (loop.text (run loop choices start) ++ last (run loop choices start))
       × (answer ≡ status (run loop choices start)))
+  -- after a success, `agrees` holds of the last state of the run
   pub left : OnOk result (agrees (run loop choices start))
+  -- in any case, a prefix of that text is written
   pub front : AppendsPrefix old new (loop.text (run loop choices start) ++ last (run loop choices start))
+  -- in any case, a prefix of what the run sends was sent
   pub sent : Begins sendings (loop.sent (run loop choices start))

@@ -1,4 +1,4 @@
-//! What loops over ports have in common: runs of turns, the text that goes out, and the failures that are counted.
+//! What the loops over ports share: runs of turns, outgoing text, and the count of failed sends and receives.
 #![tactic(auto)]
 
 mod outgoing;

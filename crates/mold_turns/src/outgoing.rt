@@ -1,4 +1,4 @@
-//! Text that goes out, and the failures that are counted beside it.
+//! The text that a loop still has to write, and its count of failed sends and receives.
 
 ghost use Rattle.std.specs.Prelude.{◌≡◌, ◌<◌, ◌≤◌, [], false, true, length, map, take, IfErr, IsOk, OnErr};
 ghost use Rattle.std.specs.Prelude.{OnOk};
@@ -13,11 +13,11 @@ use mold_text::{Word, push_line};
 use std::alloc::{AllocError, Global};
 use std::marker::Model;
 
-/// The text that is still to be written, and how many sends and receives failed. The memory of a text that was
-/// written is kept for the next one.
+/// The text that is still to be written, and the count of failed sends and receives. The memory of written text is
+/// kept for the next text.
 #[derive(Drop)]
 pub struct Outgoing {
-    /// The text. Lines are added at its end.
+    /// The text that is still to be written. New lines are appended to it.
     pub text: Vec<u8>,
     failures: u64,
 }
@@ -31,7 +31,7 @@ impl Model for Outgoing {
 }
 
 impl Outgoing {
-    /// Nothing to write and no failure. It takes no memory yet.
+    /// Returns an empty text and a count of 0. This allocates no memory.
     pub fn new(alloc: Global) -> Outgoing
         ensures { result ≡ nothing_out }
     {
@@ -41,28 +41,28 @@ impl Outgoing {
         }
     }
 
-    /// How many sends and receives failed.
+    /// Returns the count of failed sends and receives.
     pub fn failures(&self) -> u64
         ensures { result ≡ self.now.failures }
     {
         self.failures
     }
 
-    /// Counts a failed send or receive. The count stays at 18446744073709551615.
+    /// Counts one failed send or receive. The count stops at 18446744073709551615.
     pub fn count_failure(&mut self)
         ensures { self.new ≡ failed_once self.old }
     {
         self.failures = self.failures.saturating_add(1);
     }
 
-    /// Counts so many of them.
+    /// Counts `count` failed sends or receives. The count stops at 18446744073709551615.
     pub fn count_failures(&mut self, count: u64)
         ensures { self.new ≡ failed_often count self.old }
     {
         self.failures = self.failures.saturating_add(count);
     }
 
-    /// Adds the words as a line. After an error, which is want of memory, a part of the line stands after the text.
+    /// Appends the words as a line. An error means out of memory; part of the line may then follow the former text.
     pub fn push_line(&mut self, words: &[Word<'_>]) -> Result<(), AllocError>
         ensures line { OnOk result (self.new ≡ with_more (line_of (map word_text words.now)) self.old) }
         ensures kept { OnErr result (take (length self.old.text) self.new.text ≡ self.old.text) }
@@ -71,8 +71,8 @@ impl Outgoing {
         push_line(&mut self.text, words)
     }
 
-    /// Writes the text where it has come to 65,536 bytes or the sink is live, and leaves it else. After a fault a front
-    /// of it is written, and it stands as it was.
+    /// Writes the text if it has at least 65,536 bytes or the sink is live. Otherwise it writes nothing and keeps the
+    /// text. After a fault, a prefix of the text is written, and the text is unchanged.
     pub fn send_large<K: Sink>(&mut self, sink: &mut K) -> Result<(), CommandFault>
         ensures moved { OnOk result (Moves (K.held sink.old) (K.held sink.new) self.old.text self.new.text) }
         ensures large { OnOk result (65536 ≤ length self.old.text → self.new.text ≡ []) }
@@ -90,7 +90,7 @@ impl Outgoing {
         self.send(sink)
     }
 
-    /// Writes the text. After a fault a front of it is written, and it stands as it was.
+    /// Writes the text. After a fault, a prefix of it is written, and the text is unchanged.
     pub fn send<K: Sink>(&mut self, sink: &mut K) -> Result<(), CommandFault>
         ensures whole { OnOk result (Appends (K.held sink.old) (K.held sink.new) self.old.text) }
         ensures empty { OnOk result (self.new.text ≡ []) }
