@@ -1,4 +1,4 @@
--- The packets of an answer, offered one by one.
+-- The packets of a response, offered one by one.
 use Rattle.std.proofs.Common.{◌≡◌, ℕ, ◌-◌, Bool, true, false, List, [], ◌∷◌, ◌++◌, length, Result, Ok, Err, refl, sym, ap, subst, ◌∙◌, append_assoc, arith}
 use Rattle.std.proofs.lemmas.Result.{IfOk-from_err, on_ok_weaker}
 use Rattle.std.specs.Prelude.{IsErr, OnOk}
@@ -54,7 +54,7 @@ module _ {P T E : Type 0} (to : P) (result : Result T E) (service : Service) (pl
     whole = on_ok result (same_responder sent counted (ap (λ (s : ServerState). s.answered) same));
   }
 
-  -- it was sent, and memory was refused behind it
+  -- it was sent, and then memory ran out
   pub offered_unprinted : new ≡ offered false to bytes old → IsErr result →
       OffersOne to result (left_of service plan) (left_of service behind) (responder_of old tally server)
       (responder_of new report after)
@@ -92,7 +92,7 @@ module _ {P T E : Type 0} (to : P) (result : Result T E) (service : Service) (pl
 
 -- ---- all packets
 
--- it is answered from the same while packets are offered
+-- what is answered from stays the same while packets are offered
 pub offers_of : {P T E : Type 0} (to : P) (result : Result T E) (more is : Bool) (service first : Service)
     (plan behind : PlanState) (old new : ResponderState P) → service ≡ first → more ≡ is →
     OffersNext to result more (left_of service plan) (left_of service behind) old new →
@@ -101,16 +101,16 @@ offers_of to result more is service first plan behind old new same so offers =
     subst (λ (b : Bool). OffersNext to result b (left_of first plan) (left_of first behind) old new) so
     (subst (λ (s : Service). OffersNext to result more (left_of s plan) (left_of s behind) old new) same offers)
 
--- Of these packets some were offered, and the others are left: whatever comes, the offering goes on from here.
+-- Some of the packets were offered, and `left` remain. For all later choices, the offering continues from `now`.
 pub record Offering {P : Type 0} (to : P) (all left : List Packet) (start now : ResponderState P) : Type 0 where
   pub fails : List Bool
   pub goes_on : (more : List Bool) → offer_all to all (fails ++ more) start ≡ offer_all to left more now
 
--- before the first
+-- before the first packet
 pub offering_init : {P : Type 0} (to : P) (all : List Packet) (start : ResponderState P) → Offering to all all start start
 offering_init to all start = record { fails = []; goes_on = λ more. refl }
 
--- one packet behind those
+-- one packet after those
 offer_first : {P : Type 0} (to : P) (fails : Bool) (packet : Packet) (left : List Packet) (more : List Bool)
     (responder : ResponderState P) →
     offer_all to (packet ∷ left) (fails ∷ more) responder ≡ offer_all to left more (offer to fails packet responder)
@@ -139,7 +139,7 @@ offering_step {P} {T} {E} {to} {value} {all} {before} {after} {start} {now} next
       ∙ ap (offer_all to after more) (sym one.whole);
 }
 
--- none was left
+-- no packet remained
 no_more : {P : Type 0} (to : P) (more : List Bool) (responder : ResponderState P) → offer_all to [] more responder ≡ responder
 unfolding offer_all
 no_more to more responder = refl
@@ -152,7 +152,7 @@ offering_end {P} {to} {all} {left} {start} {now} next offering none same =
     ∙ ap (λ (l : List Packet). offer_all to l [] now) (sym none)
     ∙ sym (offering.goes_on [])
 
--- a fault behind one that was sent
+-- a fault after one that was sent
 pub offering_cut : {P T E F : Type 0} {to : P} {all before after : List Packet} {start now : ResponderState P}
     (result : Result T E) (answer : Result (Unit {0}) F) (next : ResponderState P) (offering : Offering to all before start now)
     (one : OffersOne to result before after now next) → IsErr answer →
@@ -170,7 +170,7 @@ offering_cut {P} {T} {E} {F} {to} {all} {before} {after} {start} {now} result an
           (offer_all_sends to after [] end));
     }
 
--- no packet was left
+-- no packet remained
 pub offering_done : {P E : Type 0} {to : P} {all left : List Packet} {start now : ResponderState P} (next : ResponderState P) →
     (offering : Offering to all left start now) → left ≡ [] → next ≡ now →
     Reaches {T = Unit {0}} {E = E} (Ok tt) next (offer_all to all (offering.fails ++ []) start)
@@ -189,7 +189,7 @@ refused_by : (service : Service) (journal : JournalState) (burst : ℕ) (asked :
 refused_by service journal burst (Ok request) why is = let no : ⊥ = cc in absurd no
 refused_by service journal burst (Err error) why is = cc
 
--- a request that can't be planned is refused for the same reason
+-- a request without a plan is refused for the same reason
 pub refused_so : {P E : Type 0} (result : Result (Unit {0}) E) (to : P) (journal : JournalState) (bytes : List ℕ)
     (why : AnswerError) (port : Port P) (tally report : Tally) (server after : ServerState) →
     Err why ≡ planning journal server.burst bytes → after ≡ server → OnOk result (report ≡ with_refused why tally) →
@@ -211,7 +211,7 @@ refused_so {P} {E} result to journal bytes why port tally report server after pl
       sent = begins_whole port.sent;
     })
 
--- what a plan that was just made sends is the answer
+-- a new plan sends the packets of the response
 plans : (journal : JournalState) (server : ServerState) (bytes : List ℕ) (plan : PlanState)
     (asked : Result Request AnswerError) →
     ((request : Request) → asking journal bytes ≡ Ok request → IsAnswerable journal request) →
@@ -227,7 +227,7 @@ plans journal server bytes plan (Ok request) answerable answers is made =
     (sym (answers request (answerable request is))
     ∙ ap (planned journal.messages server.limit) (sym for))
 
--- a request is answered by all packets of its plan
+-- a request is answered with all packets of its plan
 pub answered_so : {P E : Type 0} (result : Result (Unit {0}) E) (to : P) (journal : JournalState) (bytes : List ℕ)
     (plan : PlanState) (fails : List Bool) (port : Port P) (tally : Tally) (server after : ServerState)
     (new : ResponderState P) →

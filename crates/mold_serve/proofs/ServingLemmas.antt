@@ -1,5 +1,5 @@
--- What turns of a serving do: a text in front of what was printed changes nothing else, and turns only print and send
--- more.
+-- Turns of a server: text put before its text changes nothing else, and a turn only appends to what is printed and
+-- sent.
 use Rattle.std.proofs.Common.{◌≡◌, ◌≤◌, ℕ, Bool, true, false, List, [], ◌∷◌, ◌++◌, drop, Option, Result, Ok, Err, refl, sym, ap, subst, ◌∙◌}
 use Rattle.std.specs.Prelude.{IsErr}
 use Rattle.mold_ports.specs.Ports.{Port, Receipt, Datagram, Quiet, Failure, cut, next_of, received}
@@ -20,7 +20,7 @@ use Rattle.mold_turns.proofs.RunLemmas.{IsLoop, begins_more, begins_trans, begin
 use Rattle.mold_wire.specs.declared.packet.Packet.{Packet}
 use Rattle.mold_wire.specs.declared.limits.TheConstants.{MAX_LIMIT}
 
--- ---- a text in front
+-- ---- text put before
 
 offer_behind : {P : Type 0} (to : P) (fails : Bool) (packet : Packet) (front : List ℕ) (responder : ResponderState P) →
     offer to fails packet (behind front responder) ≡ behind front (offer to fails packet responder)
@@ -125,7 +125,7 @@ turn_sends service fails responder =
     met_sends service fails (cut MAX_LIMIT (next_of responder.port))
     (record { port = received responder.port; tally = responder.tally; requests = responder.requests })
 
--- so it is a loop that goes by turns
+-- serving is a loop of turns
 pub serving_is : {P : Type 0} (service : Service) → IsLoop (serving {P = P} service) behind
 serving_is {P} service = record {
   none = λ responder. refl;
@@ -141,9 +141,9 @@ serving_is {P} service = record {
   sends = turn_sends service;
 }
 
--- ---- a turn by what was received
+-- ---- a turn for a receipt
 
--- what was received in a place of 65,507 bytes is met
+-- a receipt in a buffer of 65,507 bytes is replied to
 pub turn_by : {P : Type 0} (service : Service) (fails : List Bool) (responder : ResponderState P) (receipt : Receipt P) (buffer : ℕ) →
     buffer ≡ MAX_LIMIT → receipt ≡ cut buffer (next_of responder.port) →
     serve_turn service fails responder
@@ -156,7 +156,7 @@ turn_by {P} service fails responder receipt buffer long is =
     met service fails r (record { port = received responder.port; tally = responder.tally; requests = responder.requests }))
     (ap (λ (n : ℕ). cut n (next_of responder.port)) (sym long) ∙ sym is)
 
--- where what was received is met, a turn is made
+-- if a receipt was replied to, a turn was made
 pub turn_met : {P T E : Type 0} (result : Result T E) (service : Service) (fails : List Bool) (old new : ResponderState P)
     (receipt : Receipt P) (buffer : ℕ) (port : Port P) → buffer ≡ MAX_LIMIT → receipt ≡ cut buffer (next_of old.port) →
     port ≡ received old.port →
@@ -190,7 +190,7 @@ tally_is port requests same = ap (responder_with port requests) same
 
 -- ---- the text that was written
 
--- where a front of the text was written, what was printed and counted is that front and what is left
+-- if a prefix of the text was written, what was printed and counted is that prefix and the rest
 pub wrote : {P : Type 0} (port : Port P) (before : Tally) (left : OutgoingState) (requests : ℕ) (front : List ℕ) →
     before.outgoing.text ≡ front ++ left.text → left.failures ≡ before.outgoing.failures →
     responder_with port requests before ≡ behind front (responder_with port requests (with_outgoing left before))
@@ -204,7 +204,7 @@ pub same_service : (journal : JournalState) (server first : ServerState) (answer
     server ≡ record first { answered = answered } → service_of journal server ≡ service_of journal first
 same_service journal server first answered same = ap (service_of journal) same
 
--- ---- what a responder works on
+-- ---- what a responder works with
 
 pub same_at_first : {D : Type 0} (responder : Responder D) → IsSame responder responder
 same_at_first responder = record { port = refl; server = refl; journal = refl; tally = refl; limits = refl }
@@ -220,7 +220,7 @@ same_twice {D} {one} {two} {three} first second = record {
       ∙ ap (λ (s : ServerState). record s { answered = three.server.now.answered }) first.limits;
 }
 
--- so it answers from the same journal, with the same limits
+-- the responder answers from the same journal, with the same limits
 pub service_is : {D : Type 0} {old new : Responder D} → IsSame old new → service new ≡ service old
 service_is {D} {old} {new} same =
     ap (λ (j : Bor JournalState). service_of j.now new.server.now) same.journal
@@ -250,7 +250,7 @@ rests_as {P} {T} {E} service turns start one other result old new same failed re
       rests.sent;
 }
 
--- what was served, where port and server end as they were left
+-- what was served, if port and server are at the end as they were left
 pub served_so : {D P E : Type 0} (known : D → Port P) (service : Service) (turns : ℕ) (start : ResponderState P)
     (result : Result ℕ E) (old new : Option (List ℕ)) (first : ServerState) (port end : D) (server last : ServerState) →
     end ≡ port → last ≡ server →

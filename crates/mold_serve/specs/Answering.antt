@@ -1,31 +1,34 @@
--- What is left of an answer while its packets are offered one by one.
+-- The remaining packets of a response while they are offered one by one.
 use Rattle.std.specs.Prelude.{◌≡◌, Bool, true, false, List, [], ◌∷◌, Result, OnOk}
 use Rattle.mold_serve.specs.Serving.{Service, ResponderState, offer}
 use Rattle.mold_session.specs.Answer.{PlanState, planned}
 use Rattle.mold_turns.specs.Runs.{Begins}
 use Rattle.mold_wire.specs.declared.packet.Packet.{Packet}
 
--- the packets that a plan still sends
+-- The packets that the plan still sends.
 abbrev pub left_of : Service → PlanState → List Packet
 left_of service plan = planned service.journal.messages service.limit plan
 
--- the first packet that was left of an answer was offered; where memory was refused for its line, the port at least is
--- as it is after that
+-- The first of the remaining packets was offered, and `after` are the packets after it. If its line could not be
+-- printed because memory ran out, only the port is known.
 pub record OffersOne {P T E : Type 0} (to : P) (result : Result T E) (before after : List Packet)
     (old new : ResponderState P) : Type 0 where
+  -- whether the send failed
   pub fails : Bool
+  -- the packet that was offered
   pub packet : Packet
   pub parts : before ≡ packet ∷ after
   pub port : new.port ≡ (offer to fails packet old).port
   pub whole : OnOk result (new ≡ offer to fails packet old)
 
--- the first packet that was left of an answer was offered, or none was left
+-- The first of the remaining packets was offered if the Boolean is `true`. Otherwise no packet remained, and nothing
+-- changed.
 abbrev pub OffersNext : {P T E : Type 0} → P → Result T E → Bool → List Packet → List Packet →
     ResponderState P → ResponderState P → Type 0
 OffersNext to result true before after old new = OffersOne to result before after old new
 OffersNext to result false before after old new = (before ≡ []) × (new ≡ old)
 
--- a run's state was reached; or after a fault a beginning of what it sent was sent
+-- After a success the state is `wanted`. After a fault, what was sent is a prefix of what `wanted` has sent.
 pub record Reaches {P T E : Type 0} (result : Result T E) (new wanted : ResponderState P) : Type 0 where
   pub whole : OnOk result (new ≡ wanted)
   pub sent : Begins new.port.sent wanted.port.sent

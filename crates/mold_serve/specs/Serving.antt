@@ -1,4 +1,4 @@
--- Serving, turn by turn: what is received, and how it is answered.
+-- The turns of a server: what it receives, and what it sends and prints for it.
 use Rattle.std.specs.Prelude.{◌≡◌, ◌≤◌, ℕ, ◌+◌, min, Bool, true, false, List, [], ◌∷◌, drop, Result, Ok, Err}
 use Rattle.mold_ports.specs.Ports.{Port, Receipt, Datagram, Quiet, Failure, cut, next_of, offered, received}
 use Rattle.mold_turns.specs.Outgoing.{with_front}
@@ -15,13 +15,16 @@ use Rattle.mold_wire.specs.declared.request.Request.{Request}
 use Rattle.mold_wire.specs.Packet.{count_of, spelling_of}
 use Rattle.mold_wire.specs.declared.limits.TheConstants.{MAX_LIMIT}
 
--- what requests are answered from: the journal, the limit of a datagram, and how many datagrams answer one request at
--- most
+-- What a server answers requests from, and with which limits.
 pub record Service : Type 0 where
+  -- the journal that requests are answered from
   pub journal : JournalState
+  -- the most bytes of a datagram
   pub limit : ℕ
+  -- the most datagrams that answer one request
   pub burst : ℕ
 
+-- What a server with this journal answers from.
 abbrev pub service_of : JournalState → ServerState → Service
 service_of journal server = record {
   journal = journal;
@@ -29,22 +32,26 @@ service_of journal server = record {
   burst = server.burst;
 }
 
--- how a request is met that some bytes ask: by all packets of its answer, or by the reason against it
+-- The reply to a request: all packets of the response, or the refusal of the bytes that asked.
 abbrev pub reply_to : Service → Result Request AnswerError → Result (List Packet) AnswerError
 reply_to service (Ok request) =
     Ok
     (answer service.journal.messages service.journal.session service.limit request.sequence request.count service.burst)
 reply_to service (Err why) = Err why
 
+-- The reply to the bytes of a received datagram: the packets of the response, or the refusal.
 abbrev pub reply : Service → List ℕ → Result (List Packet) AnswerError
 reply service bytes = reply_to service (asking service.journal bytes)
 
--- how far a serving is: its port, what it has printed and counted, and how many requests its server has answered
+-- The state of a server at work: its port, what it has printed and counted, and the number of requests that it has
+-- answered.
 pub record ResponderState (P : Type 0) : Type 0 where
   pub port : Port P
   pub tally : Tally
+  -- the number of requests answered so far
   pub requests : ℕ
 
+-- The state that has this port, this tally and the server's count of answered requests.
 abbrev pub responder_of : {P : Type 0} → Port P → Tally → ServerState → ResponderState P
 responder_of port tally server = record {
   port = port;
@@ -52,19 +59,20 @@ responder_of port tally server = record {
   requests = server.answered;
 }
 
--- what a responder answers from
+-- What the responder answers from.
 abbrev pub service : {D : Type 0} → Responder D → Service
 service responder = service_of responder.journal.now responder.server.now
 
--- how far it is; `port` says how a port stands
+-- The state of the responder. `port` gives the model of its port.
 abbrev pub state : {D P : Type 0} → (D → Port P) → Responder D → ResponderState P
 state port responder = responder_of (port responder.port.now) responder.tally.now responder.server.now
 
--- the journal's messages may have at most as many bytes as the server's
+-- The longest message that the journal allows is not longer than the server allows.
 abbrev pub MayAnswer : {D : Type 0} → Responder D → Type 0
 MayAnswer responder = responder.journal.now.max_message ≤ responder.server.now.max_message
 
--- a responder still works on the same port, journal and tally, and on the same server but for what that has answered
+-- The responder still has the same port, journal and tally. Its server is the same except for the number of answered
+-- requests.
 pub record IsSame {D : Type 0} (old new : Responder D) : Type 0 where
   pub port : new.port.ghost_name ≡ old.port.ghost_name
   pub server : new.server.ghost_name ≡ old.server.ghost_name
@@ -72,11 +80,12 @@ pub record IsSame {D : Type 0} (old new : Responder D) : Type 0 where
   pub tally : new.tally.ghost_name ≡ old.tally.ghost_name
   pub limits : new.server.now ≡ record old.server.now { answered = new.server.now.answered }
 
--- the server at the end of a serving
+-- The server at the end of a run. Only its count of answered requests has changed.
 abbrev pub served_by : {P : Type 0} → ServerState → ResponderState P → ServerState
 served_by server responder = record server { answered = responder.requests }
 
--- a packet of an answer is offered to who asked: its send fails, or it doesn't
+-- The state after a packet of a response was offered to the requester `to`. The Boolean states whether the send
+-- failed. A failure is counted; a packet that was sent is printed and counted.
 abbrev pub offer : {P : Type 0} → P → Bool → Packet → ResponderState P → ResponderState P
 offer to true packet responder = record {
   port = offered true to (spelling_of packet) responder.port;
@@ -89,18 +98,18 @@ offer to false packet responder = record {
   requests = responder.requests;
 }
 
--- whether the first of some sends fails; it doesn't where nothing is said of it
+-- Whether the first send fails. A send for which the list has no entry succeeds.
 abbrev pub fails_first : List Bool → Bool
 fails_first [] = false
 fails_first (fails ∷ more) = fails
 
--- packets are offered one after the other; which of the sends fail is said in their order
+-- The state after the packets were offered in order. `fails` states for each send whether it fails.
 unfoldable pub offer_all : {P : Type 0} → P → List Packet → List Bool → ResponderState P → ResponderState P
 offer_all to [] fails responder = responder
 offer_all to (packet ∷ packets) fails responder =
     offer_all to packets (drop 1 fails) (offer to (fails_first fails) packet responder)
 
--- a request is met
+-- The state after a reply: the request is counted and all packets are offered, or the refusal is printed and counted.
 abbrev pub replied : {P : Type 0} → P → List Bool → Result (List Packet) AnswerError → ResponderState P →
     ResponderState P
 replied to fails (Ok packets) responder =
@@ -116,7 +125,7 @@ replied to fails (Err why) responder = record {
   requests = responder.requests;
 }
 
--- what a receive gave is met
+-- The state after a receive. A datagram is replied to. A receive that gave nothing or failed is counted.
 abbrev pub met : {P : Type 0} → Service → List Bool → Receipt P → ResponderState P → ResponderState P
 met service fails (Datagram from bytes) responder = replied from fails (reply service bytes) responder
 met service fails Quiet responder = record {
@@ -130,7 +139,8 @@ met service fails Failure responder = record {
   requests = responder.requests;
 }
 
--- a turn: one receive, and what it gave is met
+-- The state after one turn: one receive and the reply to what it gave. Only the first 65,507 bytes of a datagram are
+-- used.
 unfoldable pub serve_turn : {P : Type 0} → Service → List Bool → ResponderState P → ResponderState P
 serve_turn service fails responder =
     met service fails (cut MAX_LIMIT (next_of responder.port))
@@ -140,7 +150,7 @@ serve_turn service fails responder =
       requests = responder.requests;
     })
 
--- the loop over turns, which are as many as it is given
+-- The loop of a server. It ends only when all turns are made.
 abbrev pub serving : {P : Type 0} → Service → Loop (List Bool) (ResponderState P) (P × List ℕ)
 serving service = record {
   turn = serve_turn service;
@@ -149,7 +159,7 @@ serving service = record {
   sent = λ responder. responder.port.sent;
 }
 
--- with a text in front of what it has printed
+-- The state with `front` put before its text.
 abbrev pub behind : {P : Type 0} → List ℕ → ResponderState P → ResponderState P
 behind front responder = record {
   port = responder.port;

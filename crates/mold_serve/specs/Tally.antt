@@ -1,4 +1,4 @@
--- What a serving has printed and counted.
+-- What a server has printed and counted.
 use Rattle.std.specs.Prelude.{ℕ, List, ◌∷◌, [], codes, decimal}
 use Rattle.mold_devices.specs.Devices.{one_more}
 use Rattle.mold_session.specs.declared.error.AnswerError.{AnswerError}
@@ -8,19 +8,19 @@ use Rattle.mold_serve.specs.declared.tally.Tally.{Tally}
 use Rattle.mold_text.specs.Line.{line_of}
 use Rattle.mold_text.specs.Text.{refused_line}
 
--- the line of a refused request
+-- The line of a refused request.
 abbrev pub request_refused_text : AnswerError → List ℕ
 request_refused_text why = refused_line (answer_words why)
 
--- the line of a datagram that was sent, by the sequence number and the message count of its header
+-- The line of a response that was sent, with the sequence number and the message count of its header.
 abbrev pub answered_text : ℕ → ℕ → List ℕ
 answered_text sequence count = line_of (codes "answered" ∷ decimal sequence ∷ decimal count ∷ [])
 
--- nothing printed or counted
+-- A tally without text and with counts of 0.
 abbrev pub no_tally : Tally
 no_tally = record { outgoing = nothing_out; answered = 0; refused = 0; quiet = 0 }
 
--- with other text and failures
+-- The tally with another text and another count of failures.
 abbrev pub with_outgoing : OutgoingState → Tally → Tally
 with_outgoing outgoing tally = record {
   outgoing = outgoing;
@@ -29,7 +29,7 @@ with_outgoing outgoing tally = record {
   quiet = tally.quiet;
 }
 
--- after a datagram that was sent as an answer
+-- The tally after a response with this sequence number and message count was sent.
 abbrev pub with_answered : ℕ → ℕ → Tally → Tally
 with_answered sequence count tally = record {
   outgoing = with_more (answered_text sequence count) tally.outgoing;
@@ -38,7 +38,7 @@ with_answered sequence count tally = record {
   quiet = tally.quiet;
 }
 
--- after a request that was refused
+-- The tally after a request was refused.
 abbrev pub with_refused : AnswerError → Tally → Tally
 with_refused why tally = record {
   outgoing = with_more (request_refused_text why) tally.outgoing;
@@ -47,7 +47,7 @@ with_refused why tally = record {
   quiet = tally.quiet;
 }
 
--- after a receive without anything
+-- The tally after a receive that gave nothing.
 abbrev pub with_quiet : Tally → Tally
 with_quiet tally = record {
   outgoing = tally.outgoing;
@@ -56,11 +56,11 @@ with_quiet tally = record {
   quiet = one_more tally.quiet;
 }
 
--- after a send or a receive that failed
+-- The tally after a send or a receive that failed.
 abbrev pub with_failed : Tally → Tally
 with_failed tally = with_outgoing (failed_once tally.outgoing) tally
 
--- the last line
+-- The last line of a server: the number of responses sent, refused requests, receives that gave nothing, and failures.
 abbrev pub served_line : Tally → List ℕ
 served_line tally =
     line_of

@@ -1,4 +1,4 @@
-//! Serving over a port: requests for the messages of a journal, answered or refused.
+//! The re-request server over a port: requests for the messages of a journal, answered or refused.
 #![tactic(auto)]
 
 mod responder;

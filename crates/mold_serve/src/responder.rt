@@ -1,4 +1,4 @@
-//! What answers requests that come by a port.
+//! The server at work: the requests that it receives on a port, and the responses that it sends.
 
 ghost use Rattle.std.specs.Prelude.{◌≡◌, ◌+◌, ◌≤◌, ◌<◌, true, List, Bool, length, IfOk, MatchResult};
 ghost use Rattle.mold_devices.specs.Faults.{CountsSink};
@@ -16,17 +16,22 @@ use mold_session::laws::{answer_not_empty_law, answered_law, planned_law};
 use mold_session::{Journal, Plan, Server};
 use std::alloc::AllocError;
 
-/// What answers requests: the port that they come by, the server and its journal, and what was printed and counted.
+/// A server at work: the port that requests are received on, the server and its journal, and what was printed and
+/// counted so far.
 #[derive(Drop)]
 pub struct Responder<'a, D> {
+    /// The port that requests are received on and responses are sent from.
     pub port: &'a mut D,
+    /// The server, which counts the requests that it answers.
     pub server: &'a mut Server,
+    /// The journal that requests are answered from.
     pub journal: &'a Journal,
+    /// What was printed and counted so far.
     pub tally: &'a mut Tally,
 }
 
 impl<'a, D: Datagrams> Responder<'a, D> {
-    // Offers the next datagram of a plan to who asked, and answers whether there was one.
+    // Offers the next datagram of a plan to the requester. Returns whether there was one.
     fn offer_next(&mut self, plan: &mut Plan, to: D::Peer) -> Result<bool, AllocError>
         requires longest { MayAnswer self.old }
         requires session { plan.old.session ≡ self.old.journal.now.session }
@@ -56,7 +61,7 @@ impl<'a, D: Datagrams> Responder<'a, D> {
         Ok(true)
     }
 
-    // Offers all datagrams of a plan to who asked, one after the other.
+    // Offers all datagrams of a plan to the requester, in order.
     fn offer_all(&mut self, plan: &mut Plan, to: D::Peer) -> Result<(), AllocError>
         requires longest { MayAnswer self.old }
         requires session { plan.old.session ≡ self.old.journal.now.session }
@@ -69,9 +74,9 @@ impl<'a, D: Datagrams> Responder<'a, D> {
         Ok(())
     }
 
-    /// Answers a request by datagrams to who asked, or refuses it, and prints and counts what became of it. Each
-    /// datagram is offered once; a send that fails is counted. After an error, which is want of memory, a part of it
-    /// was done.
+    /// Answers a request with datagrams to the requester, or refuses it. Prints and counts each datagram that was
+    /// sent, or the refusal. Each datagram is offered once, and a failed send is counted. An error means out of
+    /// memory; part of the work is then done.
     pub(crate) fn answer(&mut self, from: D::Peer, request: &[u8]) -> Result<(), AllocError>
         requires { MayAnswer self.old }
         ensures replied { D.modeled ≡ true → (fails : List Bool) × Reaches result (state D.port self.new)
@@ -85,7 +90,8 @@ impl<'a, D: Datagrams> Responder<'a, D> {
         }
     }
 
-    /// Makes a turn: one receive, and what it gave is met. `buffer` has `MAX_LIMIT` bytes.
+    /// Makes one turn: receives once, and answers or refuses what was received. `buffer` has `MAX_LIMIT` bytes. An
+    /// error means out of memory; part of the work is then done.
     pub fn take_turn(&mut self, buffer: &mut [u8]) -> Result<(), AllocError>
         requires longest { MayAnswer self.old }
         requires buffer { length buffer.old ≡ MAX_LIMIT }
@@ -106,7 +112,7 @@ impl<'a, D: Datagrams> Responder<'a, D> {
         }
     }
 
-    // Makes the turns, and writes the text where much of it came together.
+    // Makes the turns, and writes the text when much of it has accumulated.
     fn take_turns<K: Sink>(
         &mut self,
         turns: u64,
@@ -127,7 +133,7 @@ impl<'a, D: Datagrams> Responder<'a, D> {
         Ok(())
     }
 
-    /// Makes the turns, prints the last line, and answers the status, which is 0. `buffer` has `MAX_LIMIT` bytes.
+    /// Makes the turns, prints the last line, and returns the status, which is 0. `buffer` has `MAX_LIMIT` bytes.
     pub(crate) fn serve<K: Sink>(
         &mut self,
         turns: u64,

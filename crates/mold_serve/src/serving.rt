@@ -1,4 +1,4 @@
-//! Serving requests for the messages of a journal.
+//! The loop that serves a journal over a port, and the step that answers one request.
 
 ghost use Rattle.std.specs.Prelude.{◌≡◌, ◌≤◌, true, List, Bool};
 ghost use Rattle.mold_devices.specs.Faults.{CountsSink};
@@ -15,9 +15,9 @@ use mold_session::{Journal, Server};
 use mold_wire::MAX_LIMIT;
 use std::alloc::{AllocError, Global};
 
-/// Answers a request by datagrams to who asked, or refuses it, and prints and counts what became of it. Each
-/// datagram is offered once; a send that fails is counted. The journal's messages may have at most as many bytes as
-/// the server's. After an error, which is want of memory, a part of it was done.
+/// Answers a request with datagrams to the requester, or refuses it. Prints and counts each datagram that was sent, or
+/// the refusal. Each datagram is offered once, and a failed send is counted. The longest message that the journal
+/// allows must not be longer than the server allows. An error means out of memory; part of the work is then done.
 pub fn answer_request<D: Datagrams>(
     port: &mut D,
     server: &mut Server,
@@ -42,11 +42,13 @@ pub fn answer_request<D: Datagrams>(
     responder.answer(from, request)
 }
 
-/// Serves requests that come by a port from a journal: so many turns, each of them one receive. What comes is
-/// answered by datagrams to who asked, or refused; a line is printed for each datagram that was sent and for
-/// each request that was refused, and a last one that counts. A failed receive or send is counted, and
-/// the loop goes on. The journal's messages may have at most as many bytes as the server's. The status is
-/// 0. Text is written in pieces of 65,536 bytes or more; after a fault what is not written is lost.
+/// Serves requests for the messages of a journal, for `turns` turns. Each turn receives once. A request is answered
+/// with datagrams to the requester, or refused. A line is printed for each datagram that was sent and for each refused
+/// request. A last line has the counts.
+///
+/// A failed receive or send is counted, and the loop continues. The status is 0. The longest message that the journal
+/// allows must not be longer than the server allows. Text is written when 65,536 bytes have accumulated, and at the
+/// end. To a live sink it is written after each turn. After a fault, text that is not written yet is lost.
 pub fn serve_loop<D: Datagrams, K: Sink>(
     alloc: Global,
     port: &mut D,

@@ -1,4 +1,4 @@
-//! What a serving has printed and counted.
+//! What a server has printed and counted.
 
 ghost use Rattle.std.specs.Prelude.{◌≡◌, OnOk};
 ghost use Rattle.mold_devices.specs.Devices.{one_more};
@@ -12,21 +12,21 @@ use mold_text::Word;
 use mold_turns::Outgoing;
 use std::alloc::{AllocError, Global};
 
-/// What a serving has printed and counted. The counts stay at 18446744073709551615.
+/// What a server has printed and counted. The counts stop at 18446744073709551615.
 #[derive(Drop)]
 pub struct Tally {
-    /// The text, and how many sends and receives failed.
+    /// The text that is still to be written, and the count of failed sends and receives.
     pub outgoing: Outgoing,
-    /// How many datagrams were sent as answers.
+    /// The number of datagrams that were sent as responses.
     pub answered: u64,
-    /// How many requests were refused.
+    /// The number of refused requests.
     pub refused: u64,
-    /// How many receives gave nothing.
+    /// The number of receives that gave nothing.
     pub quiet: u64,
 }
 
 impl Tally {
-    /// Nothing is printed or counted. It takes no memory yet.
+    /// Returns a tally without text and with counts of 0. This allocates no memory.
     pub fn new(alloc: Global) -> Tally
         ensures { result ≡ no_tally }
     {
@@ -38,7 +38,7 @@ impl Tally {
         }
     }
 
-    // Prints and counts a datagram that was sent as an answer, by its header's numbers.
+    // Prints and counts a response that was sent, with the sequence number and the message count of its header.
     pub(crate) fn add_answered(&mut self, sequence: u64, count: u64) -> Result<(), AllocError>
         ensures { OnOk result (self.new ≡ with_answered sequence count self.old) }
     {
@@ -68,7 +68,7 @@ impl Tally {
         add_one(&mut self.quiet);
     }
 
-    // Counts a send or a receive that failed.
+    // Counts a failed send or receive.
     pub(crate) fn add_failed(&mut self)
         ensures { self.new ≡ with_failed self.old }
     {
@@ -93,14 +93,14 @@ impl Tally {
     }
 }
 
-// Adds why a request is refused.
+// Appends the line of a refused request.
 fn push_request_refused(outgoing: &mut Outgoing, why: AnswerError) -> Result<(), AllocError>
     ensures { OnOk result (outgoing.new ≡ with_more (request_refused_text why) outgoing.old) }
 {
     push_answer_refusal(&mut outgoing.text, &[Word::Text(b"refused")], why)
 }
 
-// Adds one to a count, up to 18446744073709551615.
+// Adds 1 to a count, which stops at 18446744073709551615.
 fn add_one(number: &mut u64)
     ensures { number.new ≡ one_more number.old }
 {

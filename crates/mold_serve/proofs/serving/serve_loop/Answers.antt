@@ -7,7 +7,7 @@ use Rattle.mold_session.specs.Server.{ServerState}
 use Rattle.mold_turns.proofs.RunLemmas.{ran_none}
 use Rattle.mold_serve.proofs.serving.serve_loop.Goals as goal
 
--- the last line, and that port and server stand as at the end
+-- the last line, and that port and server are as at the end
 abbrev last : {P : Type 0} → ResponderState P → List ℕ
 last responder = served_line responder.tally
 

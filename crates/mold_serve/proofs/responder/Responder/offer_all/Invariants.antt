@@ -4,7 +4,7 @@ use Rattle.mold_serve.specs.Serving.{IsSame, service, state}
 use Rattle.mold_serve.proofs.AnsweringLemmas.{Offering}
 use Rattle.mold_serve.proofs.responder.Responder.offer_all.Given as goal
 
--- some packets were offered, and those that the plan still sends are left
+-- some packets were offered, and those that the plan still sends remain
 abbrev pub invariant-packets : goal.invariant-packets
 invariant-packets g l = record {
   offered :

@@ -8,7 +8,7 @@ use Rattle.mold_session.specs.Server.{ServerState}
 use Rattle.mold_turns.proofs.RunLemmas.{ran_cut, ran_front, ran_whole}
 use Rattle.mold_serve.proofs.responder.Responder.serve.Goals as goal
 
--- the last line, and that port and server stand as at the end
+-- the last line, and that port and server are as at the end
 abbrev last : {P : Type 0} → ResponderState P → List ℕ
 last responder = served_line responder.tally
 

@@ -4,7 +4,7 @@ use Rattle.mold_turns.proofs.RunLemmas.{Going}
 use Rattle.mold_serve.proofs.responder.Responder.take_turns.Given as goal
 use Rattle.mold_wire.specs.declared.limits.TheConstants.{MAX_LIMIT}
 
--- so many turns were made, and the run goes on from here
+-- some turns were made, and the run continues from here
 abbrev pub invariant-loop-turn : goal.invariant-loop-turn
 invariant-loop-turn g l = record {
   going :
