@@ -1,4 +1,4 @@
--- The lines of a batch's messages, one more at a time.
+-- The lines of a batch's messages, one by one.
 use Rattle.std.proofs.Common.{arith, ◌≡◌, ℕ, ◌+◌, ◌-◌, ◌<◌, ◌≤◌, List, [], ◌∷◌, ◌++◌, length, drop, None, Some}
 use Rattle.std.proofs.Common.{ap, sym, take, ◌∙◌, append_assoc, append-nil, drop_of_length-le, length-append}
 use Rattle.std.proofs.lemmas.List.{drop_more, length-take, length-take-le}
@@ -9,7 +9,7 @@ use Rattle.mold_receiver.specs.Store.{Message}
 use Rattle.mold_digits.specs.Writing.{IsWritten}
 use Rattle.mold_listen.specs.Text.{handed_line, handed_text}
 
--- a batch that has a first number has that one
+-- if a batch has a first number, this is it
 pub first_is : (number first : ℕ) (ms : List Message) → Some first ≡ first_in number ms → first ≡ number
 first_is number first [] is = let no : ⊥ = cc in absurd no
 first_is number first (message ∷ ms) is = cc
@@ -18,11 +18,11 @@ pub after_is : (number after : ℕ) (ms : List Message) → Some after ≡ after
 after_is number after [] is = let no : ⊥ = cc in absurd no
 after_is number after (message ∷ ms) is = cc
 
--- a message of the list is there
+-- an index below the length of the list has a message
 pub none_within : (ms : List Message) (k : ℕ) → None ≡ slice_get ms k → k < length ms → ⊥
 none_within ms k none within = let some = slice_get-get_or ms k [] within in cc
 
--- the line of the message at a number comes first of the rest
+-- the line of the message at a number is the first of the remaining lines
 handed_step : (number first : ℕ) (ms : List Message) (message : Message) → first ≤ number →
     Some message ≡ slice_get ms (number - first) →
     handed_text number (drop (number - first) ms)
@@ -37,7 +37,7 @@ handed_step number first ms message low is =
     ∙ ap (λ (k : ℕ). handed_line number message ++ handed_text (number + 1) (drop k ms))
     (let e : buffer + 1 ≡ number + 1 - first = omega arith in e)
 
--- with its line written, the lines left are one fewer
+-- after its line is written, one line fewer remains
 pub handed_more : (number first : ℕ) (ms : List Message) (message : Message) (old new whole : List ℕ) →
     first ≤ number → Some message ≡ slice_get ms (number - first) →
     old ++ handed_text number (drop (number - first) ms) ≡ whole → new ≡ old ++ handed_line number message →
@@ -60,7 +60,7 @@ pub handed_init : (first : ℕ) (ms : List Message) (old : List ℕ) →
 handed_init first ms old =
     ap (λ (k : ℕ). old ++ handed_text first (drop k ms)) (let e : first - first ≡ 0 = omega arith in e)
 
--- text that was written ends within its bytes
+-- the end of written text is within its buffer
 pub written_within : (old new : List ℕ) (at end : ℕ) (text : List ℕ) → at ≤ length old →
     IsWritten old new at end text → end ≤ length new
 written_within old new at end text within written =

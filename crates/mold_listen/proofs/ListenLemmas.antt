@@ -1,4 +1,4 @@
--- What each step of listening does to what was heard.
+-- What each step of a listener changes.
 use Rattle.std.proofs.Common.{◌≡◌, ℕ, suc, Bool, true, false, List, [], ◌∷◌, Option, None, Some, Result, zero, ap, refl, sym, ◌∙◌}
 use Rattle.std.proofs.lemmas.Result.{on_ok_weaker}
 use Rattle.std.specs.Prelude.{OnOk}
@@ -17,7 +17,7 @@ use Rattle.mold_listen.specs.Listening.{receives, taken}
 use Rattle.mold_turns.specs.Outgoing.{OutgoingState, with_more}
 use Rattle.mold_wire.specs.declared.limits.TheConstants.{MAX_LIMIT}
 
--- an empty batch that took messages has these, numbered from the same number on
+-- an empty batch that was given messages has these, numbered from the same number on
 batch_text : (next : ℕ) (messages : List Message) →
     handed_text (followed_by (record { first = 0; messages = [] }) next messages).first
     (followed_by (record { first = 0; messages = [] }) next messages).messages
@@ -26,7 +26,7 @@ unfolding handed_text
 batch_text next [] = refl
 batch_text next (message ∷ messages) = refl
 
--- a datagram was taken, and what is handed on was written
+-- a datagram was taken, and what it delivers was written
 pub taken_ok : (line : Option Line) (bytes : List ℕ) (old new : Arbitration) (before after : Handed) (t : Taken)
     (outgoing out : OutgoingState) → before ≡ record { first = 0; messages = [] } →
     HasArbitrated line old bytes before new after t →
@@ -44,7 +44,7 @@ taken_ok line bytes old new before after t outgoing out empty has written =
 
 -- ---- one receive
 
--- what a receive gave is what the port gives next, cut
+-- a receive gave what the port gives next, truncated to the buffer
 pub heard_next : {P : Type 0} (line : Option Line) (port : Port P) (e : Progress) (n : ℕ) (receipt : Receipt P) →
     n ≡ MAX_LIMIT → receipt ≡ cut n (next_of port) → with_receipt line receipt e ≡ with_next_receipt line port e
 unfolding with_next_receipt
@@ -60,9 +60,9 @@ pub datagram_next : {P : Type 0} (n : ℕ) (port : Port P) (receipt : Receipt P)
     is_datagram receipt ≡ is_datagram (next_of port)
 datagram_next n port receipt is = ap is_datagram is ∙ cut_is n (next_of port)
 
--- ---- the answers to a request
+-- ---- the responses to a request
 
--- one receive more, for an answer
+-- one more receive of a response
 abbrev pub stepped : {P : Type 0} → Asking P → Asking P
 stepped s = record { port = received s.port; progress = with_next_receipt None s.port s.progress }
 
@@ -89,7 +89,7 @@ pub none_heard : {P : Type 0} (left : ℕ) (s : Asking P) → left ≡ 0 → s �
 unfolding receives receive_responses
 none_heard left s none = ap (λ (n : ℕ). receive_responses (receives n s.port.comes) s) (sym none)
 
--- an answer came: what is heard of those left is what is heard of all
+-- a response came: the remaining receives give the same end as all receives
 pub answer_heard : {P : Type 0} (left n : ℕ) (s after whole : Asking P) → left ≡ suc n →
     is_datagram (next_of s.port) ≡ true → after ≡ stepped s →
     receive_responses (receives left s.port.comes) s ≡ whole → receive_responses (receives n after.port.comes) after ≡ whole
@@ -99,7 +99,7 @@ answer_heard {P} left n s after whole more came is printed =
     ∙ ap (λ (k : ℕ). receive_responses (receives k s.port.comes) s) (sym more)
     ∙ printed
 
--- none came: that is all
+-- no response came: the receives are over
 pub after_responses : {P : Type 0} (left n : ℕ) (s after whole : Asking P) → left ≡ suc n →
     is_datagram (next_of s.port) ≡ false → after ≡ stepped s →
     receive_responses (receives left s.port.comes) s ≡ whole → after ≡ whole
@@ -115,13 +115,13 @@ asking_is {P} port arbitration outgoing s is_port is_hearing =
     ap (λ (p : Port P). asking p arbitration outgoing) is_port
     ∙ ap {B = Asking P} (λ (e : Progress). record { port = s.port; progress = e }) is_hearing
 
--- hearing sends nothing
+-- receiving sends nothing
 pub hearing_sends : {P : Type 0} (count : ℕ) (s : Asking P) → (receive_responses count s).port.sent ≡ s.port.sent
 unfolding receive_responses
 hearing_sends zero s = refl
 hearing_sends (suc count) s = hearing_sends count (stepped s)
 
--- a request was sent, and answers were heard
+-- a request was sent, and responses were received
 pub has_asked : {P T E : Type 0} (request : Request) (wish : Option Request) (server : P) (burst : ℕ)
     (result : Result T E) (before after : Asking P) (mid : Port P) (failed : Bool) (bytes : List ℕ) →
     wish ≡ Some request → mid ≡ offered failed server bytes before.port → failed ≡ false →

@@ -1,4 +1,4 @@
--- A turn of listening, and that listening is a loop that goes by turns.
+-- A turn of a listener, and listening as a loop of turns.
 use Rattle.std.proofs.Common.{◌≡◌, ℕ, zero, suc, Bool, true, false, List, [], ◌∷◌, ◌++◌, Option, None, Some, Result}
 use Rattle.std.proofs.Common.{ap, refl, sym, subst, ◌∙◌, ◌↔◌, eq-eqb, ne_eqb}
 use Rattle.std.proofs.lemmas.Result.{on_ok_weaker}
@@ -24,7 +24,7 @@ use Rattle.mold_listen.proofs.ListenLemmas.{hearing_sends, stepped}
 use Rattle.mold_turns.proofs.OutgoingLemmas.{front_twice, more_after, written_front}
 use Rattle.mold_wire.specs.declared.limits.TheConstants.{MAX_LIMIT}
 
--- ---- text in front
+-- ---- text put before
 
 abbrev pub hearing_before : List ℕ → Progress → Progress
 hearing_before front e = record { arbitration = e.arbitration; outgoing = with_front front e.outgoing }
@@ -80,7 +80,7 @@ turn_before {P} server burst front fails s =
     ∙ ap to (asked_before front (wanted with_receipt.arbitration.view) server burst fails
     (record { port = s.requests; progress = with_receipt }))
 
--- ---- a turn only prints and sends more
+-- ---- a turn only appends to what is printed and sent
 
 heard_prints : {P : Type 0} (line : Option Line) (receipt : Receipt P) (e : Progress) →
     Begins e.outgoing.text (with_receipt line receipt e).outgoing.text
@@ -148,7 +148,7 @@ is_loop {P} server burst = record {
 
 -- ---- a turn was made
 
--- a fault came before anything was sent
+-- a fault before anything was sent
 pub turned_cut : {P T E : Type 0} (server : P) (burst : ℕ) (result : Result T E) (before after : ListenerState P) →
     IsErr result → after.requests ≡ before.requests → HasTurned server burst result before after
 turned_cut {P} server burst result before after failed same = record {
@@ -166,7 +166,7 @@ listener_is {P} s a b q is_a is_b is_q =
     ∙ ap {B = ListenerState P} (λ (p : Port P). record { a = a; b = p; requests = s.requests; progress = s.progress }) is_b
     ∙ ap {B = ListenerState P} (λ (r : Asking P). record { a = a; b = b; requests = r.port; progress = r.progress }) is_q
 
--- both lines were heard, and then the asking was done
+-- both lines were received, and then the request was made
 pub has_turned : {P T E : Type 0} (server : P) (burst : ℕ) (result : Result T E) (before after : ListenerState P)
     (mid : Progress) → mid ≡ after_lines before → after.a ≡ received before.a → after.b ≡ received before.b →
     HasAsked (wanted mid.arbitration.view) server burst result (record { port = before.requests; progress = mid })
@@ -190,9 +190,9 @@ has_turned {P} server burst result before after mid is_mid is_a is_b has =
           (begins_whole after.requests.sent);
     }
 
--- ---- between the turns
+-- ---- between turns
 
--- it works on the same
+-- the listener still has the same parts
 pub same_at_first : {D : Type 0} (feed : FeedListener D) → IsSame feed feed
 same_at_first feed = record { a = refl; b = refl; requests = refl; arbiter = refl; printer = refl }
 
@@ -216,7 +216,7 @@ finished_is b v w printer same =
     tells_end false (Some end) next printer =
         ne_eqb end next (λ same. let yes = printer.1 (ap Some same) in let no : ⊥ = cc in no)
 
--- text was written that stood in front
+-- a prefix of the text was written
 pub moved_same : {P : Type 0} (a b requests : Port P) (arbitration : Arbitration) (old new : OutgoingState) (front : List ℕ) →
     old.text ≡ front ++ new.text → new.failures ≡ old.failures →
     listener a b requests arbitration old ≡ put_before front (listener a b requests arbitration new)
@@ -252,16 +252,16 @@ open_last a old new v next known over same is_next is_known is =
     ∙ ap (λ (b : Bool). with_more (if b then finished_line a.view.next old.failures
     else open_line a.view.next a.view.known old.failures) old) (sym over)
 
--- ---- at its end
+-- ---- at the end
 
--- a run of which the ports and the arbiter are left so
+-- a run that leaves these ports and this arbiter
 abbrev pub Listened : {D P E : Type 0} → Bool → (D → Port P) → P → ℕ → ℕ → ListenerState P → Result ℕ E → Option (List ℕ) →
     Option (List ℕ) → D → D → D → Arbitration → Type 0
 Listened reporting known server burst turns start result old new a b requests arbitration =
     Ran (listening server burst) turns start (listened_lines reporting) status
     (Agrees (known a) (known b) (known requests) arbitration) result old new (known requests).sent
 
--- they end as they were left
+-- the ports and the arbiter at the end are those that were left
 pub listened_so : {D P E : Type 0} (reporting : Bool) (known : D → Port P) (server : P) (burst turns : ℕ) (start : ListenerState P)
     (result : Result ℕ E) (old new : Option (List ℕ)) (a a_end b b_end requests requests_end : D)
     (arbitration arbitration_end : Arbitration) → a_end ≡ a → b_end ≡ b → requests_end ≡ requests →

@@ -1,5 +1,4 @@
--- Listening on two lines and asking for what is lacking: what a turn makes of the ports and of what was heard, and
--- what is printed. The whole run is `run` of `listening`.
+-- The turns of a listener on two lines: what it receives, requests and prints. A whole run is `run` of `listening`.
 use Rattle.std.specs.Prelude.{◌≡◌, ℕ, zero, suc, Bool, true, false, ◌==◌, if◌then◌else◌, List, [], ◌∷◌, ◌++◌}
 use Rattle.std.specs.Prelude.{Option, None, Some, Result, OnOk}
 use Rattle.mold_ports.specs.Ports.{Port, Receipt, Datagram, Quiet, Failure, cut, next_of, offered, received}
@@ -16,42 +15,45 @@ use Rattle.mold_wire.specs.declared.request.Request.{Request}
 use Rattle.mold_listen.specs.Text.{finished_line, open_line, reports_text, taking_text}
 use Rattle.mold_wire.specs.declared.limits.TheConstants.{MAX_LIMIT}
 
--- an arbiter, and what goes out of what it took
+-- An arbiter, and the outgoing text and failures of the listener.
 pub record Progress : Type 0 where
   pub arbitration : Arbitration
   pub outgoing : OutgoingState
 
+-- The pair of this arbiter and this outgoing state.
 abbrev pub progress : Arbitration → OutgoingState → Progress
 progress arbitration outgoing = record { arbitration = arbitration; outgoing = outgoing }
 
--- a datagram came, on a line or as an answer: the arbiter takes it, and what it hands on or its refusal is printed
+-- The progress after the arbiter took a datagram. It was received on `line`, or as a response if there is no line. The
+-- messages that it delivers are printed, or the reason why it is refused.
 abbrev pub taken : Option Line → List ℕ → Progress → Progress
 taken line bytes e = record {
   arbitration = arbitrates line bytes e.arbitration;
   outgoing = with_more (taking_text e.arbitration.view.next (receive e.arbitration.view bytes)) e.outgoing;
 }
 
--- a send or a receive failed
+-- The progress after a send or receive failed.
 abbrev pub missed : Progress → Progress
 missed e = record { arbitration = e.arbitration; outgoing = failed_once e.outgoing }
 
--- what a receive gave
+-- The progress after a receive on `line`. A datagram is taken, and a failure is counted.
 abbrev pub with_receipt : {P : Type 0} → Option Line → Receipt P → Progress → Progress
 with_receipt line (Datagram from bytes) e = taken line bytes e
 with_receipt line Quiet e = e
 with_receipt line Failure e = missed e
 
--- what a port gives next, cut
+-- The progress after the next receive of the port. Only the first 65,507 bytes of a datagram are used.
 unfoldable pub with_next_receipt : {P : Type 0} → Option Line → Port P → Progress → Progress
 with_next_receipt line port e = with_receipt line (cut MAX_LIMIT (next_of port)) e
 
--- a receive gives a datagram
+-- The receive gives a datagram.
 abbrev pub is_datagram : {P : Type 0} → Receipt P → Bool
 is_datagram (Datagram from bytes) = true
 is_datagram Quiet = false
 is_datagram Failure = false
 
--- how many receives are made, of at most so many, up to the first that gives no datagram
+-- The number of receives that are made for one request, at most `most`. The first receive that gives no datagram is
+-- the last one.
 unfoldable pub receives : {P : Type 0} → ℕ → List (Receipt P) → ℕ
 receives zero comes = 0
 receives (suc most) [] = 1
@@ -59,22 +61,23 @@ receives (suc most) (Datagram from bytes ∷ comes) = suc (receives most comes)
 receives (suc most) (Quiet ∷ comes) = 1
 receives (suc most) (Failure ∷ comes) = 1
 
--- the port that requests are sent from, and what was heard
+-- The port that requests are sent from, and the progress of the listener.
 pub record Asking (P : Type 0) : Type 0 where
   pub port : Port P
   pub progress : Progress
 
+-- The state with this port, this arbiter and this outgoing state.
 abbrev pub asking : {P : Type 0} → Port P → Arbitration → OutgoingState → Asking P
 asking port arbitration outgoing = record { port = port; progress = progress arbitration outgoing }
 
--- what so many receives give, as answers
+-- The state after a number of receives of responses.
 unfoldable pub receive_responses : {P : Type 0} → ℕ → Asking P → Asking P
 receive_responses zero s = s
 receive_responses (suc more) s =
     receive_responses more (record { port = received s.port; progress = with_next_receipt None s.port s.progress })
 
--- where something is wanted, the request is sent to the server. Where that doesn't fail, at most so many receives
--- are made, up to the first that gives no datagram.
+-- The state after a turn's request, if there is one. If its send fails, the failure is counted. Otherwise at most
+-- `burst` receives are made, up to the first that gives no datagram.
 abbrev pub asked : {P : Type 0} → Option Request → P → ℕ → Bool → Asking P → Asking P
 asked None server burst fails s = s
 asked (Some request) server burst true s =
@@ -83,33 +86,37 @@ asked (Some request) server burst false s =
     receive_responses (receives burst s.port.comes)
     (record { port = offered false server (request_spelling request) s.port; progress = s.progress })
 
--- the asking was done, in which the send failed or didn't; where it ended in a fault, what was to be sent was sent
+-- After a success, the request was made and `after` is the state that follows; its send failed or succeeded. After a
+-- fault, what was sent is the same as without the fault.
 pub record HasAsked {P T E : Type 0} (request : Option Request) (server : P) (burst : ℕ) (result : Result T E)
     (before after : Asking P) : Type 0 where
+  -- whether the send of the request failed
   pub fails : Bool
   pub whole : OnOk result (after ≡ asked request server burst fails before)
   pub sent : after.port.sent ≡ (asked request server burst fails before).port.sent
 
--- the ports of the lines, the port of the requests, and what was heard
+-- The state of a listener: the ports of lines A and B, the port that requests are sent from, and its progress.
 pub record ListenerState (P : Type 0) : Type 0 where
   pub a : Port P
   pub b : Port P
   pub requests : Port P
   pub progress : Progress
 
+-- The state with these ports, this arbiter and this outgoing state.
 abbrev pub listener : {P : Type 0} → Port P → Port P → Port P → Arbitration → OutgoingState → ListenerState P
 listener a b requests arbitration outgoing =
     record { a = a; b = b; requests = requests; progress = progress arbitration outgoing }
 
--- how far a listener is, and the part of it that asks; `port` says how a port stands
+-- The state of the listener `feed`. `port` gives the model of each port.
 abbrev pub state : {D P : Type 0} → (D → Port P) → FeedListener D → ListenerState P
 state port feed =
     listener (port feed.a.now) (port feed.b.now) (port feed.requests.now) feed.arbiter.now feed.printer.now.outgoing
 
+-- The part of the state of the listener `feed` that a request changes. `port` gives the model of its port.
 abbrev pub asking_state : {D P : Type 0} → (D → Port P) → FeedListener D → Asking P
 asking_state port feed = asking (port feed.requests.now) feed.arbiter.now feed.printer.now.outgoing
 
--- it still works on the same ports, arbiter and report
+-- The listener still has the same ports, arbiter and printer.
 pub record IsSame {D : Type 0} (old new : FeedListener D) : Type 0 where
   pub a : new.a.ghost_name ≡ old.a.ghost_name
   pub b : new.b.ghost_name ≡ old.b.ghost_name
@@ -117,17 +124,17 @@ pub record IsSame {D : Type 0} (old new : FeedListener D) : Type 0 where
   pub arbiter : new.arbiter.ghost_name ≡ old.arbiter.ghost_name
   pub printer : new.printer.ghost_name ≡ old.printer.ghost_name
 
--- one receive on each line
+-- The progress after one receive on line A and then one on line B.
 abbrev pub after_lines : {P : Type 0} → ListenerState P → Progress
 after_lines s = with_next_receipt (Some B) s.b (with_next_receipt (Some A) s.a s.progress)
 
--- and then the asking
+-- The state after the receives on both lines and then the request.
 abbrev pub turn_asked : {P : Type 0} → P → ℕ → Bool → ListenerState P → Asking P
 turn_asked server burst fails s =
     asked (wanted (after_lines s).arbitration.view) server burst fails
     (record { port = s.requests; progress = after_lines s })
 
--- a turn, in which the send fails or doesn't
+-- The state after one turn. `fails` states whether the send of the request fails.
 unfoldable pub turn : {P : Type 0} → P → ℕ → Bool → ListenerState P → ListenerState P
 turn server burst fails s = record {
   a = received s.a;
@@ -136,23 +143,25 @@ turn server burst fails s = record {
   progress = (turn_asked server burst fails s).progress;
 }
 
--- a turn was made, in which the send failed or didn't; where it ended in a fault, a beginning of what was to be
--- sent was sent
+-- After a success, one turn was made and `after` is the state that follows. After a fault, what was sent is a prefix
+-- of what the turn sends.
 pub record HasTurned {P T E : Type 0} (server : P) (burst : ℕ) (result : Result T E) (before after : ListenerState P) :
     Type 0 where
+  -- whether the send of the request failed
   pub fails : Bool
   pub whole : OnOk result (after ≡ turn server burst fails before)
   pub sent : Begins after.requests.sent (turn server burst fails before).requests.sent
 
--- the session's end is known, and all before it was handed on
+-- The end of the session is known to be `next`: all messages before it were delivered.
 abbrev pub ends_at : Option ℕ → ℕ → Bool
 ends_at None next = false
 ends_at (Some end) next = end == next
 
+-- The listener has delivered all messages up to the known end of the session.
 abbrev pub is_finished : Progress → Bool
 is_finished e = ends_at e.arbitration.view.ended e.arbitration.view.next
 
--- listening goes by such turns, until it is finished
+-- The loop of a listener. It ends after the first turn after which the listener is finished.
 abbrev pub listening : {P : Type 0} → P → ℕ → Loop Bool (ListenerState P) (P × List ℕ)
 listening server burst = record {
   turn = turn server burst;
@@ -161,37 +170,40 @@ listening server burst = record {
   sent = λ s. s.requests.sent;
 }
 
--- text in front of what is to be printed
+-- The state with `front` put before its text.
 abbrev pub put_before : {P : Type 0} → List ℕ → ListenerState P → ListenerState P
 put_before front s =
     listener s.a s.b s.requests s.progress.arbitration (with_front front s.progress.outgoing)
 
--- before the first turn nothing is to be printed, and nothing failed
+-- The state before the first turn: no text and no failures.
 abbrev pub beginning : {P : Type 0} → Port P → Port P → Port P → Arbitration → ListenerState P
 beginning a b requests arbitration = listener a b requests arbitration nothing_out
 
--- the last line
+-- The last line of a listener, which depends on whether it has finished.
 abbrev pub last_line : Progress → List ℕ
 last_line e =
     if is_finished e
     then finished_line e.arbitration.view.next e.outgoing.failures
     else open_line e.arbitration.view.next e.arbitration.view.known e.outgoing.failures
 
+-- The status of a listener: 0 if it has finished, otherwise 1.
 abbrev pub listener_status : Progress → ℕ
 listener_status e = if is_finished e then 0 else 1
 
--- and in front of it the reports of the lines, where they are asked for
+-- The last lines of a listener: the reports of both lines, if they were requested, and then its last line.
 abbrev pub last_lines : Bool → Progress → List ℕ
 last_lines reporting e =
     reports_text reporting e.arbitration.reports e.arbitration.view.known ++ last_line e
 
+-- The last lines of a listener in the state `s`.
 abbrev pub listened_lines : {P : Type 0} → Bool → ListenerState P → List ℕ
 listened_lines reporting s = last_lines reporting s.progress
 
+-- The status of a listener in the state `s`: 0 if it has finished, otherwise 1.
 abbrev pub status : {P : Type 0} → ListenerState P → ℕ
 status s = listener_status s.progress
 
--- the ports and the arbiter stand as at the end
+-- The ports and the arbiter are those of the state `end`.
 pub record Agrees {P : Type 0} (a b requests : Port P) (arbitration : Arbitration) (end : ListenerState P) :
     Type 0 where
   pub a_left : a ≡ end.a

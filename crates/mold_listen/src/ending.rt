@@ -1,4 +1,4 @@
-//! What a listener prints at its end.
+//! The last lines that a listener prints: reports of lines A and B, and then its status line.
 
 ghost use Rattle.std.specs.Prelude.{◌≡◌, IfOk, OnOk};
 ghost use Rattle.mold_listen.specs.Listening.{progress, last_lines, listener_status};
@@ -12,7 +12,7 @@ use mold_text::Word;
 use mold_turns::Outgoing;
 use std::alloc::AllocError;
 
-// The name of a line.
+// The name of a line as it is printed.
 fn name(line: Line) -> &'static [u8]
     ensures { result.now ≡ line_name line }
 {
@@ -22,7 +22,7 @@ fn name(line: Line) -> &'static [u8]
     }
 }
 
-// Adds the report of a line: what came on it, and how far it is behind what is known.
+// Appends the report of a line: what was received on it, and its lag.
 fn push_report(arbiter: &Arbiter, line: Line, outgoing: &mut Outgoing) -> Result<(), AllocError>
     ensures { OnOk result (outgoing.new ≡ with_more
         (report_line line (report_on line arbiter.now.reports) arbiter.now.view.known) outgoing.old) }
@@ -43,7 +43,7 @@ fn push_report(arbiter: &Arbiter, line: Line, outgoing: &mut Outgoing) -> Result
     outgoing.push_line(&words)
 }
 
-// Adds the reports of both lines, where they are asked for.
+// Appends the reports of both lines if `reporting` is set.
 fn push_reports(
     arbiter: &Arbiter,
     reporting: bool,
@@ -59,8 +59,8 @@ fn push_reports(
     push_report(arbiter, Line::B, outgoing)
 }
 
-/// Adds the last lines to the text: the reports of both lines, where they are asked for, and then what
-/// `push_last` adds. Answers the status: 0 finished, 1 open.
+/// Appends the last lines to the text: the reports of both lines if `reporting` is set, and then what `push_last`
+/// appends. Returns the status: 0 finished, 1 open. An error means out of memory.
 pub fn push_end(
     arbiter: &Arbiter,
     reporting: bool,

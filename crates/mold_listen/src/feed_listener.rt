@@ -1,4 +1,4 @@
-//! What listens to a feed on two lines, and asks for what it lacks.
+//! The listener at work: it receives on two lines, requests missing messages, and prints what the arbiter delivers.
 
 ghost use Rattle.std.specs.Prelude.{◌≡◌, true, length, OnOk};
 ghost use Rattle.mold_devices.specs.Faults.{CountsSink};
@@ -17,8 +17,8 @@ use mold_ports::Datagrams;
 use mold_receiver::{Arbiter, Line, Origin};
 use std::alloc::AllocError;
 
-/// What listens to a feed: the ports of its two lines, the port that requests are sent from, the arbiter, and what is
-/// still to print.
+/// A listener at work: the ports of its two lines, the port that requests are sent from, the arbiter, and what is
+/// still to be printed.
 #[derive(Drop)]
 pub(crate) struct FeedListener<'a, D> {
     pub(crate) a: &'a mut D,
@@ -29,7 +29,7 @@ pub(crate) struct FeedListener<'a, D> {
 }
 
 impl<'a, D: Datagrams> FeedListener<'a, D> {
-    // Receives answers, at most so many, up to the first receive that gives no datagram.
+    // Receives responses, at most `most`. Stops after the first receive that gives no datagram.
     fn receive_responses(&mut self, most: u16, buffer: &mut [u8]) -> Result<(), AllocError>
         requires { length buffer.old ≡ MAX_LIMIT }
         ensures sent { D.modeled ≡ true → (D.port self.new.requests.now).sent ≡ (D.port self.old.requests.now).sent }
@@ -53,8 +53,8 @@ impl<'a, D: Datagrams> FeedListener<'a, D> {
         Ok(())
     }
 
-    // Sends the server a request for what is lacking, where something is, and where that succeeds receives
-    // answers, at most `burst`. A failed send is counted.
+    // If messages are missing, sends the server a request for them. If the send succeeds, receives at most `burst`
+    // responses. A failed send is counted.
     fn ask(&mut self, server: D::Peer, burst: u16, buffer: &mut [u8]) -> Result<(), AllocError>
         requires { length buffer.old ≡ MAX_LIMIT }
         ensures asked { D.modeled ≡ true → HasAsked (wanted self.old.arbiter.now.view) server burst result
@@ -73,7 +73,7 @@ impl<'a, D: Datagrams> FeedListener<'a, D> {
         self.receive_responses(burst, buffer)
     }
 
-    // One turn.
+    // Makes one turn.
     fn take_turn(
         &mut self,
         server: D::Peer,
@@ -102,8 +102,8 @@ impl<'a, D: Datagrams> FeedListener<'a, D> {
         self.ask(server, burst, buffer)
     }
 
-    // At most so many turns, up to the first at whose end the receiver is finished. What is less than a large
-    // write is left to print.
+    // Makes at most `options.turns` turns. Stops after the first turn after which the receiver is finished. Text that
+    // is too short for a large write is kept for a later write.
     fn take_turns<K: Sink>(
         &mut self,
         options: ListenOptions<D::Peer>,
@@ -127,8 +127,8 @@ impl<'a, D: Datagrams> FeedListener<'a, D> {
         Ok(())
     }
 
-    /// Makes the turns, prints the last line, behind the reports of the lines where they are asked for, and answers
-    /// the status: 0 finished, 1 open. `buffer` has `MAX_LIMIT` bytes.
+    /// Makes the turns, prints the requested reports of the lines and the last line, and returns the status: 0
+    /// finished, 1 open. `buffer` has `MAX_LIMIT` bytes.
     pub(crate) fn listen<K: Sink>(
         &mut self,
         options: ListenOptions<D::Peer>,

@@ -1,4 +1,4 @@
-//! The lines of messages that were handed on.
+//! The lines that are printed for delivered messages.
 
 ghost use Rattle.std.specs.Prelude.{◌≡◌, ◌++◌, ◌+◌, ◌≤◌, length, take, OnOk};
 ghost use Rattle.mold_listen.specs.Text.{handed_text};
@@ -7,16 +7,16 @@ use mold_receiver::Batch;
 use mold_text::{Word, line_room, write_line};
 use std::alloc::AllocError;
 
-/// How many bytes the text grows by at least.
+/// The least number of bytes by which the text grows.
 const GROWTH: usize = 4096;
 
-// Makes room for so many bytes from a place on; what is before it stays.
+// Makes room for `room` bytes at offset `at`. The bytes before that offset stay.
 fn make_room(out: &mut Vec<u8>, at: usize, room: usize) -> Result<(), AllocError>
     requires { at ≤ length out.old.items }
     ensures room { OnOk result (at + room ≤ length out.new.items) }
     ensures front { OnOk result (take at out.new.items ≡ take at out.old.items) }
 {
-    // An end that doesn't fit becomes the greatest number, and growing to that is refused.
+    // If the end overflows, it becomes the greatest number, and the allocation for that fails.
     let end = at.saturating_add(room);
     if out.len() < end {
         out.resize(end.saturating_add(GROWTH), 0)?;
@@ -24,9 +24,9 @@ fn make_room(out: &mut Vec<u8>, at: usize, room: usize) -> Result<(), AllocError
     Ok(())
 }
 
-/// Writes a line for each message of the batch: its number, and its bytes as hexadecimal digits, `-` for
-/// none. The lines are written where there is room for them, which is made for many at once. After an error,
-/// which is want of memory, what stands behind what was there is of no use.
+/// Appends a line for each message of the batch: its number, and its bytes as hexadecimal digits (`-` for no bytes).
+/// Room is made for many lines at once. An error means out of memory; the bytes after the former text are then
+/// meaningless.
 #[tactic(auto, unfolding(crate::specs::Text::handed_text))]
 pub(crate) fn push_handed(out: &mut Vec<u8>, batch: &Batch) -> Result<(), AllocError>
     ensures { OnOk result (out.new.items ≡ out.old.items ++ handed_text batch.now.first batch.now.messages) }

@@ -1,4 +1,4 @@
-//! Listening over ports: two lines of a session, and requests for what is missing.
+//! The listener over ports: it receives two lines of a session and requests missing messages.
 #![tactic(auto)]
 
 mod ending;

@@ -1,13 +1,13 @@
-//! How a listener runs.
+//! The options of a listener.
 
-/// How a listener runs.
+/// The options of a listener.
 #[derive(Clone, Copy)]
 pub struct ListenOptions<P: Copy> {
-    /// Where requests are sent.
+    /// The address of the re-request server.
     pub server: P,
-    /// How many datagrams of a response are received at most.
+    /// The most responses that are received for one request.
     pub burst: u16,
-    /// How many turns are made at most.
+    /// The most turns that are made.
     pub turns: u64,
     /// Whether reports of both lines are printed before the last line.
     pub reporting: bool,

@@ -1,4 +1,4 @@
-//! The loop that listens.
+//! The loop that listens on two lines, and the last line that it prints.
 
 ghost use Rattle.std.specs.Prelude.{◌≡◌, true, IfOk, OnOk};
 ghost use Rattle.mold_devices.specs.Faults.{CountsSink};
@@ -20,7 +20,7 @@ use mold_turns::Outgoing;
 use mold_wire::MAX_LIMIT;
 use std::alloc::{AllocError, Global};
 
-// The last line where the session was handed on to its end.
+// The last line if all messages up to the end of the session were delivered.
 fn push_finished(outgoing: &mut Outgoing, next: u64) -> Result<(), AllocError>
     ensures { OnOk result (outgoing.new ≡ with_more (finished_line next outgoing.old.failures) outgoing.old) }
 {
@@ -34,7 +34,7 @@ fn push_finished(outgoing: &mut Outgoing, next: u64) -> Result<(), AllocError>
     outgoing.push_line(&words)
 }
 
-// The last line where it was not.
+// The last line of a listener that has not finished.
 fn push_open(outgoing: &mut Outgoing, next: u64, known: u64) -> Result<(), AllocError>
     ensures { OnOk result (outgoing.new ≡ with_more (open_line next known outgoing.old.failures) outgoing.old) }
 {
@@ -50,9 +50,9 @@ fn push_open(outgoing: &mut Outgoing, next: u64, known: u64) -> Result<(), Alloc
     outgoing.push_line(&words)
 }
 
-/// Adds the last line to the text: whether all of the session was handed on, the number of the next
-/// message, what is known beside it where the session is open, and how often a port failed. Answers the
-/// status: 0 finished, 1 open.
+/// Appends the last line to the text: whether the listener has finished, the number of the next message, and the count
+/// of failed sends and receives. If it has not finished, the line also has the known top. Returns the status: 0
+/// finished, 1 open. An error means out of memory.
 pub fn push_last(arbiter: &Arbiter, outgoing: &mut Outgoing) -> Result<u8, AllocError>
     ensures status { IfOk result (λ status. status ≡ listener_status (progress arbiter.now outgoing.old)) }
     ensures line { OnOk result
@@ -67,13 +67,15 @@ pub fn push_last(arbiter: &Arbiter, outgoing: &mut Outgoing) -> Result<u8, Alloc
     Ok(1)
 }
 
-/// Listens on lines `a` and `b` and prints each message that the arbiter hands on, in order, as its number
-/// and its bytes, and each refusal. In each turn it receives once on each line and, where something is
-/// wanted, sends the request from `requests` to the server and receives at most `burst` answers. It ends
-/// after the first turn at whose end the receiver is finished, or after `turns` turns, with a last line and
-/// the status: 0 finished, 1 open. Where `reporting`, a line for each of `a` and `b` stands before the last one:
-/// what came on it, and how far it is behind what is known. A failed send or receive is counted and the loop
-/// goes on. After a fault a beginning of the text is written; `Write` comes only where the sink failed.
+/// Listens on lines `a` and `b`. Prints each message that the arbiter delivers, in order, as its number and its bytes.
+/// Prints each refusal too.
+///
+/// In each turn the loop receives once on each line. If messages are missing, it then sends a request from `requests`
+/// to the server and receives at most `burst` responses. The loop ends after the first turn after which the receiver
+/// is finished, or after `turns` turns. It prints a last line and returns the status: 0 finished, 1 open. If
+/// `reporting` is set, it prints a report of `a` and of `b` before that line.
+///
+/// A failed send or receive is counted, and the loop continues. After a fault, a prefix of the text is written.
 pub fn listen_loop<D: Datagrams, K: Sink>(
     alloc: Global,
     a: &mut D,
@@ -110,7 +112,7 @@ pub fn listen_loop<D: Datagrams, K: Sink>(
     listener.listen(options, buffer.as_mut_slice(), sink)
 }
 
-/// Listens as `listen_loop` does, on these ports and with these options.
+/// Listens as `listen_loop` does, with these ports and options.
 pub fn listen<D: Datagrams + Drop, K: Sink>(
     alloc: Global,
     ports: &mut ListenPorts<D>,

@@ -1,4 +1,4 @@
-//! What a listener is still to print.
+//! The text that a listener still has to print.
 
 ghost use Rattle.std.specs.Prelude.{◌≡◌, OnOk};
 ghost use Rattle.mold_listen.specs.Listening.{progress, taken};
@@ -13,7 +13,7 @@ use mold_text::{Word, push_refusal};
 use mold_turns::Outgoing;
 use std::alloc::{AllocError, Global};
 
-// Adds a line for each message of the batch.
+// Appends a line for each message of the batch.
 fn print_handed(outgoing: &mut Outgoing, batch: &Batch) -> Result<(), AllocError>
     ensures { OnOk result
         (outgoing.new ≡ with_more (handed_text batch.now.first batch.now.messages) outgoing.old) }
@@ -21,24 +21,24 @@ fn print_handed(outgoing: &mut Outgoing, batch: &Batch) -> Result<(), AllocError
     push_handed(&mut outgoing.text, batch)
 }
 
-// Adds why a datagram is refused.
+// Appends the line of a refused datagram.
 fn print_refused(outgoing: &mut Outgoing, why: Refusal) -> Result<(), AllocError>
     ensures { OnOk result (outgoing.new ≡ with_more (refused_line (refusal_words why)) outgoing.old) }
 {
     push_refusal(&mut outgoing.text, &[Word::Text(b"refused")], why)
 }
 
-/// What a listener is still to print, with the memory for what a datagram hands on.
+/// The text that a listener still has to print, and the batch that a datagram's messages are delivered in.
 #[derive(Drop)]
 pub struct Printer {
-    // What the last datagram handed on. Its memory is kept for the next one.
+    // The messages that the last datagram delivered. The memory is kept for the next datagram.
     batch: Batch,
-    /// The text, and how often its ports failed.
+    /// The text that is still to be written, and the count of failed sends and receives.
     pub outgoing: Outgoing,
 }
 
 impl Printer {
-    /// Nothing to print and no failure. It takes no memory yet.
+    /// Returns a printer without text and failures. This allocates no memory.
     pub fn new(alloc: Global) -> Printer
         ensures { result.outgoing ≡ nothing_out }
     {
@@ -48,8 +48,8 @@ impl Printer {
         }
     }
 
-    /// Lets the arbiter take a datagram, and prints the messages that it delivers, or why it is refused. After an
-    /// error, which means out of memory, the bytes after the former text are of no use.
+    /// Gives the arbiter a datagram. Appends the messages that it delivers, or the reason why the datagram is refused.
+    /// An error means out of memory; the bytes after the former text are then meaningless.
     pub(crate) fn take(
         &mut self,
         arbiter: &mut Arbiter,

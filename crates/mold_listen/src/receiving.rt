@@ -1,4 +1,4 @@
-//! One receive of a port.
+//! One receive on a port of a listener.
 
 ghost use Rattle.std.specs.Prelude.{◌≡◌, true, length, IfOk, OnOk};
 ghost use Rattle.mold_listen.specs.Listening.{with_next_receipt, progress, is_datagram};
@@ -11,8 +11,8 @@ use mold_ports::Datagrams;
 use mold_receiver::{Arbiter, Origin};
 use std::alloc::AllocError;
 
-/// Receives once on a port, and takes a datagram that comes as one of this origin. A failure is counted. Returns
-/// whether a datagram came.
+/// Receives once on a port. Gives the arbiter the received datagram with this origin, and counts a failure. Returns
+/// whether a datagram was received. `buffer` has `MAX_LIMIT` bytes. An error means out of memory.
 pub fn receive_on<D: Datagrams>(
     port: &mut D,
     origin: Origin,

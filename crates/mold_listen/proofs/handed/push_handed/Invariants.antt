@@ -2,7 +2,7 @@ use Rattle.std.proofs.Common.{◌≡◌, ◌++◌, ◌-◌, ◌≤◌, drop, len
 use Rattle.mold_listen.specs.Text.{handed_text}
 use Rattle.mold_listen.proofs.handed.push_handed.Given as goal
 
--- what was written and the lines of the messages left are all lines
+-- the written lines and the lines of the remaining messages are all lines
 abbrev pub invariant-loop-number : goal.invariant-loop-number
 invariant-loop-number l = record {
   within : l.at ≤ length l.out.items;

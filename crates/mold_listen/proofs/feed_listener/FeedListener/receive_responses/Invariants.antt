@@ -2,7 +2,7 @@ use Rattle.std.proofs.Common.{◌≡◌, true, ◌-◌}
 use Rattle.mold_listen.specs.Listening.{IsSame, asking_state, receive_responses, receives}
 use Rattle.mold_listen.proofs.feed_listener.FeedListener.receive_responses.Given as goal
 
--- what is heard of all answers is what is heard of those left, from here on; nothing is sent, nor received on the lines
+-- all receives give the same end as the remaining receives do from here; nothing is sent, and the lines do not change
 abbrev pub invariant-loop : goal.invariant-loop
 invariant-loop g l = record {
   received : g.D.Datagrams.modeled ≡ true →

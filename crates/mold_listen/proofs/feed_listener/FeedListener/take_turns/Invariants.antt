@@ -3,7 +3,7 @@ use Rattle.mold_turns.proofs.RunLemmas.{Going}
 use Rattle.mold_listen.specs.Listening.{IsSame, listening, put_before, state}
 use Rattle.mold_listen.proofs.feed_listener.FeedListener.take_turns.Given as goal
 
--- so many turns were made, and the run goes on from here; the sink didn't fail
+-- some turns were made, and the run continues from here; the sink did not fail
 abbrev pub invariant-loop-turn : goal.invariant-loop-turn
 invariant-loop-turn g l = record {
   going : g.D.Datagrams.modeled ≡ true → Going (listening l.options.0 l.options.1.0) put_before
