@@ -1,4 +1,4 @@
--- The whole run of a publisher on two lines.
+-- A whole run of a publisher on two lines.
 use Rattle.std.proofs.Common.{arith, ◌≡◌, ◌∙◌, ℕ, ◌+◌, ◌-◌, ◌≤◌, Bool, true, false, List, [], ◌∷◌, ◌++◌, length}
 use Rattle.std.proofs.Common.{Option, None, Some, Result, Ok, Err, ap, refl, sym, subst, append-nil}
 use Rattle.std.specs.Prelude.{IfSome, IfOk, IsErr, OnOk}
@@ -31,7 +31,7 @@ closed_from : (journal : JournalState) (outcome : Result (List ℕ) LineRefusal)
 closed_from journal (Ok message) behind each = each (appended journal message)
 closed_from journal (Err why) behind each = refl
 
--- no line closes a session
+-- publishing a line does not close the session
 still_open : (lines : List (List ℕ)) (journal : JournalState) →
     (lines_published journal lines).journal.closed ≡ journal.closed
 unfolding lines_published
@@ -39,7 +39,7 @@ still_open [] journal = refl
 still_open (line ∷ lines) journal =
     closed_from journal (line_outcome journal (decode_of line)) (λ next. lines_published next lines) (still_open lines)
 
--- of what was published, a run is what is to be shown
+-- if the lines are known and published, a run is what has to be proved
 pub run_from : {P : Type 0} (a b : P) (beats ends : ℕ) (start : PublisherState) (known : Option (List ℕ))
     (journal : JournalState) (refused : Option LineRefusal) (front : List (List ℕ)) (result : Result ℕ CommandFault)
     (before after : Port P) (text_old text_new file_old file_new : Option (List ℕ)) → start.sent ≡ 0 →
@@ -106,7 +106,7 @@ run_unread {P} {E} a b beats ends start now (Some input) report result before no
     (λ lost. no_front text (published_text start.limit published lost))
     (no_front file (saved_bytes published.journal published.refused))
 
--- all was offered
+-- all datagrams were offered
 pub run_whole : {P : Type 0} (a b : P) (beats ends limit : ℕ) (published : PublishedLines)
     (result : Result ℕ CommandFault) (before : Port P) (end : PublicationState P)
     (text_old text_new file_old file_new : Option (List ℕ)) →
@@ -129,7 +129,7 @@ run_whole a b beats ends limit published result before end text_old text_new fil
       file_front = file_front;
     }
 
--- the data and what is behind them, one after the other
+-- the data and then the datagrams after them
 pub all_sends : {P : Type 0} (a b : P) (beats ends limit : ℕ) (journal : JournalState) (front : List (List ℕ))
     (before : Port P) (none : OutgoingState) (mid end : PublicationState P) → none ≡ nothing_out →
     data_after limit 0 (record { journal = journal; refused = None }) ≡ front →
@@ -157,7 +157,7 @@ refused_sends {P} a b beats ends limit journal why front before none end zeroed 
     (sym (append-nil _ ∙ whole_data))
     sends)
 
--- sends change no text
+-- sending changes no text
 text_kept : {P : Type 0} (a b : P) (datagrams : List (List ℕ)) (old new : PublicationState P) →
     Sends (both a b datagrams) old new → new.outgoing.text ≡ old.outgoing.text
 text_kept a b [] old new sends = ap (λ (s : PublicationState _). s.outgoing.text) sends
@@ -172,7 +172,7 @@ text_kept a b (datagram ∷ datagrams) old new sends =
     kept true outgoing = refl
     kept false outgoing = refl
 
--- so there is none before the last line
+-- there is no text before the last line
 no_text : {P : Type 0} (a b : P) (front : List (List ℕ)) (before after : Port P) (none failed : OutgoingState) →
     none ≡ nothing_out → Sends (both a b front) (publication_of before none) (publication_of after failed) →
     failed.text ≡ []
@@ -180,7 +180,7 @@ no_text a b front before after none failed zeroed sends =
     text_kept a b front (publication_of before none) (publication_of after failed) sends
     ∙ ap (λ (o : OutgoingState). o.text) zeroed
 
--- a line is refused, and that is printed
+-- a line is refused, and the refusal is printed
 pub run_refused : {P E : Type 0} (a b : P) (beats ends : ℕ) (start now : PublisherState) (known : Option (List ℕ))
     (why : LineRefusal) (result : Result ℕ CommandFault) (before : Port P) (none failed out : OutgoingState)
     (count : ℕ) (after : Port P) (text_old text_new file : Option (List ℕ)) (number : ℕ) →
@@ -210,8 +210,7 @@ run_refused {P} {E} a b beats ends start now known why result before none failed
     (subst (λ (t : List ℕ). AppendsPrefix text_old text_new t) same text)
     (no_front file []))
 
--- The session was closed, and its journal is the one that is saved. What is printed is known where no text stood
--- before it.
+-- The session was closed, and its journal is saved. What is printed is known because there was no text before it.
 run_closed : {P E : Type 0} (a b : P) (beats ends : ℕ) (start now : PublisherState) (known : Option (List ℕ))
     (result : Result ℕ CommandFault) (before : Port P) (none failed lost : OutgoingState) (count : ℕ)
     (mid after : Port P) (text_old text_new file_old file_new : Option (List ℕ)) (saved : JournalState) →
@@ -274,7 +273,7 @@ run_unsaved {P} {E} a b beats ends start now known result before none failed los
     (none_ok result _ bad)
     front
 
--- the last line was to be printed
+-- the last line was still to be printed
 pub run_printed : {P E : Type 0} (a b : P) (beats ends : ℕ) (start now : PublisherState) (known : Option (List ℕ))
     (result : Result ℕ CommandFault) (before : Port P) (none failed lost out : OutgoingState) (count many : ℕ)
     (mid after : Port P) (text_old text_new file_old file_new : Option (List ℕ)) (saved : JournalState) →
@@ -329,13 +328,13 @@ empty_room p few empty fits = record {
       fits;
 }
 
--- how many messages a journal has, by the number of its next one
+-- the number of a journal's messages is one less than the number of its next message
 pub many_messages : (next : ℕ) (one other : JournalState) → next ≡ length one.messages + 1 → one ≡ other →
     next - 1 ≡ length other.messages
 many_messages next one other is same =
     omega (arith, is, ap (λ (j : JournalState). length j.messages) same)
 
--- what was published, where the port ends as it was left
+-- what was published, if the port is at the end as it was left
 pub published_so : {D P : Type 0} (known : D → Port P) (a b : P) (beats ends : ℕ) (start : PublisherState)
     (input : Option (List ℕ)) (result : Result ℕ CommandFault) (before : Port P) (port end : D)
     (text_old text_new file_old file_new : Option (List ℕ)) → end ≡ port →
@@ -351,7 +350,7 @@ published_so {D} known a b beats ends start input result before port end text_ol
     (sym same)
     run
 
--- and the publisher
+-- the journal of the publisher at the end
 pub left_so : {T E : Type 0} (start : PublisherState) (input : Option (List ℕ)) (result : Result T E) (Tells : Type 0)
     (journal left : JournalState) → left ≡ journal →
     IfOk result (λ _. Tells → IfSome input (λ bytes. journal ≡ left_journal (lines_published start.journal (lines_of bytes)))) →

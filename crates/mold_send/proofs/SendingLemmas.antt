@@ -1,4 +1,4 @@
--- Data that are sent on two lines, one after the other.
+-- Data that are sent on two lines, in order.
 use Rattle.std.proofs.Common.{arith, ◌≡◌, ◌∙◌, ℕ, zero, suc, ◌+◌, ◌<◌, ◌≤◌, Bool, true, false, List, [], ◌∷◌, ◌++◌, length, map}
 use Rattle.std.proofs.Common.{Option, None, Some, Result, Ok, Err, ap, refl, sym, subst, append_assoc, append-nil, replicate, length-append}
 use Rattle.std.specs.Borrow.{Bor}
@@ -27,16 +27,16 @@ use Rattle.mold_publish.specs.declared.filling.Filled.TheVariants.{Full, End, Re
 use Rattle.mold_publish.proofs.DatagramLemmas.{PackingLaws, grown, full_front, full_datagram, full_packets, full_room}
 use Rattle.mold_publish.proofs.DatagramLemmas.{more_packets, list_of, room_packets}
 
--- ---- sendings
+-- ---- sends
 
--- one after the other
+-- one list of datagrams after another
 pub sends_more : {P : Type 0} (a b : P) (xs ys : List (List ℕ)) (old mid new : PublicationState P) → Sends (both a b xs) old mid →
     Sends (both a b ys) mid new → Sends (both a b (xs ++ ys)) old new
 sends_more a b [] ys old mid new first second = subst (λ (o : PublicationState _). Sends (both a b ys) o new) first second
 sends_more a b (x ∷ xs) ys old mid new first second =
     (first.0, (first.1.0, sends_more a b xs ys (offer first.1.0 b x (offer first.0 a x old)) mid new first.1.1 second))
 
--- to a and then to b
+-- to `a` and then to `b`
 pub sends_on_both : {P : Type 0} (a b to : P) (datagram : List ℕ) (old mid new : PublicationState P) →
     Sends ((a, datagram) ∷ []) old mid → Sends ((to, datagram) ∷ []) mid new → to ≡ b →
     Sends (both a b (datagram ∷ [])) old new
@@ -50,7 +50,7 @@ sends_on_both {P} a b to datagram old mid new first second same = (
   ),
 )
 
--- ---- what sends is still the same
+-- ---- the sender stays the same
 
 pub lines_at_first : {D A : Type 0} (lines : TwoLines D A) → IsSameLines lines lines
 lines_at_first lines = record { port = refl; a = refl; b = refl; outgoing = refl }
@@ -67,7 +67,7 @@ lines_twice first second = record {
 pub same_at_first : {D A : Type 0} (publication : Publication D A) → IsSame publication publication
 same_at_first publication = record { publisher = refl; lines = lines_at_first publication.lines }
 
--- so it sends to the same two
+-- the same sender sends to the same two addresses
 pub sends_same : {D P : Type 0} (port : D → Port P) (datagrams : List (List ℕ)) (old mid new : TwoLines D P) →
     IsSameLines old mid → SendsBoth port datagrams mid new →
     Sends (both old.a.now old.b.now datagrams) (lines_state port mid) (lines_state port new)
@@ -92,7 +92,7 @@ offer_sends : {P : Type 0} (fails : Bool) (to : P) (bytes : List ℕ) (publicati
 offer_sends true to bytes publication = begins_whole publication.port.sent
 offer_sends false to bytes publication = begins_more publication.port.sent _
 
--- where nothing fails any more
+-- the state if no further send fails
 pub record Ended {P : Type 0} (a b : P) (datagrams : List (List ℕ)) (start : PublicationState P) : Type 0 where
   pub end : PublicationState P
   pub sends : Sends (both a b datagrams) start end
@@ -112,7 +112,7 @@ ended a b (datagram ∷ datagrams) start =
           (begins_trans (offer_sends false b datagram one) rest.sent);
     }
 
--- ---- what is left to send
+-- ---- what remains to be sent
 
 spelled_list : (datagram : Option Packet) → map spelling_of (list_of datagram) ≡ spelled_some datagram
 spelled_list None = refl
@@ -129,7 +129,7 @@ unfolding all_but_last
 first_kept packet [] some = absurd (omega arith)
 first_kept packet (next ∷ packets) some = refl
 
--- the first packet of several is sent first
+-- the first of several packets is sent first
 first_sent : (limit sent then : ℕ) (journal : JournalState) (packet : Packet) (refused : Option LineRefusal) →
     packets_after limit sent journal ≡ packet ∷ packets_after limit then journal →
     0 < length (packets_after limit then journal) →
@@ -156,7 +156,7 @@ full_data laws now full lines =
     spelled_some (next_datagram now) ++ data_after now.limit (now.sent + length ms) published)
     (sym (full_front laws now full))
 
--- what is lent is the datagram of the packet
+-- the borrowed bytes are the datagram of the packet
 pub lent_some : (datagram : Option Packet) (bytes : List ℕ) → Lends datagram (Some bytes) →
     spelled_some datagram ≡ bytes ∷ []
 lent_some None bytes lends = absurd lends
@@ -168,7 +168,7 @@ lent_none (Some packet) lends = absurd lends
 
 -- ---- the data so far
 
--- of what is known of the lines, what was offered and what is left to offer are the data of all
+-- if the lines are known, the offered datagrams and those that remain are the data of all lines
 abbrev pub LeftToSend : PublisherState → PublisherState → Option (List ℕ) → Option (List ℕ) → List (List ℕ) → Type 0
 LeftToSend start now None left front = Unit {0}
 LeftToSend start now (Some input) None front = ⊥
@@ -193,7 +193,7 @@ pub sent_none : {P : Type 0} (a b : P) (start : PublisherState) (known : Option 
 sent_none a b start known publication count none =
     record { front = []; sends = refl; counted = none; behind = left_same start known }
 
--- the same data by another publisher of the same limit and the same messages sent
+-- another publisher of the same limit with as many messages sent has the same data
 data_same : (one other : PublisherState) (first second : PublishedLines) → other.limit ≡ one.limit →
     other.sent ≡ one.sent → first ≡ second →
     data_after one.limit one.sent first ≡ data_after other.limit other.sent second
@@ -218,7 +218,7 @@ left_full laws start before now (Some input) (Some xs) (Some ys) front so_far fi
   so_far.1 ∙ filled.lines,
 )
 
--- a datagram more was offered
+-- one more datagram was offered
 pub sent_full : {P : Type 0} → PackingLaws → (a b : P) (start before now after : PublisherState)
     (known left behind : Option (List ℕ)) (old mid new : PublicationState P) (count counted : ℕ) →
     SentSoFar a b start before known left old mid count → Fills before now left behind Full →
@@ -235,7 +235,7 @@ sent_full {P} laws a b start before now after known left behind old mid new coun
       behind = left_full laws start before now known left behind so_far.front so_far.behind filled;
     })
 
--- a fault: what was offered is a beginning
+-- after a fault, what was offered is a prefix
 pub begun : (start now : PublisherState) (known left : Option (List ℕ)) (front : List (List ℕ)) →
     LeftToSend start now known left front → IfSome known (λ input.
     Begins front (data_after start.limit start.sent (lines_published start.journal (lines_of input))))
@@ -355,7 +355,7 @@ found_some : (limit : ℕ) (found : List (List ℕ)) (last : List ℕ) → ¬ Fi
 found_some limit [] last unfit alone = absurd (unfit alone)
 found_some limit (message ∷ found) last unfit alone = omega arith
 
--- a full publisher sends a message with its datagram
+-- a full publisher sends at least one message with its datagram
 full_more : PackingLaws → (now : PublisherState) (count counted : ℕ) → IsJustFull now → count ≤ now.sent →
     counted ≡ count + length (spelled_some (next_datagram now)) → counted ≤ (after_datagram now).sent
 full_more laws now count counted full few more =
@@ -368,7 +368,7 @@ full_more laws now count counted full few more =
       ap (λ (d : Option Packet). length (spelled_some d)) (full_datagram laws now full),
     )
 
--- after the datagram of a full publisher what is left fits one, and no more datagrams went than messages
+-- after a full publisher's datagram, the remaining messages fit one, and no more datagrams than messages were sent
 pub full_went : PackingLaws → (before now after : PublisherState) (count counted : ℕ) → IsJustFull now →
     now.sent ≡ before.sent → count ≤ before.sent → after ≡ after_datagram now →
     counted ≡ count + length (spelled_some (next_datagram now)) → HasRoom after × (counted ≤ after.sent)
@@ -387,7 +387,7 @@ sent_begun a b start known rest publication count empty none =
     (sym (ap (λ (xs : List ℕ). prepend_known xs known) empty ∙ prepend_known-nil known))
     (sent_none a b start known publication count none)
 
--- a session closes where all is sent
+-- a session can be closed if all messages are sent
 pub close_done : {T E : Type 0} (result : Result T E) (sent all : ℕ) (Q : Type 0) → OnErr result (sent + 1 ≤ all) →
     sent ≡ all → OnOk result Q → Q
 close_done (Ok _) sent all Q refused same done = done

@@ -1,6 +1,6 @@
 //! How a publisher ends its session.
 
-/// How many heartbeats are sent after the last message, and how many end packets after these.
+/// The number of heartbeats that are sent after the last message, and of end packets that are sent after them.
 #[derive(Clone, Copy)]
 pub(crate) struct Closing {
     pub(crate) beats: u32,

@@ -1,4 +1,5 @@
-//! Publishing over a port: lines of a source as messages of a session, each datagram sent on two lines.
+//! The publisher over a port: the lines of a source become messages of a session, and each datagram is sent on two
+//! lines.
 #![tactic(auto)]
 
 mod closing;

@@ -1,4 +1,5 @@
-//! What publishes a session on two lines.
+//! The publisher at work: it publishes lines, sends each datagram on two lines, closes the session and saves the
+//! journal.
 
 ghost use Rattle.std.specs.Prelude.{◌≡◌, ◌+◌, ◌≤◌, [], true, false, None, length, replicate, IfErr, IfOk, IfSome, OnOk};
 ghost use Rattle.mold_devices.specs.Devices.{AppendsPrefix, Counts};
@@ -25,7 +26,7 @@ use mold_turns::Outgoing;
 use mold_wire::laws::{front_law, packet_length_law};
 use std::alloc::{AllocError, Global};
 
-// Saves the journal.
+// Writes the journal's file.
 fn save_journal<K: Sink>(journal: &Journal, sink: &mut K) -> Result<(), CommandFault>
     ensures whole { OnOk result (AppendsFile (K.held sink.old) (K.held sink.new)
         journal.now.session journal.now.messages journal.now.closed) }
@@ -40,7 +41,8 @@ fn save_journal<K: Sink>(journal: &Journal, sink: &mut K) -> Result<(), CommandF
     }
 }
 
-/// Adds why the line of this number is refused, the first line's being 1.
+/// Appends the line that reports why line `number` is refused. Lines are numbered from 1. An error means out of
+/// memory; part of the line may then follow the former text.
 pub fn print_line_refused(
     outgoing: &mut Outgoing,
     number: u64,
@@ -51,7 +53,7 @@ pub fn print_line_refused(
     push_line_refused(&mut outgoing.text, number, why)
 }
 
-// Adds the last line.
+// Appends the last line.
 fn push_published(outgoing: &mut Outgoing, messages: u64, datagrams: u64) -> Result<(), AllocError>
     ensures { OnOk result
         (outgoing.new ≡ with_more (published_line messages datagrams outgoing.old.failures) outgoing.old) }
@@ -67,8 +69,8 @@ fn push_published(outgoing: &mut Outgoing, messages: u64, datagrams: u64) -> Res
     outgoing.push_line(&words)
 }
 
-/// What publishes: a publisher, the lines that its datagrams are sent on, how many data packets were sent, each counted
-/// once, and where memory comes from.
+/// A publisher at work: the publisher, the lines that it sends on, the number of data packets sent (each counted
+/// once), and the allocator.
 #[derive(Drop)]
 pub(crate) struct Publication<'a, 'p, D: Datagrams> {
     pub(crate) publisher: &'a mut Publisher,
@@ -78,8 +80,7 @@ pub(crate) struct Publication<'a, 'p, D: Datagrams> {
 }
 
 impl<'a, 'p, D: Datagrams> Publication<'a, 'p, D> {
-    // Sends the publisher's next datagram on both lines, and counts it once; nothing where every message was put in
-    // one.
+    // Sends the publisher's next datagram on both lines, and counts it once. Does nothing if every message was sent.
     fn send_next(&mut self)
         requires { self.old.datagrams ≤ self.old.publisher.now.sent }
         ensures sends { D.modeled ≡ true →
@@ -96,8 +97,8 @@ impl<'a, 'p, D: Datagrams> Publication<'a, 'p, D> {
         }
     }
 
-    // Publishes line after line of the source, and sends each datagram as soon as the publisher is full, and the
-    // rest after the last line. Answers why a line is refused, where one is.
+    // Publishes the lines of the source one by one. Sends a datagram whenever the publisher is full, and the rest
+    // after the last line. Returns the reason if a line is refused.
     fn send_lines<S: Source>(&mut self, source: &mut S) -> Result<Option<LineRefusal>, ReadFault>
         requires room { HasRoom self.old.publisher.now }
         requires none { self.old.datagrams ≡ 0 }
@@ -123,7 +124,7 @@ impl<'a, 'p, D: Datagrams> Publication<'a, 'p, D> {
         }
     }
 
-    // Sends the publisher's heartbeat so often.
+    // Sends `beats` heartbeats on both lines.
     fn send_beats(&mut self, beats: u32)
         requires sent { self.old.publisher.now.sent ≡ length self.old.publisher.now.journal.messages }
         ensures sends { D.modeled ≡ true → self.old.publisher.now.journal.closed ≡ false → SendsBoth D.port
@@ -137,7 +138,7 @@ impl<'a, 'p, D: Datagrams> Publication<'a, 'p, D> {
         }
     }
 
-    // Sends the end packet of a closed publisher so often.
+    // Sends `ends` end packets of a closed publisher on both lines.
     fn send_ends(&mut self, ends: u32)
         requires closed { self.old.publisher.now.journal.closed ≡ true }
         ensures sends { D.modeled ≡ true → SendsBoth D.port
@@ -151,8 +152,8 @@ impl<'a, 'p, D: Datagrams> Publication<'a, 'p, D> {
         }
     }
 
-    // Sends so many heartbeats of a publisher whose messages are all sent, closes the session, and sends so
-    // many end packets, each to `a` and then to `b`.
+    // Sends `beats` heartbeats of a publisher whose messages are all sent, closes the session, and sends `ends` end
+    // packets. Each is sent to `a` and then to `b`.
     fn send_close(&mut self, beats: u32, ends: u32)
         requires { self.old.publisher.now.sent ≡ length self.old.publisher.now.journal.messages }
         ensures sends { D.modeled ≡ true → self.old.publisher.now.journal.closed ≡ false → SendsBoth D.port
@@ -166,9 +167,11 @@ impl<'a, 'p, D: Datagrams> Publication<'a, 'p, D> {
         self.send_ends(ends);
     }
 
-    /// Publishes the lines of the source as messages of an open publisher that has none, and sends them. Then it sends
-    /// so many heartbeats and end packets, saves the journal in `journal_sink`, prints the last line, and answers the
-    /// status: 0, or 2 where a line is refused, which is printed in place of all that is behind it.
+    /// Publishes the lines of the source as messages of an open publisher without messages, and sends them. Then it
+    /// sends the heartbeats, closes the session, sends the end packets, saves the journal in `journal_sink`, and
+    /// prints the last line. Returns the status 0.
+    ///
+    /// If a line is refused, it stops there: it prints the line of the refusal and returns the status 2.
     pub(crate) fn publish<S: Source, K: Sink, J: Sink>(
         &mut self,
         closing: Closing,

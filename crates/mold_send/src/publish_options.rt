@@ -1,14 +1,14 @@
-//! How a publisher sends.
+//! The options of a publisher.
 
-/// How a publisher sends.
+/// The options of a publisher.
 #[derive(Clone, Copy)]
 pub struct PublishOptions<P: Copy> {
-    /// Who receives line A.
+    /// The address that line A is sent to.
     pub a: P,
-    /// Who receives line B.
+    /// The address that line B is sent to.
     pub b: P,
-    /// How many heartbeats are sent after the last message.
+    /// The number of heartbeats that are sent after the last message.
     pub beats: u32,
-    /// How many end packets are sent.
+    /// The number of end packets that are sent after the heartbeats.
     pub ends: u32,
 }

@@ -1,4 +1,4 @@
-//! A publisher whose messages are the lines of a source, on two lines.
+//! The loop that publishes the lines of a source on two lines.
 
 ghost use Rattle.std.specs.Prelude.{◌≡◌, [], true, false, IfOk, IfSome};
 ghost use Rattle.mold_devices.specs.Lines.{lines_of};
@@ -16,13 +16,16 @@ use mold_session::Publisher;
 use mold_turns::Outgoing;
 use std::alloc::Global;
 
-/// Publishes the lines of the source as messages of an open publisher that has none. Each datagram is sent to
-/// `a` and then to `b`, as soon as the publisher is full and after the last line; then so many heartbeats,
-/// and once the session is closed so many end packets. The journal is saved in `journal_sink`, and a last
-/// line tells how many messages, data datagrams (each counted once) and failed sends there were, up to
-/// `u64::MAX` of the latter. The status is 0. A failed send is counted and the loop goes on. Where a line is
-/// refused, nothing that is not yet sent is sent, nothing is saved, the line of the refusal is the text,
-/// and the status is 2. `Read` and `Write` come only where the source or a sink failed.
+/// Publishes the lines of the source as messages of an open publisher without messages. Each datagram is sent to `a`
+/// and then to `b`. Data datagrams are sent whenever the publisher is full and after the last line. Then `beats`
+/// heartbeats are sent, the session is closed, and `ends` end packets are sent.
+///
+/// The journal is then saved in `journal_sink`. A last line has the number of messages, of data datagrams (each
+/// counted once), and of failed sends, which stops at `u64::MAX`. The status is 0. A failed send is counted, and the
+/// loop continues.
+///
+/// If a line is refused, nothing more is sent and nothing is saved. The text is the line of the refusal, and the
+/// status is 2.
 pub fn publish_loop<D: Datagrams, S: Source, K: Sink, J: Sink>(
     alloc: Global,
     port: &mut D,
@@ -61,7 +64,7 @@ pub fn publish_loop<D: Datagrams, S: Source, K: Sink, J: Sink>(
     publication.publish(Closing { beats, ends }, source, sink, journal_sink)
 }
 
-/// Publishes as `publish_loop` does, with these options, from these devices and to them.
+/// Publishes as `publish_loop` does, with these options and devices.
 pub fn publish<D: Datagrams, S: Source + Drop, K: Sink + Drop, J: Sink + Drop>(
     alloc: Global,
     port: &mut D,

@@ -8,8 +8,9 @@ use mold_ports::Datagrams;
 use mold_session::Publisher;
 use mold_turns::Outgoing;
 
-/// What sends on two lines: the port, to whom it sends on each of them, and what goes out beside.
-// The peers are lent: beside a value whose type may hold a reference, it isn't known what the other references end as.
+/// A sender on two lines: the port, the address of each line, and the outgoing text and failures.
+// The peers are borrowed for the prover. Beside a value whose type may hold a reference, it does not know the final
+// values of the other references.
 #[derive(Drop)]
 pub(crate) struct TwoLines<'a, 'p, D: Datagrams> {
     pub(crate) port: &'a mut D,
@@ -19,7 +20,7 @@ pub(crate) struct TwoLines<'a, 'p, D: Datagrams> {
 }
 
 impl<'a, 'p, D: Datagrams> TwoLines<'a, 'p, D> {
-    // Sends a datagram, and counts where it failed.
+    // Sends a datagram, and counts a failure.
     fn send_one(&mut self, to: D::Peer, datagram: &[u8])
         ensures sends { D.modeled ≡ true →
             Sends ((to, datagram.now) ∷ []) (lines_state D.port self.old) (lines_state D.port self.new) }
@@ -39,7 +40,7 @@ impl<'a, 'p, D: Datagrams> TwoLines<'a, 'p, D> {
         self.send_one(*self.b, datagram);
     }
 
-    /// Sends a datagram to both so often.
+    /// Sends a datagram `times` times, each time to `a` and then to `b`.
     pub(crate) fn send_often(&mut self, datagram: &[u8], times: u32)
         ensures sends { D.modeled ≡ true → SendsBoth D.port (replicate times datagram.now) self.old self.new }
         ensures same { IsSameLines self.old self.new }
@@ -50,8 +51,8 @@ impl<'a, 'p, D: Datagrams> TwoLines<'a, 'p, D> {
     }
 }
 
-/// What holds of every publisher. It is called for this clause alone: a method that reads a publisher brings its
-/// invariant, which a law does not have.
+/// States the invariant of every publisher. It does nothing and is called only for its clause. A method that reads a
+/// publisher makes the publisher's invariant known to the prover. A law cannot do that.
 #[inline(always)]
 pub fn publisher_holds(publisher: &Publisher)
     ensures { IsPublisher publisher.now }

@@ -2,7 +2,7 @@ use Rattle.std.proofs.Common.{◌≡◌, true, replicate}
 use Rattle.mold_send.specs.PublishLoop.{IsSameLines, SendsBoth}
 use Rattle.mold_send.proofs.sending.TwoLines.send_often.Given as goal
 
--- so many were sent
+-- this many datagrams were sent
 abbrev pub invariant-loop-time : goal.invariant-loop-time
 invariant-loop-time g l = record {
   sends :
