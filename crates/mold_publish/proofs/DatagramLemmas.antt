@@ -1,4 +1,4 @@
--- Which datagrams a publisher sends of the messages that lines were published as.
+-- The datagrams that a publisher sends of the messages that lines were published as.
 use Rattle.std.proofs.Common.{arith, ◌≡◌, ◌∙◌, ℕ, ◌+◌, ◌-◌, ◌<◌, ◌≤◌, List, [], ◌∷◌, ◌++◌}
 use Rattle.std.proofs.Common.{length, length-append, drop, Option, None, Some, Result, Ok, Err, ap, refl, sym, subst}
 use Rattle.std.proofs.Common.{append_assoc, inl, inr}
@@ -17,7 +17,7 @@ use Rattle.mold_publish.specs.Publishing.{PublishedLines, published_from, lines_
 use Rattle.mold_publish.specs.Publishing.{HasRoom, IsJustFull}
 use Rattle.mold_publish.specs.declared.line_refusal.LineRefusal.{LineRefusal}
 
--- what `mold_wire` and `mold_session` say of fronts and of how messages are packed
+-- the laws of `mold_wire` and `mold_session` about prefixes and about the packing of messages
 pub record PackingLaws : Type 0 where
   pub is_front : (limit : ℕ) (messages : List (List ℕ)) (most : ℕ) → 20 ≤ limit →
       IsFront limit messages most (front limit messages most)
@@ -38,7 +38,7 @@ pub record PackingLaws : Type 0 where
       packing limit session sequence messages
       ≡ data_packet session sequence found ∷ packing limit session (sequence + length found) behind
 
--- ---- fronts
+-- ---- prefixes that fit
 
 pub least_limit : (limit : ℕ) (messages : List (List ℕ)) → Fits limit messages → 20 ≤ limit
 unfolding packet_length
@@ -48,7 +48,7 @@ none_fits : (limit : ℕ) → 20 ≤ limit → Fits limit []
 unfolding packet_length
 none_fits limit least = omega (arith, least)
 
--- what fits is all the front where it doesn't with the next message
+-- messages that fit are the longest prefix that fits, if they do not fit with the next message
 front_at : PackingLaws → (limit : ℕ) (found : List (List ℕ)) (last : List ℕ) (more : List (List ℕ)) (most : ℕ) →
     length found ≤ most → Fits limit found → ¬ Fits limit (found ++ last ∷ []) →
     front limit (found ++ last ∷ more) most ≡ found
@@ -58,13 +58,13 @@ front_at laws limit found last more most few fits unfit =
     (λ next rest same less fitting.
     unfit (subst (λ (m : List ℕ). Fits limit (found ++ m ∷ [])) (let e : next ≡ last = cc in e) fitting))))
 
--- there is a message in front of one that fits alone
+-- there is a message before one that fits alone
 some_found : (limit : ℕ) (found : List (List ℕ)) (last : List ℕ) → ¬ Fits limit (found ++ last ∷ []) →
     Fits limit (last ∷ []) → 0 < length found
 some_found limit [] last unfit alone = absurd (unfit alone)
 some_found limit (message ∷ found) last unfit alone = omega arith
 
--- what is packed with a message in front that fits alone is some packet
+-- messages whose first one fits alone are packed into at least one packet
 some_packed : PackingLaws → (limit : ℕ) (session : Session) (sequence : ℕ) (message : List ℕ)
     (messages : List (List ℕ)) → Fits limit (message ∷ []) → 0 < length (packing limit session sequence (message ∷ messages))
 some_packed laws limit session sequence message messages alone =
@@ -78,9 +78,9 @@ some_packed laws limit session sequence message messages alone =
           some is.parts),
     )
 
--- ---- what more lines add
+-- ---- what further lines add
 
--- messages were added behind those of a journal
+-- messages were appended to those of a journal
 pub record Grown (old new : JournalState) : Type 0 where
   pub more : List (List ℕ)
   pub messages : new.messages ≡ old.messages ++ more
@@ -129,7 +129,7 @@ module _ (laws : PackingLaws) (publisher : PublisherState) (full : IsJustFull pu
       (λ same. absurd (omega (arith, unsent_length, same))))
       (ap (λ (ms : List (List ℕ)). Some (data_packet publisher.journal.session (publisher.sent + 1) ms)) full_front)
 
-  -- the last message is left behind it
+  -- the last message remains after it
   pub full_left : drop (publisher.sent + length full.found) publisher.journal.messages ≡ full.last ∷ []
   full_left =
       sym (drop-drop (length full.found) publisher.sent publisher.journal.messages)
@@ -144,7 +144,7 @@ module _ (laws : PackingLaws) (publisher : PublisherState) (full : IsJustFull pu
         fits = subst (λ (ms : List (List ℕ)). Fits publisher.limit ms) (sym full_left) full.alone;
       })
 
-  -- with whatever comes after, it is the first datagram, and another one follows
+  -- whatever comes after, it is the first datagram, and another one follows
   module _ (journal : JournalState) (more : Grown publisher.journal journal) where
     all_behind : drop publisher.sent journal.messages ≡ full.found ++ full.last ∷ more.more
     all_behind =
@@ -192,7 +192,7 @@ module _ (laws : PackingLaws) (publisher : PublisherState) (full : IsJustFull pu
 
 -- ---- the datagram of a publisher whose messages fit one
 
--- a list of what there is
+-- the optional packet as a list
 abbrev pub list_of : Option Packet → List Packet
 list_of None = []
 list_of (Some packet) = packet ∷ []

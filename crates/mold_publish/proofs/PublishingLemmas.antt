@@ -1,4 +1,4 @@
--- What lines are published as, line by line, and what room they leave.
+-- What lines are published as, one by one, and the room that they leave.
 use Rattle.std.proofs.Common.{arith, ◌≡◌, ◌∙◌, ◌↔◌, ℕ, ◌+◌, ◌≤◌, Bool, cond, true, false, nat_lt, List, [], ◌∷◌}
 use Rattle.std.proofs.Common.{◌++◌, length, length-append, Option, None, Some, Result, Ok, Err, ap, refl, sym}
 use Rattle.std.proofs.Common.{true≢false}
@@ -46,7 +46,7 @@ lines_nothing : (journal : JournalState) (known : Option (List ℕ)) → LinesPu
 lines_nothing journal None = tt
 lines_nothing journal (Some input) = refl
 
--- one line more
+-- one more line
 lines_more : (old before after : JournalState) (known left behind : Option (List ℕ)) (line message : List ℕ) →
     LinesPublished old before known left Full → GivesLine left behind true line →
     line_outcome before (decode_of line) ≡ Ok message → after ≡ appended before message →
@@ -60,7 +60,7 @@ lines_more old before after (Some input) (Some xs) (Some ys) line message lines 
     ∙ first_published before line (lines_of ys) message is
     ∙ ap (λ (j : JournalState). lines_published j (lines_of ys)) (sym taken)
 
--- no line is left
+-- no line remains
 lines_end : (old now : JournalState) (known left behind : Option (List ℕ)) (line : List ℕ) →
     LinesPublished old now known left Full → GivesLine left behind false line →
     LinesPublished old now known behind End
@@ -81,7 +81,7 @@ lines_refused old now (Some input) (Some xs) None line why lines gives is = absu
 lines_refused old now (Some input) (Some xs) (Some ys) line why lines gives is =
     lines ∙ ap (lines_published now) gives ∙ first_refused now line (lines_of ys) why is
 
--- ---- how long a message is that is published
+-- ---- the length of a published message
 
 not_long : (closed long full : Bool) (len : ℕ) →
     cond closed (Some Closed) (cond long (Some (TooLong len)) (cond full (Some append.Full) None)) ≡ None → long ≡ false
@@ -107,9 +107,9 @@ outcome_within journal (Ok message) taken is =
     (length journal.messages == 18446744073709551614) (length message) each.0) in
     omega (arith, short, ap (λ (m : List ℕ). length m) each.1)
 
--- ---- what room is left
+-- ---- the remaining room
 
--- a message that is 22 bytes shorter than a datagram may be fits one alone
+-- a message that is at least 22 bytes shorter than the limit fits a datagram alone
 abbrev pub Alone : Type 0
 Alone = (limit : ℕ) (message : List ℕ) → length message + 22 ≤ limit → Fits limit (message ∷ [])
 

@@ -1,20 +1,20 @@
--- Which packets a publisher puts the messages of its lines in.
+-- The packets that a publisher puts the messages of its lines in.
 use Rattle.std.specs.Prelude.{ℕ, ◌+◌, List, [], ◌∷◌, length, drop}
 use Rattle.mold_wire.specs.declared.packet.Packet.{Packet}
 use Rattle.mold_wire.specs.declared.packet.Body.TheVariants.{End}
 use Rattle.mold_session.specs.Datagrams.{packing}
 use Rattle.mold_session.specs.Journal.{JournalState}
 
--- all but the last
+-- The list without its last element.
 unfoldable pub all_but_last : {X : Type 0} → List X → List X
 all_but_last [] = []
 all_but_last (x ∷ []) = []
 all_but_last (x ∷ (y ∷ ys)) = x ∷ all_but_last (y ∷ ys)
 
--- the end packet of a session with these messages
+-- The end packet of a session with these messages.
 abbrev pub end_packet : JournalState → Packet
 end_packet journal = record { session = journal.session; sequence = length journal.messages + 1; body = End }
 
--- the data packets of a journal's messages behind the first ones
+-- The data packets of the journal's messages after the first `sent` messages.
 abbrev pub packets_after : ℕ → ℕ → JournalState → List Packet
 packets_after limit sent journal = packing limit journal.session (sent + 1) (drop sent journal.messages)

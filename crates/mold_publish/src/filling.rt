@@ -1,4 +1,4 @@
-//! Lines of hexadecimal digits that a publisher publishes as messages.
+//! Publishing lines of hexadecimal digits until the publisher is full.
 
 ghost use Rattle.std.specs.Prelude.{◌≡◌, ◌<◌, IfOk, OnErr};
 ghost use Rattle.std.specs.Io.KnownBytes.{prepend_known};
@@ -17,16 +17,16 @@ use std::alloc::AllocError;
 /// Why no more lines were published.
 #[derive(Clone, Copy, Debug, PartialEq, Eq)]
 pub enum Filled {
-    /// The messages that were not yet put in a datagram don't all fit one, but do without the last.
+    /// The messages that are not yet in a datagram do not all fit one. Without the last one they do.
     Full,
-    /// No line is left.
+    /// No line remains.
     End,
-    /// The line behind the published ones is refused.
+    /// The line after the published ones is refused.
     Refused { why: LineRefusal },
 }
 
-/// Publishes the message that the line's digits spell, and answers why it doesn't where it doesn't. The
-/// message's bytes go into `message`, whatever that held. After an error nothing was published.
+/// Publishes the message that the line's digits encode. Returns the reason if the line is refused. The message's bytes
+/// replace what was in `message`. An error means out of memory; nothing was then published.
 pub fn publish_line(
     publisher: &mut Publisher,
     line: &[u8],
@@ -46,8 +46,8 @@ pub fn publish_line(
     }
 }
 
-/// Publishes line after line of the source, until the publisher is full, no line is left, or one is
-/// refused. None of them is kept but in the journal. After an error the lines before it are published.
+/// Publishes the lines of the source one by one, until the publisher is full, no line remains, or a line is refused.
+/// Only the journal keeps the messages. After an error, the lines before it are published.
 pub fn fill<S: Source>(
     publisher: &mut Publisher,
     lines: &mut Lines,

@@ -1,4 +1,4 @@
-//! Lines of hexadecimal digits that a publisher publishes as messages. No port is needed for it.
+//! Lines of hexadecimal digits that a publisher publishes as messages. No port is needed.
 #![tactic(auto)]
 
 mod filling;

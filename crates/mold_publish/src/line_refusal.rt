@@ -1,4 +1,4 @@
-//! Why a line is not published.
+//! Why a line is refused, and the line that reports it.
 
 ghost use Rattle.std.specs.Prelude.{◌≡◌, ◌++◌, length, take, OnErr, OnOk};
 ghost use Rattle.mold_publish.specs.Publishing.{refused_text};
@@ -12,16 +12,16 @@ use thiserror::Error;
 /// Why a line is not published as a message.
 #[derive(Clone, Copy, Debug, PartialEq, Eq, Error)]
 pub enum LineRefusal {
-    /// It is no pairs of hexadecimal digits.
+    /// The line is not an even number of hexadecimal digits.
     #[error("the line is no pairs of hexadecimal digits")]
     NotHex,
-    /// The journal does not take the message that its digits spell.
+    /// The journal refuses the message that the digits encode.
     #[error("{0}")]
     NotTaken(AppendError),
 }
 
-/// Writes that the line of this number, the first line's being 1, is refused, and why. After an error,
-/// which is want of memory, a part of it stands behind what was there.
+/// Appends the line that reports why line `number` is refused. Lines are numbered from 1. An error means out of
+/// memory; part of the line may then follow the former text.
 pub fn push_line_refused(out: &mut Vec<u8>, number: u64, why: LineRefusal) -> Result<(), AllocError>
     ensures text { OnOk result (out.new.items ≡ out.old.items ++ refused_text number why) }
     ensures kept { OnErr result (take (length out.old.items) out.new.items ≡ out.old.items) }
