@@ -3,39 +3,44 @@ use Rattle.std.specs.Prelude.{ℕ, Bool, true, false, List, [], ◌∷◌, ◌++
 use Rattle.std.specs.Prelude.{Err}
 use Rattle.mold_devices.specs.Devices.{one_more}
 
--- what a receive gives: a datagram and its sender, nothing in its time, or a failure
+-- What a receive gives: a datagram with its sender, nothing within the port's time, or a failure.
 pub data Receipt (P : Type 0) : Type 0 where
   Datagram : P → List ℕ → Receipt P
   Quiet : Receipt P
   Failure : Receipt P
 
--- a port: what its receives will give, after which nothing more comes; to whom which datagrams were sent; its failures
+-- A port: what its receives will give, what it sent, and how often it failed. When `comes` is empty, receives give
+-- nothing.
 pub record Port (P : Type 0) : Type 0 where
+  -- what the next receives will give, in order
   pub comes : List (Receipt P)
+  -- the datagrams that were sent, each with its peer
   pub sent : List (P × List ℕ)
+  -- the count of failed sends and receives
   pub failures : ℕ
 
--- a receipt in a buffer of so many bytes: what is longer is cut
+-- The receipt in a buffer of `n` bytes. A longer datagram is truncated.
 abbrev pub cut : {P : Type 0} → ℕ → Receipt P → Receipt P
 cut n (Datagram from bytes) = Datagram from (take n bytes)
 cut n Quiet = Quiet
 cut n Failure = Failure
 
--- the receipt that comes next
+-- The first of these receipts, or `Quiet` if there is none.
 abbrev pub first : {P : Type 0} → List (Receipt P) → Receipt P
 first [] = Quiet
 first (receipt ∷ more) = receipt
 
+-- What the next receive of the port gives.
 abbrev pub next_of : {P : Type 0} → Port P → Receipt P
 next_of port = first port.comes
 
--- the failures after a receipt
+-- The count of failures after this receipt.
 abbrev pub failures_after : {P : Type 0} → ℕ → Receipt P → ℕ
 failures_after failures (Datagram from bytes) = failures
 failures_after failures Quiet = failures
 failures_after failures Failure = one_more failures
 
--- the port after a receive
+-- The port after a receive.
 abbrev pub received : {P : Type 0} → Port P → Port P
 received port = record {
   comes = drop 1 port.comes;
@@ -43,7 +48,8 @@ received port = record {
   failures = failures_after port.failures (first port.comes);
 }
 
--- the port after a send that failed, and after one that didn't
+-- The port after a send. If the Boolean is `true`, the send failed and is counted. Otherwise the datagram is the last
+-- one sent.
 abbrev pub offered : {P : Type 0} → Bool → P → List ℕ → Port P → Port P
 offered true to bytes port = record {
   comes = port.comes;
@@ -56,7 +62,7 @@ offered false to bytes port = record {
   failures = port.failures;
 }
 
--- what a receive told, by its answer and the buffer that it filled
+-- The receipt that a receive's result and its buffer stand for.
 abbrev pub receipt_of : {P E : Type 0} → Result (Option (ℕ × P)) E → List ℕ → Receipt P
 receipt_of (Ok (Some found)) buffer = Datagram found.1 (take found.0 buffer)
 receipt_of (Ok None) buffer = Quiet

@@ -1,4 +1,4 @@
-//! What datagrams are sent by and received from.
+//! The trait of ports: what sends and receives datagrams.
 
 ghost use Rattle.std.specs.Prelude.{◌≡◌, ◌≤◌, Bool, true, length, is_err, IfOk, IfSome};
 ghost use Rattle.mold_devices.specs.Devices.{Counts};
@@ -6,26 +6,25 @@ ghost use Rattle.mold_ports.specs.Ports.{Port, cut, next_of, offered, receipt_of
 
 use mold_devices::DeviceFault;
 
-/// What datagrams are sent by and received from.
+/// A port, which sends and receives datagrams.
 pub trait Datagrams {
-    /// Who a datagram comes from or goes to.
+    /// The address that a datagram is sent to or comes from.
     type Peer: Copy;
 
-    // Whether such ports tell what their receives will give and what they sent.
+    // Whether contracts know what the receives of such ports will give and what the ports sent.
     ghost modeled: { Bool };
 
-    // What its receives will give, what it sent, and how often it failed. The count stands at `u64::MAX`
-    // once it is there.
+    // What the port's receives will give, what it sent, and its count of failures. The count stops at `u64::MAX`.
     ghost port: { Self → Port Self.Peer };
 
-    /// Sends a datagram.
+    /// Sends a datagram. A fault is counted.
     fn send(&mut self, to: Self::Peer, bytes: &[u8]) -> Result<(), DeviceFault>
         ensures sent { modeled ≡ true → port self.new ≡ offered (is_err result) to bytes.now (port self.old) }
         ensures failures { Counts (port self.old).failures (port self.new).failures result };
 
-    /// Receives a datagram into the front of `buffer`, and answers its length and its sender; none where
-    /// nothing came in the port's time. What is longer than `buffer` is cut. After a fault the contents of
-    /// `buffer` are open.
+    /// Receives a datagram into a prefix of `buffer`. Returns its length and its sender, or `None` if nothing came
+    /// within the port's time. A datagram that is longer than `buffer` is truncated. A fault is counted; the contents
+    /// of `buffer` are then unspecified.
     fn receive(&mut self, buffer: &mut [u8]) -> Result<Option<(usize, Self::Peer)>, DeviceFault>
         ensures count { IfOk result (λ answer. IfSome answer (λ found. found.0 ≤ length buffer.new)) }
         ensures came { modeled ≡ true →
@@ -33,7 +32,7 @@ pub trait Datagrams {
         ensures left { modeled ≡ true → port self.new ≡ received (port self.old) }
         ensures failures { Counts (port self.old).failures (port self.new).failures result };
 
-    /// How often it failed to send or to receive, up to `u64::MAX`.
+    /// Returns the number of sends and receives that failed. It stops at `u64::MAX`.
     fn failures(&self) -> u64
         ensures { result ≡ (port self.now).failures };
 }

@@ -1,4 +1,4 @@
-//! Ports, by which datagrams are sent and received: UDP sockets, and scripts in memory.
+//! Ports that send and receive datagrams: UDP sockets, and scripts in memory for tests.
 #![tactic(auto)]
 
 mod datagrams;

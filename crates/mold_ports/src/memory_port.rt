@@ -1,4 +1,4 @@
-//! A script in memory as a port.
+//! A script in memory as a port, for tests.
 
 ghost use Rattle.std.specs.Prelude.{◌≡◌, ◌-◌, ◌≤◌, ◌⊎◌, ℕ, Bool, true, [], length, map, is_err, IfOk, IfSome, IsErr};
 ghost use Rattle.mold_devices.specs.Devices.{Counts};
@@ -11,16 +11,16 @@ use mold_devices::DeviceFault;
 use std::alloc::{AllocError, Global};
 use std::marker::Model;
 
-/// A script as a port: each receive takes its next step, and nothing comes after the last. It keeps what is
-/// sent. A send fails only where `fail_send` says, or where memory is refused for what is kept.
+/// A script as a port. Each receive gives the next step of the script. After the last step, receives give nothing. The
+/// port keeps what is sent. A send fails only if `fail_send` says so, or if there is no memory to keep the datagram.
 #[derive(Debug, Drop)]
 pub struct MemoryPort {
     alloc: Global,
     script: Vec<Step>,
-    // How many steps were taken.
+    // The number of steps that were taken.
     used: usize,
     sent: Vec<(u32, Vec<u8>)>,
-    // The send that fails, counted from 1 for the next one. 0 is none.
+    // The send that fails, counted from 1 for the next one. If this is 0, no send fails.
     fails_at: u64,
     failures: u64,
 }
@@ -43,7 +43,7 @@ impl Model for MemoryPort {
 }
 
 impl MemoryPort {
-    /// A port whose receives give these steps. It takes no memory yet.
+    /// Returns a port whose receives give these steps. This allocates no memory.
     pub fn new(alloc: Global, script: Vec<Step>) -> MemoryPort
         ensures { result ≡ record {
           port = record { comes = map receipt_at script.items; sent = []; failures = 0 };
@@ -61,21 +61,22 @@ impl MemoryPort {
         }
     }
 
-    /// Lets the `k`-th send from now on fail, counted from 1, and no other. 0 is none.
+    /// Makes the `k`-th send from now on fail, counted from 1, and no other. If `k` is 0, no send fails.
     pub fn fail_send(&mut self, k: u64)
         ensures { self.new ≡ record self.old { fails_at = k } }
     {
         self.fails_at = k;
     }
 
-    /// What was sent, in order: to whom, and the bytes. What failed is not in it.
+    /// Returns the datagrams that were sent, in order, each with the peer that it was sent to. Failed sends are not
+    /// included.
     pub fn sent(&self) -> &[(u32, Vec<u8>)]
         ensures { map datagram_of result.now ≡ self.now.port.sent }
     {
         self.sent.as_slice()
     }
 
-    /// How many steps were not taken yet.
+    /// Returns the number of steps that were not taken yet.
     pub fn left(&self) -> usize
         ensures { result ≡ length self.now.port.comes }
     {
@@ -104,14 +105,14 @@ impl Datagrams for MemoryPort {
     ghost port = { λ s. s.port };
 
     fn send(&mut self, to: u32, bytes: &[u8]) -> Result<(), DeviceFault>
-        // What a port does.
+        // Clauses of every port.
         ensures sent { self.new.port ≡ offered (is_err result) to bytes.now self.old.port }
         ensures failures { Counts self.old.port.failures self.new.port.failures result }
 
-        // Just what this one does.
+        // Clauses of this port only.
         ensures fails { self.old.fails_at ≡ 1 → IsErr result }
 
-        // Beside the send that is to fail, only a growth is refused.
+        // Apart from the send that is made to fail, a send fails only if an allocation fails.
         ensures refused { IsErr result → (self.old.fails_at ≡ 1) ⊎ AsksMemory self.old bytes.now }
         ensures room { self.old.room ≤ self.new.room }
         ensures fails_at { self.new.fails_at ≡ self.old.fails_at - 1 }
@@ -126,13 +127,13 @@ impl Datagrams for MemoryPort {
     }
 
     fn receive(&mut self, buffer: &mut [u8]) -> Result<Option<(usize, u32)>, DeviceFault>
-        // What a port does.
+        // Clauses of every port.
         ensures count { IfOk result (λ answer. IfSome answer (λ found. found.0 ≤ length buffer.new)) }
         ensures came { receipt_of result buffer.new ≡ cut (length buffer.new) (next_of self.old.port) }
         ensures left { self.new.port ≡ received self.old.port }
         ensures failures { Counts self.old.port.failures self.new.port.failures result }
 
-        // Just what this one does.
+        // Clauses of this port only.
         ensures room { self.new.room ≡ self.old.room }
         ensures fails_at { self.new.fails_at ≡ self.old.fails_at }
     {

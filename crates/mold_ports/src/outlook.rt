@@ -1,4 +1,4 @@
-//! The states of a UDP port that is beside other ports: what its next receive does first.
+//! The states of a UDP port that is beside other ports. The state decides what its next receive does first.
 
 ghost use Rattle.std.specs.Prelude.{◌≡◌};
 ghost use Rattle.mold_ports.specs.Outlook.{after_nothing, after_sent};
@@ -7,22 +7,22 @@ ghost use Rattle.mold_ports.specs.Outlook.{after_nothing, after_sent};
 ///
 /// | State | Next receive | A send succeeds | A receive gives a datagram | A receive gives none, or fails |
 /// |---|---|---|---|---|
-/// | `Quiet` | waits for a datagram here or beside | `Asking` | `Busy` | `Quiet` |
-/// | `Busy` | looks, then waits as `Quiet` | `Asking` | `Busy` | `Quiet` |
-/// | `Asking` | waits for the answer alone, then as `Quiet` | `Asking` | `Busy` | `Unanswered` |
+/// | `Quiet` | waits for a datagram at this port or at one beside it | `Asking` | `Busy` | `Quiet` |
+/// | `Busy` | looks without waiting, then waits as `Quiet` | `Asking` | `Busy` | `Quiet` |
+/// | `Asking` | waits for a response at this port only, then waits as `Quiet` | `Asking` | `Busy` | `Unanswered` |
 /// | `Unanswered` | waits as `Quiet` | `Unanswered` | `Busy` | `Unanswered` |
 ///
-/// A send that fails leaves the state as it is. A new port is `Quiet`.
+/// A send that fails does not change the state. A new port is `Quiet`.
 #[derive(Clone, Copy, Debug, PartialEq, Eq)]
 pub enum Outlook {
     /// The last receive gave nothing.
     Quiet,
     /// The last receive gave a datagram, and the next one may be here already.
     Busy,
-    /// A datagram was sent, and its answer is expected.
+    /// A datagram was sent, and a response to it is expected.
     Asking,
-    /// The last wait for an answer was in vain. A further send does not start another one: a datagram has to
-    /// come first.
+    /// The last wait for a response gave nothing. Another send does not start a new wait for a response until a
+    /// datagram was received.
     Unanswered,
 }
 

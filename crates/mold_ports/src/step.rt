@@ -1,12 +1,12 @@
-//! What a port in memory is told to give.
+//! The steps of the script of a port in memory.
 
 /// What one receive of a port in memory gives.
 #[derive(Debug, Drop)]
 pub enum Step {
-    /// A datagram from a peer.
+    /// A datagram from the peer `from`.
     Come { from: u32, bytes: Vec<u8> },
-    /// Nothing.
+    /// Nothing within the port's time.
     Quiet,
-    /// A failure.
+    /// A device fault.
     Fail,
 }

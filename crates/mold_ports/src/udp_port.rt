@@ -17,30 +17,32 @@ use std::net::{Net, SocketAddr, SocketAddrV4, UdpSocket};
 use std::os::fd::{AsRawFd, RawFd};
 use std::time::Duration;
 
-/// How many milliseconds a receive or a send waits at most.
+/// The longest time in milliseconds that a receive or a send waits.
 const WAIT: u16 = 100;
 
-/// How many of them a receive after a send waits for the answer alone: the answer is mostly here by then, and a
-/// second request before it comes would let answers pile up.
+/// The part of this time, in milliseconds, in which a receive after a send waits only for the response. Most responses
+/// are here by then. A second request before the first response would let responses pile up.
 const ANSWER_WAIT: u16 = 2;
 
-/// How many bytes of datagrams that were not received yet the system is asked to keep. It may keep fewer.
+/// The number of bytes of datagrams not received yet that the system is asked to keep. It may keep fewer.
 const RECEIVE_BUFFER: i32 = 1 << 22;
 
-/// No descriptor, as `poll` takes it.
+/// The value that `poll` takes for no descriptor.
 const NO_DESCRIPTOR: RawFd = -1;
 
-/// A UDP socket over IPv4 as a port. A receive returns none only if the system reports that nothing is here, and
-/// waits at most 100 milliseconds for a datagram. If the port is beside others, the wait ends early if one of them
-/// has a datagram; what a receive does first is in the table at [`Outlook`]. After a send, the first two
-/// milliseconds of the wait are for the answer alone. A wait that the system refuses or interrupts is a failure, and
-/// so is a datagram that was here and can't be taken, as by a wrong checksum. The port takes no memory. Its socket is
-/// closed when the port is dropped.
+/// A UDP socket over IPv4 as a port. A receive waits at most 100 milliseconds for a datagram. It returns `None` only
+/// if the system reports that no datagram is here. If the port is beside others, the wait ends early when one of them
+/// has a datagram. The table at [`Outlook`] states what a receive does first. After a send, the first two milliseconds
+/// of the wait are only for the response.
+///
+/// A receive fails if the system refuses or interrupts its wait. It also fails if a datagram was here and cannot be
+/// taken, for example because of a wrong checksum. The port allocates no memory. Its socket is closed when the port is
+/// dropped.
 #[derive(Debug, Drop)]
 pub struct UdpPort {
     socket: UdpSocket,
     address: SocketAddr,
-    // The descriptors of the ports beside.
+    // The descriptors of the ports beside this one.
     beside: [RawFd; 2],
     outlook: Outlook,
     failures: u64,
@@ -55,8 +57,8 @@ impl Model for UdpPort {
 }
 
 impl UdpPort {
-    /// A port at an address of this machine; at port 0, the system chooses one. It fails if the address
-    /// is not the machine's or is taken, or if no socket is available.
+    /// Opens a port at an address of this machine. For port 0, the system chooses a port. It fails if the address is
+    /// not the machine's or is taken, or if no socket is available.
     pub fn bind<R: Net>(rt: &R, address: SocketAddrV4) -> Result<UdpPort, DeviceFault>
         ensures { IfOk result (λ port. port ≡ record { failures = 0; outlook = Quiet }) }
     {
@@ -72,22 +74,22 @@ impl UdpPort {
         }
     }
 
-    /// The address and port that it got.
+    /// Returns the address and port that the socket is bound to.
     pub fn address(&self) -> SocketAddr {
         self.address
     }
 
-    /// What its next receive does first, if it is beside other ports.
+    /// Returns what the next receive does first if the port is beside other ports.
     pub fn outlook(&self) -> Outlook
         ensures { result ≡ self.now.outlook }
     {
         self.outlook
     }
 
-    /// Lets its receives end their wait if the other port has a datagram, so that a silent port does not
-    /// hold up a busy one. The port is beside at most two others, the last ones that it was given. Keep them
-    /// as long as this port: a datagram that is left unreceived at one of them ends each wait. If the system
-    /// refuses a socket that doesn't wait by itself, the port is not put beside the other one.
+    /// Puts this port beside another one: a wait of its receives then also ends when the other port has a datagram. So
+    /// a silent port does not delay a busy one. A port is beside at most two others, the last two that it was given.
+    /// Keep those as long as this port. A datagram that is left unreceived at one of them ends every wait. If the
+    /// system cannot make the socket nonblocking, this call does nothing.
     pub fn stand_beside(&mut self, other: &UdpPort)
         ensures { self.new ≡ self.old }
     {
@@ -96,12 +98,13 @@ impl UdpPort {
         }
     }
 
-    // Whether no other port ends its waits: then each call waits by itself.
+    // Whether the port is beside no other port. Then each socket call waits by itself.
     fn is_alone(&self) -> bool {
         self.beside[0] == NO_DESCRIPTOR
     }
 
-    // Takes a datagram that is here; alone, one that comes in the port's time. It returns none if there is none.
+    // Takes a datagram that is here, or returns `None`. If the port is alone, this waits for a datagram at most the
+    // port's time.
     fn take(&self, buffer: &mut [u8]) -> Result<Option<(usize, SocketAddr)>, DeviceFault>
         ensures { IfOk result (λ answer. IfSome answer (λ found. found.0 ≤ length buffer.new)) }
     {
@@ -112,14 +115,15 @@ impl UdpPort {
         }
     }
 
-    // Waits for an answer alone, and returns whether a datagram is here.
+    // Waits for a response at this port only. Returns whether a datagram is here.
     fn wait_for_answer(&self) -> Result<bool, DeviceFault> {
         let mut asked = [watched(self.socket.as_raw_fd(), POLLIN)];
         wait_for(&mut asked, ANSWER_WAIT)?;
         Ok(asked[0].revents != 0)
     }
 
-    // Waits until a datagram is here or at a port beside, or the time is over. It returns whether one is here.
+    // Waits until a datagram is at this port or at one beside it, or the time is over. Returns whether one is at this
+    // port.
     fn wait(&self) -> Result<bool, DeviceFault> {
         let mut time = WAIT;
         if self.outlook == Outlook::Asking {
@@ -138,7 +142,7 @@ impl UdpPort {
         Ok(asked[0].revents != 0)
     }
 
-    // Waits, and takes the datagram that is here then. It returns none if there is none.
+    // Waits, and takes the datagram that is then here, or returns `None`.
     fn take_after_wait(&self, buffer: &mut [u8]) -> Result<Option<(usize, SocketAddr)>, DeviceFault>
         ensures { IfOk result (λ answer. IfSome answer (λ found. found.0 ≤ length buffer.new)) }
     {
@@ -151,7 +155,7 @@ impl UdpPort {
         }
     }
 
-    // Takes a datagram that is here or comes in the port's time. It returns none if there is none.
+    // Takes a datagram that is here or comes within the port's time, or returns `None`.
     fn take_in_time(&self, buffer: &mut [u8]) -> Result<Option<(usize, SocketAddr)>, DeviceFault>
         ensures { IfOk result (λ answer. IfSome answer (λ found. found.0 ≤ length buffer.new)) }
     {
@@ -166,7 +170,7 @@ impl UdpPort {
         self.take_after_wait(buffer)
     }
 
-    // Sends a datagram; beside other ports it waits until the system has room for it.
+    // Sends a datagram. If the port is beside other ports, it waits until the system has room for the datagram.
     fn send_in_time(&self, to: SocketAddr, bytes: &[u8]) -> io::Result<usize> {
         let sent = self.socket.send_to(bytes, to);
         if self.is_alone()
@@ -196,10 +200,10 @@ impl Datagrams for UdpPort {
     ghost port = { λ p. record { comes = []; sent = []; failures = p.failures } };
 
     fn send(&mut self, to: SocketAddr, bytes: &[u8]) -> Result<(), DeviceFault>
-        // What a port does.
+        // Clauses of every port.
         ensures failures { Counts self.old.failures self.new.failures result }
 
-        // Just what this one does.
+        // Clauses of this port only.
         ensures outlook { self.new.outlook ≡ after_send result self.old.outlook }
     {
         match self.send_in_time(to, bytes) {
@@ -212,11 +216,11 @@ impl Datagrams for UdpPort {
     }
 
     fn receive(&mut self, buffer: &mut [u8]) -> Result<Option<(usize, SocketAddr)>, DeviceFault>
-        // What a port does.
+        // Clauses of every port.
         ensures count { IfOk result (λ answer. IfSome answer (λ found. found.0 ≤ length buffer.new)) }
         ensures failures { Counts self.old.failures self.new.failures result }
 
-        // Just what this one does.
+        // Clauses of this port only.
         ensures outlook { self.new.outlook ≡ after_receive result self.old.outlook }
     {
         let answer = self.take_in_time(buffer);
@@ -235,22 +239,23 @@ impl Datagrams for UdpPort {
     }
 }
 
-// A socket at the address, of which each call waits its time, and the address and port that it got.
+// Opens a socket at the address, each call of which waits at most `WAIT`. Returns it with the address that it is bound
+// to.
 fn open<R: Net>(rt: &R, address: SocketAddrV4) -> io::Result<(UdpSocket, SocketAddr)> {
     let socket = UdpSocket::bind(rt, SocketAddr::V4(address))?;
     let time = Duration::from_millis(u64::from(WAIT));
     socket.set_read_timeout(Some(time))?;
     socket.set_write_timeout(Some(time))?;
-    // The toolchain's `setsockopt` takes a value of 16 bytes for each option, and reads the first 4 of this one.
+    // The toolchain's `setsockopt` takes a value of 16 bytes for every option, and reads the first 4 of this one.
     let mut size = [0u8; 16];
     size[..4].copy_from_slice(&RECEIVE_BUFFER.to_ne_bytes());
-    // Where the system refuses it, fewer datagrams wait and more are lost, as may happen anyway.
+    // If the system refuses the option, fewer datagrams are kept and more are lost, which may happen anyway.
     let _ = unsafe { setsockopt(socket.as_raw_fd(), SOL_SOCKET, SO_RCVBUF, &size, 4) };
     let address = socket.local_addr()?;
     Ok((socket, address))
 }
 
-// Waits until one of the descriptors is ready, at most this many milliseconds.
+// Waits until one of the descriptors is ready, at most `time` milliseconds.
 fn wait_for(asked: &mut [pollfd], time: u16) -> Result<(), DeviceFault> {
     if poll(asked, i32::from(time)) < 0 {
         return Err(DeviceFault);
@@ -258,7 +263,8 @@ fn wait_for(asked: &mut [pollfd], time: u16) -> Result<(), DeviceFault> {
     Ok(())
 }
 
-// A descriptor for `poll`, which reports whether it is ready for these events. `NO_DESCRIPTOR` never is.
+// Returns the entry for `poll` that reports whether the descriptor is ready for these events. `NO_DESCRIPTOR` never
+// is.
 fn watched(descriptor: RawFd, events: i16) -> pollfd {
     pollfd {
         fd: descriptor,
