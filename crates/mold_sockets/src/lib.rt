@@ -1,4 +1,5 @@
-//! The commands whose ports are UDP sockets: they are opened here, and what runs over them is proved over any ports.
+//! The commands `publish`, `serve` and `listen` over UDP sockets. This crate only opens the sockets; the loops that
+//! run over them are proved for any ports.
 #![tactic(auto)]
 
 mod options;

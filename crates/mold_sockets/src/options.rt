@@ -1,4 +1,4 @@
-//! How the loops over sockets run, as their orders say.
+//! The options of the loops over sockets, from the parsed command lines.
 
 ghost use Rattle.std.specs.Prelude.{◌≡◌};
 
@@ -6,7 +6,7 @@ use mold_listen::ListenOptions;
 use mold_send::PublishOptions;
 use mold_words::{ListenOrder, PublishOrder, ServeOrder};
 
-/// How a listener runs whose server receives there.
+/// Returns the options of a listener whose server is at the address `server`.
 pub(crate) fn listen_options<P: Copy>(order: &ListenOrder, server: P) -> ListenOptions<P>
     ensures server { result.server ≡ server }
     ensures burst { result.burst ≡ order.now.burst }
@@ -21,7 +21,7 @@ pub(crate) fn listen_options<P: Copy>(order: &ListenOrder, server: P) -> ListenO
     }
 }
 
-/// How a publisher sends whose lines are received there.
+/// Returns the options of a publisher that sends line A to `a` and line B to `b`.
 pub(crate) fn publish_options<P: Copy>(order: &PublishOrder, a: P, b: P) -> PublishOptions<P>
     ensures a { result.a ≡ a }
     ensures b { result.b ≡ b }
@@ -36,7 +36,7 @@ pub(crate) fn publish_options<P: Copy>(order: &PublishOrder, a: P, b: P) -> Publ
     }
 }
 
-/// How many turns a server makes.
+/// Returns the number of turns that the server makes.
 pub(crate) fn serve_turns(order: &ServeOrder) -> u64
     ensures { result ≡ order.now.turns }
 {

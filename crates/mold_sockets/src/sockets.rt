@@ -18,13 +18,13 @@ use std::fs::File;
 use std::io::{Stdout, Write};
 use std::net::SocketAddr;
 
-/// A port that the system chooses, on every address of the machine.
+/// An address at which the system chooses the port, on every address of the machine.
 const ANY: Address = Address {
     host: [0; 4],
     port: 0,
 };
 
-// Standard output as a sink, to which text is written at once where it is to be live.
+// Returns standard output as a sink. If `live` is set, text is written as soon as it is available.
 fn standard_output(rt: &HostRuntime, live: bool) -> IntoWrite<Stdout> {
     if live {
         IntoWrite::live(rt.stdout())
@@ -33,14 +33,15 @@ fn standard_output(rt: &HostRuntime, live: bool) -> IntoWrite<Stdout> {
     }
 }
 
-// Tells on standard output why the file is no journal.
+// Prints on standard output why a file is not a journal.
 fn tell_refused(rt: &HostRuntime, error: FileError) -> Result<u8, CommandFault> {
     let mut sink = IntoWrite::new(rt.stdout());
     let outcome = print_file_refusal(rt.alloc(), error, &mut sink);
     flushed(outcome, sink.into_inner().flush())
 }
 
-/// Serves a journal over a port. The journal is loaded before the port is opened.
+/// Serves a journal over a port. The journal is loaded before the port is opened. If the file cannot be opened, the
+/// fault is `Read`.
 pub fn run_serve(rt: &HostRuntime, order: &ServeOrder) -> Result<u8, ProgramFault> {
     let Ok(file) = File::open(rt, order.journal.as_str()) else {
         return Err(ProgramFault::Command(CommandFault::Read));
@@ -75,9 +76,9 @@ fn serve_on(
     flushed(outcome, sink.into_inner().flush())
 }
 
-/// Listens on two ports, and asks the server from a third one. A line's wait ends where the other line has
-/// something, and the wait for an answer where one of the lines has. No wait ends for an answer that nobody
-/// waits for, since it would stay there and end every wait.
+/// Listens on two ports, and sends requests from a third one. A wait on a line ends early when the other line has a
+/// datagram. A wait for a response ends early when one of the lines has a datagram. No wait of a line ends for a
+/// response: a response that nothing waits for would stay there and end every wait.
 pub fn run_listen(rt: &HostRuntime, order: &ListenOrder) -> Result<u8, ProgramFault> {
     let mut a = open_port(rt, order.a)?;
     let mut b = open_port(rt, order.b)?;
@@ -103,8 +104,8 @@ fn listen_on(
     flushed(outcome, sink.into_inner().flush())
 }
 
-/// Publishes the messages of standard input on two lines from a port of its own. The journal's file is made at
-/// its first write.
+/// Publishes the lines of standard input as messages on two lines, from a port that the system chooses. The journal's
+/// file is created at its first write.
 pub fn run_publish(rt: &HostRuntime, order: &PublishOrder) -> Result<u8, ProgramFault> {
     let mut port = open_port(rt, ANY)?;
     Ok(publish_on(rt, order, &mut port)?)
