@@ -6,18 +6,19 @@ use Rattle.mold_devices.specs.declared.fault.CommandFault.TheVariants.{Write}
 use Rattle.mold_wiring.specs.declared.program_fault.ProgramFault.{ProgramFault}
 use Rattle.mold_wiring.specs.declared.program_fault.ProgramFault.TheVariants.{Command, Socket}
 
--- the outcome of a command whose output was flushed, or could not be
+-- The outcome of a command after its output was flushed. A failed flush is the fault `Write`, unless the command had
+-- failed before.
 abbrev pub flushed : {T E : Type 0} → Result ℕ CommandFault → Result T E → Result ℕ CommandFault
 flushed (Err fault) flush = Err fault
 flushed (Ok status) (Ok _) = Ok status
 flushed (Ok status) (Err _) = Err Write
 
--- the word that the program prints behind `fault`
+-- The name of the fault that the program prints after `fault`.
 abbrev pub program_fault_word : ProgramFault → List ℕ
 program_fault_word (Command fault) = fault_word fault
 program_fault_word Socket = codes "Socket"
 
--- the program's status: the command's, and 3 where a fault ended it
+-- The status of the program: the command's status, or 3 if a fault ended the command.
 abbrev pub program_status : Result ℕ ProgramFault → ℕ
 program_status (Ok status) = status
 program_status (Err fault) = 3

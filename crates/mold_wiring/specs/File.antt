@@ -1,4 +1,4 @@
--- What is told of a journal's file before a command begins.
+-- What loading a journal's file reports before a command starts.
 use Rattle.std.specs.Prelude.{◌≡◌, ◌⊎◌, ℕ, false, List, Option, Result, Ok, Err, IfSome}
 use Rattle.mold_devices.specs.Devices.{one_more}
 use Rattle.mold_devices.specs.declared.fault.CommandFault.{CommandFault}
@@ -9,21 +9,23 @@ use Rattle.mold_session.specs.Journal.{JournalState}
 use Rattle.mold_session.specs.declared.error.FileError.{FileError}
 use Rattle.mold_session.specs.declared.error.FileError.TheVariants as file
 
--- the bytes are the file of the journal, of version 1, which is open, or of version 2
+-- The bytes are the file of the journal. A file of version 1 is that of an open journal; a file of version 2 may be of
+-- an open or a closed one.
 abbrev pub SpellsFile : JournalState → List ℕ → Type 0
 SpellsFile journal bytes =
     ((journal.closed ≡ false) × SpellsJournal journal.session journal.messages bytes)
     ⊎ SpellsJournal2 journal.session journal.messages journal.closed bytes
 
--- the file itself is at fault: no device failed and no memory was wanting, and the bytes have that fault, where they
--- are known
+-- The error is one of the file itself, not of a device or an allocation. If the bytes of the file are known, they have
+-- that fault (`JournalFault`).
 abbrev pub IsAtFault : ℕ → Option (List ℕ) → FileError → Type 0
 IsAtFault most known file.Read = ⊥
 IsAtFault most known file.Write = ⊥
 IsAtFault most known file.Memory = ⊥
 IsAtFault most known error = IfSome known (λ bytes. JournalFault most bytes error)
 
--- the source failed once more with `Read`, and not with `Memory` or an answer; `Write` never comes
+-- The source's count of failures rises by one with `Read`. It stays the same with `Memory` and with a success, and
+-- `Write` never occurs.
 abbrev pub CountsSource : {T : Type 0} → ℕ → ℕ → Result T CommandFault → Type 0
 CountsSource old new (Ok _) = new ≡ old
 CountsSource old new (Err command.Read) = new ≡ one_more old

@@ -1,4 +1,4 @@
-//! How a command ends: its output is flushed, and its status or its fault is the program's.
+//! How a command ends: its output is flushed, and its status or fault becomes the status of the program.
 
 ghost use Rattle.std.specs.Prelude.{◌≡◌};
 ghost use Rattle.std.specs.Process.{exit_status};
@@ -9,11 +9,11 @@ use mold_devices::CommandFault;
 use std::io;
 use std::process::ExitCode;
 
-/// The status of a fault.
+/// The status of the program if a fault ended the command.
 const FAULT: u8 = 3;
 
-/// The outcome of a command whose output was flushed so. A flush that failed is a failed write, unless the command
-/// had failed before.
+/// Returns the outcome of a command after its output was flushed. A failed flush is the fault `Write`, unless the
+/// command had failed before.
 pub fn flushed(outcome: Result<u8, CommandFault>, flush: io::Result<()>) -> Result<u8, CommandFault>
     ensures { result ≡ flushed outcome flush }
 {
@@ -24,7 +24,7 @@ pub fn flushed(outcome: Result<u8, CommandFault>, flush: io::Result<()>) -> Resu
     }
 }
 
-// The word behind `fault`.
+// The name of the fault that is printed after `fault`.
 fn word(fault: ProgramFault) -> &'static str
     ensures { result.now ≡ program_fault_word fault }
 {
@@ -34,7 +34,8 @@ fn word(fault: ProgramFault) -> &'static str
     }
 }
 
-/// Prints the word behind `fault` as a line of standard error, and answers the status.
+/// Prints `fault` and the name of a fault as one line on standard error. Returns the status of the program, which is
+/// 3.
 pub fn print_fault(rt: &impl Eprint, word: &str) -> ExitCode
     ensures { exit_status result ≡ 3 }
 {
@@ -42,7 +43,7 @@ pub fn print_fault(rt: &impl Eprint, word: &str) -> ExitCode
     ExitCode::from(FAULT)
 }
 
-/// The status of the program. A fault is told on standard error.
+/// Returns the status of the program. A fault is printed on standard error.
 pub fn exit_code(rt: &impl Eprint, outcome: Result<u8, ProgramFault>) -> ExitCode
     ensures { exit_status result ≡ program_status outcome }
 {

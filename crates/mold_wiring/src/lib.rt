@@ -1,4 +1,4 @@
-//! What the commands over ports are made of, as their orders say, and how the program ends.
+//! What the commands over ports are built from, as the command line orders it, and how the program ends.
 #![tactic(auto)]
 
 mod addresses;

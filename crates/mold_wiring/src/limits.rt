@@ -1,11 +1,11 @@
-//! How long the messages of packets may be.
+//! The length limits of messages.
 
 ghost use Rattle.std.specs.Prelude.{◌≡◌, ◌-◌, ◌≤◌};
 ghost use Rattle.mold_wire.specs.declared.limits.TheConstants.{MAX_LIMIT, MESSAGE_OVERHEAD, MIN_LIMIT};
 
 use mold_wire::MESSAGE_OVERHEAD;
 
-/// The most bytes of a message that fits alone into a packet of this limit.
+/// Returns the length in bytes of the longest message that fits a packet of this limit alone.
 pub fn longest_message(limit: usize) -> u16
     requires least { MIN_LIMIT ≤ limit }
     requires most { limit ≤ MAX_LIMIT }

@@ -1,4 +1,4 @@
-//! What `listen` is made of.
+//! The parts of the command `listen`.
 
 ghost use Rattle.std.specs.Prelude.{◌≡◌, IfOk};
 ghost use Rattle.mold_wiring.specs.Wiring.{arbiter_of};
@@ -8,7 +8,7 @@ use mold_wire::Session;
 use mold_words::ListenOrder;
 use std::alloc::{AllocError, Global};
 
-/// The arbiter of an order, over a receiver whose numbers are in their ranges: so only memory can be wanting.
+/// Returns the arbiter that the order asks for. The numbers of an order are in range, so an error means out of memory.
 pub fn make_arbiter(alloc: Global, order: &ListenOrder) -> Result<Arbiter, AllocError>
     ensures { IfOk result (λ arbiter. arbiter ≡ arbiter_of order.now) }
 {

@@ -9,7 +9,7 @@ use crate::program_fault::ProgramFault;
 use mold_ports::UdpPort;
 use mold_words::Address;
 
-/// Opens a UDP port at the address. `Socket` comes if the system refuses it.
+/// Opens a UDP port at the address. The fault is `Socket` if the system refuses it.
 pub fn open_port(rt: &HostRuntime, address: Address) -> Result<UdpPort, ProgramFault>
     ensures opened { IfOk result (λ port. port ≡ record { failures = 0; outlook = Quiet }) }
     ensures refused { IfErr result (λ fault. fault ≡ Socket) }

@@ -1,17 +1,17 @@
-//! Why the program ends before its time.
+//! Why the program ends without a status from its command.
 
 ghost use Rattle.std.specs.Prelude.{◌≡◌};
 
 use mold_devices::CommandFault;
 use thiserror::Error;
 
-/// Why the program ends before its time.
+/// Why the program ends without a status from its command.
 #[derive(Clone, Copy, Debug, PartialEq, Eq, Error)]
 pub enum ProgramFault {
-    /// A device failed, or memory was refused.
+    /// A device failed, or an allocation failed.
     #[error("{0}")]
     Command(CommandFault),
-    /// A port can't be opened.
+    /// A port cannot be opened.
     #[error("a port could not be opened")]
     Socket,
 }

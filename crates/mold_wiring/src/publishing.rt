@@ -1,4 +1,4 @@
-//! What `publish` is made of.
+//! The parts of the command `publish`.
 
 ghost use Rattle.std.specs.Prelude.{◌≡◌, IfOk};
 ghost use Rattle.mold_wiring.specs.Wiring.{publisher_of};
@@ -8,7 +8,7 @@ use mold_wire::Session;
 use mold_words::PublishOrder;
 use std::alloc::{AllocError, Global};
 
-/// The publisher of an order, whose limit is in its range: so only memory can be wanting.
+/// Returns the publisher that the order asks for. The limit of an order is in range, so an error means out of memory.
 pub fn make_publisher(alloc: Global, order: &PublishOrder) -> Result<Publisher, AllocError>
     ensures { IfOk result (λ publisher. publisher ≡ publisher_of order.now) }
 {

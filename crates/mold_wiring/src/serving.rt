@@ -1,4 +1,4 @@
-//! What `serve` is made of.
+//! The parts of the command `serve`: the journal, which is loaded from a file, and the server.
 
 ghost use Rattle.std.specs.Prelude.{◌≡◌, ◌-◌, IfErr, IfOk, IfSome};
 ghost use Rattle.std.specs.Io.KnownBytes.{Appends};
@@ -16,8 +16,8 @@ use mold_session::{FileError, Journal, Server};
 use mold_words::ServeOrder;
 use std::alloc::{AllocError, Global};
 
-/// The journal of a file, of messages that fit the order's packets, or why the file is none. What the source fails
-/// with, and want of memory, are faults.
+/// Loads the journal from a file, or returns why the file is not a journal. Its messages must fit packets of the
+/// order's limit. A failed read and a failed allocation are faults, not file errors.
 pub fn load_journal<S: Source>(
     alloc: Global,
     order: &ServeOrder,
@@ -37,7 +37,7 @@ pub fn load_journal<S: Source>(
     }
 }
 
-/// Tells why a file is no journal, and answers the status.
+/// Prints why a file is not a journal, and returns the status, which is 2.
 pub fn print_file_refusal<K: Sink>(
     alloc: Global,
     error: FileError,
@@ -55,7 +55,7 @@ pub fn print_file_refusal<K: Sink>(
     Ok(2)
 }
 
-/// The server of an order, whose numbers are in their ranges: so only memory can be wanting.
+/// Returns the server that the order asks for. The numbers of an order are in range, so an error means out of memory.
 pub fn make_server(alloc: Global, order: &ServeOrder) -> Result<Server, AllocError>
     ensures { IfOk result (λ server. server ≡ server_of order.now) }
 {
