@@ -1,4 +1,4 @@
--- What a loop's publisher passes on its lines, and what is heard there.
+-- Lemmas about the datagrams that a loop's publisher passes, and what the listener receives.
 use Rattle.std.proofs.Common.{arith, ◌≡◌, ◌∙◌, ℕ, ◌+◌, Bool, true, false, List, [], ◌∷◌, ◌++◌, length, map}
 use Rattle.std.proofs.Common.{Option, None, Some, Result, Ok, ap, refl, sym, subst, append_assoc}
 use Rattle.std.proofs.lemmas.List.{map-append}
@@ -28,14 +28,14 @@ use Rattle.mold_turns.specs.Runs.{Begins, Loop, Moves, run}
 use Rattle.mold_loop.specs.declared.loop_parts.Drops.{Drops}
 use Rattle.mold_loop.specs.declared.loop_parts.Routes.{Routes}
 
--- ---- one datagram was passed
+-- ---- one datagram
 
 routes_are : (one other : Routes) → one.a ≡ other.a → one.b ≡ other.b → one ≡ other
 routes_are one other same_a same_b =
     ap {B = Routes} (λ (x : Bool). record { a = x; b = one.b }) same_a
     ∙ ap {B = Routes} (λ (x : Bool). record { a = other.a; b = x }) same_b
 
--- it was offered on its lines, and heard where it was sent
+-- it is offered on its lines, and received where it is sent
 pub has_passed : {P T E : Type 0} (a b : P) (routes sent : Routes) (datagram : List ℕ) (result : Result T E)
     (before after : LineState P) (port : Port P) (printer : OutgoingState) →
     ComesOfBoth routes sent a b datagram before.publisher port before.progress.outgoing printer →
@@ -73,7 +73,7 @@ pub passed_none : {P T E : Type 0} (a b : P) (result : Result T E) (s : LineStat
 unfolding run
 passed_none a b result s = record { passes = []; are = refl; whole = on_ok result refl; offered = refl }
 
--- the publisher has no next one
+-- the publisher has no next datagram
 pub passed_not : {P T E : Type 0} (drops : Drops) (number : ℕ) (a b : P) (packet : Option Packet)
     (result : Result T E) (s : LineState P) → Lends packet None →
     HasPassed a b (routed drops number (spelled_some packet)) result s s
@@ -82,7 +82,7 @@ passed_not drops number a b packet result s lends =
     (ap (routed drops number) (sym (lent_none packet lends)))
     (passed_none a b result s)
 
--- ---- passing is a loop that goes by turns
+-- ---- passing is a loop
 
 outgoing_before : (front : List ℕ) (o : Outcome) (r : OutgoingState) →
     outgoing_after o (record { text = front ++ r.text; failures = r.failures })
@@ -173,7 +173,7 @@ if_behind : {S : Type 0} (f : S → S) (c : Bool) (x y : S) → (if c then f x e
 if_behind f true x y = refl
 if_behind f false x y = refl
 
--- a text in front of a run's stays there
+-- a run keeps the text that precedes the text of its state
 pub run_behind : {C S M : Type 0} (loop : Loop C S M) (behind : List ℕ → S → S) → IsLoop loop behind →
     (choices : List C) (front : List ℕ) (s : S) → run loop choices (behind front s) ≡ behind front (run loop choices s)
 unfolding run
@@ -185,7 +185,7 @@ run_behind {C} {S} {M} loop behind is (choice ∷ more) front s =
     ∙ ap (λ (t : S). if loop.over after then behind front after else t) (run_behind loop behind is more front after)
     ∙ if_behind (behind front) (loop.over after) after (run loop more after)
 
--- one datagram after the other
+-- runs over datagrams compose
 pub passes_more : {P : Type 0} (a b : P) (xs ys : List Pass) (s : LineState P) →
     run (passing a b) (xs ++ ys) s ≡ run (passing a b) ys (run (passing a b) xs s)
 unfolding run
@@ -209,7 +209,7 @@ routed_more drops number (x ∷ xs) ys =
     (routed_more drops (number + 1) xs ys
     ∙ ap (λ (n : ℕ). routed drops (number + 1) xs ++ routed drops n ys) (omega arith))
 
--- these were passed: some text was written, and the rest is left
+-- the datagrams are passed: some text is written, and the rest remains
 pub record Heard {P : Type 0} (a b : P) (datagrams : List (Routes × List ℕ)) (before after : LineState P)
     (old new : Option (List ℕ)) : Type 0 where
   pub passes : List Pass
@@ -218,7 +218,7 @@ pub record Heard {P : Type 0} (a b : P) (datagrams : List (Routes × List ℕ)) 
   pub appended : Appends old new written
   pub whole : run (passing a b) passes before ≡ text_front written after
 
--- these were passed, and then came a fault
+-- the datagrams are passed, and then a fault occurs
 pub record HeardFront {P : Type 0} (a b : P) (datagrams : List (Routes × List ℕ)) (before after : LineState P)
     (old new : Option (List ℕ)) : Type 0 where
   pub passes : List Pass
@@ -247,7 +247,7 @@ more_run a b xs ys written before now whole =
     passes_more a b xs ys before ∙ ap (run (passing a b) ys) whole
     ∙ run_behind (passing a b) text_front (passes_are a b) ys written now
 
--- more were passed
+-- more datagrams are passed
 pub heard_more : {P T E : Type 0} (a b : P) {xs ys : List (Routes × List ℕ)} {before now after : LineState P}
     {old new : Option (List ℕ)} (value : T) → Heard a b xs before now old new →
     HasPassed {T = T} {E = E} a b ys (Ok value) now after → Heard a b (xs ++ ys) before after old new
@@ -261,7 +261,7 @@ heard_more {P} a b {xs} {ys} {before} {now} value with_receipt has = record {
       ∙ ap (text_front with_receipt.written) (sym has.whole);
 }
 
--- some text was written
+-- some text is written
 pub heard_moved : {P : Type 0} (a b : P) {xs : List (Routes × List ℕ)} {before now : LineState P}
     {old mid new : Option (List ℕ)} {left : List ℕ} (after : LineState P) → Heard a b xs before now old mid →
     (moves : Moves mid new now.progress.outgoing.text left) → now ≡ text_front moves.front after →
@@ -276,7 +276,7 @@ heard_moved {P} a b {xs} {before} {now} {old} {mid} {new} after with_receipt mov
       ∙ (passes_are a b).twice with_receipt.written moves.front after;
 }
 
--- a fault came while these were passed
+-- a fault occurs while the datagrams are passed
 pub heard_failed : {P T E : Type 0} (a b : P) {xs ys : List (Routes × List ℕ)} {before now after : LineState P}
     {old new : Option (List ℕ)} (result : Result T E) → Heard a b xs before now old new →
     HasPassed a b ys result now after → HeardFront a b (xs ++ ys) before after old new
@@ -295,7 +295,7 @@ heard_failed {P} a b {xs} {ys} {before} {now} {after} result with_receipt has =
       offered = has.offered ∙ ap (λ (s : LineState P). s.publisher) (sym end);
     }
 
--- a write failed behind them
+-- a write fails after the datagrams are passed
 pub heard_cut : {P : Type 0} (a b : P) {xs : List (Routes × List ℕ)} {before now : LineState P}
     {old mid new : Option (List ℕ)} (after : LineState P) → after.publisher ≡ now.publisher →
     Heard a b xs before now old mid → AppendsPrefix mid new now.progress.outgoing.text →
@@ -316,7 +316,7 @@ pub heard_still : {P : Type 0} (a b : P) {xs : List (Routes × List ℕ)} {befor
 heard_still a b {xs} {before} {now} {old} {new} with_receipt =
     heard_cut a b now refl with_receipt (record { front = []; rest = _; parts = refl; appended = Appends-nil new })
 
--- text was written that stood in front
+-- the text written is a prefix of the text of the state
 pub lines_moved : {P : Type 0} (publisher a b : Port P) (arbitration : Arbitration) (old new : OutgoingState) (front : List ℕ) →
     old.text ≡ front ++ new.text → new.failures ≡ old.failures →
     line_state publisher a b arbitration old ≡ text_front front (line_state publisher a b arbitration new)

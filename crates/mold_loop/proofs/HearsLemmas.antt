@@ -1,4 +1,4 @@
--- What a loop's publisher passes of the lines of a source.
+-- Lemmas about the datagrams that a loop's publisher passes for the lines of a source.
 use Rattle.std.proofs.Common.{arith, ◌≡◌, ◌∙◌, ℕ, ◌+◌, List, [], ◌++◌, length}
 use Rattle.std.proofs.Common.{Option, None, Some, Result, Ok, ap, refl, sym, subst, length-append}
 use Rattle.std.specs.Prelude.{IfSome, IsErr}
@@ -21,7 +21,7 @@ use Rattle.mold_turns.specs.Runs.{Begins, Moves}
 use Rattle.mold_loop.specs.declared.loop_parts.Drops.{Drops}
 use Rattle.mold_loop.specs.declared.loop_parts.Routes.{Routes}
 
--- of what is known of the lines, what was passed and what is left to pass are the data of all
+-- the datagrams passed and those that remain are the data of all known lines
 pub record HeardSoFar {P : Type 0} (drops : Drops) (a b : P) (start now : PublisherState)
     (known left : Option (List ℕ)) (before after : LineState P) (old new : Option (List ℕ)) (count : ℕ) : Type 0 where
   pub front : List (List ℕ)
@@ -45,7 +45,7 @@ routed_next drops front ys count counted =
     (let e : count + 1 ≡ 1 + length front = omega (arith, counted) in e)
     ∙ sym (routed_more drops 1 front ys)
 
--- a datagram more was passed
+-- one more datagram is passed
 pub so_far_full : {P T E : Type 0} → PackingLaws → (drops : Drops) (a b : P) (start before now after : PublisherState)
     (known left behind : Option (List ℕ)) (first here there : LineState P) (old new : Option (List ℕ))
     (count counted : ℕ) (value : T) → HeardSoFar drops a b start before known left first here old new count →
@@ -66,7 +66,7 @@ so_far_full {P} laws drops a b start before now after known left behind first he
           (heard_more a b value so_far.received has);
     })
 
--- some text was written
+-- some text is written
 pub so_far_moved : {P : Type 0} (drops : Drops) (a b : P) (start now : PublisherState) (known left : Option (List ℕ))
     (first here : LineState P) (old mid new : Option (List ℕ)) (count : ℕ) (rest : List ℕ) (there : LineState P) →
     HeardSoFar drops a b start now known left first here old mid count →
@@ -79,7 +79,7 @@ so_far_moved drops a b start now known left first here old mid new count rest th
   received = heard_moved a b there so_far.received moves same;
 }
 
--- a fault: what was passed is a beginning
+-- a fault: the datagrams passed are a prefix
 hears_cut : {P E : Type 0} (drops : Drops) (a b : P) (start last : PublisherState) (known : Option (List ℕ))
     (front : List (List ℕ)) (result : Result (Option LineRefusal) E) (first here : LineState P)
     (old new : Option (List ℕ)) → HeardFront a b (routed drops 1 front) first here old new →
@@ -98,7 +98,7 @@ hears_cut drops a b start last known front result first here old new with_receip
   all = none_answered result _ failed;
 }
 
--- before anything was passed
+-- a fault before anything is passed
 pub hears_none : {P E : Type 0} (drops : Drops) (a b : P) (start last : PublisherState) (known : Option (List ℕ))
     (result : Result (Option LineRefusal) E) (s : LineState P) (held : Option (List ℕ)) → IsErr result →
     ReceivesLines drops a b start last known result s s held held
@@ -106,7 +106,7 @@ hears_none drops a b start last known result s held failed =
     hears_cut drops a b start last known [] result s s held held (heard_still a b (heard_none a b s held))
     (any_known known _ (λ input. record { rest = _; parts = refl })) failed
 
--- between two of them
+-- a fault between two datagrams
 pub hears_still : {P E : Type 0} (drops : Drops) (a b : P) (start now last : PublisherState)
     (known left : Option (List ℕ)) (result : Result (Option LineRefusal) E) (first here : LineState P)
     (old new : Option (List ℕ)) (count : ℕ) → HeardSoFar drops a b start now known left first here old new count →
@@ -115,7 +115,7 @@ hears_still drops a b start now last known left result first here old new count 
     hears_cut drops a b start last known so_far.front result first here old new (heard_still a b so_far.received)
     (begun start now known left so_far.front so_far.behind) failed
 
--- while one was passed
+-- a fault while a datagram is passed
 hears_more : {P T E F : Type 0} (drops : Drops) (a b : P) (start now last : PublisherState)
     (known left : Option (List ℕ)) (first here there : LineState P) (old new : Option (List ℕ)) (count : ℕ)
     (ys : List (List ℕ)) (passing_result : Result T F) (result : Result (Option LineRefusal) E) →
@@ -144,7 +144,7 @@ hears_full laws drops a b start before now last known left behind first here the
     (left_full laws start before now known left behind so_far.front so_far.behind filled))
     failed
 
--- while text was written behind one
+-- a fault while text is written after a datagram
 pub hears_unwritten : {P E : Type 0} (drops : Drops) (a b : P) (start now last : PublisherState)
     (known left : Option (List ℕ)) (result : Result (Option LineRefusal) E) (first here there : LineState P)
     (old mid new : Option (List ℕ)) (count : ℕ) → HeardSoFar drops a b start now known left first here old mid count →
@@ -155,7 +155,7 @@ hears_unwritten drops a b start now last known left result first here there old 
     (heard_cut a b there same so_far.received cut)
     (begun start now known left so_far.front so_far.behind) failed
 
--- while the last one was passed
+-- a fault while the last datagram is passed
 pub hears_last : {P T E F : Type 0} → PackingLaws → (drops : Drops) (a b : P) (start before now last : PublisherState)
     (known left behind : Option (List ℕ)) (first here there : LineState P) (old new : Option (List ℕ)) (count : ℕ)
     (passing_result : Result T F) (result : Result (Option LineRefusal) E) →
@@ -170,7 +170,7 @@ hears_last laws drops a b start before now last known left behind first here the
     (left_end laws start before now known left behind so_far.front so_far.behind filled))
     failed
 
--- all data were passed
+-- all data are passed
 hears_all : {P E : Type 0} (drops : Drops) (a b : P) (start now : PublisherState) (known : Option (List ℕ))
     (front : List (List ℕ)) (refused : Option LineRefusal) (first here : LineState P) (old new : Option (List ℕ)) →
     Heard a b (routed drops 1 front) first here old new →

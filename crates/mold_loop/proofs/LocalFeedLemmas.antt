@@ -1,4 +1,4 @@
--- What a loop in one process works on, from one part of it to the next.
+-- Lemmas that carry facts of `LocalFeed` from one step to the next.
 use Rattle.std.proofs.Common.{◌≡◌, ◌∙◌, ℕ, Bool, List, Option, Result, ap, refl, subst, sym}
 use Rattle.std.specs.Borrow.{Bor}
 use Rattle.std.specs.Prelude.{IfSome}
@@ -24,7 +24,7 @@ use Rattle.mold_loop.specs.declared.loop_parts.LoopOptions.{LoopOptions}
 use Rattle.mold_loop.specs.declared.loop_parts.LoopPorts.{LoopPorts}
 use Rattle.mold_loop.specs.declared.loop_parts.Routes.{Routes}
 
--- ---- what is left alone
+-- ---- what stays unchanged
 
 pub same_at_first : {D A : Type 0} (feed : LocalFeed D A) → IsSame feed feed
 same_at_first feed = record { ports = refl; options = refl; buffer = refl; listener = refl }
@@ -64,7 +64,7 @@ repairs_twice first second = record {
   b = second.b ∙ first.b;
 }
 
--- ---- what was passed, with the options from before
+-- ---- what was passed, with the options of the first state
 
 pub passed_from : {D P T E : Type 0} (port : D → Port P) (datagrams : List (Routes × List ℕ)) (result : Result T E)
     {first old : LocalFeed D P} (new : LocalFeed D P) → IsSame first old → Passes port datagrams result old new →
@@ -83,7 +83,7 @@ next_passed {D} {P} port number datagrams result {first} {old} new same passes =
     (lines port old) (lines port new))
     same.options passes
 
--- what was requested, of the server's peer from before
+-- what was requested from the server, with the options of the first state
 pub request_from : {D P T E : Type 0} (result : Result T E) (request : Option Request) (service : Service)
     (choice : Bool × List Bool) (before after : RepairState P) {first old : LocalFeed D P} → IsSame first old →
     HasRepaired result after (requested request old.options.now.peers.server service choice before) →
@@ -92,7 +92,7 @@ request_from {D} {P} result request service choice before after {first} {old} sa
     subst (λ (o : Bor (LoopOptions P)). HasRepaired result after (requested request o.now.peers.server service choice before))
     same.options has
 
--- the rounds of requests, of the server's peer from before
+-- the rounds of requests, with the options of the first state
 pub rounds_from : {D P T E : Type 0} (service : Service) {before : RepairState P} {result : Result T E}
     {held now : Option (List ℕ)} {after : RepairState P} {first old : LocalFeed D P} → IsSame first old →
     RestsOfTwo (repairing old.options.now.peers.server service) answers_sent text_before old.options.now.turns before
@@ -105,7 +105,7 @@ rounds_from {D} {P} {T} {E} service {before} {result} {held} {now} {after} {firs
     before result held now after)
     same.options rests
 
--- ---- what the loop's caller finds, where what it lent ends as the loop left it
+-- ---- the caller's borrowed values end as the loop left them
 
 pub ends_publisher : {D A : Type 0} {end left : LoopPorts D A} → end ≡ left → end.publisher ≡ left.publisher
 ends_publisher {D} {A} same = ap (λ (p : LoopPorts D A). p.publisher) same
@@ -128,12 +128,12 @@ ends_arbiter same = ap (λ (l : Listener). l.arbiter) same
 pub ends_outgoing : {end left : Listener} → end ≡ left → end.printer.outgoing ≡ left.printer.outgoing
 ends_outgoing same = ap (λ (l : Listener). l.printer.outgoing) same
 
--- a port of a line sent nothing
+-- the port of a line sent nothing
 pub sent_so : {D P : Type 0} (port : D → Port P) (before left end : D) → end ≡ left →
     (port left).sent ≡ (port before).sent → (port end).sent ≡ (port before).sent
 sent_so {D} port before left end is sent = subst (λ (d : D). (port d).sent ≡ (port before).sent) (sym is) sent
 
--- the lines, and the rounds, stand as they were left
+-- the models of the lines and of the rounds are those that the loop left
 pub lines_so : {D A P : Type 0} (port : D → Port P) (ports : LoopPorts D A) (listener : Listener) (publisher a b : D)
     (arbitration : Arbitration) (outgoing : OutgoingState) → publisher ≡ ports.publisher → a ≡ ports.a →
     b ≡ ports.b → arbitration ≡ listener.arbiter → outgoing ≡ listener.printer.outgoing →
@@ -157,7 +157,7 @@ rounds_so {D} {A} {P} port ports last listener server requests arbitration outgo
     ∙ ap (λ (w : Arbitration). of ports.server ports.requests w outgoing) is_arbiter
     ∙ ap (λ (o : OutgoingState). of ports.server ports.requests listener.arbiter o) is_outgoing
 
--- so what is said of those is said of these
+-- so `LoopRun` of the left states is `LoopRun` of the final ones
 pub loop_so : {P E : Type 0} (reporting : Bool) (drops : Drops) (a b to : P) (turns : ℕ) (start : PublisherState) (server : ServerState)
     (from : LineState P) (begun : RepairState P) (known : Option (List ℕ)) (result : Result ℕ E)
     (old new : Option (List ℕ)) (lines_left lines_end : LineState P) (rounds_left rounds_end : RepairState P) →

@@ -1,4 +1,4 @@
--- The loop in one process of the lines that its publisher publishes.
+-- Lemmas about the loop's run over the lines that its publisher publishes.
 use Rattle.std.proofs.Common.{◌≡◌, ◌∙◌, ℕ, ◌+◌, Bool, true, false, List, [], ◌++◌, length, replicate}
 use Rattle.std.proofs.Common.{Option, None, Some, Result, Ok, ap, refl, sym, subst, append-nil}
 use Rattle.std.proofs.Math.ListN.{length-replicate}
@@ -30,7 +30,7 @@ use Rattle.mold_loop.specs.declared.loop_parts.Drops.{Drops}
 use Rattle.mold_loop.specs.declared.loop_parts.Routes.{Routes}
 use Rattle.mold_loop.proofs.LoopLemmas.{LoopStands, run_cut, run_end, run_unrepaired}
 
--- the run of what was published is what is to be shown
+-- the run of the published lines is the run to prove
 run_from : {P E : Type 0} {reporting : Bool} (drops : Drops) (a b to : P) (turns : ℕ) (start : PublisherState) (server : ServerState)
     (lines : LineState P) (rounds : RepairState P) (known : Option (List ℕ)) (journal : JournalState)
     (refused : Option LineRefusal) (front : List (List ℕ)) (result : Result ℕ E) (old new : Option (List ℕ))
@@ -61,7 +61,7 @@ begins_routed drops limit sent published front begins =
     })
     (begins_more (routed drops 1 (data_after limit sent published)) (routed_end published.journal published.refused))
 
--- before anything was passed
+-- a fault before anything is passed
 pub loop_unbegun : {P E : Type 0} (reporting : Bool) (drops : Drops) (a b to : P) (turns : ℕ) (start : PublisherState) (server : ServerState)
     (lines : LineState P) (rounds : RepairState P) (known : Option (List ℕ)) (result : Result ℕ E)
     (held : Option (List ℕ)) → IsErr result →
@@ -83,7 +83,7 @@ loop_unbegun reporting drops a b to turns start server lines rounds known result
     })
     (record { rest = _; parts = refl }) failed refl refl)
 
--- a fault while lines were read
+-- a fault while lines are read
 pub loop_unheard : {P E F : Type 0} (reporting : Bool) (drops : Drops) (a b to : P) (turns : ℕ) (start last : PublisherState)
     (server : ServerState) (lines : LineState P) (rounds : RepairState P) (known : Option (List ℕ))
     (found : Result (Option LineRefusal) F) (result : Result ℕ E) (old new : Option (List ℕ)) (lines_left : LineState P)
@@ -148,7 +148,7 @@ loop_stopped {P} reporting drops a b to turns start now server lines rounds know
     (subst (λ (n : ℕ). IfOk result (λ status. Appends mid new (text ++ refused_text n why) × (status ≡ 2))) numbered done)
     agrees out)
 
--- the data were passed, and then the end
+-- all datagrams are the data datagrams, then the end packet
 all_are : (drops : Drops) (start : PublisherState) (journal : JournalState) (front : List (List ℕ)) →
     data_after start.limit start.sent (record { journal = journal; refused = None }) ≡ front →
     all_routed drops start.limit start.sent (record { journal = journal; refused = None })
@@ -156,7 +156,7 @@ all_are : (drops : Drops) (start : PublisherState) (journal : JournalState) (fro
 all_are drops start journal front whole =
     ap (λ (ds : List (List ℕ)). routed drops 1 ds ++ routed_end journal None) whole
 
--- a fault while the end was passed
+-- a fault while the end packet is passed
 pub loop_unended : {P T E F G : Type 0} (reporting : Bool) (drops : Drops) (a b to : P) (turns : ℕ) (start now : PublisherState)
     (server : ServerState) (lines : LineState P) (rounds : RepairState P) (known : Option (List ℕ))
     (ended : Result T G) (result : Result ℕ E) (old new : Option (List ℕ)) (here lines_left : LineState P)
@@ -178,7 +178,7 @@ loop_unended {P} reporting drops a b to turns start now server lines rounds know
     (begins_whole (all_routed drops start.limit start.sent published)))
     failed kept same)
 
--- the rounds of requests begin with what was heard of the end
+-- the rounds of requests start with the listener's progress after the end packet
 pub rests_from : {P T E : Type 0} (to : P) (server : ServerState) (turns : ℕ) (journal other : JournalState)
     (port requests : Port P) (arbitration : Arbitration) (printer : OutgoingState)
     (rounds : RepairState P) (result : Result T E) (old new : Option (List ℕ)) (now : RepairState P) →
@@ -233,7 +233,7 @@ loop_unrepaired reporting drops a b to turns start now server lines rounds known
     made old mid new
     (heard_all drops a b start now known lines here there old mid value hears has whole) rests failed same)
 
--- the last line was printed, or a beginning of what was left to print
+-- the last line is printed, or a prefix of the remaining text
 pub loop_done : {P T U E F G H : Type 0} (reporting : Bool) (drops : Drops) (a b to : P) (turns : ℕ) (start now : PublisherState)
     (server : ServerState) (lines : LineState P) (rounds : RepairState P) (known : Option (List ℕ)) (value : T)
     (done : U) (result : Result ℕ E) (old mid second new : Option (List ℕ)) (here there lines_left : LineState P)
@@ -259,7 +259,7 @@ loop_done reporting drops a b to turns start now server lines rounds known v don
     (heard_all drops a b start now known lines here there old mid v hears has whole) rests.rests.counted
     rests.rests.appended rests.rests.whole cut printed is out)
 
--- the journal that is left
+-- the journal that the publisher ends with
 pub journal_left : {P E : Type 0} (drops : Drops) (a b : P) (start now : PublisherState) (known : Option (List ℕ))
     (refused : Option LineRefusal) (lines here : LineState P) (old new : Option (List ℕ)) (journal : JournalState) →
     ReceivesLines {E = E} drops a b start now known (Ok refused) lines here old new →

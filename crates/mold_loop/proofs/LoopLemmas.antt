@@ -1,4 +1,4 @@
--- The whole of a loop in one process: its datagrams, its rounds of requests, and what it prints.
+-- Lemmas about the whole loop in one process: its datagrams, its rounds of requests, and its text.
 use Rattle.std.proofs.Common.{◌≡◌, ◌∙◌, ℕ, Bool, true, false, List, [], ◌∷◌, ◌++◌, length, map, replicate}
 use Rattle.std.proofs.Common.{Option, None, Some, Result, Ok, Err, ap, refl, sym, subst, append_assoc}
 use Rattle.std.proofs.Math.ListN.{length-replicate}
@@ -30,7 +30,7 @@ use Rattle.mold_serve.specs.Serving.{Service, service_of}
 use Rattle.mold_loop.specs.declared.loop_parts.Drops.{Drops}
 use Rattle.mold_loop.specs.declared.loop_parts.Routes.{Routes}
 
--- ---- datagrams that are left: each is sent
+-- ---- the remaining datagrams, each with the outcome that it is sent
 
 outcome_of : Bool → Outcome
 outcome_of false = LeftOut
@@ -56,7 +56,7 @@ all_sent_are (x ∷ xs) =
     (goes_is x.0.b)
     ∙ ap (λ (l : List (Routes × List ℕ)). x ∷ l) (all_sent_are xs)
 
--- ---- text in front
+-- ---- text that precedes the text of a state
 
 rounds_front : {P : Type 0} (refused : Option LineRefusal) (to : P) (service : Service)
     (choices : List (Bool × List Bool)) (front : List ℕ) (s : RepairState P) →
@@ -99,7 +99,7 @@ status_front (Some why) front e = refl
 
 -- ---- the end
 
--- what the run ends with stands behind all that was written
+-- the end of the run has all the written text before its own
 end_is : {P : Type 0} (a b to : P) (published : PublishedLines) (server : ServerState) (passes : List Pass)
     (choices : List (Bool × List Bool)) (lines mid : LineState P) (rounds now : RepairState P) (front back : List ℕ) →
     lines_after a b passes lines ≡ text_front front mid →
@@ -129,7 +129,7 @@ behind_ok (Ok answer) old mid new front text whole status other first same is do
 )
 behind_ok (Err _) old mid new front text whole status other first same is done = tt
 
--- the ports and the arbiter stand so
+-- the ports and the arbiter are those at the end of the run
 pub record LoopStands {P : Type 0} (lines line_end : LineState P) (rounds round_end : RepairState P) : Type 0 where
   pub publisher_left : lines.publisher ≡ line_end.publisher
   pub a_left : lines.a ≡ line_end.a
@@ -141,7 +141,7 @@ pub record LoopStands {P : Type 0} (lines line_end : LineState P) (rounds round_
 
 module _ {P : Type 0} {reporting : Bool} (drops : Drops) (a b to : P) (turns limit sent : ℕ)
     (published : PublishedLines) (server : ServerState) (lines : LineState P) (rounds : RepairState P) where
-  -- a fault while the data or the end were passed
+  -- a fault while the data datagrams or the end packet are passed
   pub run_cut : {E : Type 0} (result : Result ℕ E) {xs : List (Routes × List ℕ)} (lines_left : LineState P)
       (rounds_left : RepairState P) (old new : Option (List ℕ)) → HeardFront a b xs lines lines_left old new →
       Begins xs (all_routed drops limit sent published) → IsErr result →
@@ -182,7 +182,7 @@ module _ {P : Type 0} {reporting : Bool} (drops : Drops) (a b to : P) (turns lim
             (rounds_answer published.refused to service choices (with_progress heard_there rounds));
       }
 
-  -- all was passed and requested: what is left to write was written, or a beginning of it
+  -- everything is passed and requested: the remaining text is written, or a prefix of it
   pub run_end : {E : Type 0} (result : Result ℕ E) (mid lines_left : LineState P) (now rounds_left : RepairState P)
       (old first second new : Option (List ℕ)) (choices : List (Bool × List Bool)) (written : List ℕ) →
       Heard a b (all_routed drops limit sent published) lines mid old first → length choices ≡ turns →

@@ -1,4 +1,4 @@
--- What a loop's publisher sends, by the datagrams that it passes.
+-- Lemmas about the sends of a loop's publisher, derived from the datagrams that it passes.
 use Rattle.std.proofs.Common.{◌≡◌, ◌∙◌, ℕ, Bool, List, [], ◌∷◌, ◌++◌, true, false, map}
 use Rattle.std.proofs.Common.{Option, None, Some, Result, Ok, Err, ap, refl, sym, subst, append_assoc}
 use Rattle.std.proofs.lemmas.List.{map-append}
@@ -17,7 +17,7 @@ use Rattle.mold_loop.specs.declared.loop_parts.Drops.{Drops}
 use Rattle.mold_loop.specs.declared.loop_parts.Routes.{Routes}
 use Rattle.mold_turns.proofs.RunLemmas.{begins_whole}
 
--- one after the other
+-- offers compose
 offers_more : {P : Type 0} (xs ys : List (P × List ℕ)) (old mid new : Port P) → Offers xs old mid → Offers ys mid new →
     Offers (xs ++ ys) old new
 offers_more [] ys old mid new first second = subst (λ (p : Port _). Offers ys p new) first second
@@ -31,7 +31,7 @@ sends_more {P} a b (x ∷ xs) ys =
     ap (λ (l : List (P × List ℕ)). sends_on x.0 a b x.1 ++ l) (sends_more a b xs ys)
     ∙ sym (append_assoc (sends_on x.0 a b x.1) (all_sends a b xs) (all_sends a b ys))
 
--- what is passed is offered
+-- a datagram that is passed is offered
 outcome_offers : {P : Type 0} (o : Outcome) (to : P) (datagram : List ℕ) (port : Port P) →
     Offers (send_if (goes_out o) to datagram) port (port_after o to datagram port)
 outcome_offers LeftOut to datagram port = refl
@@ -56,7 +56,7 @@ passes_offer {P} a b (pass ∷ more) s =
     offers_more (sends_on (routed_by pass).0 a b pass.datagram) (all_sends a b (map routed_by more)) s.publisher
     after.publisher (run (passing a b) more after).publisher (pass_offers a b pass s) (passes_offer a b more after)
 
--- some of them, the first ones, are sent as a beginning of all
+-- the sends of a prefix of the passes are a prefix of all sends
 first_sends : {P : Type 0} (a b : P) {front passes : List Pass} (all : List (Routes × List ℕ)) → Begins front passes →
     map routed_by passes ≡ all → Begins (all_sends a b (map routed_by front)) (all_sends a b all)
 first_sends a b {front} {passes} all begins are = record {
@@ -90,7 +90,7 @@ module _ {P E : Type 0} {reporting : Bool} (drops : Drops) (a b to : P) (turns l
     whole = tt;
   }
 
--- so what its run says of a loop's port says which datagrams are sent
+-- the publisher's port after the loop's run determines which datagrams were sent
 pub loop_sends : {P E : Type 0} (reporting : Bool) (drops : Drops) (a b to : P) (turns : ℕ) (start : PublisherState) (server : ServerState)
     (lines : LineState P) (rounds : RepairState P) (known : Option (List ℕ)) (result : Result ℕ E)
     (old new : Option (List ℕ)) (lines_left : LineState P) (rounds_left : RepairState P) →

@@ -1,4 +1,4 @@
--- A round of requests, and that rounds are a loop that goes by turns.
+-- Lemmas about one round of requests, and about the rounds as a loop.
 use Rattle.std.proofs.Common.{◌≡◌, ℕ, ◌-◌, suc, Bool, true, false, List, [], ◌∷◌, ◌++◌, length, replicate}
 use Rattle.std.proofs.Common.{Option, None, Some, Result, Ok, ap, refl, sym, subst, ◌∙◌, append_assoc, arith, length-append}
 use Rattle.std.proofs.Math.ListN.{length-replicate}
@@ -25,7 +25,7 @@ use Rattle.mold_turns.proofs.RunLemmas.{Going, IsLoop, begins_more, begins_whole
 use Rattle.mold_serve.proofs.ServingLemmas.{serving_is}
 use Rattle.mold_listen.proofs.TurnLemmas.{answers_before, answers_print}
 
--- ---- rounds go by turns
+-- ---- rounds are a loop
 
 repaired_before : {P : Type 0} (service : Service) (front : List ℕ) (fails : List Bool) (s : RepairState P) →
     repaired service fails (text_before front s) ≡ text_before front (repaired service fails s)
@@ -147,7 +147,7 @@ rounds_are {P} to service = record {
   sends = round_sends to service;
 }
 
--- ---- answers
+-- ---- responses
 
 answer_step : {P : Type 0} (n : ℕ) (s : Asking P) → receive_responses n (stepped s) ≡ receive_responses (suc n) s
 unfolding receive_responses
@@ -157,19 +157,19 @@ no_answer : {P : Type 0} (s : Asking P) → receive_responses 0 s ≡ s
 unfolding receive_responses
 no_answer s = refl
 
--- a receive more was made for an answer
+-- one more receive is made for a response
 pub one_heard : {P : Type 0} (left n : ℕ) (s after whole : Asking P) → left ≡ suc n → after ≡ stepped s →
     receive_responses left s ≡ whole → receive_responses n after ≡ whole
 one_heard left n s after whole more is with_receipt =
     ap (receive_responses n) is ∙ answer_step n s ∙ ap (λ (k : ℕ). receive_responses k s) (sym more) ∙ with_receipt
 
--- all were made
+-- all receives are made
 pub all_heard : {P : Type 0} (left : ℕ) (s whole : Asking P) → left ≡ 0 → receive_responses left s ≡ whole → s ≡ whole
 all_heard left s whole none with_receipt = sym (no_answer s) ∙ ap (λ (k : ℕ). receive_responses k s) (sym none) ∙ with_receipt
 
--- ---- a round was made
+-- ---- one round
 
--- the tally that a turn begins with
+-- the tally that a turn starts with
 pub turn_from : {P T E : Type 0} (result : Result T E) (service : Service) (fails : List Bool) (port : Port P)
     (server : ServerState) (new : ResponderState P) {one other : Tally} → one ≡ other →
     Reaches result new (serve_turn service fails (responder_of port one server)) →
@@ -187,7 +187,7 @@ state_is {P} s responder with_receipt is_server is_answered is_heard =
     is_answered
     ∙ ap (after_answers responder) is_heard
 
--- the server made its turn, and its answers were taken
+-- the server took its turn, and its responses were received
 pub has_repaired : {P T E : Type 0} (result : Result T E) (service : Service) (fails : List Bool)
     (before after : RepairState P) (responder : ResponderState P) (mid : Progress) (count : ℕ) →
     responder ≡ served service fails before → mid ≡ missed_more responder.tally.outgoing.failures before.progress →
@@ -213,7 +213,7 @@ has_repaired {P} result service fails before after responder mid count is_served
           (begins_whole after.server.sent);
     }
 
--- the server's turn ended in a fault
+-- the server's turn ended with a fault
 pub repair_cut : {P T E : Type 0} (result : Result T E) (service : Service) (fails : List Bool)
     (before after : RepairState P) → IsErr result → after.requests ≡ before.requests →
     Begins after.server.sent (served service fails before).port.sent →
@@ -224,7 +224,7 @@ repair_cut {P} result service fails before after failed same sent = record {
   answers = sent;
 }
 
--- the request's send failed
+-- the send of the request failed
 pub round_missed : {P E : Type 0} (to : P) (service : Service) (request : Request) (before after : RepairState P)
     (requests : Port P) (bytes : List ℕ) (failed : Bool) → failed ≡ true → bytes ≡ request_spelling request →
     requests ≡ offered failed to bytes before.requests →
@@ -242,7 +242,7 @@ round_missed {P} to service request before after requests bytes failed fails spe
       answers = subst (λ (s : RepairState P). Begins after.server.sent s.server.sent) same (begins_whole after.server.sent);
     }
 
--- the request was sent, and what the server made of it was done
+-- the request was sent, and the server took its turn
 pub round_made : {P T E : Type 0} (result : Result T E) (to : P) (service : Service) (request : Request)
     (fails : List Bool) (before after : RepairState P) (requests : Port P) (bytes : List ℕ) (failed : Bool) →
     failed ≡ false → bytes ≡ request_spelling request → requests ≡ offered failed to bytes before.requests →
@@ -262,7 +262,7 @@ round_made {P} result to service request fails before after requests bytes faile
     ∙ ap (λ (l : List ℕ). offered false to l before.requests) spelled)
     has
 
--- the round of what is wanted
+-- the round requests the wanted messages
 pub round_is : {P T E : Type 0} (result : Result T E) (to : P) (service : Service) (request : Request)
     (choice : Bool × List Bool) (before after : RepairState P) → wanted before.progress.arbitration.view ≡ Some request →
     HasRepaired result after (requested (Some request) to service choice before) →
@@ -271,7 +271,7 @@ unfolding round
 round_is {P} result to service request choice before after wish has =
     subst (λ (w : Option Request). HasRepaired result after (requested w to service choice before)) (sym wish) has
 
--- ---- where nothing is wanted any more
+-- ---- nothing is wanted any more
 
 stays : {P : Type 0} (to : P) (service : Service) (choices : List (Bool × List Bool)) (s : RepairState P) →
     wanted s.progress.arbitration.view ≡ None → run (repairing to service) choices s ≡ s
@@ -281,7 +281,7 @@ stays {P} to service (choice ∷ more) s none =
     ap (run (repairing to service) more) (ap (λ (w : Option Request). requested w to service choice s) none)
     ∙ stays to service more s none
 
--- the rounds that are left change nothing
+-- the remaining rounds change nothing
 pub rests_still : {P T E : Type 0} (to : P) (service : Service) (result : Result T E) (start now : RepairState P)
     (old new : Option (List ℕ)) (count turns : ℕ) → Going (repairing to service) text_before start old new count now →
     count ≤ turns → wanted now.progress.arbitration.view ≡ None →
@@ -307,7 +307,7 @@ rests_still {P} to service result start now old new count turns going few none =
 
 -- ---- between the rounds
 
--- some of the text was written
+-- some text was written
 pub text_moved : {P : Type 0} (server requests : Port P) (answered : ℕ) (arbitration : Arbitration) (old new : OutgoingState)
     (front : List ℕ) → old.text ≡ front ++ new.text → new.failures ≡ old.failures →
     record { server = server; requests = requests; answered = answered; progress = progress arbitration old }
@@ -321,7 +321,7 @@ text_moved {P} server requests answered arbitration old new front parts failures
 pub sent_alike : {A : Type 0} {xs ys : List A} → xs ≡ ys → Begins xs ys
 sent_alike {A} {xs} {ys} same = subst (λ (l : List A). Begins xs l) same (begins_whole xs)
 
--- what was repaired, where the server ends as it was left
+-- the state after a repair, with the server that the loop left
 pub repaired_so : {P T E : Type 0} (result : Result T E) (port requests : Port P) (answered last : ℕ) (e : Progress)
     (wanted : RepairState P) → last ≡ answered →
     HasRepaired result (record { server = port; requests = requests; answered = answered; progress = e }) wanted →

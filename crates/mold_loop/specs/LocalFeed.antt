@@ -1,5 +1,4 @@
--- What a loop in one process works on: how far its lines and its rounds are, and what passing and repairing leave
--- alone.
+-- Defines the models of a running loop (`LocalFeed`), and what its steps leave unchanged.
 use Rattle.std.specs.Prelude.{◌≡◌, ℕ, Bool, true, List, Result, length}
 use Rattle.mold_ports.specs.Ports.{Port}
 use Rattle.mold_session.specs.Server.{ServerState}
@@ -10,32 +9,32 @@ use Rattle.mold_loop.specs.declared.local_feed.LocalFeed.{LocalFeed}
 use Rattle.mold_loop.specs.declared.loop_parts.Routes.{Routes}
 use Rattle.mold_wire.specs.declared.limits.TheConstants.{MAX_LIMIT}
 
--- how far its lines are; `port` says how a port stands
+-- The state of the loop's lines. `port` returns the model of a port.
 abbrev pub lines : {D A P : Type 0} → (D → Port P) → LocalFeed D A → LineState P
 lines port feed = lines_at port feed.ports.now feed.listener.now
 
--- how far its rounds with a server are
+-- The state of the loop's rounds with a server. `port` returns the model of a port.
 abbrev pub rounds : {D A P : Type 0} → (D → Port P) → ServerState → LocalFeed D A → RepairState P
 rounds port server feed = rounds_at port feed.ports.now server feed.listener.now
 
--- the part of it that takes answers
+-- The part of the loop's state that receiving a response changes: the port of requests and the listener.
 abbrev pub asking_state : {D A P : Type 0} → (D → Port P) → LocalFeed D A → Asking P
 asking_state port feed =
     asking (port feed.ports.now.requests) feed.listener.now.arbiter feed.listener.now.printer.outgoing
 
--- its place is as long as the longest datagram
+-- The loop's buffer is as long as the longest datagram.
 abbrev pub HasBuffer : {D A : Type 0} → LocalFeed D A → Type 0
 HasBuffer feed = length feed.buffer.now ≡ MAX_LIMIT
 
--- it still works on the same ports and listener, with the same options, and its place is as long
+-- The loop still borrows the same ports and the same listener, with the same options. Its buffer has the same length.
 pub record IsSame {D A : Type 0} (old new : LocalFeed D A) : Type 0 where
   pub ports : new.ports.ghost_name ≡ old.ports.ghost_name
   pub options : new.options ≡ old.options
   pub buffer : length new.buffer.now ≡ length old.buffer.now
   pub listener : new.listener.ghost_name ≡ old.listener.ghost_name
 
--- What passing leaves alone: what it works on, and the ports of server and requests. Where ports tell what they sent,
--- those of the lines sent nothing.
+-- Passing a datagram changes neither what the loop borrows nor the ports of the server and of the requests. If the
+-- ports are modeled, the ports of the lines send nothing.
 pub record OnlyPasses {D A P : Type 0} (modeled : Bool) (port : D → Port P) (old new : LocalFeed D A) : Type 0 where
   pub same : IsSame old new
   pub server : new.ports.now.server ≡ old.ports.now.server
@@ -43,14 +42,14 @@ pub record OnlyPasses {D A P : Type 0} (modeled : Bool) (port : D → Port P) (o
   pub a : modeled ≡ true → (port new.ports.now.a).sent ≡ (port old.ports.now.a).sent
   pub b : modeled ≡ true → (port new.ports.now.b).sent ≡ (port old.ports.now.b).sent
 
--- what repairing leaves alone: what it works on, and the ports of the publisher and the lines
+-- A round changes neither what the loop borrows nor the ports of the publisher and of the lines.
 pub record OnlyRepairs {D A : Type 0} (old new : LocalFeed D A) : Type 0 where
   pub same : IsSame old new
   pub publisher : new.ports.now.publisher ≡ old.ports.now.publisher
   pub a : new.ports.now.a ≡ old.ports.now.a
   pub b : new.ports.now.b ≡ old.ports.now.b
 
--- these datagrams were passed
+-- The loop passed these datagrams, each on the lines paired with it, in the sense of `HasPassed`.
 abbrev pub Passes : {D P T E : Type 0} → (D → Port P) → List (Routes × List ℕ) → Result T E → LocalFeed D P →
     LocalFeed D P → Type 0
 Passes port datagrams result old new =

@@ -1,5 +1,5 @@
--- A loop in one process: what its publisher's datagrams, and then its rounds of requests, make of the ports and of
--- what was heard. The datagrams are a run of `passing`, and the rounds one of `repairing`.
+-- Defines the loop in one process: the passing of the publisher's datagrams, then the rounds of requests. The
+-- datagrams are a run of `passing`, the rounds are a run of `repairing`.
 use Rattle.std.specs.Prelude.{◌≡◌, ℕ, ◌+◌, Bool, true, false, List, ◌++◌, length, map}
 use Rattle.std.specs.Prelude.{Option, None, Some, Result, IfOk, IfSome, OnOk}
 use Rattle.std.specs.Io.KnownBytes.{Appends}
@@ -26,37 +26,38 @@ use Rattle.mold_loop.specs.declared.loop_parts.Listener.{Listener}
 use Rattle.mold_loop.specs.declared.loop_parts.LoopPorts.{LoopPorts}
 use Rattle.mold_loop.specs.declared.loop_parts.Routes.{Routes}
 
--- what comes of a datagram on a line: it is left out there, its send fails, or it is sent
+-- The outcome of a datagram on one line: it is left out there, its send fails, or it is sent.
 pub data Outcome : Type 0 where
   LeftOut : Outcome
   Failed : Outcome
   Sent : Outcome
 
--- whether it goes on the line
+-- Whether a datagram with this outcome is offered on the line.
 abbrev pub goes_out : Outcome → Bool
 goes_out LeftOut = false
 goes_out Failed = true
 goes_out Sent = true
 
--- whether it was sent there
+-- Whether a datagram with this outcome is sent on the line.
 abbrev pub is_sent : Outcome → Bool
 is_sent LeftOut = false
 is_sent Failed = false
 is_sent Sent = true
 
--- the port that it is sent from
+-- The publisher's port after one datagram with this outcome on a line, whose address is `to`.
 abbrev pub port_after : {P : Type 0} → Outcome → P → List ℕ → Port P → Port P
 port_after LeftOut to datagram port = port
 port_after Failed to datagram port = offered true to datagram port
 port_after Sent to datagram port = offered false to datagram port
 
--- a send that fails is counted
+-- The text and the count of failures after this outcome. A failed send is counted.
 abbrev pub outgoing_after : Outcome → OutgoingState → OutgoingState
 outgoing_after LeftOut outgoing = outgoing
 outgoing_after Failed outgoing = failed_once outgoing
 outgoing_after Sent outgoing = outgoing
 
--- a datagram was to go on a line or not, and one of these came of it there
+-- One outcome of a datagram on a line leads from `old` and `before` to `new` and `after`. `goes` is whether the
+-- datagram was offered there, and `sent` whether it was sent.
 pub record ComesOf {P : Type 0} (goes sent : Bool) (to : P) (datagram : List ℕ) (old new : Port P)
     (before after : OutgoingState) : Type 0 where
   pub outcome : Outcome
@@ -65,60 +66,63 @@ pub record ComesOf {P : Type 0} (goes sent : Bool) (to : P) (datagram : List ℕ
   pub port : new ≡ port_after outcome to datagram old
   pub outgoing : after ≡ outgoing_after outcome before
 
--- on line A, and then on B
+-- A datagram has an outcome on line A and then one on line B.
 pub record ComesOfBoth {P : Type 0} (routes sent : Routes) (a b : P) (datagram : List ℕ) (old new : Port P)
     (before after : OutgoingState) : Type 0 where
+  -- The publisher's port between the two sends.
   pub port : Port P
   pub outgoing : OutgoingState
   pub on_a : ComesOf routes.a sent.a a datagram old port before outgoing
   pub on_b : ComesOf routes.b sent.b b datagram port new outgoing after
 
--- a datagram, and what comes of it on each line
+-- A datagram and its outcome on each line.
 pub record Pass : Type 0 where
   pub datagram : List ℕ
   pub a : Outcome
   pub b : Outcome
 
--- the lines that it goes on, and itself
+-- The lines that a datagram is offered on, paired with the datagram.
 abbrev pub routed_by : Pass → Routes × List ℕ
 routed_by pass = (record { a = goes_out pass.a; b = goes_out pass.b }, pass.datagram)
 
--- the lines that it was sent on
+-- The lines that a datagram is sent on.
 abbrev pub sent_by : Pass → Routes
 sent_by pass = record { a = is_sent pass.a; b = is_sent pass.b }
 
--- the publisher's port, the ports of the lines, and what was heard
+-- The state of the lines of a loop: the publisher's port, the ports of lines A and B, and the listener's progress.
 pub record LineState (P : Type 0) : Type 0 where
   pub publisher : Port P
   pub a : Port P
   pub b : Port P
   pub progress : Progress
 
+-- The state of the lines with these ports, this arbiter, and this unwritten text and count of failures.
 abbrev pub line_state : {P : Type 0} → Port P → Port P → Port P → Arbitration → OutgoingState → LineState P
 line_state publisher a b arbitration outgoing =
     record { publisher = publisher; a = a; b = b; progress = progress arbitration outgoing }
 
--- how far the lines of a loop with these ports and this listener are; `port` says how a port stands
+-- The state of the lines of a loop with these ports and this listener. `port` returns the model of a port.
 abbrev pub lines_at : {D A P : Type 0} → (D → Port P) → LoopPorts D A → Listener → LineState P
 lines_at port ports listener =
     line_state (port ports.publisher) (port ports.a) (port ports.b) listener.arbiter listener.printer.outgoing
 
--- the datagram is offered, to A and then to B
+-- The state of the lines after a datagram was offered on line A and then on line B, with these outcomes.
 abbrev pub offered_by : {P : Type 0} → P → P → Pass → LineState P → LineState P
 offered_by a b pass s =
     line_state (port_after pass.b b pass.datagram (port_after pass.a a pass.datagram s.publisher)) s.a s.b
     s.progress.arbitration (outgoing_after pass.b (outgoing_after pass.a s.progress.outgoing))
 
--- a receive on a line, if one is made
+-- The port of a line after one receive, or unchanged if none is made.
 abbrev pub received_if : {P : Type 0} → Bool → Port P → Port P
 received_if false port = port
 received_if true port = received port
 
+-- The listener's progress after one receive on `line`, or unchanged if none is made.
 abbrev pub after_line_if : {P : Type 0} → Bool → Line → Port P → Progress → Progress
 after_line_if false line port e = e
 after_line_if true line port e = with_next_receipt (Some line) port e
 
--- one receive on each of these lines, on A and then on B
+-- The state of the lines after one receive on each line of `lines`, on A and then on B.
 abbrev pub after_routes : {P : Type 0} → Routes → LineState P → LineState P
 after_routes lines s = record {
   publisher = s.publisher;
@@ -127,11 +131,11 @@ after_routes lines s = record {
   progress = after_line_if lines.b B s.b (after_line_if lines.a A s.a s.progress);
 }
 
--- a datagram is offered, and then heard on the lines that it was sent on
+-- The state of the lines after a datagram was passed: it is offered, and then received on the lines where it was sent.
 unfoldable pub passed : {P : Type 0} → P → P → Pass → LineState P → LineState P
 passed a b pass s = after_routes (sent_by pass) (offered_by a b pass s)
 
--- the loop over datagrams
+-- The loop over the datagrams of the publisher. One iteration passes one datagram.
 abbrev pub passing : {P : Type 0} → P → P → Loop Pass (LineState P) (P × List ℕ)
 passing a b = record {
   turn = passed a b;
@@ -140,12 +144,13 @@ passing a b = record {
   sent = λ s. s.publisher.sent;
 }
 
--- with a text in front of what is to be printed
+-- The state with the text `front` before the text that is to be printed.
 abbrev pub text_front : {P : Type 0} → List ℕ → LineState P → LineState P
 text_front front s = line_state s.publisher s.a s.b s.progress.arbitration
     (with_front front s.progress.outgoing)
 
--- these datagrams were passed; or after a fault the publisher's port is as behind them
+-- The datagrams were passed, with some outcomes. After a fault, only the publisher's port is known: it is as after all
+-- of them.
 pub record HasPassed {P T E : Type 0} (a b : P) (datagrams : List (Routes × List ℕ)) (result : Result T E)
     (before after : LineState P) : Type 0 where
   pub passes : List Pass
@@ -153,25 +158,29 @@ pub record HasPassed {P T E : Type 0} (a b : P) (datagrams : List (Routes × Lis
   pub whole : OnOk result (after ≡ run (passing a b) passes before)
   pub offered : after.publisher ≡ (run (passing a b) passes before).publisher
 
--- a beginning of the data of lines that a publisher publishes
+-- The datagrams `front` are a prefix of the data datagrams for the lines of `input`. The publisher starts as `start`.
 abbrev pub BeginsData : PublisherState → List (List ℕ) → List ℕ → Type 0
 BeginsData start front input =
     Begins front (data_after start.limit start.sent (lines_published start.journal (lines_of input)))
 
--- all of it, the journal, and why the line behind its messages is refused
+-- The datagrams `front` are all data datagrams for the lines of `input`. Publishing them leaves `journal`, and
+-- `refused` is the reason why the next line is refused, if one is.
 abbrev pub IsData : PublisherState → List (List ℕ) → JournalState → Option LineRefusal → List ℕ → Type 0
 IsData start front journal refused input =
     (data_after start.limit start.sent (lines_published start.journal (lines_of input)) ≡ front)
     × (lines_published start.journal (lines_of input) ≡ record { journal = journal; refused = refused })
 
--- The lines of the input were published, and their data passed: of what is known of the input, `front` is what was
--- passed. At an answer that is all the data; what was written of the text stands in front of what is left to print.
--- After a fault what was passed and written are beginnings. The publisher's port stands as behind what was passed.
+-- The loop passed data datagrams for the lines of its input. On success it passed all of them. Its text was written up
+-- to some point, and the rest is still to be printed. After a fault, the datagrams passed and the text written are
+-- prefixes.
 pub record ReceivesLines {P E : Type 0} (drops : Drops) (a b : P) (start now : PublisherState) (known : Option (List ℕ))
     (result : Result (Option LineRefusal) E) (before after : LineState P) (old new : Option (List ℕ)) : Type 0 where
+  -- The datagrams that were offered.
   pub front : List (List ℕ)
+  -- The same datagrams with their outcomes.
   pub passes : List Pass
   pub are : map routed_by passes ≡ routed drops 1 front
+  -- The text that the sink received.
   pub written : List ℕ
   pub appended : Appends old new written
   pub whole : OnOk result (run (passing a b) passes before ≡ text_front written after)
@@ -180,31 +189,31 @@ pub record ReceivesLines {P E : Type 0} (drops : Drops) (a b : P) (start now : P
   pub begins : IfSome known (BeginsData start front)
   pub all : IfOk result (λ refused. IfSome known (IsData start front now.journal refused))
 
--- the rounds begin with what was heard before them
+-- The state of the rounds with the listener's progress replaced by `e`.
 abbrev pub with_progress : {P : Type 0} → Progress → RepairState P → RepairState P
 with_progress e s = record { server = s.server; requests = s.requests; answered = s.answered; progress = e }
 
--- the rounds are made, but where a line is refused
+-- The state after the rounds. If a line is refused, no round is made.
 abbrev pub rounds_made : {P : Type 0} → Option LineRefusal → P → Service → List (Bool × List Bool) → RepairState P →
     RepairState P
 rounds_made None to service choices s = run (repairing to service) choices s
 rounds_made (Some why) to service choices s = s
 
--- the last lines and the status: a listener's, or where a line is refused the line of that, without reports
+-- The last lines of a loop: those of a listener or, if a line is refused, the line that reports the refusal.
 abbrev pub loop_lines : Bool → JournalState → Option LineRefusal → Progress → List ℕ
 loop_lines reporting journal None e = last_lines reporting e
 loop_lines reporting journal (Some why) e = refused_text (length journal.messages + 1) why
 
+-- The status of a loop: that of a listener, or 2 if a line is refused.
 abbrev pub loop_status : Option LineRefusal → Progress → ℕ
 loop_status None e = listener_status e
 loop_status (Some why) e = 2
 
--- what a loop prints of what it heard
+-- All text that a loop prints: the listener's text and the last lines.
 abbrev pub loop_text : Bool → PublishedLines → Progress → List ℕ
 loop_text reporting published e = e.outgoing.text ++ loop_lines reporting published.journal published.refused e
 
--- the ports, the arbiter and the failures stand as at the end of the passes and of the rounds, and nothing is left to
--- write
+-- The ports, the arbiter and the count of failures are those of `line_end` and `round_end`. All text is written.
 pub record LoopAgrees {P : Type 0} (lines line_end : LineState P) (rounds round_end : RepairState P) : Type 0 where
   pub publisher_left : lines.publisher ≡ line_end.publisher
   pub a_left : lines.a ≡ line_end.a
@@ -215,39 +224,41 @@ pub record LoopAgrees {P : Type 0} (lines line_end : LineState P) (rounds round_
   pub arbiter_left : rounds.progress.arbitration ≡ round_end.progress.arbitration
   pub outgoing_left : rounds.progress.outgoing ≡ written_out round_end.progress.outgoing
 
--- what the datagrams that are passed make of the lines
+-- The state of the lines after the datagrams of `passes`, with their outcomes.
 abbrev pub lines_after : {P : Type 0} → P → P → List Pass → LineState P → LineState P
 lines_after a b passes lines = run (passing a b) passes lines
 
--- what the rounds make, where this was heard before them
+-- The state of the rounds after all rounds, if the listener's progress before them is `with_receipt`.
 abbrev pub rounds_after : {P : Type 0} → P → PublishedLines → ServerState → List (Bool × List Bool) → Progress →
     RepairState P → RepairState P
 rounds_after to published server choices with_receipt rounds =
     rounds_made published.refused to (service_of (left_journal published) server) choices
     (with_progress with_receipt rounds)
 
--- and so what all of it comes to
+-- The state at the end of a loop: after the datagrams of `passes` and then after all rounds.
 abbrev pub loop_end : {P : Type 0} → P → P → P → PublishedLines → ServerState → List Pass → List (Bool × List Bool) →
     LineState P → RepairState P → RepairState P
 loop_end a b to published server passes choices lines rounds =
     rounds_after to published server choices (lines_after a b passes lines).progress rounds
 
--- a port stands as the publisher's behind the first of some passes
+-- The port `left` is the publisher's port after a prefix of `passes`.
 pub record IsPortAfter {P : Type 0} (a b : P) (passes : List Pass) (lines : LineState P) (left : Port P) : Type 0 where
   pub front : List Pass
   pub begins : Begins front passes
   pub port : left ≡ (lines_after a b front lines).publisher
 
--- What a loop in one process leaves, whose publisher published these lines. All its datagrams are passed, and then
--- rounds are made. At an answer the text of what was heard and the last lines are written, the answer is their status,
--- and the ports, the arbiter and the failures stand as at the end. After a fault the publisher's port stands as behind
--- the first of these passes, and what was written and what the server and the port of requests sent are beginnings.
+-- The result of a loop in one process whose publisher published these lines. There are outcomes of all datagrams and
+-- choices for all rounds that determine one run. On success, all text of that run is written, the status is that of
+-- the run, and the loop's state is the end of the run. After a fault, the publisher's port is as after a prefix of the
+-- datagrams. The text written, and the requests and responses sent, are prefixes of those of the run.
 pub record LoopRun {P E : Type 0} (reporting : Bool) (drops : Drops) (a b to : P) (turns limit sent : ℕ)
     (published : PublishedLines) (server : ServerState) (lines : LineState P) (rounds : RepairState P)
     (result : Result ℕ E) (old new : Option (List ℕ)) (lines_left : LineState P) (rounds_left : RepairState P) :
     Type 0 where
+  -- The publisher's datagrams with their outcomes.
   pub passes : List Pass
   pub are : map routed_by passes ≡ all_routed drops limit sent published
+  -- For each round: whether the send of the request fails, and which sends of responses fail.
   pub choices : List (Bool × List Bool)
   pub counted : length choices ≡ turns
   pub whole : IfOk result (λ status.

@@ -1,4 +1,4 @@
--- What rounds of requests make of a loop's ports and of what was heard. All of them are `run` of `repairing`.
+-- Defines a round of requests in a loop. All rounds together are a run of `repairing`.
 use Rattle.std.specs.Prelude.{◌≡◌, ℕ, Bool, true, false, List}
 use Rattle.std.specs.Prelude.{Option, None, Some, Result, OnOk}
 use Rattle.mold_ports.specs.Ports.{Port, offered}
@@ -15,13 +15,15 @@ use Rattle.mold_serve.specs.Tally.{no_tally}
 use Rattle.mold_loop.specs.declared.loop_parts.Listener.{Listener}
 use Rattle.mold_loop.specs.declared.loop_parts.LoopPorts.{LoopPorts}
 
--- the server's port and the port of requests, how many requests the server has answered, and what was heard
+-- The state of the rounds: the server's port, the port of requests, how many requests the server has responded to, and
+-- the listener's progress.
 pub record RepairState (P : Type 0) : Type 0 where
   pub server : Port P
   pub requests : Port P
   pub answered : ℕ
   pub progress : Progress
 
+-- The state of the rounds with these ports, this server, this arbiter, and this unwritten text and count of failures.
 abbrev pub repair_state : {P : Type 0} → Port P → Port P → ServerState → Arbitration → OutgoingState → RepairState P
 repair_state port requests server arbitration outgoing = record {
   server = port;
@@ -30,25 +32,28 @@ repair_state port requests server arbitration outgoing = record {
   progress = progress arbitration outgoing;
 }
 
--- how far the rounds of a loop with these ports, this server and this listener are; `port` says how a port stands
+-- The state of the rounds of a loop with these ports, this server and this listener. `port` returns the model of a
+-- port.
 abbrev pub rounds_at : {D A P : Type 0} → (D → Port P) → LoopPorts D A → ServerState → Listener → RepairState P
 rounds_at port ports server listener =
     repair_state (port ports.server) (port ports.requests) server listener.arbiter listener.printer.outgoing
 
--- so many sends and receives failed more
+-- The listener's progress after `count` more failed sends or receives.
 abbrev pub missed_more : ℕ → Progress → Progress
 missed_more count e = progress e.arbitration (failed_often count e.outgoing)
 
--- a turn of the server, with a tally of its own
+-- The server after one turn, with a new tally. `fails` lists which sends of responses fail.
 abbrev pub served : {P : Type 0} → Service → List Bool → RepairState P → ResponderState P
 served service fails s = serve_turn service fails (record { port = s.server; tally = no_tally; requests = s.answered })
 
--- after it what failed is counted, and as many receives are made for answers as it sent
+-- The listener after it counted the failures of the server's turn and made one receive for each response that was
+-- sent.
 abbrev pub after_responses : {P : Type 0} → ResponderState P → RepairState P → Asking P
 after_responses responder s =
     receive_responses responder.tally.answered
     (record { port = s.requests; progress = missed_more responder.tally.outgoing.failures s.progress })
 
+-- The state of the rounds that the server's turn and the receives for its responses leave.
 abbrev pub after_answers : {P : Type 0} → ResponderState P → Asking P → RepairState P
 after_answers responder with_receipt = record {
   server = responder.port;
@@ -57,12 +62,14 @@ after_answers responder with_receipt = record {
   progress = with_receipt.progress;
 }
 
+-- The state after the server took one turn and its responses were received.
 abbrev pub repaired : {P : Type 0} → Service → List Bool → RepairState P → RepairState P
 repaired service fails s =
     after_answers (served service fails s) (after_responses (served service fails s) s)
 
--- a request that is wanted is sent to the server: that fails, or the server makes a turn. Of its answers it is said
--- in their order which sends fail.
+-- The state after a request, if one is wanted, was sent to the server at `to`. If the send fails, the failure is
+-- counted. Otherwise the server takes one turn. `choice` says whether the send fails, and which sends of responses
+-- fail.
 abbrev pub requested : {P : Type 0} → Option Request → P → Service → Bool × List Bool → RepairState P → RepairState P
 requested None to service choice s = s
 requested (Some request) to service (true, fails) s = record {
@@ -80,11 +87,11 @@ requested (Some request) to service (false, fails) s =
       progress = s.progress;
     })
 
--- a round: what is wanted is requested. Nothing changes where nothing is.
+-- The state after one round: the wanted messages are requested. If none are wanted, nothing changes.
 unfoldable pub round : {P : Type 0} → P → Service → Bool × List Bool → RepairState P → RepairState P
 round to service choice s = requested (wanted s.progress.arbitration.view) to service choice s
 
--- the loop over rounds, which are as many as it is given
+-- The loop over rounds. One iteration is one round.
 abbrev pub repairing : {P : Type 0} → P → Service → Loop (Bool × List Bool) (RepairState P) (P × List ℕ)
 repairing to service = record {
   turn = round to service;
@@ -93,11 +100,11 @@ repairing to service = record {
   sent = λ s. s.requests.sent;
 }
 
--- what the server sent
+-- The responses that the server's port sent.
 abbrev pub answers_sent : {P : Type 0} → RepairState P → List (P × List ℕ)
 answers_sent s = s.server.sent
 
--- with a text in front of what is to be printed
+-- The state with the text `front` before the text that is to be printed.
 abbrev pub text_before : {P : Type 0} → List ℕ → RepairState P → RepairState P
 text_before front s = record {
   server = s.server;
@@ -106,7 +113,7 @@ text_before front s = record {
   progress = progress s.progress.arbitration (with_front front s.progress.outgoing);
 }
 
--- a state was reached; or after a fault the same requests were sent, and a beginning of the answers
+-- The state `wanted` was reached. After a fault, the same requests were sent, and the responses sent are a prefix.
 pub record HasRepaired {P T E : Type 0} (result : Result T E) (after wanted : RepairState P) : Type 0 where
   pub whole : OnOk result (after ≡ wanted)
   pub requests : after.requests.sent ≡ wanted.requests.sent

@@ -1,4 +1,4 @@
-//! Publishing, serving and listening in one process, as a demonstration.
+//! Runs a publisher, its re-request server and a listener in one process, as a demonstration.
 #![tactic(auto)]
 
 mod local_feed;

@@ -1,4 +1,4 @@
-//! What a loop in one process works on.
+//! The state of a running loop, and its steps: publish, receive, repair, print.
 
 ghost use Rattle.std.specs.Prelude.{◌≡◌, ◌+◌, ◌≤◌, [], ◌∷◌, true, None, Some, Bool, List, length, IfOk, IfSome, OnOk};
 ghost use Rattle.mold_devices.specs.Faults.{CountsCommand, CountsSink};
@@ -31,9 +31,8 @@ use mold_wire::Request;
 use mold_wire::laws::front_law;
 use std::alloc::{AllocError, Global};
 
-/// What a loop in one process works on: its ports, how it runs, a place for a datagram, what it listens with, and where
-/// memory comes from.
-// The options are lent, as the peers of `TwoLines` are.
+/// The state of a running loop: its ports, its options, a receive buffer, the listener and the allocator.
+// The options are borrowed, as the peers of `TwoLines` are.
 #[derive(Drop)]
 pub(crate) struct LocalFeed<'a, 'p, D: Datagrams + Drop> {
     pub(crate) ports: &'a mut LoopPorts<D>,
@@ -44,7 +43,7 @@ pub(crate) struct LocalFeed<'a, 'p, D: Datagrams + Drop> {
 }
 
 impl<'a, 'p, D: Datagrams + Drop> LocalFeed<'a, 'p, D> {
-    // Takes what comes on the lines that a datagram was sent on.
+    // Makes one receive on each line of `routes`.
     fn receive_on_lines(&mut self, routes: Routes) -> Result<(), AllocError>
         requires { HasBuffer self.old }
         ensures received { D.modeled ≡ true →
@@ -63,7 +62,7 @@ impl<'a, 'p, D: Datagrams + Drop> LocalFeed<'a, 'p, D> {
         Ok(())
     }
 
-    // Sends a datagram on the lines that it goes on, and takes what comes there.
+    // Sends a datagram on the lines of `routes`, and makes one receive on each line where the send succeeded.
     fn pass(&mut self, routes: Routes, datagram: &[u8]) -> Result<(), AllocError>
         requires { HasBuffer self.old }
         ensures passed { D.modeled ≡ true → Passes D.port ((routes, datagram.now) ∷ []) result self.old self.new }
@@ -75,8 +74,7 @@ impl<'a, 'p, D: Datagrams + Drop> LocalFeed<'a, 'p, D> {
         self.receive_on_lines(sent)
     }
 
-    // Sends the publisher's next datagram on the lines that it goes on, and takes what comes there. `number` counts
-    // the datagrams.
+    // Passes the publisher's next datagram, if there is one. `number` counts the datagrams.
     fn pass_next(&mut self, publisher: &mut Publisher, number: &mut u64) -> Result<(), AllocError>
         requires buffer { HasBuffer self.old }
         requires few { number.old ≤ publisher.old.sent }
@@ -96,8 +94,8 @@ impl<'a, 'p, D: Datagrams + Drop> LocalFeed<'a, 'p, D> {
         self.pass(routes, datagram)
     }
 
-    // Publishes the lines of the source, and sends each datagram as soon as the publisher is full, and the rest
-    // after the last line. Answers why a line is refused, where one is.
+    // Publishes the lines of the source. Passes a datagram each time the publisher is full, and the rest after the
+    // last line. Returns why a line is refused, if one is.
     fn pass_lines<S: Source, K: Sink>(
         &mut self,
         publisher: &mut Publisher,
@@ -135,7 +133,7 @@ impl<'a, 'p, D: Datagrams + Drop> LocalFeed<'a, 'p, D> {
         }
     }
 
-    // Closes the session, of which every message was sent, and sends its end packet on both lines.
+    // Closes the session, whose messages are all sent, and passes its end packet on both lines.
     fn pass_end(&mut self, publisher: &mut Publisher) -> Result<(), AllocError>
         requires buffer { HasBuffer self.old }
         requires sent { publisher.old.sent ≡ length publisher.old.journal.messages }
@@ -155,7 +153,7 @@ impl<'a, 'p, D: Datagrams + Drop> LocalFeed<'a, 'p, D> {
         }
     }
 
-    // Makes so many receives for answers to a request.
+    // Makes `count` receives for the responses to a request.
     fn take_answers(&mut self, count: u64) -> Result<(), AllocError>
         requires { HasBuffer self.old }
         ensures sent { D.modeled ≡ true →
@@ -172,7 +170,7 @@ impl<'a, 'p, D: Datagrams + Drop> LocalFeed<'a, 'p, D> {
         Ok(())
     }
 
-    // Lets the server take a turn, in which it answers a request that came to it, and takes the answers.
+    // Lets the server take one turn, in which it responds to a request in its port. Then receives the responses.
     fn repair(&mut self, server: &mut Server, journal: &Journal) -> Result<(), AllocError>
         requires buffer { HasBuffer self.old }
         requires longest { journal.now.max_message ≤ server.old.max_message }
@@ -196,7 +194,7 @@ impl<'a, 'p, D: Datagrams + Drop> LocalFeed<'a, 'p, D> {
         self.take_answers(answered)
     }
 
-    // One round: a request goes to the server, and its answers are taken. A request that can't be sent is counted.
+    // Makes one round: sends a request to the server, and receives the responses. A failed send is counted.
     fn round(
         &mut self,
         server: &mut Server,
@@ -220,8 +218,8 @@ impl<'a, 'p, D: Datagrams + Drop> LocalFeed<'a, 'p, D> {
         self.repair(server, journal)
     }
 
-    // At most so many rounds while something is wanted: a request, and its answers. What is less than a large write
-    // is left to print.
+    // Makes at most `turns` rounds, and stops when the receiver wants no message. Less text than a large write may
+    // stay unwritten.
     fn repair_all<K: Sink>(
         &mut self,
         server: &mut Server,
@@ -249,8 +247,8 @@ impl<'a, 'p, D: Datagrams + Drop> LocalFeed<'a, 'p, D> {
         Ok(())
     }
 
-    /// Passes what is published, repairs what is missing then, prints the last line, behind the reports of the lines
-    /// where they are asked for, and answers the status.
+    /// Passes all datagrams, repairs what is missing then, and prints the last line. The reports of the lines precede
+    /// the last line if the options ask for them. Returns the status.
     pub(crate) fn run<S: Source, K: Sink>(
         &mut self,
         publisher: &mut Publisher,

@@ -1,4 +1,4 @@
-//! A publisher, its re-request server and a listener in one process.
+//! The loop over any ports, source and sink.
 
 ghost use Rattle.std.specs.Prelude.{◌≡◌, ◌≤◌, ◌++◌, true, IfOk, IfSome, OnOk};
 ghost use Rattle.std.specs.Io.KnownBytes.{Appends};
@@ -23,7 +23,7 @@ use mold_send::print_line_refused;
 use mold_turns::Outgoing;
 use mold_wire::MAX_LIMIT;
 
-// Prints why the line with the message of this number is refused, after what was handed on, and answers the status.
+// Prints the text that is still unwritten, and then why the line of message `number` is refused. Returns the status.
 pub(crate) fn print_refused<K: Sink>(
     outgoing: &mut Outgoing,
     number: u64,
@@ -42,7 +42,8 @@ pub(crate) fn print_refused<K: Sink>(
     Ok(2)
 }
 
-// Prints how far the listener came, behind the reports of its lines where they are asked for, and answers the status.
+// Prints the text that is still unwritten and the listener's last line, preceded by the reports of its lines if
+// `reporting`. Returns the status.
 pub(crate) fn print_last<K: Sink>(
     listener: &mut Listener,
     reporting: bool,
@@ -65,18 +66,27 @@ pub(crate) fn print_last<K: Sink>(
     Ok(status)
 }
 
-/// Publishes the lines of the source as messages, and listens to them: each datagram goes on both lines but
-/// where it is left out; after the last one the session is closed and its end is sent, and what is missing
-/// is requested in at most as many rounds as the options say. What is handed on is printed as a listener prints it,
-/// with its last line and its status, and where `reporting` with its reports of the lines. A refused line ends it: what
-/// was handed on stays printed, then comes the refusal, without reports and last line, and the status is 2. A failed
-/// send or receive is counted, and nothing is received on a line where the send failed. The publisher may have
-/// messages, of which those that it didn't put in a packet yet have to fit one; they are sent before the lines' or
-/// with them. The number of a refused line counts them too: it is the number that
-/// the line's message would have. The publisher's messages may have at most as many bytes as the server's, so that
-/// each request is answered. After a fault a beginning of the text is written, and beginnings of what the publisher,
-/// the port of requests and the server send were sent. The ports of the lines send nothing. `Read` and `Write` come
-/// only where the source or the sink failed.
+/// Publishes the lines of the source as messages, and listens to them in the same process. Returns the status.
+///
+/// - Each datagram is sent on both lines, except where `options.drops` leaves it out. The listener makes one receive
+///   on each line where the send succeeded.
+/// - After the last line the session is closed, and its end packet is sent on both lines. Then the listener requests
+///   the missing messages, in at most `options.turns` rounds.
+/// - The text, the last line and the status are those of `mold listen`. If `options.reporting` is set, the reports of
+///   both lines precede the last line.
+/// - A refused line ends the publication. The delivered messages stay printed, and the refusal follows them. There are
+///   no reports and no last line, and the status is 2.
+/// - A failed send or receive is counted. It does not end the loop.
+///
+/// The publisher may already have messages. Those that it has not sent yet must fit one datagram. They are sent before
+/// the messages of the lines or together with them. A refused line is reported with the sequence number that its
+/// message would have.
+///
+/// The publisher's maximum message length must not exceed the server's, so that the server can respond to each
+/// request.
+///
+/// After a fault, the text written and the datagrams sent are prefixes of those of a complete run. The ports of the
+/// lines send nothing. `Read` is returned only if the source failed, `Write` only if the sink failed.
 pub fn session_loop<D: Datagrams + Drop, S: Source, K: Sink>(
     ports: &mut LoopPorts<D>,
     options: &LoopOptions<D::Peer>,

@@ -1,4 +1,4 @@
-//! What an order makes of a loop.
+//! Makes the options and parts of a loop from the parsed command line.
 
 ghost use Rattle.std.specs.Prelude.{◌≡◌, ◌-◌, ◌≤◌, IfOk};
 ghost use Rattle.mold_loop.specs.Ordered.{drops_of, loop_arbiter_of, loop_publisher_of, loop_server_of};
@@ -15,7 +15,7 @@ use mold_wiring::longest_message;
 use mold_words::LoopOrder;
 use std::alloc::{AllocError, Global};
 
-// The publisher of an order, whose limit is in its range: so only memory can be wanting.
+// The limit is in its range, so only an allocation can fail.
 fn make_publisher(alloc: Global, order: &LoopOrder) -> Result<Publisher, AllocError>
     ensures made { IfOk result (λ publisher. publisher ≡ loop_publisher_of order.now) }
     ensures room { IfOk result (λ publisher. HasRoom publisher) }
@@ -28,7 +28,7 @@ fn make_publisher(alloc: Global, order: &LoopOrder) -> Result<Publisher, AllocEr
     }
 }
 
-// The server of an order, whose numbers are in their ranges: so only memory can be wanting.
+// The limits and the burst are in their ranges, so only an allocation can fail.
 fn make_server(alloc: Global, order: &LoopOrder) -> Result<Server, AllocError>
     ensures made { IfOk result (λ server. server ≡ loop_server_of order.now) }
     ensures longest { IfOk result (λ server. server.max_message ≡ order.now.limits.limit - 22) }
@@ -41,8 +41,8 @@ fn make_server(alloc: Global, order: &LoopOrder) -> Result<Server, AllocError>
     }
 }
 
-// What listens to an order's session from its first message on, and has nothing to tell. The window is in its
-// range: so only memory can be wanting.
+// The listener starts at message 1 and has nothing to print. The window is in its range, so only an allocation can
+// fail.
 fn make_listener(alloc: Global, order: &LoopOrder) -> Result<Listener, AllocError>
     ensures arbiter { IfOk result (λ listener. listener.arbiter ≡ loop_arbiter_of order.now) }
     ensures printer { IfOk result (λ listener. listener.printer.outgoing ≡ nothing_out) }
@@ -56,7 +56,7 @@ fn make_listener(alloc: Global, order: &LoopOrder) -> Result<Listener, AllocErro
     }
 }
 
-// Which data packets are left out of which line.
+// Returns the data packets that each line leaves out.
 fn make_drops(order: &LoopOrder) -> Drops
     ensures { result ≡ drops_of order.now }
 {
@@ -66,7 +66,7 @@ fn make_drops(order: &LoopOrder) -> Drops
     }
 }
 
-/// How the loop of an order runs whose ports receive there.
+/// Returns the options of the order's loop. `peers` are the addresses that its ports receive at.
 pub fn loop_options<P: Copy>(order: &LoopOrder, peers: LoopPeers<P>) -> LoopOptions<P>
     ensures peers { result.peers ≡ peers }
     ensures drops { result.drops ≡ drops_of order.now }
@@ -81,7 +81,7 @@ pub fn loop_options<P: Copy>(order: &LoopOrder, peers: LoopPeers<P>) -> LoopOpti
     }
 }
 
-/// Publisher, server and listener of an order. The listener begins with the first message.
+/// Returns the publisher, the server and the listener of the order. The listener starts at message 1.
 pub fn make_parts(alloc: Global, order: &LoopOrder) -> Result<LoopParts, AllocError>
     ensures publisher { IfOk result (λ parts. parts.publisher ≡ loop_publisher_of order.now) }
     ensures server { IfOk result (λ parts. parts.server ≡ loop_server_of order.now) }

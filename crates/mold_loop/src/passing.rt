@@ -1,4 +1,4 @@
-//! What a loop's publisher sends on the lines.
+//! Sends a datagram of the loop's publisher on the lines that do not leave it out.
 
 ghost use Rattle.std.specs.Prelude.{◌≡◌, true};
 ghost use Rattle.mold_loop.specs.Looping.{ComesOf, ComesOfBoth};
@@ -8,14 +8,14 @@ use crate::loop_parts::{Drops, Listener, LoopPeers, Routes};
 use mold_ports::Datagrams;
 use mold_turns::Outgoing;
 
-// Whether the data packet of this number, the first one's being 1, goes on a line.
+// Whether data packet `number` is sent on a line that leaves out every `left_out`-th one. The first is number 1.
 fn goes(left_out: u32, number: u64) -> bool
     ensures { result ≡ goes left_out number }
 {
     left_out == 0 || number % u64::from(left_out) != 0
 }
 
-// On which lines the data packet of this number goes.
+// Returns the lines that data packet `number` is sent on. The first is number 1.
 pub(crate) fn routes_of(drops: Drops, number: u64) -> Routes
     ensures { result ≡ routes_of drops number }
 {
@@ -25,7 +25,7 @@ pub(crate) fn routes_of(drops: Drops, number: u64) -> Routes
     }
 }
 
-// Sends a datagram, if it goes there, and counts a failure. Answers whether it was sent.
+// Sends a datagram if `on` is true, and counts a failure. Returns whether it was sent.
 fn is_sent<D: Datagrams>(
     port: &mut D,
     on: bool,
@@ -46,7 +46,7 @@ fn is_sent<D: Datagrams>(
     true
 }
 
-// Sends a datagram on the lines that it goes on. Answers on which it was sent.
+// Sends a datagram on the lines of `routes`, A first. Returns the lines on which the send succeeded.
 pub(crate) fn send_on<D: Datagrams>(
     port: &mut D,
     peers: &LoopPeers<D::Peer>,

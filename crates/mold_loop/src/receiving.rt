@@ -1,4 +1,4 @@
-//! One receive of a listener.
+//! Makes one receive of the loop's listener.
 
 ghost use Rattle.std.specs.Prelude.{◌≡◌, true, length, OnOk};
 ghost use Rattle.mold_listen.specs.Listening.{with_next_receipt, progress};
@@ -12,7 +12,8 @@ use mold_ports::Datagrams;
 use mold_receiver::Origin;
 use std::alloc::AllocError;
 
-/// As `receive_on`: the listener's arbiter and report take what comes.
+/// Receives once on `port`, as `receive_on` does with the listener's arbiter and printer. Returns whether a datagram
+/// came.
 pub(crate) fn receive_once<D: Datagrams>(
     port: &mut D,
     origin: Origin,

@@ -1,4 +1,4 @@
-//! The loop over UDP ports of this machine, from standard input to standard output.
+//! Runs the loop over UDP ports of this machine, from standard input to standard output.
 
 use crate::loop_parts::{LoopPeers, LoopPorts};
 use crate::looping::session_loop;
@@ -9,13 +9,13 @@ use mold_wiring::{ProgramFault, flushed, open_port};
 use mold_words::{Address, LoopOrder};
 use std::io::Write;
 
-/// A port that the system chooses, for this machine alone.
+/// The loopback address, with a port that the system chooses.
 const OWN: Address = Address {
     host: [127, 0, 0, 1],
     port: 0,
 };
 
-// The five ports of a loop.
+// Opens the five ports of a loop.
 fn open_ports(rt: &HostRuntime) -> Result<LoopPorts<UdpPort>, ProgramFault> {
     Ok(LoopPorts {
         publisher: open_port(rt, OWN)?,
@@ -26,7 +26,7 @@ fn open_ports(rt: &HostRuntime) -> Result<LoopPorts<UdpPort>, ProgramFault> {
     })
 }
 
-/// Publishes, serves and listens in one process, over five ports of this machine that the system chooses.
+/// Publishes, serves and listens in one process, over five loopback ports that the system chooses. Returns the status.
 pub fn run_loop(rt: &HostRuntime, order: &LoopOrder) -> Result<u8, ProgramFault> {
     let mut ports = open_ports(rt)?;
     Ok(loop_on(rt, order, &mut ports)?)

@@ -6,8 +6,8 @@ use Rattle.mold_loop.specs.LocalFeed.{OnlyPasses, lines}
 use Rattle.mold_loop.proofs.HearsLemmas.{HeardSoFar}
 use Rattle.mold_loop.proofs.local_feed.LocalFeed.pass_lines.Given as goal
 
--- what was published and not sent fits a datagram, the data so far were passed and nothing else was done, the limit is
--- the same, and no device failed
+-- the unsent messages fit a datagram, the data so far are passed and nothing else changed, the limit is the same, and
+-- no device failed
 abbrev pub invariant-lines : goal.invariant-lines
 invariant-lines g l = record {
   room : HasRoom l.publisher;

@@ -5,7 +5,7 @@ use Rattle.mold_serve.specs.Serving.{service_of}
 use Rattle.mold_turns.proofs.RunLemmas.{Going}
 use Rattle.mold_loop.proofs.local_feed.LocalFeed.repair_all.Given as goal
 
--- so many rounds were made and nothing else was done, the run goes on from here, and the sink didn't fail
+-- the rounds so far changed nothing else, the rest of the run starts at this state, and the sink has not failed
 abbrev pub invariant-loop-turn : goal.invariant-loop-turn
 invariant-loop-turn g l =
     let known = g.D.Datagrams.port in

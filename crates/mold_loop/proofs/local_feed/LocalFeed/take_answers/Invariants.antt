@@ -3,7 +3,8 @@ use Rattle.mold_listen.specs.Listening.{receive_responses}
 use Rattle.mold_loop.specs.LocalFeed.{OnlyRepairs, asking_state}
 use Rattle.mold_loop.proofs.local_feed.LocalFeed.take_answers.Given as goal
 
--- what is heard of all answers is what is heard of those left, from here on; nothing is sent, nor received on other ports
+-- the remaining receives lead from this state to the end of all receives; nothing is sent, and other ports are
+-- unchanged
 abbrev pub invariant-loop-answer : goal.invariant-loop-answer
 invariant-loop-answer g l = record {
   received : g.D.Datagrams.modeled ≡ true →
