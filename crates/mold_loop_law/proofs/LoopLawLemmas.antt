@@ -1,5 +1,4 @@
--- From the lines that a loop in one process publishes to the lines that it prints, where its ports give only what was
--- sent in it.
+-- Lemmas from the lines that a loop publishes to the lines that it prints, if its ports give only what it sent.
 use Rattle.std.proofs.Common.{◌≡◌, ℕ, ◌+◌, ◌≤◌, Bool, true, false, List, [], ◌∷◌, ◌++◌, length, map, take, Option, None, Some}
 use Rattle.std.proofs.Common.{Result, inl, refl, sym, ap, subst, ◌∙◌, arith}
 use Rattle.std.specs.Io.KnownBytes.{Appends}
@@ -47,7 +46,7 @@ use Rattle.mold_session.specs.Truthful.{MayAnswer, IsTrueDatagram}
 use Rattle.mold_wire.specs.Request.{request_spelling}
 use Rattle.mold_wire.specs.declared.request.Request.{Request}
 
--- what the laws say that the loop's law stands on
+-- the laws that the loop's law depends on
 pub record LoopLaws (P : Type 0) : Type 0 where
   pub opening : OpeningLaws
   pub served : (service : Service) (choices : List (List Bool)) (start : ResponderState P) →
@@ -63,7 +62,7 @@ pub record LoopLaws (P : Type 0) : Type 0 where
 
 -- ---- what the publisher's port sends
 
--- all datagrams of some are such
+-- all datagrams of the list satisfy `Good`
 abbrev AllRouted : (List ℕ → Type 0) → List (Routes × List ℕ) → Type 0
 AllRouted Good datagrams = AllByRecursion (λ datagram. Good datagram.1) datagrams
 
@@ -76,7 +75,7 @@ data_routed Good drops number [] each = tt
 data_routed Good drops number (datagram ∷ datagrams) each =
     (each.0, data_routed Good drops (number + 1) datagrams each.1)
 
--- a loop sends no heartbeat, and its end once
+-- a loop sends no heartbeat, and one end packet
 end_routed : (Good : List ℕ → Type 0) (refused : Option LineRefusal) (journal : JournalState) →
     AllByRecursion Good (after_data 0 1 journal refused) → AllRouted Good (routed_end journal refused)
 end_routed Good None journal each = (each.0, tt)
@@ -92,7 +91,7 @@ published_routed Good drops limit published each =
     (data_routed Good drops 1 front (each_front Good front ends each))
     (end_routed Good published.refused published.journal (each_rest Good front ends each))
 
--- so are those of the passes
+-- the datagrams of the passes satisfy `Good` too
 routed_passed : (Good : List ℕ → Type 0) (passes : List Pass) → AllRouted Good (map routed_by passes) →
     AllPassed Good passes
 routed_passed Good [] each = tt
@@ -113,7 +112,7 @@ passes_send Good a b (pass ∷ passes) s each all =
     (outcome_sends Good pass.b b pass.datagram (port_after pass.a a pass.datagram s.publisher)
     (outcome_sends Good pass.a a pass.datagram s.publisher all each.0) each.0)
 
--- behind the first of the passes
+-- the sends of a prefix of the passes
 behind_sends : {P : Type 0} (Good : List ℕ → Type 0) (a b : P) (passes : List Pass) (s : LineState P) (left : Port P) →
     IsPortAfter a b passes s left → AllPassed Good passes → AllSent Good s.publisher.sent → AllSent Good left.sent
 behind_sends {P} Good a b passes s left stands each all =
@@ -140,7 +139,7 @@ module _ {P : Type 0} (Good : List ℕ → Type 0) (to : P) (service : Service)
       rounds_send choices (round to service choice s)
       (requested_sends (wanted s.progress.arbitration.view) choice s all)
 
--- no round is made where a line is refused
+-- no round is made if a line is refused
 made_sends : {P : Type 0} (Good : List ℕ → Type 0) (to : P) (service : Service) (refused : Option LineRefusal)
     (choices : List (Bool × List Bool)) (s : RepairState P) →
     (refused ≡ None → (fails : List Bool) (responder : ResponderState P) → AllSent Good responder.port.sent →
@@ -149,16 +148,16 @@ made_sends : {P : Type 0} (Good : List ℕ → Type 0) (to : P) (service : Servi
 made_sends Good to service None choices s serves all = rounds_send Good to service (serves refl) choices s all
 made_sends Good to service (Some why) choices s serves all = all
 
--- ---- what is heard
+-- ---- what the listener receives
 
--- what was heard, and what the ports of the lines still give
+-- what the listener has received, and what the ports of the lines still give
 record HeardLines {P : Type 0} (journal : JournalState) (Plain : Type 0) (Good : List ℕ → Type 0) (old : Progress)
     (new : LineState P) : Type 0 where
   received : HasHeard journal Plain Good old new.progress
   a : GivesOnly Good new.a
   b : GivesOnly Good new.b
 
--- what was heard, and what the port of requests still gives
+-- what the listener has received, and what the port of requests still gives
 record HeardRounds {P : Type 0} (journal : JournalState) (Plain : Type 0) (Good : List ℕ → Type 0) (old : Progress)
     (new : RepairState P) : Type 0 where
   received : HasHeard journal Plain Good old new.progress
@@ -177,7 +176,7 @@ outcome_text Sent outgoing = refl
 
 module _ (journal : JournalState) (Plain : Type 0) (Good : List ℕ → Type 0) (laws : HearingLaws)
     (may : MayCome journal Plain Good) where
-  -- ---- a pass
+  -- ---- one pass
 
   line_heard : {P : Type 0} (receives : Bool) (line : Line) (port : Port P) (e : Progress) → IsSound journal e →
       GivesOnly Good port → HasHeard journal Plain Good e (after_line_if receives line port e)
@@ -223,7 +222,7 @@ module _ (journal : JournalState) (Plain : Type 0) (Good : List ℕ → Type 0) 
       then_heard journal Plain Good s.progress after.progress (lines_after a b passes after).progress sound one.received
       (passes_heard a b passes after one.received.sound one.a one.b)
 
-  -- ---- a round
+  -- ---- one round
 
   repaired_heard : {P : Type 0} (service : Service) (fails : List Bool) (s : RepairState P) → IsSound journal s.progress →
       GivesOnly Good s.requests → HeardRounds journal Plain Good s.progress (repaired service fails s)
@@ -279,16 +278,16 @@ module _ (journal : JournalState) (Plain : Type 0) (Good : List ℕ → Type 0) 
   made_heard (Some why) to service choices s sound gives =
       nothing_heard journal Plain Good s.progress s.progress sound refl refl
 
--- ---- a loop
+-- ---- the whole loop
 
--- a server that may have messages as long as the journal's answers from it
+-- a server whose maximum message length is at least the journal's can respond from it
 pub server_may : (laws : OpeningLaws) (limit : ℕ) (journal : JournalState) (lines : List (List ℕ)) (server : ServerState) →
     IsOpening journal limit → IsServer server → journal.max_message ≤ server.max_message →
     MayAnswer (left_by journal lines) server.limit
 server_may laws limit journal lines server opening serves longest =
     laws.answers limit server.limit journal lines opening serves.limited (omega (arith, longest, serves.longest))
 
--- what was sent is true, so is what a port gives of it
+-- all datagrams sent satisfy `Good`, so all that a port gives of them do
 gives_true : {P : Type 0} (Good : List ℕ → Type 0) (sent : List (P × List ℕ)) (port : Port P) → AllSent Good sent →
     GivesSent sent port → GivesOnly Good port
 gives_true Good sent port all gives =
@@ -310,7 +309,7 @@ module _ {P : Type 0} (laws : LoopLaws P) (reporting : Bool) (drops : Drops) (a 
   abbrev Good : List ℕ → Type 0
   Good = IsTrueDatagram left
 
-  -- all that was heard at the end
+  -- the listener's progress at the end
   abbrev end : Progress
   end = (loop_end a b to published server ran.passes ran.choices start rounds).progress
 
@@ -336,7 +335,7 @@ module _ {P : Type 0} (laws : LoopLaws P) (reporting : Bool) (drops : Drops) (a 
       (with_progress (lines_after a b ran.passes start).progress rounds) turn_true
       (none_sent Good rounds.server.sent own.server))
 
-  -- an honest listener has heard only the truth
+  -- an honest listener has received only true datagrams
   hears_true : IsSound left start.progress → HasHeard left (Unit {0}) Good start.progress end
   hears_true sound =
       let comes : MayCome left (Unit {0}) Good =
@@ -384,7 +383,7 @@ module _ {P : Type 0} (laws : LoopLaws P) (reporting : Bool) (drops : Drops) (a 
         (between left.messages start.progress.arbitration.view.next next)
         ∙ ap (λ (n : ℕ). handed_text n (between left.messages n next)) begins
 
-    -- where a line is refused
+    -- if a line is refused
 
     module _ (why : LineRefusal) (refused : published.refused ≡ Some why) where
       abbrev count : ℕ
@@ -429,13 +428,13 @@ module _ {P : Type 0} (laws : LoopLaws P) (reporting : Bool) (drops : Drops) (a 
         front = subst (λ (text : List ℕ). AppendsPrefix old new text) all_is ran.front;
       }
 
-    -- where none is
+    -- if no line is refused
 
     module _ (unrefused : published.refused ≡ None) where
       spelled : HasLines lines left
       spelled = laws.opening.lines limit journal lines opening unrefused
 
-      -- the last lines and the status are a listener's
+      -- the last lines and the status are those of a listener
       line_is : loop_lines reporting published.journal published.refused end ≡ last_lines reporting end
       line_is = ap (λ (refused : Option LineRefusal). loop_lines reporting published.journal refused end) unrefused
 

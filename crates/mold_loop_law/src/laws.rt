@@ -1,5 +1,5 @@
-//! From the lines that are published to the lines that are printed, by a loop in one process: what holds of the
-//! definitions that its contract names. The law is a function that does nothing: its contract is the law.
+//! The law of the loop in one process, over the definitions of its contract. A law is a function that does nothing: its
+//! contract is a theorem.
 
 ghost use Rattle.std.specs.Prelude.{◌≡◌, ◌+◌, ◌≤◌, Bool, List, [], None, Option, Result, Some, length, ℕ};
 ghost use Rattle.mold_devices.specs.declared.fault.CommandFault.{CommandFault};
@@ -20,13 +20,20 @@ use mold_ports::Datagrams;
 use mold_receiver::laws::{honest_stays_law, honest_take_law, taken_law};
 use mold_wire::laws::reading_law;
 
-/// From the lines that are published to the lines that are printed, by a loop in one process. Lines are published
-/// into a session that begins; the listener is a new one that begins at a message that will be published or is next.
-/// Nothing is supposed of the ports but that they give what was sent in the loop (`OwnPorts`). Where no line is
-/// refused, and the server may have messages as long as the journal's, the loop prints the published lines behind
-/// their numbers, from that one on, and with status 0 they are all of them. Where a line is refused, no server is
-/// asked: it prints lines before that one, and then the refusal. After a fault it printed a beginning of such a text.
-/// Reports of the two lines stand only where they are asked for, and only before the last line.
+/// Relates the lines that a loop in one process publishes to the lines that it prints.
+///
+/// The lines are published into a new session. The listener is new too. It starts at a message that will be published,
+/// or at the next one after them. The ports may lose, repeat and reorder datagrams, but give only what the loop itself
+/// sent (`OwnPorts`).
+///
+/// - `printed`: no line is refused, and the server's maximum message length is at least the journal's. The loop prints
+///   published lines in order from the start message on, each after its sequence number. If the status is 0, it prints
+///   all of them.
+/// - `refused`: a line is refused, so no request is made. The loop prints lines before the refused one, and then the
+///   refusal.
+///
+/// After a fault, the text written is a prefix of such a text. The reports of the two lines are printed only if
+/// `reporting` is set, and only before the last line.
 pub fn loop_law<D: Datagrams>()
     ensures printed { (reporting : Bool) (drops : Drops) (a b to : D.Peer) (turns limit first window : ℕ)
         (journal : JournalState) (lines : List (List ℕ)) (server : ServerState) (start start_left : LineState D.Peer)
