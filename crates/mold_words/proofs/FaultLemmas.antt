@@ -1,4 +1,4 @@
--- What a fault tells of the words.
+-- Lemmas about the faults that report arguments.
 use Rattle.std.proofs.Common.{◌≡◌, ◌∙◌, ◌⊎◌, Bool, List, [], Option, Result, Ok, Err, None, is_err, true}
 use Rattle.std.proofs.lemmas.Bool.{false≢true}
 use Rattle.std.proofs.lemmas.Option.{none-some}
@@ -23,14 +23,14 @@ use Rattle.mold_words.specs.declared.no_order.NoOrder.TheVariants as no_order
 use Rattle.mold_words.specs.declared.fault.UsageFault.{UsageFault}
 use Rattle.mold_words.specs.declared.fault.UsageFault.TheVariants.{Memory}
 
--- an error for want of memory, or of one of the kinds, is told as that
+-- an error of one of the kinds, or of memory, is reported as such
 tells-told : (kinds : Kinds) (error : ErrorKind) (text : Result (String Global) AllocError)
     → (error ≡ OutOfMemory) ⊎ IsAmong error kinds → IsClapFault kinds (fault_if_made error text)
 tells-told kinds error (Err refused) has = inl refl
 tells-told kinds error (Ok text) (inl memory) = inl (ap (λ kind. fault_of_kind kind text) memory)
 tells-told kinds error (Ok text) (inr among) = inr (error, text, among, refl)
 
--- so is the error of a parse of the program's words
+-- so is the error of a parse of the program's arguments
 pub tells-parse : (words : List Text) (app : App) (error : Error) (kind : ErrorKind)
     (text : Result (String Global) AllocError) (fault : UsageFault)
     → app ≡ mold_app → HasKind (fault_of app words) error → kind ≡ kind_of error → fault ≡ fault_if_made kind text
@@ -41,13 +41,13 @@ tells-parse words app error kind text fault same has is made =
     subst (λ (ks : Kinds). IsClapFault ks fault) kinds
     (subst (IsClapFault (fault_of app words)) (sym (made ∙ ap (λ k. fault_if_made k text) is)) told_here)
 
--- where there is no fault to tell, memory was refused
+-- without an error to report, the fault is `Memory`
 pub tells-nothing : (kinds : Kinds) (fault : UsageFault) → kinds ≡ [] → IsClapFault kinds fault → fault ≡ Memory
 tells-nothing kinds fault none (inl memory) = memory
 tells-nothing kinds fault none (inr fault_of_kind) = absurd (subst (IsAmong fault_of_kind.0) none fault_of_kind.2)
 
--- words that give no order, where memory was not refused, say nothing, and not for an address unless one is
--- none; where it was, the text of why is not made
+-- arguments give no order: either an allocation failed, and no text is made, or they ask for nothing; in the second
+-- case the reason is an invalid address exactly when an address of the command is invalid
 pub record GivesNone (words : List Text) (none : NoOrder) (found : Option (Text × List Row))
     (text : Result (String Global) AllocError) : Type 0 where
   pub named : subcommand_of mold_app words ≡ found
@@ -79,7 +79,7 @@ fault_of_kind-value words is (Ok text) fault nothing same made =
     inr (nothing, (text, made ∙ ap (λ (b : Bool). value_fault b (Ok text)) same))
 fault_of_kind-value words is (Err refused) fault nothing same made = inl (inl made)
 
--- their fault tells that
+-- the fault reports that
 pub tells-none : (words : List Text) (none : NoOrder) (found : Option (Text × List Row))
     (text : Result (String Global) AllocError) (fault : UsageFault) → GivesNone words none found text
     → fault ≡ value_fault (is_address none) text → IsFaultOf words fault
@@ -90,7 +90,7 @@ tells-none words none found text fault gives made =
           (nothing.1 ∙ sym (ap lacks_address gives.named)) made
     ]
 
--- and words that say something gave none for want of memory alone
+-- if the arguments ask for something, the fault is `Memory`
 pub says-none : (words : List Text) (none : NoOrder) (found : Option (Text × List Row))
     (text : Result (String Global) AllocError) (fault : UsageFault) (wanted : Arguments)
     → GivesNone words none found text → fault ≡ value_fault (is_address none) text → Say words wanted

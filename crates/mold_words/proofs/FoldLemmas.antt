@@ -1,4 +1,4 @@
--- A fold over the images of a list's elements, step by step.
+-- Lemmas about a fold over the images of a list's elements, step by step.
 use Rattle.std.proofs.Common.{◌≡◌, ◌∙◌, ℕ, ◌+◌, ◌<◌, List, [], ◌∷◌}
 use Rattle.std.proofs.Common.{ap, get_or, length, map, take}
 use Rattle.std.specs.Prelude.{fold}

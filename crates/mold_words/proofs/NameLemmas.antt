@@ -1,4 +1,4 @@
--- The commands that taken words name: none but the program's own, since `help` is a request.
+-- Lemmas about the command that accepted arguments name: it is one of the program's, since `help` is a request.
 use Rattle.std.proofs.Common.{arith, ◌≡◌, ◌∙◌, ◌&&◌, ◌||◌, ℕ, Bool, cond, codes, true, false, not}
 use Rattle.std.proofs.Common.{List, [], ◌∷◌, Option, Some, None, IfSome, ap, refl, subst, sym, true≢false}
 use Rattle.std.specs.Prelude.{find, fold, option_map}
@@ -21,7 +21,7 @@ use Rattle.clap.proofs.WalkLemmas.{both}
 use Rattle.mold_words.specs.Orders.{AreTaken}
 use Rattle.mold_words.specs.Words.{is_command, mold_app}
 
--- ---- no word that passes is taken for `help`
+-- ---- no accepted argument is read as `help`
 
 abbrev IsNoHelp : Text → Type 0
 IsNoHelp name = bytes_eq name (codes "help") ≡ false
@@ -70,7 +70,7 @@ module _ (rules : List Rule) (waiting : Waiting) (word : Text) where
   dash_steps true position h = tt
   dash_steps false position h = long_steps (long_of word) h
 
--- ---- so a walk that passes stops at a command of another name
+-- ---- a walk over accepted arguments stops at a command of another name
 
 module _ (s : Shape) (names : Names) (enabled : s.disable_help_subcommand ≡ false) where
   met_steps : (met : Option Text) (waiting : Waiting) (position : ℕ) (word : Text) (h : Held)
@@ -120,7 +120,7 @@ module _ (s : Shape) (names : Names) (enabled : s.disable_help_subcommand ≡ fa
       let each = both_none _ _ none in
       walk_stops (walked s.rules names w word) rest (turn_stops w word w.stopped refl on each.0) each.1
 
--- ---- and what it enters is a command of the program
+-- ---- that command is one of the program's
 
 abbrev is_own : Shape → Bool
 is_own s = is_empty s.aliases && (is_command s.name || bytes_eq s.name (codes "help"))
@@ -173,7 +173,7 @@ mold_has_help : (built mold_app).top.disable_help_subcommand ≡ false
 unfolding mold_app
 mold_has_help = refl
 
--- the command that taken words name is one of the program's
+-- the command that accepted arguments name is one of the program's
 pub taken-own : (words : List Text) → AreTaken words
     → IfSome (subcommand_of mold_app words) (λ found. is_command found.0 ≡ true)
 taken-own words taken =

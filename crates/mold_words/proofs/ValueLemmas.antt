@@ -1,4 +1,4 @@
--- What the texts of options stand for.
+-- Lemmas about the values of options.
 use Rattle.std.proofs.Common.{arith, ◌≡◌, ◌∙◌, ◌&&◌, ◌⊎◌, ℕ, zero, suc, ◌-◌, ◌<◌, ◌≤◌, Bool, true, false}
 use Rattle.std.proofs.Common.{◌++◌, length, drop, replicate, Some, None}
 use Rattle.std.proofs.Common.{inl, inr, refl}
@@ -20,7 +20,7 @@ pub no_session : (text : Text) → is_session text ≡ false → None ≡ sessio
 unfolding session_of
 no_session text none = rw none refl
 
--- spaces behind the characters are what is left of ten spaces
+-- the spaces after the characters are the rest of ten spaces
 pub spaced : (text : Text) → is_session text ≡ true →
     Some (text ++ drop (length text) (replicate 10 32)) ≡ session_of text
 unfolding session_of

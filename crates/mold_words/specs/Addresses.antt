@@ -1,4 +1,4 @@
--- Addresses of ports, as words say them.
+-- Defines the addresses of UDP ports that command-line arguments give.
 use Rattle.std.specs.Prelude.{ℕ, ◌==◌, ◌||◌, List, [], ◌∷◌, Bool, not, length, nat_le, nat_lt, if◌then◌else◌}
 use Rattle.std.specs.Prelude.{Option, None, Some}
 use Rattle.std.specs.List.{after_first, before_first, position_or_len, slice_index}
@@ -7,22 +7,22 @@ use Rattle.clap.specs.Words.{Text}
 use Rattle.mold_words.specs.Values.{number_of}
 use Rattle.mold_words.specs.declared.addresses.TheConstants.{MAX_PORT}
 
--- what stands before the first byte of this kind, and what behind it; none where there is none
+-- The parts of `text` before and after the first `byte`, if it occurs.
 abbrev pub cut_at : ℕ → Text → Option (Text × Text)
 cut_at byte text =
     if nat_lt (position_or_len (λ b. b == byte) text) (length text)
     then Some (before_first (λ b. b == byte) text, after_first (λ b. b == byte) text)
     else None
 
--- the first digit is not 0 where there are more
+-- The text has at most one character, or its first character is not 0.
 abbrev pub is_plain : Text → Bool
 is_plain text = nat_le (length text) 1 || not (slice_index text 0 == 48)
 
--- a number in decimal digits without zeros before it
+-- The number from 0 to `most` that decimal digits without leading zeros represent.
 unfoldable pub plain_number : ℕ → Text → Option ℕ
 plain_number most text = if is_plain text then number_of 0 most text else None
 
--- four numbers of a byte each, with points between them
+-- The four numbers from 0 to 255 of a text such as 127.0.0.1.
 unfoldable pub host_of : Text → Option (List ℕ)
 host_of text =
     option_and_then
@@ -41,7 +41,7 @@ host_of text =
     (cut_at 46 front.1))
     (cut_at 46 text)
 
--- a host, a colon and a port's number
+-- The host and the port number of a text such as 127.0.0.1:9000.
 unfoldable pub address_of : Text → Option (List ℕ × ℕ)
 address_of text =
     option_and_then

@@ -1,4 +1,4 @@
--- What orders ask for.
+-- Defines the models of orders: what command-line arguments ask for.
 use Rattle.std.specs.Prelude.{ℕ, Bool, List, string_bytes}
 use Rattle.clap.specs.Words.{Text}
 use Rattle.mold_words.specs.declared.address.Address.{Address}
@@ -6,81 +6,112 @@ use Rattle.mold_words.specs.declared.types.Order.{Order}
 use Rattle.mold_words.specs.declared.types.Order.TheVariants.{Show, Pack, Sim, Check, CheckLines, Publish, Serve}
 use Rattle.mold_words.specs.declared.types.Order.TheVariants.{Listen, Loop, Upgrade, Dump}
 
--- a world that events happen to: its session, the limits of publisher and server, the window of each
--- receiver, how many receivers there are, and the most packets that answer a request
+-- The model of a `sim` order.
 pub record SimArguments : Type 0 where
   pub session : List ℕ
+  -- The maximum length of a datagram, in bytes.
   pub limit : ℕ
+  -- The maximum length of a response, in bytes.
   pub server_limit : ℕ
+  -- The window of a receiver, in messages.
   pub window : ℕ
+  -- The number of receivers.
   pub receivers : ℕ
+  -- The maximum number of responses to a request.
   pub burst : ℕ
 
--- an address: the numbers of its host, and its port
+-- The model of an address: the four numbers of its host, and its port number.
 abbrev pub HostPort : Type 0
 HostPort = List ℕ × ℕ
 
+-- The model of an address as the program holds it.
 abbrev pub address_view : Address → HostPort
 address_view address = (address.host, address.port)
 
--- a session that is sent on two lines: the limit of its packets, the lines, the journal's file, and how many
--- heartbeats and end packets are sent after it
+-- The model of a `publish` order.
 pub record PublishArguments : Type 0 where
   pub session : List ℕ
+  -- The maximum length of a datagram, in bytes.
   pub limit : ℕ
+  -- The address that line A is sent to.
   pub a : HostPort
+  -- The address that line B is sent to.
   pub b : HostPort
+  -- The name of the journal file.
   pub journal : Text
+  -- The number of heartbeats after the messages.
   pub beats : ℕ
+  -- The number of end packets after the heartbeats.
   pub ends : ℕ
 
--- a journal's file from which requests are answered: the limit of the packets and how many answer one, the
--- port, how many receives are made, and whether what is printed is written at once
+-- The model of a `serve` order.
 pub record ServeArguments : Type 0 where
+  -- The name of the journal file.
   pub journal : Text
+  -- The maximum length of a response, in bytes.
   pub limit : ℕ
+  -- The maximum number of responses to a request.
   pub burst : ℕ
+  -- The address that receives requests.
   pub bind : HostPort
+  -- The number of turns, each of which makes one receive.
   pub turns : ℕ
+  -- Whether text is written at the end of each turn.
   pub live : Bool
 
--- a session that is heard on two lines: the number of its first message that is printed, the window, the
--- lines, the re-request server and how many packets answer a request, the most turns, whether what is printed is
--- written at once, and whether a report of the lines is printed
+-- The model of a `listen` order.
 pub record ListenArguments : Type 0 where
   pub session : List ℕ
+  -- The sequence number of the first message.
   pub next : ℕ
+  -- The window of a receiver, in messages.
   pub window : ℕ
+  -- The address that receives line A.
   pub a : HostPort
+  -- The address that receives line B.
   pub b : HostPort
+  -- The address that requests are sent to.
   pub server : HostPort
+  -- The maximum number of responses to a request.
   pub burst : ℕ
+  -- The maximum number of turns.
   pub turns : ℕ
+  -- Whether text is written at the end of each turn.
   pub live : Bool
+  -- Whether reports of both lines are printed before the last line.
   pub report : Bool
 
--- a session that is sent to itself: the limits of publisher and server, the window, how many packets answer a
--- request, which packets are left out of the lines, the most rounds, and whether a report of the lines is printed
+-- The model of a `loop` order.
 pub record LoopArguments : Type 0 where
   pub session : List ℕ
+  -- The maximum length of a datagram, in bytes.
   pub limit : ℕ
+  -- The maximum length of a response, in bytes.
   pub server_limit : ℕ
+  -- The window of a receiver, in messages.
   pub window : ℕ
+  -- The maximum number of responses to a request.
   pub burst : ℕ
+  -- Line A leaves out every `drop_a`-th data packet, or none if it is 0.
   pub drop_a : ℕ
+  -- Line B leaves out every `drop_b`-th data packet, or none if it is 0.
   pub drop_b : ℕ
+  -- The maximum number of rounds of requests.
   pub turns : ℕ
+  -- Whether reports of both lines are printed before the last line.
   pub report : Bool
 
--- messages of a journal's file: the number of the first one, and how many at most
+-- The model of a `dump` order.
 pub record DumpArguments : Type 0 where
+  -- The name of the journal file.
   pub journal : Text
+  -- The sequence number of the first message.
   pub from : ℕ
+  -- The maximum number of messages.
   pub count : ℕ
 
--- what an order asks for: to show, requests or packets; to pack a session's messages into packets of
--- at most so many bytes; to run a script of events; to check a folder, or lines; to publish, serve, listen,
--- and all of it in one; to write the journal of a file in another one, and to close it; to print a journal's messages
+-- The model of an order: the command and the values of its options. `pack` has a session and the maximum datagram
+-- length. `upgrade` has the two files and whether the journal is closed.
 pub data Arguments : Type 0 where
   show_wanted : Bool → Arguments
   pack_wanted : List ℕ → ℕ → Arguments
@@ -94,7 +125,7 @@ pub data Arguments : Type 0 where
   upgrade_wanted : Text → Text → Bool → Arguments
   dump_wanted : DumpArguments → Arguments
 
--- what an order of the program asks for
+-- The model of an order as the program holds it.
 abbrev pub view : Order → Arguments
 view (Show request) = show_wanted request
 view (Pack order) = pack_wanted order.session order.limit

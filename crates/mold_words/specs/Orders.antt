@@ -1,4 +1,4 @@
--- The order that the program's words say.
+-- Defines the order that command-line arguments give.
 use Rattle.std.specs.Prelude.{◌≡◌, ℕ, Bool, List, [], Option, Some, None, codes, false, if◌then◌else◌, is_some}
 use Rattle.std.specs.Prelude.{nat_lt, not, option_map, ◌∷◌}
 use Rattle.std.specs.List.{list_any}
@@ -16,50 +16,52 @@ use Rattle.mold_wire.specs.declared.limits.TheConstants.{MAX_BURST, MAX_WINDOW}
 use Rattle.mold_words.specs.declared.options.TheConstants.{DEFAULT_LIMIT, DEFAULT_TURNS, DEFAULT_WINDOW}
 use Rattle.mold_wire.specs.declared.limits.TheConstants.{MAX_LIMIT, MAX_NUMBER, MIN_LIMIT}
 
--- `clap` finds no fault in the words
+-- `clap` finds no error in the arguments `words`.
 abbrev pub AreTaken : List Text → Type 0
 AreTaken words = fault_of mold_app words ≡ []
 
--- whether the flag of this name was given: then its text is `true`
+-- Whether the flag of this name is given. Then its value is `true`.
 abbrev pub flag_in : Text → List Row → Bool
 flag_in name rows = option_map_or (λ text. bytes_eq text (codes "true")) (first_of name rows) false
 
--- the session of the option of this name
+-- The session that the option of this name gives, if its value is valid.
 abbrev pub session_in : Text → List Row → Option (List ℕ)
 session_in name rows = option_and_then session_of (first_of name rows)
 
--- the number in a range of an option's text, and the usual one where it has none
+-- The number of an option's text if it is from `least` to `most`, or `usual` if there is no text.
 abbrev pub number_or : ℕ → ℕ → ℕ → Option Text → Option ℕ
 number_or usual least most None = Some usual
 number_or usual least most (Some text) = number_of least most text
 
--- the number of the option of this name
+-- The number of the option of this name, or `usual` if it is not given. The number must be from `least` to `most`.
 abbrev pub number_in : Text → ℕ → ℕ → ℕ → List Row → Option ℕ
 number_in name usual least most rows = number_or usual least most (first_of name rows)
 
--- the most bytes of a packet; the messages that a receiver looks ahead; the most packets that answer a request;
--- how many turns are made
+-- The maximum datagram length that the option of this name gives, in bytes. The default is 1,400.
 abbrev pub limit_in : Text → List Row → Option ℕ
 limit_in name rows = number_in name DEFAULT_LIMIT MIN_LIMIT MAX_LIMIT rows
 
+-- The receiver's window in messages. The default is 1,024.
 abbrev pub window_in : List Row → Option ℕ
 window_in rows = number_in (codes "window") DEFAULT_WINDOW 1 MAX_WINDOW rows
 
+-- The maximum number of responses to a request. The default is 1.
 abbrev pub burst_in : List Row → Option ℕ
 burst_in rows = number_in (codes "burst") 1 1 MAX_BURST rows
 
+-- The number of turns. The default is 1,000.
 abbrev pub turns_in : List Row → Option ℕ
 turns_in rows = number_in (codes "turns") DEFAULT_TURNS 1 MAX_TURNS rows
 
--- what is printed is written at once
+-- Whether text is written at the end of each turn.
 abbrev pub live_in : List Row → Bool
 live_in rows = flag_in (codes "live") rows
 
--- what came on each line is reported
+-- Whether reports of both lines are printed.
 abbrev pub report_in : List Row → Bool
 report_in rows = flag_in (codes "report") rows
 
--- the limits of publisher and server, the latter not below the former
+-- The limits of the publisher and of its server, if the server's is at least the publisher's.
 unfoldable pub limits_in : List Row → Option (ℕ × ℕ)
 limits_in rows =
     option_and_then
@@ -68,31 +70,31 @@ limits_in rows =
     (limit_in (codes "server-limit") rows))
     (limit_in (codes "limit") rows)
 
--- the address of the option of this name
+-- The address that the option of this name gives, if its value is valid.
 abbrev pub address_in : Text → List Row → Option HostPort
 address_in name rows = option_and_then address_of (first_of name rows)
 
--- an option of this name was given whose text is no address
+-- The option of this name is given, and its value is not an address.
 abbrev pub is_no_address : List Row → Text → Bool
 is_no_address rows name = option_map_or (λ text. not (is_some (address_of text))) (first_of name rows) false
 
--- one of the options that are addresses has a text that is none
+-- Whether the value of any option that takes an address is invalid.
 unfoldable pub has_no_address : List Row → Bool
 has_no_address rows =
     list_any (is_no_address rows) (codes "a" ∷ codes "b" ∷ codes "server" ∷ codes "bind" ∷ [])
 
--- what `show` says with the options found
+-- What `show` asks for with these options.
 unfoldable pub show_of : List Row → Arguments
 show_of rows = show_wanted (flag_in (codes "request") rows)
 
--- what `pack` says with the options found
+-- What `pack` asks for with these options, if their values are valid.
 unfoldable pub pack_of : List Row → Option Arguments
 pack_of rows =
     option_and_then
     (λ session. option_map (λ limit. pack_wanted session limit) (limit_in (codes "limit") rows))
     (session_in (codes "session") rows)
 
--- what `sim` says with the options found
+-- What `sim` asks for with these options, if their values are valid.
 unfoldable pub sim_of : List Row → Option Arguments
 sim_of rows =
     option_and_then
@@ -114,14 +116,15 @@ sim_of rows =
     (limits_in rows))
     (session_in (codes "session") rows)
 
--- what `check` says with its word: just `-` is no folder, and says that lines come on standard input
+-- What `check` asks for with its argument. `-` asks to check lines on standard input, and any other text names a
+-- folder.
 unfoldable pub check_of : List Row → Option Arguments
 check_of rows =
     option_and_then
     (λ folder. Some (if bytes_eq folder (codes "-") then check_lines_wanted else check_wanted folder))
     (first_of (codes "folder") rows)
 
--- what `publish` says with the options found
+-- What `publish` asks for with these options, if their values are valid.
 unfoldable pub publish_of : List Row → Option Arguments
 publish_of rows =
     option_and_then
@@ -148,7 +151,7 @@ publish_of rows =
     (limit_in (codes "limit") rows))
     (session_in (codes "session") rows)
 
--- what `serve` says with the options found
+-- What `serve` asks for with these options, if their values are valid.
 unfoldable pub serve_of : List Row → Option Arguments
 serve_of rows =
     option_and_then
@@ -170,7 +173,7 @@ serve_of rows =
     (limit_in (codes "limit") rows))
     (first_of (codes "journal") rows)
 
--- what `listen` says with the options found
+-- What `listen` asks for with these options, if their values are valid.
 unfoldable pub listen_of : List Row → Option Arguments
 listen_of rows =
     option_and_then
@@ -202,7 +205,7 @@ listen_of rows =
     (number_in (codes "next") 1 1 9223372036854775807 rows))
     (session_in (codes "session") rows)
 
--- what `loop` says with the options found
+-- What `loop` asks for with these options, if their values are valid.
 unfoldable pub loop_of : List Row → Option Arguments
 loop_of rows =
     option_and_then
@@ -231,7 +234,7 @@ loop_of rows =
     (limits_in rows))
     (session_in (codes "session") rows)
 
--- what `upgrade` says with the options found: its two files have names that differ
+-- What `upgrade` asks for with these options, if its two file names differ.
 unfoldable pub upgrade_of : List Row → Option Arguments
 upgrade_of rows =
     option_and_then
@@ -240,7 +243,8 @@ upgrade_of rows =
     (first_of (codes "to") rows))
     (first_of (codes "journal") rows)
 
--- what `dump` says with the options found: without a count all of the messages, which are never more
+-- What `dump` asks for with these options, if their values are valid. Without `--count` the count is `MAX_NUMBER`, and
+-- no journal has more messages.
 unfoldable pub dump_of : List Row → Option Arguments
 dump_of rows =
     option_and_then
@@ -251,7 +255,7 @@ dump_of rows =
     (number_in (codes "from") 1 1 MAX_NUMBER rows))
     (first_of (codes "journal") rows)
 
--- what the command of this name says with the options found
+-- What the command of this name asks for with these options, if their values are valid.
 unfoldable pub order_at : Text → List Row → Option Arguments
 order_at name rows =
     if bytes_eq name (codes "show") then Some (show_of rows)
@@ -266,22 +270,21 @@ order_at name rows =
     else if bytes_eq name (codes "dump") then dump_of rows
     else None
 
--- what a command says that was found with its options: nothing where an address is none; where no command was
--- found, to show packets
+-- What a command that was found with its options asks for, if all values are valid. Without a command it is to show
+-- packets.
 abbrev pub order_in : Option (Text × List Row) → Option Arguments
 order_in None = Some (show_wanted false)
 order_in (Some found) = if has_no_address found.1 then None else order_at found.0 found.1
 
--- an address is none among the options of the command that was found
+-- Whether the command that was found has an option with an invalid address.
 abbrev pub lacks_address : Option (Text × List Row) → Bool
 lacks_address None = false
 lacks_address (Some found) = has_no_address found.1
 
--- the order that the words say: that of the command which `clap` finds in them; none where an option's
--- text is no value of it
+-- What the arguments `words` ask for: the command that `clap` finds in them, if the values of its options are valid.
 unfoldable pub order_of : List Text → Option Arguments
 order_of words = order_in (subcommand_of mold_app words)
 
--- `clap` finds no fault in the words, and this is what they ask for
+-- `clap` finds no error in the arguments `words`, and they ask for `wanted`.
 abbrev pub Say : List Text → Arguments → Type 0
 Say words wanted = AreTaken words × (order_of words ≡ Some wanted)

@@ -1,5 +1,4 @@
--- The words that `mold` takes: its commands and their options, and the program that they make of
--- it for `clap`.
+-- Defines the commands and options of `mold`, and the program that they are to `clap`.
 use Rattle.std.specs.Prelude.{Bool, List, [], ◌∷◌, Some, true, codes, fold}
 use Rattle.std.specs.List.{list_any}
 use Rattle.std.specs.Str.{bytes_eq}
@@ -8,7 +7,7 @@ use Rattle.clap.specs.declared.builder.ArgAction.TheVariants.{Set, SetTrue}
 use Rattle.mold_words.specs.declared.table.Kind.{Kind}
 use Rattle.mold_words.specs.declared.table.Kind.TheVariants.{Flag, Optional, Required, Word}
 
--- the commands, each with its options
+-- The commands, each with its options.
 abbrev pub commands : List (Text × List (Text × Kind))
 commands =
     (codes "show", (codes "request", Flag) ∷ [])
@@ -46,12 +45,12 @@ commands =
     ∷ (codes "dump", (codes "journal", Required) ∷ (codes "from", Optional) ∷ (codes "count", Optional) ∷ [])
     ∷ []
 
--- a command has this name
+-- The text is the name of a command.
 abbrev pub is_command : Text → Bool
 is_command name = list_any (λ command. bytes_eq command.0 name) commands
 
--- an option of this name: a flag has no value; that of another is a text, which help calls by one name; a word
--- stands without the name
+-- The `clap` rule of an option with this name. A flag has no value, and any other option has one. A positional
+-- argument is given without its name.
 abbrev pub rule_for : Text → Kind → Rule
 rule_for name Flag = record (new_rule name) { long = Some name; action = Some SetTrue }
 rule_for name Optional =
@@ -60,23 +59,23 @@ rule_for name Required =
     record (new_rule name) { long = Some name; action = Some Set; value_names = 1; required = true }
 rule_for name Word = record (new_rule name) { action = Some Set; value_names = 1; required = true }
 
--- a command with one more option
+-- A command with one more option.
 abbrev pub with_option : App → Text × Kind → App
 with_option app option = with_rule app (rule_for option.0 option.1)
 
--- a command with its options
+-- A command with all its options.
 abbrev pub command_app : Text × List (Text × Kind) → App
 command_app command = fold with_option (new_app command.0) command.1
 
--- the program with one more command
+-- A program with one more command.
 abbrev pub with_command : App → Text × List (Text × Kind) → App
 with_command app command = with_subcommand app (command_app command).top
 
--- the program without commands: its words do not begin with its name, and it has a version
+-- The program without commands. Its arguments do not start with the program's name, and it has a version.
 abbrev pub bare_app : App
 bare_app = let app = new_app (codes "mold") in
     record app { top = record app.top { no_binary_name = true; has_version = true } }
 
--- the program with its commands
+-- The program with all its commands.
 unfoldable pub mold_app : App
 mold_app = fold with_command bare_app commands

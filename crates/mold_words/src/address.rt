@@ -1,10 +1,10 @@
-//! The address of a port.
+//! The address of a UDP port.
 
-/// The address of a port over IPv4.
+/// The IPv4 address and the number of a UDP port.
 #[derive(Clone, Copy, Debug, PartialEq, Eq)]
 pub struct Address {
-    /// The four numbers of the host, the first one first.
+    /// The four bytes of the IPv4 address, in the order in which they are written.
     pub host: [u8; 4],
-    /// The port's number; 0 is one that the system gives.
+    /// The port number. With 0 the system chooses one.
     pub port: u16,
 }

@@ -1,4 +1,4 @@
-//! The addresses that texts of options stand for.
+//! Parses the texts of options that are addresses.
 
 ghost use Rattle.std.specs.Prelude.{◌≡◌, option_map};
 ghost use Rattle.mold_words.specs.Addresses.{address_of, cut_at, host_of, is_plain, plain_number};
@@ -8,10 +8,10 @@ ghost use Rattle.mold_words.specs.declared.addresses.TheConstants.{MAX_PORT};
 use crate::address::Address;
 use crate::values::number_of;
 
-// The greatest port.
+// The greatest port number.
 const MAX_PORT: u64 = 65535;
 
-// What stands before the first point or colon, and what behind it.
+// Returns the text before the first period and the text after it.
 fn cut_at_point(text: &str) -> Option<(&str, &str)>
     ensures { option_map (λ parts. (parts.0.now, parts.1.now)) result ≡ cut_at 46 text.now }
 {
@@ -66,8 +66,8 @@ fn host_of(text: &str) -> Option<[u8; 4]>
     Some([first, second, third, fourth])
 }
 
-/// The address that four numbers of 0 to 255 with points between them, a colon and a port's number spell, all
-/// in decimal digits without zeros before them.
+/// Parses an address such as 127.0.0.1:9000: four numbers from 0 to 255 separated by periods, a colon, and a port
+/// number from 0 to 65535. The numbers are decimal, without leading zeros.
 #[tactic(auto, unfolding(crate::specs::Addresses::address_of))]
 pub(crate) fn address_of(text: &str) -> Option<Address>
     ensures { option_map address_view result ≡ address_of text.now }

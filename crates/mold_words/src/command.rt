@@ -1,4 +1,4 @@
-//! The program's commands as `clap` takes them, made from the table.
+//! Builds the `clap` command of the program from the table.
 ghost use Rattle.std.specs.Prelude.{◌≡◌, IfOk, false, fold, map};
 ghost use Rattle.clap.specs.Words.{app_of, rule_of};
 ghost use Rattle.clap.specs.declared.builder.Command.TheViews.{out-Command as fields_of};
@@ -16,7 +16,7 @@ const ABOUT: &str = "MoldUDP64 packets, shown as lines of text";
 
 const WITHOUT_COMMAND: &str = "Without a command, show is run.";
 
-// The argument that an option is to `clap`, which reads each value as a text.
+// Returns the `clap` argument of an option. `clap` reads each value as text.
 fn argument_of<'a>(alloc: Global, option: OptionRow) -> Arg<'a>
     ensures rule { rule_of result ≡ rule_for option.name.now option.kind }
     ensures local { result.global ≡ false }
@@ -41,7 +41,7 @@ fn argument_of<'a>(alloc: Global, option: OptionRow) -> Arg<'a>
     }
 }
 
-// A command with one more option.
+// Adds an option to a command.
 fn with_option<'a>(
     alloc: Global,
     command: Command<'a>,
@@ -54,7 +54,7 @@ fn with_option<'a>(
     command.arg(argument_of(alloc, option))
 }
 
-// The command of a row.
+// Returns the command of a row.
 fn command_from<'a>(alloc: Global, row: CommandRow) -> Result<Command<'a>, AllocError>
     ensures app { IfOk result (λ c. app_of c ≡ command_app (command_of row)) }
     ensures local { IfOk result (λ c. (fields_of c).has_globals ≡ false) }
@@ -68,7 +68,7 @@ fn command_from<'a>(alloc: Global, row: CommandRow) -> Result<Command<'a>, Alloc
     Ok(command)
 }
 
-// The program without commands.
+// Returns the program without commands.
 fn bare_command<'a>(alloc: Global) -> Result<Command<'a>, AllocError>
     ensures { IfOk result (λ c. app_of c ≡ bare_app) }
 {
@@ -80,7 +80,7 @@ fn bare_command<'a>(alloc: Global) -> Result<Command<'a>, AllocError>
         .bin_name("mold")
 }
 
-// A program with the command of one more row.
+// Adds the command of a row to the program.
 fn with_command<'a>(
     alloc: Global,
     program: Command<'a>,
@@ -92,7 +92,7 @@ fn with_command<'a>(
     program.subcommand(command)
 }
 
-// The program with the command of each row.
+// Returns the program with the command of each row.
 fn command_of_rows<'a>(alloc: Global, rows: &[CommandRow]) -> Result<Command<'a>, AllocError>
     ensures { IfOk result (λ c. app_of c ≡ fold with_command bare_app (map command_of rows.now)) }
 {
@@ -103,7 +103,7 @@ fn command_of_rows<'a>(alloc: Global, rows: &[CommandRow]) -> Result<Command<'a>
     Ok(program)
 }
 
-/// The program's commands and options. The only error is want of memory.
+/// Returns the program with its commands and options. It fails only if an allocation fails.
 pub(crate) fn mold_command<'a>(alloc: Global) -> Result<Command<'a>, AllocError>
     ensures { IfOk result (λ c. app_of c ≡ mold_app) }
 {

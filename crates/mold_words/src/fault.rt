@@ -1,4 +1,4 @@
-//! Why words give no order.
+//! The reasons why command-line arguments give no order.
 ghost use Rattle.std.specs.Prelude.{◌≡◌};
 ghost use Rattle.mold_words.specs.Faults.{fault_if_made, value_fault};
 ghost use Rattle.mold_words.specs.declared.fault.UsageFault.TheVariants.{Memory};
@@ -7,22 +7,22 @@ use clap::error::ErrorKind;
 use std::alloc::{AllocError, Global};
 use thiserror::Error;
 
-/// Why the words give no order.
+/// Why command-line arguments give no order.
 #[derive(Debug, Drop, Error)]
 pub enum UsageFault {
-    /// Help was asked for. The text is for standard output, with status 0.
+    /// Help is requested. The text is for standard output, with status 0.
     #[error("{text}")]
     Help { text: String },
-    /// The version was asked for. The text, a line, is for standard output, with status 0.
+    /// The version is requested. The text is one line for standard output, with status 0.
     #[error("{text}")]
     Version { text: String },
-    /// The words are no command of the program. The text says why, in whole lines.
+    /// The arguments are not a valid command. The text gives the reason, in whole lines.
     #[error("{text}")]
     Usage { text: String },
-    /// An option's text is no address. The text says which, in whole lines.
+    /// The value of an option is not an address. The text names the option, in whole lines.
     #[error("{text}")]
     Address { text: String },
-    /// Memory was refused.
+    /// An allocation failed.
     #[error("out of memory")]
     Memory,
 }
@@ -35,7 +35,7 @@ impl From<AllocError> for UsageFault {
     }
 }
 
-/// The fault that tells an error of this kind by the text that was made of it.
+/// Returns the fault that reports an error of this kind. `text` is the error's text, if memory for it was available.
 pub(crate) fn fault_for(kind: ErrorKind, text: Result<String, AllocError>) -> UsageFault
     ensures { result ≡ fault_if_made kind text }
 {
@@ -50,7 +50,7 @@ pub(crate) fn fault_for(kind: ErrorKind, text: Result<String, AllocError>) -> Us
     }
 }
 
-/// The fault that tells, by the text that was made of it, an option's text that is no value of it.
+/// Returns the fault that reports an invalid value of an option. `text` is the report, if memory for it was available.
 pub(crate) fn value_fault(is_address: bool, text: Result<String, AllocError>) -> UsageFault
     ensures { result ≡ value_fault is_address text }
 {

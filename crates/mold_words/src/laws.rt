@@ -1,4 +1,4 @@
-//! Laws of the program's words: what `clap` makes of them, and what they say.
+//! Laws of the command line: what `clap` accepts, and which orders the arguments give.
 ghost use Rattle.std.specs.Prelude.{◌≡◌, [], ◌∷◌, IfSome, IsTrue, List, None, codes, false, true};
 ghost use Rattle.clap.specs.Words.{Text, fault_of, subcommand_of};
 ghost use Rattle.clap.specs.declared.error.kind.ErrorKind.TheVariants.{DisplayHelp, DisplayVersion, UnknownArgument};
@@ -8,17 +8,16 @@ ghost use Rattle.mold_words.specs.Arguments.{pack_wanted, publish_wanted, serve_
 ghost use Rattle.mold_words.specs.Arguments.{upgrade_wanted};
 ghost use Rattle.mold_words.specs.Words.{is_command, mold_app};
 
-/// The words `show` and `show --request` are taken and say to show, and so is `--` alone, which
-/// names no command: `read_words` refuses them for want of memory alone.
+/// `show`, `show --request` and `--` are accepted, and ask to show packets, requests and packets. `--` names no
+/// command.
 pub fn show_taken_law()
     ensures plain { Say (codes "show" ∷ []) (show_wanted false) }
     ensures request { Say (codes "show" ∷ codes "--request" ∷ []) (show_wanted true) }
     ensures no_command { Say (codes "--" ∷ []) (show_wanted false) }
 {}
 
-/// The words `pack --session MKT` are taken, and say to pack the session `MKT` with seven spaces
-/// behind it into packets of up to 1,400 bytes; `--limit` says another limit. A limit below 64 says
-/// nothing, and is refused.
+/// `pack --session MKT` is accepted, and asks to pack the session `MKT`, padded with seven spaces, into datagrams of
+/// up to 1,400 bytes. `--limit` sets another limit. A limit below 64 gives no order.
 pub fn pack_taken_law()
     ensures usual { Say (codes "pack" ∷ codes "--session" ∷ codes "MKT" ∷ [])
         (pack_wanted (codes "MKT       ") 1400) }
@@ -29,9 +28,9 @@ pub fn pack_taken_law()
         (codes "pack" ∷ codes "--session" ∷ codes "MKT" ∷ codes "--limit" ∷ codes "63" ∷ []) ≡ None }
 {}
 
-/// The words `sim --session MKT` are taken, and say to run two receivers of the session `MKT` with windows of
-/// 1,024 messages, with packets of up to 1,400 bytes, one to a request; each option says another number. A
-/// limit above the server's says nothing, and is refused.
+/// `sim --session MKT` is accepted, and asks for two receivers of the session `MKT`. The windows are 1,024 messages,
+/// the limits are 1,400 bytes, and a request has one response. Each option sets another number. A `--limit` above the
+/// server's gives no order.
 pub fn sim_taken_law()
     ensures usual { Say (codes "sim" ∷ codes "--session" ∷ codes "MKT" ∷ [])
         (sim_wanted (record {
@@ -58,18 +57,17 @@ pub fn sim_taken_law()
         (codes "sim" ∷ codes "--session" ∷ codes "MKT" ∷ codes "--limit" ∷ codes "1401" ∷ []) ≡ None }
 {}
 
-/// The words `check DIR` are taken, and say to check the folder `DIR`. `check -` says to check lines, and `check ./-`
-/// the folder of that name.
+/// `check DIR` is accepted, and asks to check the folder `DIR`. `check -` asks to check lines, and `check ./-` to
+/// check the folder of that name.
 pub fn check_taken_law()
     ensures folder { Say (codes "check" ∷ codes "DIR" ∷ []) (check_wanted (codes "DIR")) }
     ensures lines { Say (codes "check" ∷ codes "-" ∷ []) check_lines_wanted }
     ensures dash { Say (codes "check" ∷ codes "./-" ∷ []) (check_wanted (codes "./-")) }
 {}
 
-/// The words `publish --session MKT --a .. --b .. --journal J` are taken, and say to send the session `MKT` to
-/// these addresses in packets of up to 1,400 bytes, with a heartbeat and an end packet after it, and to save
-/// its journal in `J`. An address is four numbers of a byte with points between them, a colon, and a port's
-/// number; a text that is none says nothing, and is refused, and so is a number with a zero before it.
+/// `publish --session MKT --a .. --b .. --journal J` is accepted, and asks to send the session `MKT` to these
+/// addresses and to save its journal in `J`. Datagrams have up to 1,400 bytes. One heartbeat and one end packet follow
+/// the messages. An address with a leading zero in a number gives no order.
 pub fn publish_taken_law()
     ensures usual { Say
         (codes "publish" ∷ codes "--session" ∷ codes "MKT" ∷ codes "--a" ∷ codes "127.0.0.1:9000"
@@ -88,8 +86,8 @@ pub fn publish_taken_law()
         ∷ codes "--b" ∷ codes "127.0.0.1:9001" ∷ codes "--journal" ∷ codes "J" ∷ []) ≡ None }
 {}
 
-/// The words `serve --journal J --bind ..` are taken, and say to answer requests from the journal of `J` in one
-/// packet of up to 1,400 bytes each, with 1,000 receives; `--live` says to write at once what is printed.
+/// `serve --journal J --bind ..` is accepted, and asks to respond from the journal in `J`, in 1,000 receives. There is
+/// one response of up to 1,400 bytes to a request. `--live` asks to write text at the end of each turn.
 pub fn serve_taken_law()
     ensures usual { Say
         (codes "serve" ∷ codes "--journal" ∷ codes "J" ∷ codes "--bind" ∷ codes "0.0.0.0:65535" ∷ [])
@@ -113,9 +111,9 @@ pub fn serve_taken_law()
         })) }
 {}
 
-/// The words `listen --session MKT --a .. --b .. --server ..` are taken, and say to print the session `MKT` from
-/// message 1 on with a window of 1,024 messages, one packet to a request, in 1,000 turns at most; `--live` says to
-/// write at once what is printed, and `--report` to tell what came on each line.
+/// `listen --session MKT --a .. --b .. --server ..` is accepted, and asks to print the session `MKT` from message 1
+/// on. The window has 1,024 messages, a request has one response, and there are at most 1,000 turns. `--live` asks to
+/// write text at the end of each turn, and `--report` for reports of both lines.
 pub fn listen_taken_law()
     ensures usual { Say
         (codes "listen" ∷ codes "--session" ∷ codes "MKT" ∷ codes "--a" ∷ codes "127.0.0.1:9000"
@@ -164,9 +162,9 @@ pub fn listen_taken_law()
         })) }
 {}
 
-/// The words `loop --session MKT` are taken, and say to send the session `MKT` to itself with limits of 1,400
-/// bytes, a window of 1,024 messages, one packet to a request, and 1,000 rounds at most, with nothing left out;
-/// `--report` says to tell what came on each line.
+/// `loop --session MKT` is accepted, and asks to run the session `MKT` in one process. The limits are 1,400 bytes, the
+/// window is 1,024 messages, a request has one response, and there are at most 1,000 rounds. No packet is left out.
+/// `--report` asks for reports of both lines.
 pub fn loop_taken_law()
     ensures usual { Say (codes "loop" ∷ codes "--session" ∷ codes "MKT" ∷ [])
         (loop_wanted (record {
@@ -194,8 +192,8 @@ pub fn loop_taken_law()
         })) }
 {}
 
-/// The words `upgrade --journal A --to B` are taken, and say to write the journal of `A` in `B`; `--close`
-/// says to close it. Two equal names say nothing, and are refused.
+/// `upgrade --journal A --to B` is accepted, and asks to write the journal in `A` to `B`. `--close` asks to close it.
+/// Two equal names give no order.
 pub fn upgrade_taken_law()
     ensures kept { Say (codes "upgrade" ∷ codes "--journal" ∷ codes "A" ∷ codes "--to" ∷ codes "B" ∷ [])
         (upgrade_wanted (codes "A") (codes "B") false) }
@@ -206,9 +204,9 @@ pub fn upgrade_taken_law()
         (codes "upgrade" ∷ codes "--journal" ∷ codes "A" ∷ codes "--to" ∷ codes "A" ∷ []) ≡ None }
 {}
 
-/// The words `dump --journal J` are taken, and say to print all messages of the journal of `J` from message 1 on;
-/// `--from` says another first one, and `--count` how many at most. A first message 0, and a count of more than 64
-/// bits, say nothing, and are refused.
+/// `dump --journal J` is accepted, and asks to print all messages of the journal in `J` from message 1 on. `--from`
+/// sets another first message, and `--count` a maximum number. `--from 0`, and a count that does not fit 64 bits, give
+/// no order.
 pub fn dump_taken_law()
     ensures usual { Say (codes "dump" ∷ codes "--journal" ∷ codes "J" ∷ [])
         (dump_wanted (record { journal = codes "J"; from = 1; count = 18446744073709551615 })) }
@@ -222,8 +220,8 @@ pub fn dump_taken_law()
         (codes "dump" ∷ codes "--journal" ∷ codes "J" ∷ codes "--count" ∷ codes "18446744073709551616" ∷ []) ≡ None }
 {}
 
-/// Help and version are asked for by these words, and nothing else is told of them; other words
-/// than the program's are unknown.
+/// What `clap` reports for `--help`, `show --help`, `--version`, `-V` and the unknown option `show --other`, and that
+/// it reports nothing else.
 pub fn asked_law()
     ensures help { fault_of mold_app (codes "--help" ∷ []) ≡ DisplayHelp ∷ [] }
     ensures show_help { fault_of mold_app (codes "show" ∷ codes "--help" ∷ []) ≡ DisplayHelp ∷ [] }
@@ -233,7 +231,7 @@ pub fn asked_law()
         ≡ UnknownArgument ∷ [] }
 {}
 
-/// The command that taken words name is one of the program's.
+/// If accepted arguments name a command, it is one of the program's commands.
 pub fn own_command_law()
     ensures { (words : List Text) → AreTaken words
         → IfSome (subcommand_of mold_app words) (λ found. IsTrue (is_command found.0)) }

@@ -1,4 +1,4 @@
-//! The words of the program `mold`: which order they say.
+//! Parses the command line of the program `mold` into an order.
 #![tactic(auto)]
 
 mod address;

@@ -1,4 +1,4 @@
-//! What `listen` is told.
+//! The order of `mold listen`.
 
 ghost use Rattle.std.specs.Prelude.{◌≡◌, ◌≤◌, true};
 ghost use Rattle.std.specs.List.{list_all};
@@ -7,28 +7,28 @@ ghost use Rattle.mold_wire.specs.declared.limits.TheConstants.{MAX_BURST, MAX_WI
 
 use crate::address::Address;
 
-/// The session that `listen` hears on two lines.
+/// The session that `listen` receives on two lines, and how.
 #[derive(Clone, Copy, Debug, PartialEq, Eq)]
 pub struct ListenOrder {
-    /// The session's name in characters 20 to 7E, spaces behind the ones that were given.
+    /// The session's name in characters 20 to 7E (hexadecimal), padded with spaces on the right.
     pub session: [u8; 10],
-    /// The number of the first message that is printed, 1 to 9,223,372,036,854,775,807.
+    /// The sequence number of the first message that is printed, 1 to 9,223,372,036,854,775,807.
     pub next: u64,
     /// The receiver's window in messages, 1 to `MAX_WINDOW`.
     pub window: u32,
-    /// Where line A comes to.
+    /// The address that receives line A.
     pub a: Address,
-    /// Where line B comes to.
+    /// The address that receives line B.
     pub b: Address,
-    /// Where requests go to.
+    /// The address that requests are sent to.
     pub server: Address,
-    /// The most packets that answer a request, 1 to `MAX_BURST`.
+    /// The maximum number of receives for the responses to one request, 1 to `MAX_BURST`.
     pub burst: u16,
-    /// The most turns that are made, 1 to 1,000,000.
+    /// The maximum number of turns, 1 to 1,000,000.
     pub turns: u32,
-    /// Whether what a turn printed is written at its end, and not gathered.
+    /// Whether text is written at the end of each turn, instead of being gathered for large writes.
     pub live: bool,
-    /// Whether what came on each line is told before the last line.
+    /// Whether reports of both lines are printed before the last line.
     pub report: bool,
     ghost named: { list_all is_character session ≡ true },
     ghost first: { (1 ≤ next) × (next ≤ 9223372036854775807) },

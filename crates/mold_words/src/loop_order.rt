@@ -1,4 +1,4 @@
-//! What `loop` is told.
+//! The order of `mold loop`.
 
 ghost use Rattle.std.specs.Prelude.{◌≡◌, ◌≤◌, true};
 ghost use Rattle.std.specs.List.{list_all};
@@ -7,24 +7,24 @@ ghost use Rattle.mold_wire.specs.declared.limits.TheConstants.{MAX_BURST, MAX_WI
 
 use crate::limits::Limits;
 
-/// The session that `loop` sends to itself.
+/// The session that `loop` publishes and receives in one process, and how.
 #[derive(Clone, Copy, Debug, PartialEq, Eq)]
 pub struct LoopOrder {
-    /// The session's name in characters 20 to 7E, spaces behind the ones that were given.
+    /// The session's name in characters 20 to 7E (hexadecimal), padded with spaces on the right.
     pub session: [u8; 10],
-    /// How long packets may be.
+    /// The maximum datagram lengths of the publisher and of its server.
     pub limits: Limits,
     /// The receiver's window in messages, 1 to `MAX_WINDOW`.
     pub window: u32,
-    /// The most packets that answer a request, 1 to `MAX_BURST`.
+    /// The maximum number of responses to one request, 1 to `MAX_BURST`.
     pub burst: u16,
-    /// Each so many-th data packet is not sent on line A, up to 1,000; 0 leaves none out.
+    /// Every `drop_a`-th data packet is not sent on line A, 0 to 1,000. With 0 each is sent.
     pub drop_a: u32,
-    /// Each so many-th data packet is not sent on line B, up to 1,000; 0 leaves none out.
+    /// Every `drop_b`-th data packet is not sent on line B, 0 to 1,000. With 0 each is sent.
     pub drop_b: u32,
-    /// The most rounds of requests that are made after the messages, 1 to 1,000,000.
+    /// The maximum number of rounds of requests after the messages, 1 to 1,000,000.
     pub turns: u32,
-    /// Whether what came on each line is told before the last line.
+    /// Whether reports of both lines are printed before the last line.
     pub report: bool,
     ghost named: { list_all is_character session ≡ true },
     ghost windowed: { (1 ≤ window) × (window ≤ MAX_WINDOW) },

@@ -1,38 +1,38 @@
-//! Why words that `clap` takes give no order.
+//! The reasons why arguments that `clap` accepts give no order.
 
 ghost use Rattle.std.specs.Prelude.{◌≡◌, is_err, true};
 
 use crate::table::value_name;
 use std::alloc::{AllocError, Global};
 
-/// Why words that `clap` takes give no order.
+/// Why arguments that `clap` accepts give no order.
 #[derive(Clone, Copy)]
 pub(crate) enum NoOrder {
-    /// The command has no order.
+    /// The command is not one of the program's.
     Command,
-    /// This option has no text.
+    /// This option has no value.
     Missing {
         name: &'static str,
     },
-    /// The text of this option is no session.
+    /// The value of this option is not a session name.
     Session {
         name: &'static str,
     },
-    /// The text of this option is no number in its range.
+    /// The value of this option is not a number in its range.
     Number {
         name: &'static str,
         least: u64,
         most: u64,
     },
-    /// The text of this option is no address.
+    /// The value of this option is not an address.
     Address {
         name: &'static str,
     },
     /// The server's limit is below the publisher's.
     ServerLimit,
-    /// The two files are one.
+    /// The two file names are equal.
     SameFiles,
-    /// Memory was refused.
+    /// An allocation failed.
     Memory,
 }
 
@@ -50,14 +50,14 @@ impl From<AllocError> for NoOrder {
 impl NoOrder {
     ghost use Rattle.mold_words.specs.NoOrders.{is_address};
 
-    /// Whether an address is none.
+    /// Whether the reason is a value that is not an address.
     pub(crate) fn is_address(self) -> bool
         ensures { result ≡ is_address self }
     {
         matches!(self, NoOrder::Address { name: _ })
     }
 
-    /// What the user is told, in whole lines.
+    /// Returns the text for the user, in whole lines.
     pub(crate) fn text(self, alloc: Global) -> Result<String, AllocError>
         ensures { self ≡ NoOrder.Memory → is_err result ≡ true }
     {

@@ -1,4 +1,4 @@
-//! The values of a command's options, as a parse found them.
+//! Reads the values of a command's options from the matches of a parse.
 
 ghost use Rattle.std.specs.Prelude.{◌≡◌, ◌≤◌, IfOk, MatchResult, None, Some, false, option_map, string_bytes, true};
 ghost use Rattle.std.specs.List.{list_all};
@@ -20,17 +20,17 @@ use clap::ArgMatches;
 use mold_wire::{MAX_BURST, MAX_LIMIT, MAX_WINDOW, MIN_LIMIT};
 use std::alloc::Global;
 
-// What holds where an option is not given.
+// The values of options that are not given.
 const DEFAULT_LIMIT: u64 = 1400;
 
 const DEFAULT_WINDOW: u64 = 1024;
 
 const DEFAULT_TURNS: u64 = 1000;
 
-// The most turns.
+// The greatest number of turns.
 const MAX_TURNS: u64 = 1_000_000;
 
-/// The text of an option that has one.
+/// Returns the value of an option that must have one.
 pub(crate) fn required_in<'a>(
     options: &ArgMatches<'a>,
     name: &'static str,
@@ -42,7 +42,7 @@ pub(crate) fn required_in<'a>(
     text_in(options, name).ok_or(NoOrder::Missing { name })
 }
 
-/// The text of an option that has one, as an order keeps it.
+/// Returns the value of an option that must have one, as a string that an order keeps.
 pub(crate) fn string_in(
     alloc: Global,
     options: &ArgMatches<'_>,
@@ -56,14 +56,14 @@ pub(crate) fn string_in(
     Ok(String::from_str(alloc, text)?)
 }
 
-/// Whether the flag was given.
+/// Whether the flag is given.
 pub(crate) fn flag_in(options: &ArgMatches<'_>, name: &str) -> bool
     ensures { result ≡ flag_in name.now (rows_of (found_of options.now)) }
 {
     text_in(options, name).is_some_and(|text| text == "true")
 }
 
-/// The session of the option.
+/// Returns the value of an option that is a session name.
 pub(crate) fn session_in(options: &ArgMatches<'_>, name: &'static str) -> Result<[u8; 10], NoOrder>
     ensures value { MatchResult result
         (λ session. session_in name.now (rows_of (found_of options.now)) ≡ Some session)
@@ -76,7 +76,7 @@ pub(crate) fn session_in(options: &ArgMatches<'_>, name: &'static str) -> Result
     }
 }
 
-/// The number of the option, in its range, and the usual one where it has no text.
+/// Returns the value of an option that is a number in a range, or `usual` if the option is not given.
 pub(crate) fn number_in(
     options: &ArgMatches<'_>,
     name: &'static str,
@@ -96,7 +96,7 @@ pub(crate) fn number_in(
     }
 }
 
-// The text of the option, where it has one.
+// Returns the value of the option, if it has one.
 fn text_in<'a>(options: &ArgMatches<'a>, name: &str) -> Option<&'a str>
     ensures { option_map (λ text. text.now) result
         ≡ first_of name.now (rows_of (found_of options.now)) }
@@ -104,7 +104,7 @@ fn text_in<'a>(options: &ArgMatches<'a>, name: &str) -> Option<&'a str>
     options.get_str(name)
 }
 
-/// The most bytes of a packet.
+/// Returns the maximum length of a datagram.
 pub(crate) fn limit_in(options: &ArgMatches<'_>, name: &'static str) -> Result<usize, NoOrder>
     ensures value { MatchResult result
         (λ number. limit_in name.now (rows_of (found_of options.now)) ≡ Some number)
@@ -120,7 +120,7 @@ pub(crate) fn limit_in(options: &ArgMatches<'_>, name: &'static str) -> Result<u
     )? as usize)
 }
 
-/// The messages that a receiver looks ahead.
+/// Returns the receiver's window.
 pub(crate) fn window_in(options: &ArgMatches<'_>) -> Result<u32, NoOrder>
     ensures value { MatchResult result
         (λ number. window_in (rows_of (found_of options.now)) ≡ Some number)
@@ -130,7 +130,7 @@ pub(crate) fn window_in(options: &ArgMatches<'_>) -> Result<u32, NoOrder>
     Ok(number_in(options, "window", DEFAULT_WINDOW, 1, u64::from(MAX_WINDOW))? as u32)
 }
 
-/// The most packets that answer a request.
+/// Returns the maximum number of responses to a request.
 pub(crate) fn burst_in(options: &ArgMatches<'_>) -> Result<u16, NoOrder>
     ensures value { MatchResult result
         (λ number. burst_in (rows_of (found_of options.now)) ≡ Some number)
@@ -140,7 +140,7 @@ pub(crate) fn burst_in(options: &ArgMatches<'_>) -> Result<u16, NoOrder>
     Ok(number_in(options, "burst", 1, 1, u64::from(MAX_BURST))? as u16)
 }
 
-/// How many turns are made.
+/// Returns the number of turns.
 pub(crate) fn turns_in(options: &ArgMatches<'_>) -> Result<u32, NoOrder>
     ensures value { MatchResult result
         (λ number. turns_in (rows_of (found_of options.now)) ≡ Some number)
@@ -150,21 +150,21 @@ pub(crate) fn turns_in(options: &ArgMatches<'_>) -> Result<u32, NoOrder>
     Ok(number_in(options, "turns", DEFAULT_TURNS, 1, MAX_TURNS)? as u32)
 }
 
-/// Whether what is printed is written at once.
+/// Whether text is written at the end of each turn.
 pub(crate) fn live_in(options: &ArgMatches<'_>) -> bool
     ensures { result ≡ live_in (rows_of (found_of options.now)) }
 {
     flag_in(options, "live")
 }
 
-/// Whether what came on each line is reported.
+/// Whether reports of both lines are printed.
 pub(crate) fn report_in(options: &ArgMatches<'_>) -> bool
     ensures { result ≡ report_in (rows_of (found_of options.now)) }
 {
     flag_in(options, "report")
 }
 
-/// The limits of the publisher and of its server, which has room for the publisher's messages.
+/// Returns the limits of the publisher and of its server. The server's limit is at least the publisher's.
 #[tactic(auto, unfolding(crate::specs::Orders::limits_in))]
 pub(crate) fn limits_in(options: &ArgMatches<'_>) -> Result<Limits, NoOrder>
     ensures { MatchResult result
@@ -182,7 +182,7 @@ pub(crate) fn limits_in(options: &ArgMatches<'_>) -> Result<Limits, NoOrder>
     })
 }
 
-/// The address of the option. That its text is an address is found before by `check_addresses`.
+/// Returns the value of an option that is an address. `check_addresses` has already refused other values.
 pub(crate) fn address_in(options: &ArgMatches<'_>, name: &'static str) -> Result<Address, NoOrder>
     ensures { MatchResult result
         (λ address. address_in name.now (rows_of (found_of options.now)) ≡ Some (address_view address))
@@ -194,7 +194,7 @@ pub(crate) fn address_in(options: &ArgMatches<'_>, name: &'static str) -> Result
     }
 }
 
-// Refuses a text of the option that is no address.
+// Refuses a value of the option that is not an address.
 fn check_address(options: &ArgMatches<'_>, name: &'static str) -> Result<(), NoOrder>
     ensures { MatchResult result
         (λ _. is_no_address (rows_of (found_of options.now)) name.now ≡ false)
@@ -206,7 +206,7 @@ fn check_address(options: &ArgMatches<'_>, name: &'static str) -> Result<(), NoO
     }
 }
 
-/// Refuses options that are addresses by their names, and whose texts are none.
+/// Refuses values that are not addresses. The options that take addresses are known by their names.
 #[tactic(auto, unfolding(crate::specs::Orders::has_no_address))]
 pub(crate) fn check_addresses(options: &ArgMatches<'_>) -> Result<(), NoOrder>
     ensures { MatchResult result

@@ -1,4 +1,4 @@
-//! The order of the command that a parse found.
+//! Makes the order of the command that a parse found.
 
 ghost use Rattle.std.specs.Prelude.{◌≡◌, ◌⊎◌, MatchResult, None, Some};
 ghost use Rattle.clap.specs.Words.{found_of, rows_of, subcommand_rows_of};
@@ -25,10 +25,10 @@ use clap::ArgMatches;
 use mold_wire::MAX_NUMBER;
 use std::alloc::Global;
 
-/// The greatest number that a listener may begin with.
+/// The greatest sequence number that a listener may start at.
 const MAX_NEXT: u64 = 9_223_372_036_854_775_807;
 
-/// The order of the command that was found; where none was, to show packets.
+/// Returns the order of the command that the parse found. Without a command it is the order to show packets.
 pub(crate) fn order_from(alloc: Global, matches: &ArgMatches<'_>) -> Result<Order, NoOrder>
     ensures { MatchResult result
         (λ order. order_in (subcommand_rows_of matches.now) ≡ Some (view order))
@@ -44,7 +44,7 @@ pub(crate) fn order_from(alloc: Global, matches: &ArgMatches<'_>) -> Result<Orde
     }
 }
 
-// The order of the command of this name.
+// Returns the order of the command of this name.
 #[tactic(auto, unfolding(crate::specs::Orders::order_at))]
 fn order_at(alloc: Global, name: &str, options: &ArgMatches<'_>) -> Result<Order, NoOrder>
     ensures { MatchResult result
@@ -66,7 +66,6 @@ fn order_at(alloc: Global, name: &str, options: &ArgMatches<'_>) -> Result<Order
     }
 }
 
-// The order of `show`.
 #[tactic(auto, unfolding(crate::specs::Orders::show_of))]
 fn show_order(options: &ArgMatches<'_>) -> Order
     ensures { view result ≡ show_of (rows_of (found_of options.now)) }
@@ -76,7 +75,6 @@ fn show_order(options: &ArgMatches<'_>) -> Order
     }
 }
 
-// The order of `pack`.
 #[tactic(auto, unfolding(crate::specs::Orders::pack_of))]
 fn pack_order(options: &ArgMatches<'_>) -> Result<Order, NoOrder>
     ensures { MatchResult result
@@ -88,7 +86,6 @@ fn pack_order(options: &ArgMatches<'_>) -> Result<Order, NoOrder>
     Ok(Order::Pack(PackOrder { session, limit }))
 }
 
-// The order of `upgrade`.
 #[tactic(auto, unfolding(crate::specs::Orders::upgrade_of))]
 fn upgrade_order(alloc: Global, options: &ArgMatches<'_>) -> Result<Order, NoOrder>
     ensures { MatchResult result
@@ -107,7 +104,6 @@ fn upgrade_order(alloc: Global, options: &ArgMatches<'_>) -> Result<Order, NoOrd
     }))
 }
 
-// The order of `dump`.
 #[tactic(auto, unfolding(crate::specs::Orders::dump_of))]
 fn dump_order(alloc: Global, options: &ArgMatches<'_>) -> Result<Order, NoOrder>
     ensures { MatchResult result
@@ -124,7 +120,6 @@ fn dump_order(alloc: Global, options: &ArgMatches<'_>) -> Result<Order, NoOrder>
     }))
 }
 
-// The order of `sim`.
 #[tactic(auto, unfolding(crate::specs::Orders::sim_of))]
 fn sim_order(options: &ArgMatches<'_>) -> Result<Order, NoOrder>
     ensures { MatchResult result
@@ -145,7 +140,6 @@ fn sim_order(options: &ArgMatches<'_>) -> Result<Order, NoOrder>
     }))
 }
 
-// The order of `check`.
 #[tactic(auto, unfolding(crate::specs::Orders::check_of))]
 fn check_order(alloc: Global, options: &ArgMatches<'_>) -> Result<Order, NoOrder>
     ensures { MatchResult result
@@ -161,7 +155,6 @@ fn check_order(alloc: Global, options: &ArgMatches<'_>) -> Result<Order, NoOrder
     })
 }
 
-// The order of `publish`.
 #[tactic(auto, unfolding(crate::specs::Orders::publish_of))]
 fn publish_order(alloc: Global, options: &ArgMatches<'_>) -> Result<Order, NoOrder>
     ensures { MatchResult result
@@ -186,7 +179,6 @@ fn publish_order(alloc: Global, options: &ArgMatches<'_>) -> Result<Order, NoOrd
     }))
 }
 
-// The order of `serve`.
 #[tactic(auto, unfolding(crate::specs::Orders::serve_of))]
 fn serve_order(alloc: Global, options: &ArgMatches<'_>) -> Result<Order, NoOrder>
     ensures { MatchResult result
@@ -208,7 +200,6 @@ fn serve_order(alloc: Global, options: &ArgMatches<'_>) -> Result<Order, NoOrder
     }))
 }
 
-// The order of `listen`.
 #[tactic(auto, unfolding(crate::specs::Orders::listen_of))]
 fn listen_order(options: &ArgMatches<'_>) -> Result<Order, NoOrder>
     ensures { MatchResult result
@@ -237,7 +228,6 @@ fn listen_order(options: &ArgMatches<'_>) -> Result<Order, NoOrder>
     }))
 }
 
-// The order of `loop`.
 #[tactic(auto, unfolding(crate::specs::Orders::loop_of))]
 fn loop_order(options: &ArgMatches<'_>) -> Result<Order, NoOrder>
     ensures { MatchResult result

@@ -1,16 +1,16 @@
-//! What `pack` is told.
+//! The order of `mold pack`.
 
 ghost use Rattle.std.specs.Prelude.{◌≡◌, ◌≤◌, true};
 ghost use Rattle.std.specs.List.{list_all};
 ghost use Rattle.mold_words.specs.Values.{is_character};
 ghost use Rattle.mold_wire.specs.declared.limits.TheConstants.{MAX_LIMIT, MIN_LIMIT};
 
-/// The session that `pack` prints, and how long its packets may be.
+/// The session whose packets `pack` prints, and how long its datagrams may be.
 #[derive(Clone, Copy, Debug, PartialEq, Eq)]
 pub struct PackOrder {
-    /// The session's name in characters 20 to 7E, spaces behind the ones that were given.
+    /// The session's name in characters 20 to 7E (hexadecimal), padded with spaces on the right.
     pub session: [u8; 10],
-    /// The most bytes that a packet has, `MIN_LIMIT` to `MAX_LIMIT`.
+    /// The maximum length of a datagram in bytes, `MIN_LIMIT` to `MAX_LIMIT`.
     pub limit: usize,
     ghost named: { list_all is_character session ≡ true },
     ghost limited: { (MIN_LIMIT ≤ limit) × (limit ≤ MAX_LIMIT) },

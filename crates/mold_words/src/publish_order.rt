@@ -1,4 +1,4 @@
-//! What `publish` is told.
+//! The order of `mold publish`.
 
 ghost use Rattle.std.specs.Prelude.{◌≡◌, ◌≤◌, true};
 ghost use Rattle.std.specs.List.{list_all};
@@ -7,22 +7,22 @@ ghost use Rattle.mold_wire.specs.declared.limits.TheConstants.{MAX_LIMIT, MIN_LI
 
 use crate::address::Address;
 
-/// The session that `publish` sends on two lines.
+/// The session that `publish` sends on two lines, and how.
 #[derive(Debug, PartialEq, Eq, Drop)]
 pub struct PublishOrder {
-    /// The session's name in characters 20 to 7E, spaces behind the ones that were given.
+    /// The session's name in characters 20 to 7E (hexadecimal), padded with spaces on the right.
     pub session: [u8; 10],
-    /// The most bytes that a packet has, `MIN_LIMIT` to `MAX_LIMIT`.
+    /// The maximum length of a datagram in bytes, `MIN_LIMIT` to `MAX_LIMIT`.
     pub limit: usize,
-    /// Where line A goes to.
+    /// The address that line A is sent to.
     pub a: Address,
-    /// Where line B goes to.
+    /// The address that line B is sent to.
     pub b: Address,
     /// The name of the file that the journal is saved in.
     pub journal: String,
-    /// How many heartbeats are sent after the messages, up to 1,000.
+    /// How many heartbeats are sent after the messages, 0 to 1,000.
     pub beats: u32,
-    /// How many end packets are sent, up to 1,000.
+    /// How many end packets are sent after the heartbeats, 0 to 1,000.
     pub ends: u32,
     ghost named: { list_all is_character session ≡ true },
     ghost limited: { (MIN_LIMIT ≤ limit) × (limit ≤ MAX_LIMIT) },

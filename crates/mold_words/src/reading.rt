@@ -1,4 +1,4 @@
-//! Words to an order.
+//! Parses command-line arguments into an order.
 ghost use Rattle.std.specs.Prelude.{◌≡◌, [], IfErr, IfOk, Ok, Some, false, map, string_bytes};
 ghost use Rattle.mold_words.specs.Faults.{IsFaultOf};
 ghost use Rattle.mold_words.specs.Orders.{AreTaken, Say, order_of};
@@ -10,17 +10,19 @@ use crate::orders::order_from;
 use crate::types::Order;
 use std::alloc::Global;
 
-/// The order that the words say. The words come without the program's name. A request for help or
-/// for the version is told as a fault, and so are words that are no command and texts that are no
-/// values of their options, with a text for the user.
+/// Parses the command-line arguments, without the program's name, into an order. No arguments are the order to show
+/// packets.
+///
+/// A request for help or for the version is returned as a fault. So are arguments that are not a valid command, and
+/// invalid values of options. Each of these faults has a text for the user.
 pub fn read_words(alloc: Global, words: &[String]) -> Result<Order, UsageFault>
-    // An order comes of words that `clap` takes, and is what they say.
+    // An order is returned only for arguments that `clap` accepts, and it is the order that they give.
     ensures taken { IfOk result (λ _. AreTaken (map string_bytes words.now)) }
     ensures order { IfOk result (λ order. order_of (map string_bytes words.now) ≡ Some (view order)) }
 
-    // Words that `clap` takes, and that say something, fail for want of memory alone; of others a
-    // fault tells what `clap` has against them, or that a text is no value of its option; an address that is
-    // none is told before other such texts.
+    // If `clap` accepts the arguments and they give an order, the only fault is `Memory`. Otherwise the fault reports
+    // what `clap` finds in them, or an invalid value of an option, or `Memory`. An invalid address is reported before
+    // any other invalid value.
     ensures refused { IfErr result (λ fault. (wanted : Arguments) → Say (map string_bytes words.now) wanted
         → fault ≡ UsageFault.Memory) }
     ensures fault { IfErr result (IsFaultOf (map string_bytes words.now)) }

@@ -1,4 +1,4 @@
-//! What `serve` is told.
+//! The order of `mold serve`.
 
 ghost use Rattle.std.specs.Prelude.{◌≤◌};
 ghost use Rattle.mold_wire.specs.declared.limits.TheConstants.{MAX_BURST};
@@ -6,20 +6,20 @@ ghost use Rattle.mold_wire.specs.declared.limits.TheConstants.{MAX_LIMIT, MIN_LI
 
 use crate::address::Address;
 
-/// The journal from which `serve` answers requests.
+/// The journal that `serve` responds from, and how.
 #[derive(Debug, PartialEq, Eq, Drop)]
 pub struct ServeOrder {
-    /// The name of the journal's file.
+    /// The name of the journal file.
     pub journal: String,
-    /// The most bytes that a packet has, `MIN_LIMIT` to `MAX_LIMIT`.
+    /// The maximum length of a response in bytes, `MIN_LIMIT` to `MAX_LIMIT`.
     pub limit: usize,
-    /// The most packets that answer a request, 1 to `MAX_BURST`.
+    /// The maximum number of responses to one request, 1 to `MAX_BURST`.
     pub burst: u16,
-    /// Where requests come to.
+    /// The address that receives requests.
     pub bind: Address,
-    /// How many receives are made, 1 to 1,000,000.
+    /// The number of turns, each of which makes one receive, 1 to 1,000,000.
     pub turns: u32,
-    /// Whether what a turn printed is written at its end, and not gathered.
+    /// Whether text is written at the end of each turn, instead of being gathered for large writes.
     pub live: bool,
     ghost limited: { (MIN_LIMIT ≤ limit) × (limit ≤ MAX_LIMIT) },
     ghost bursting: { (1 ≤ burst) × (burst ≤ MAX_BURST) },

@@ -1,4 +1,4 @@
-//! What `sim` is told.
+//! The order of `mold sim`.
 
 ghost use Rattle.std.specs.Prelude.{◌≡◌, ◌≤◌, true};
 ghost use Rattle.std.specs.List.{list_all};
@@ -7,18 +7,18 @@ ghost use Rattle.mold_wire.specs.declared.limits.TheConstants.{MAX_BURST, MAX_WI
 
 use crate::limits::Limits;
 
-/// The session that `sim` runs, and its receivers.
+/// The session that `sim` runs, its server and its receivers.
 #[derive(Clone, Copy, Debug, PartialEq, Eq)]
 pub struct SimOrder {
-    /// The session's name in characters 20 to 7E, spaces behind the ones that were given.
+    /// The session's name in characters 20 to 7E (hexadecimal), padded with spaces on the right.
     pub session: [u8; 10],
-    /// How long packets may be.
+    /// The maximum datagram lengths of the publisher and of its server.
     pub limits: Limits,
     /// The window of each receiver in messages, 1 to `MAX_WINDOW`.
     pub window: u32,
-    /// How many receivers there are, 1 to 8.
+    /// The number of receivers, 1 to 8.
     pub receivers: usize,
-    /// The most packets that answer a request, 1 to `MAX_BURST`.
+    /// The maximum number of responses to one request, 1 to `MAX_BURST`.
     pub burst: u16,
     ghost named: { list_all is_character session ≡ true },
     ghost windowed: { (1 ≤ window) × (window ≤ MAX_WINDOW) },

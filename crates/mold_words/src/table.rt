@@ -1,36 +1,43 @@
-//! The commands of the program with their options, and what help says of them.
+//! The table of the program's commands and options, with their help texts.
 
-/// How an option is used.
+/// How an option is given.
 #[derive(Clone, Copy)]
 pub enum Kind {
-    /// Given or not, without a value.
+    /// A flag, which has no value.
     Flag,
-    /// With a value, and may be left out.
+    /// An option with a value, which may be left out.
     Optional,
-    /// With a value, and has to be there.
+    /// An option with a value, which must be given.
     Required,
-    /// A word without dashes, which has to be there.
+    /// A positional argument, which must be given.
     Word,
 }
 
-/// An option, whose name stands behind two dashes, or a word that stands by itself.
+/// An option of a command, or a positional argument.
 #[derive(Clone, Copy)]
 pub struct OptionRow {
+    /// The name. On the command line two dashes precede it, unless it is a positional argument.
     pub name: &'static str,
+    /// How it is given.
     pub kind: Kind,
+    /// Its lines of help.
     pub help: &'static str,
 }
 
-/// A command and its options, and the text at the end of its help: how it is called.
+/// A command of the program.
 #[derive(Clone, Copy)]
 pub struct CommandRow {
+    /// The name.
     pub name: &'static str,
+    /// What the command does, in one line of help.
     pub about: &'static str,
+    /// Its options, in the order in which help lists them.
     pub options: &'static [OptionRow],
+    /// The end of its help: an example of a call.
     pub example: &'static str,
 }
 
-/// What the value of an option is called in help and in faults.
+/// Returns the name of an option's value in help and in faults.
 pub(crate) fn value_name(option: &str) -> &'static str {
     match option {
         "session" => "NAME",
@@ -45,21 +52,20 @@ pub(crate) fn value_name(option: &str) -> &'static str {
     }
 }
 
-// The name of a session that is made or listened to.
 const SESSION: OptionRow = OptionRow {
     name: "session",
     kind: Kind::Required,
     help: "The session's name, 1 to 10 characters from space to ~",
 };
 
-// The most bytes of what is sent in one datagram.
+// The maximum length of a datagram.
 const LIMIT: OptionRow = OptionRow {
     name: "limit",
     kind: Kind::Optional,
     help: "The most bytes of a packet, 64 to 65507 [default: 1400]",
 };
 
-// The most bytes of an answer's datagram.
+// The maximum length of a response.
 const SERVER_LIMIT: OptionRow = OptionRow {
     name: "server-limit",
     kind: Kind::Optional,
@@ -67,28 +73,26 @@ const SERVER_LIMIT: OptionRow = OptionRow {
         It is not below the limit",
 };
 
-// How far a receiver looks ahead.
 const WINDOW: OptionRow = OptionRow {
     name: "window",
     kind: Kind::Optional,
     help: "How many messages a receiver looks ahead, 1 to 65536 [default: 1024]",
 };
 
-// How many datagrams answer a request.
+// The maximum number of responses to a request.
 const BURST: OptionRow = OptionRow {
     name: "burst",
     kind: Kind::Optional,
     help: "The most packets that answer a request, 1 to 64 [default: 1]",
 };
 
-// Output for who reads it while it comes.
+// Writes text at the end of each turn, for a reader who follows it.
 const LIVE: OptionRow = OptionRow {
     name: "live",
     kind: Kind::Flag,
     help: "Write at the end of each turn what it printed, and do not gather it",
 };
 
-// What came on the two lines.
 const REPORT: OptionRow = OptionRow {
     name: "report",
     kind: Kind::Flag,

@@ -1,4 +1,4 @@
-//! What the program can be told to do.
+//! The order: the parsed command line.
 
 use crate::dump_order::DumpOrder;
 use crate::listen_order::ListenOrder;
@@ -9,37 +9,35 @@ use crate::serve_order::ServeOrder;
 use crate::sim_order::SimOrder;
 use crate::upgrade_order::UpgradeOrder;
 
-/// What the program is told to do, one variant for each command, and two for `check`.
+/// The parsed command line. There is one variant for each command, and two for `check`.
 #[derive(Debug, PartialEq, Eq, Drop)]
 pub enum Order {
-    /// Print the packets that standard input gives, each as a line of hexadecimal digits.
+    /// Prints the packets on standard input, each given as a line of hexadecimal digits.
     Show {
-        /// Whether the lines are requests.
+        /// Whether each line is read as a request.
         request: bool,
     },
-    /// Print the packets of a session whose messages standard input gives, each as a line of
-    /// hexadecimal digits.
+    /// Prints the packets of a session as lines of hexadecimal digits. Its messages are read from standard input.
     Pack(PackOrder),
-    /// Run a script of events that standard input gives, and print what each event does.
+    /// Runs a script of events from standard input, and prints the result of each event.
     Sim(SimOrder),
-    /// Say whether the datagrams of a folder come from one whole session.
+    /// Checks whether the datagrams in a folder are those of one complete session.
     Check {
-        /// The folder's name.
+        /// The name of the folder.
         folder: String,
     },
-    /// Say whether the datagrams that standard input gives as lines of hexadecimal digits come from one whole
-    /// session.
+    /// Checks the same for datagrams on standard input, each given as a line of hexadecimal digits.
     CheckLines,
-    /// Send a session, whose messages standard input gives, on two lines, and save its journal.
+    /// Sends a session, whose messages are read from standard input, on two lines. Saves its journal.
     Publish(PublishOrder),
-    /// Answer requests from the journal of a file.
+    /// Responds to requests from a journal file.
     Serve(ServeOrder),
-    /// Print the messages of a session that come on two lines, and request what is missing.
+    /// Prints the messages of a session that is received on two lines, and requests the missing ones.
     Listen(ListenOrder),
-    /// Send a session, whose messages standard input gives, to itself, and print what arrives.
+    /// Publishes a session, whose messages are read from standard input, and receives it in the same process.
     Loop(LoopOrder),
-    /// Write the journal of a file in another one, in the newest version.
+    /// Writes the journal of one file to another one, in the newest version of the format.
     Upgrade(UpgradeOrder),
-    /// Print the messages of a journal's file, each as a line of hexadecimal digits.
+    /// Prints the messages of a journal file, each as a line of hexadecimal digits.
     Dump(DumpOrder),
 }

@@ -1,12 +1,12 @@
-//! What `upgrade` is told.
+//! The order of `mold upgrade`.
 
-/// The journal's file that `upgrade` reads, and the one that it writes.
+/// The journal files that `upgrade` reads and writes.
 #[derive(Debug, PartialEq, Eq, Drop)]
 pub struct UpgradeOrder {
     /// The name of the file that is read.
     pub journal: String,
-    /// The name of the file that is made or replaced. It is another text.
+    /// The name of the file that is created or replaced. It differs from `journal`.
     pub to: String,
-    /// Whether the new journal is closed also where the old one is open.
+    /// Whether the new journal is closed even if the old one is open.
     pub close: bool,
 }

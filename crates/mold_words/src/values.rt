@@ -1,4 +1,4 @@
-//! The values that texts of options stand for.
+//! Parses the texts of options that are sessions and numbers.
 
 ghost use Rattle.std.specs.Prelude.{◌≡◌, ◌≤◌, true, IfSome};
 ghost use Rattle.std.specs.List.{list_all};
@@ -13,7 +13,7 @@ fn is_character(byte: u8) -> bool
     32 <= byte && byte <= 126
 }
 
-// Whether the text has 1 to so many bytes.
+// Whether the text has 1 to `most` bytes.
 fn is_sized(text: &str, most: usize) -> bool
     ensures { result ≡ is_sized most text.now }
 {
@@ -32,7 +32,7 @@ fn is_session(text: &str) -> bool
     is_sized(text, SESSION_LENGTH) && are_characters(text)
 }
 
-/// The session that 1 to 10 characters name, with spaces behind them.
+/// Returns the session name that a text of 1 to 10 characters from space to ~ gives, padded with spaces on the right.
 pub(crate) fn session_of(text: &str) -> Option<[u8; SESSION_LENGTH]>
     ensures value { result ≡ session_of text.now }
     ensures named { IfSome result (λ session. list_all is_character session ≡ true) }
@@ -45,7 +45,7 @@ pub(crate) fn session_of(text: &str) -> Option<[u8; SESSION_LENGTH]>
     Some(session)
 }
 
-/// The number in the range that 1 to 20 decimal digits spell.
+/// Returns the number that 1 to 20 decimal digits represent, if it is in the range.
 pub(crate) fn number_of(text: &str, least: u64, most: u64) -> Option<u64>
     ensures value { result ≡ number_of least most text.now }
     ensures within { IfSome result (λ number. (least ≤ number) × (number ≤ most)) }

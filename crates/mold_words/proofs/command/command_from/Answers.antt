@@ -7,7 +7,7 @@ use Rattle.mold_words.specs.declared.table.Kind.TheVariants.{Flag}
 use Rattle.mold_words.proofs.FoldLemmas.{fold-map_more}
 use Rattle.mold_words.proofs.command.command_from.Goals as goal
 
--- what the list reads as behind its end
+-- the element that an index after the end of the list reads as
 no_option : OptionRow
 no_option = record {
   name = record { ref_ptr = (0, 0); now = [] };

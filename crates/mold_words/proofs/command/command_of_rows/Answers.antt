@@ -6,7 +6,7 @@ use Rattle.mold_words.specs.declared.table.CommandRow.{CommandRow}
 use Rattle.mold_words.proofs.FoldLemmas.{fold-map_more}
 use Rattle.mold_words.proofs.command.command_of_rows.Goals as goal
 
--- what the list reads as behind its end
+-- the element that an index after the end of the list reads as
 no_row : CommandRow
 no_row = record {
   name = record { ref_ptr = (0, 0); now = [] };
