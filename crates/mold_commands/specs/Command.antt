@@ -1,4 +1,4 @@
--- What an order prints for its input, and the status that it ends with.
+-- Defines what an order that reads lines prints for its input, and its status.
 use Rattle.std.specs.Prelude.{ℕ, List, [], ⊤}
 use Rattle.mold_check.specs.CheckLines.{check_status, check_text}
 use Rattle.mold_show.specs.Pack.{pack_text, pack_status}
@@ -9,13 +9,13 @@ use Rattle.mold_words.specs.declared.types.Order.{Order}
 use Rattle.mold_words.specs.declared.types.Order.TheVariants.{Show, Pack, Sim, Check, CheckLines, Publish, Serve}
 use Rattle.mold_words.specs.declared.types.Order.TheVariants.{Listen, Loop, Upgrade, Dump}
 
--- the world that a script's events happen to
+-- The state of the simulation at the start of the order's script.
 abbrev pub sim_start : SimOrder → SimState
 sim_start order = sim_beginning (record { 0 = order.session }) order.limits.limit order.limits.server_limit order.burst
     order.window order.receivers
 
--- the orders that read lines and print text; a check reads a folder, an upgrade reads and writes files, and the
--- others go over ports
+-- The order reads lines from a source and prints text. A check of a folder, an upgrade and a dump read files, and the
+-- other orders use ports.
 abbrev pub IsStreamed : Order → Type 0
 IsStreamed (Show requests) = ⊤
 IsStreamed (Pack order) = ⊤
@@ -29,7 +29,7 @@ IsStreamed (Loop order) = ⊥
 IsStreamed (Upgrade order) = ⊥
 IsStreamed (Dump order) = ⊥
 
--- what is printed for the whole input
+-- The text that an order prints for the whole input. It is empty if the order does not read lines.
 abbrev pub text : Order → List ℕ → List ℕ
 text (Show requests) input = show_text requests input
 text (Pack order) input = pack_text (record { 0 = order.session }) order.limit input
@@ -43,7 +43,8 @@ text (Loop order) input = []
 text (Upgrade order) input = []
 text (Dump order) input = []
 
--- the status: 0 done, 2 something was refused
+-- The status of an order for the whole input: 0 if all is accepted, 2 if something is refused. For `check -` it is 1
+-- if the session is not complete.
 abbrev pub status : Order → List ℕ → ℕ
 status (Show requests) input = show_status requests input
 status (Pack order) input = pack_status (record { 0 = order.session }) order.limit input

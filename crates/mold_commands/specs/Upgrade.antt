@@ -1,4 +1,4 @@
--- How `mold upgrade` ends, and what it prints.
+-- Defines how `mold upgrade` ends, and what it prints.
 use Rattle.std.specs.Prelude.{◌≡◌, ℕ, Bool, true, false, List, [], ◌∷◌, codes, decimal, Option, None, Some, Result}
 use Rattle.std.specs.Prelude.{Ok, Err, IfOk, IfErr}
 use Rattle.std.specs.Io.KnownBytes.{Appends}
@@ -14,24 +14,24 @@ use Rattle.mold_session.specs.declared.error.FileError.{FileError}
 use Rattle.mold_session.specs.declared.error.FileError.TheVariants as file
 use Rattle.mold_session.specs.declared.upgrading.Upgraded.{Upgraded}
 
--- whether a journal is closed, as a word
+-- The word for a closed or an open journal.
 abbrev pub closed_word : Bool → List ℕ
 closed_word true = codes "closed"
 closed_word false = codes "open"
 
--- the line that tells what was upgraded, or why nothing was
+-- The line that reports how many messages were upgraded, or why the file is refused.
 abbrev pub upgrade_text : Result Upgraded FileError → List ℕ
 upgrade_text (Ok upgraded) =
     line_of (codes "upgraded" ∷ decimal upgraded.messages ∷ closed_word upgraded.closed ∷ [])
 upgrade_text (Err error) = refused_line (file_fault_words error)
 
--- the status: 0 done, 2 refused
+-- The status of an outcome: 0 if the file was upgraded, 2 if it is refused.
 abbrev pub upgrade_status : Result Upgraded FileError → ℕ
 upgrade_status (Ok upgraded) = 0
 upgrade_status (Err error) = 2
 
--- the fault that ends the command whose upgrade had this outcome: that of a device or of memory. There is none where
--- the file was upgraded or is itself at fault, which is told
+-- The fault that the command returns for this outcome, if it is a fault of a device or of memory. Any other outcome is
+-- printed.
 abbrev pub fault_of : Result Upgraded FileError → Option CommandFault
 fault_of (Ok upgraded) = None
 fault_of (Err file.Read) = Some command.Read
@@ -39,19 +39,24 @@ fault_of (Err file.Write) = Some command.Write
 fault_of (Err file.Memory) = Some command.Memory
 fault_of (Err error) = None
 
--- the outcome is one that `upgrade` may have: of the bytes that the source told and how often it failed, before and
--- after, and of the sink of the new file, which holds bytes and counts its failures
+-- The outcome is one that `upgrade` may return. `known` is the source's remaining bytes, `old` and `new` are the sink
+-- of the new file, and `read_before` and `read_after` count the source's failures.
 pub record IsUpgradeOutcome {J : Type 0} (known : Option (List ℕ)) (read_before read_after : ℕ)
     (held : J → Option (List ℕ)) (failed : J → ℕ) (old new : J) (close : Bool)
     (outcome : Result Upgraded FileError) : Type 0 where
+  -- On success the new journal is written.
   pub whole : IfOk outcome (Upgrades known (held old) (held new) close)
+  -- After `Write` a prefix of the new journal is written. Any other error has its reason in the source.
   pub refused : IfErr outcome (RefusesUpgrade known (held old) (held new) close)
+  -- An error other than `Write` leaves the sink unchanged.
   pub untouched : IfErr outcome (λ error. (error ≡ file.Write → ⊥) → new ≡ old)
+  -- The source's count of failures agrees with the outcome.
   pub read : CountsLoad read_before read_after outcome
+  -- The count of failures of the new file's sink agrees with the outcome.
   pub written : CountsSave (failed old) (failed new) outcome
 
--- how a command ends that tells an outcome in a sink: its line is written and its status answered; or the sink failed,
--- and has taken a beginning of the line; or memory was wanting, and nothing is written
+-- How the command ends that prints an outcome. On success the line is written and its status returned. After `Write`
+-- the sink has failed, and a prefix of the line is written. After `Memory` nothing is written.
 abbrev pub PrintsOutcome : {K : Type 0} → (K → Option (List ℕ)) → (K → ℕ) → K → K → Result Upgraded FileError →
     Result ℕ CommandFault → Type 0
 PrintsOutcome held failed old new outcome (Ok status) =
@@ -62,13 +67,14 @@ PrintsOutcome held failed old new outcome (Err command.Write) =
 PrintsOutcome held failed old new outcome (Err command.Memory) = new ≡ old
 PrintsOutcome held failed old new outcome (Err command.Read) = ⊥
 
--- the fault of an upgrade is answered and nothing told; without one its outcome is told
+-- How the command ends if its fault is known. A fault is returned and nothing printed. Without a fault the outcome is
+-- printed.
 abbrev pub EndsWith : {K : Type 0} → (K → Option (List ℕ)) → (K → ℕ) → K → K → Result Upgraded FileError →
     Option CommandFault → Result ℕ CommandFault → Type 0
 EndsWith held failed old new outcome (Some fault) result = (result ≡ Err fault) × (new ≡ old)
 EndsWith held failed old new outcome None result = PrintsOutcome held failed old new outcome result
 
--- the same by the outcome alone
+-- How the command ends after `upgrade` returned this outcome.
 abbrev pub PrintsUpgrade : {K : Type 0} → (K → Option (List ℕ)) → (K → ℕ) → K → K → Result Upgraded FileError →
     Result ℕ CommandFault → Type 0
 PrintsUpgrade held failed old new outcome result =

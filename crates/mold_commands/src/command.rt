@@ -1,4 +1,4 @@
-//! The commands that read a source and write a sink.
+//! The commands that read lines from a source and write to a sink.
 
 ghost use Rattle.std.specs.Prelude.{◌≡◌, IfOk, IfSome};
 ghost use Rattle.std.specs.Io.KnownBytes.{Appends};
@@ -15,9 +15,13 @@ use mold_wire::Session;
 use mold_words::{Order, PackOrder, SimOrder};
 use std::alloc::{AllocError, Global};
 
-/// Does what an order that reads lines says with the whole input of the source, and answers the status: 0 done, 2
-/// something was refused. After a fault a beginning of the output is written. `Read` and `Write` come
-/// only where the source or the sink failed, `Memory` only where a growth was refused.
+/// Runs an order that reads lines (`IsStreamed`) over the whole input of the source, and returns the status.
+///
+/// The status is 0 if all lines were accepted, and 2 if one was refused. For `check -` it is 1 if the session is not
+/// complete.
+///
+/// After a fault, the output written is a prefix of the whole output. `Read` is returned only if the source failed,
+/// `Write` only if the sink failed, and `Memory` only if an allocation failed.
 pub fn run_command<S: Source, K: Sink>(
     alloc: Global,
     order: &Order,
@@ -51,7 +55,7 @@ pub fn run_command<S: Source, K: Sink>(
     }
 }
 
-// The command of an order to pack.
+// Returns the `pack` command of an order.
 fn pack_of(alloc: Global, order: &PackOrder) -> Result<Pack, AllocError>
     ensures { IfOk result (λ pack.
         pack ≡ fresh_publisher (record { 0 = order.now.session }) order.now.limit) }
@@ -63,7 +67,7 @@ fn pack_of(alloc: Global, order: &PackOrder) -> Result<Pack, AllocError>
     Pack::new(alloc, options)
 }
 
-// The command of an order to simulate.
+// Returns the `sim` command of an order.
 fn sim_of(alloc: Global, order: &SimOrder) -> Result<Sim, AllocError>
     ensures { IfOk result (λ sim. sim ≡ sim_start order.now) }
 {

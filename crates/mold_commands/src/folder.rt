@@ -1,4 +1,4 @@
-//! `mold check`: the entries of a folder.
+//! `mold check`: reads and checks the entries of a folder.
 
 ghost use Rattle.std.specs.Prelude.{◌≡◌, IfErr, IfOk};
 ghost use Rattle.mold_commands.specs.Folder.{CountsFolder, PrintsEntries};
@@ -9,7 +9,7 @@ use std::alloc::Global;
 use std::fs::{self, DirEntry, Files};
 use std::io::{self, ErrorKind};
 
-// Reads an entry. Of one that is no datagram nothing but the name is read.
+// Reads an entry. If it is not a datagram, only its name is read.
 fn read_entry<R: Files + AllocGlobal>(rt: &R, found: &DirEntry<R, Global>) -> io::Result<Entry> {
     let name = String::from_str(rt.alloc(), found.file_name())?;
     let bytes = if names_datagram(name.as_str()) {
@@ -20,8 +20,8 @@ fn read_entry<R: Files + AllocGlobal>(rt: &R, found: &DirEntry<R, Global>) -> io
     Ok(Entry { name, bytes })
 }
 
-// Reads the entries of the folder, in the order in which the system lists them. A name that is not UTF-8 is an
-// error, and so is a datagram that can't be read, as one that is a folder.
+// Reads the entries of the folder, in the order in which the system lists them. It fails if a name is not UTF-8 or a
+// datagram can't be read. A folder with the name of a datagram can't be read.
 fn read_entries<R: Files + AllocGlobal + Clone + Drop>(
     rt: &R,
     folder: &str,
@@ -33,9 +33,10 @@ fn read_entries<R: Files + AllocGlobal + Clone + Drop>(
     Ok(entries)
 }
 
-/// Reads the folder, and tells in the sink what `check_entries` finds; it answers the status. `Read` is
-/// answered where the folder or a datagram in it can't be read, or a name is not UTF-8, also that of an entry
-/// that is no datagram; nothing is written then. What the folder holds is the system's word.
+/// Reads the folder, writes the report of `check_entries` to the sink, and returns the status of that function.
+///
+/// `Read` is returned if the folder or a datagram in it can't be read, or if the name of any entry is not UTF-8.
+/// Nothing is written then. The contract does not specify which entries the folder has: the system lists them.
 pub fn check_folder<R: Files + AllocGlobal + Clone + Drop, K: Sink>(
     rt: &R,
     folder: &str,

@@ -1,4 +1,4 @@
-//! The commands of the program over any source, sink and files.
+//! The commands of the program that need no port, over any source, sink and files.
 #![tactic(auto)]
 
 mod command;

@@ -1,4 +1,4 @@
-//! `mold upgrade`: a journal's file written again, in the version that is written today.
+//! `mold upgrade`: writes a journal file again in the newest version of the format.
 
 ghost use Rattle.std.specs.Prelude.{◌≡◌, ◌++◌, IfOk, Ok, OnOk, Result};
 ghost use Rattle.mold_commands.specs.Upgrade.{IsUpgradeOutcome, PrintsOutcome, PrintsUpgrade, fault_of, upgrade_status};
@@ -12,7 +12,7 @@ use mold_session::{FileError, Upgraded, upgrade};
 use mold_text::{Word, push_line};
 use std::alloc::{AllocError, Global};
 
-// Writes the line of what was upgraded.
+// Appends the line that reports what was upgraded.
 fn push_upgraded(out: &mut Vec<u8>, upgraded: Upgraded) -> Result<(), AllocError>
     ensures text { OnOk result (out.new.items ≡ out.old.items ++ upgrade_text (Ok upgraded)) }
 {
@@ -31,7 +31,7 @@ fn push_upgraded(out: &mut Vec<u8>, upgraded: Upgraded) -> Result<(), AllocError
     )
 }
 
-// Writes the line of an outcome, and answers its status.
+// Appends the line that reports an outcome, and returns its status.
 fn push_outcome(out: &mut Vec<u8>, outcome: Result<Upgraded, FileError>) -> Result<u8, AllocError>
     ensures text { OnOk result (out.new.items ≡ out.old.items ++ upgrade_text outcome) }
     ensures status { IfOk result (λ status. status ≡ upgrade_status outcome) }
@@ -48,7 +48,7 @@ fn push_outcome(out: &mut Vec<u8>, outcome: Result<Upgraded, FileError>) -> Resu
     }
 }
 
-// Tells the outcome, and answers its status.
+// Prints the line that reports an outcome, and returns its status.
 fn print_upgraded<K: Sink>(
     alloc: Global,
     outcome: Result<Upgraded, FileError>,
@@ -66,7 +66,7 @@ fn print_upgraded<K: Sink>(
     Ok(status)
 }
 
-// The fault of a device or of memory that an upgrade ended with.
+// Returns the device or memory fault that an upgrade ended with, if any.
 fn device_fault(outcome: Result<Upgraded, FileError>) -> Option<CommandFault>
     ensures { result ≡ fault_of outcome }
 {
@@ -78,10 +78,12 @@ fn device_fault(outcome: Result<Upgraded, FileError>) -> Option<CommandFault>
     }
 }
 
-/// Reads the file of a journal from the source, writes it in version 2 in `journal`, closed also where
-/// `close` is true, and tells in the sink what became of it, which is what `upgrade` answered. The status is 0, or 2
-/// where the file is refused. A fault of the source, of `journal` or of memory within `upgrade` is answered, and then
-/// nothing is told; one behind it leaves `journal` as `upgrade` left it.
+/// Reads a journal file from the source, writes it to `journal` in version 2, and prints the outcome of `upgrade` to
+/// the sink. Returns the status: 0, or 2 if the file is refused. If `close` is true, the new journal is closed even if
+/// the old one is open.
+///
+/// A fault of the source, of `journal` or of memory within `upgrade` is returned, and nothing is printed. A fault
+/// while the outcome is printed leaves `journal` as `upgrade` left it.
 pub fn run_upgrade<S: Source, J: Sink, K: Sink>(
     alloc: Global,
     source: &mut S,

@@ -7,7 +7,7 @@ use Rattle.mold_commands.specs.Folder.{PrintsEntries}
 use Rattle.mold_devices.specs.declared.fault.CommandFault.{CommandFault}
 use Rattle.mold_commands.proofs.folder.check_folder.Goals as goal
 
--- these entries were checked
+-- the report of these entries was written
 told_of : (entries : List Entry) (old new : Option (List ℕ)) (answer : Result ℕ CommandFault)
     → IfOk answer (λ status. (checked : Checked entries)
     × (Appends old new (report checked) × (status ≡ outcome_status checked.outcome)))
