@@ -1,4 +1,4 @@
-//! The program `mold`: packets of MoldUDP64 from the command line.
+//! The program `mold`: runs the order that its command line gives.
 #![tactic(auto)]
 
 ghost use Rattle.mold_commands.specs.Command.{IsStreamed};
@@ -17,7 +17,7 @@ use std::{env, io};
 
 const NOT_UTF8: &str = "error: a word is not UTF-8\n";
 
-// Prints the text of help or of the version, or the text of a usage fault and the fault.
+// Prints the text of help or of the version, or the text of a usage fault followed by the fault's word.
 fn print_usage(rt: &(impl Print + Eprint), fault: UsageFault) -> ExitCode {
     match fault {
         UsageFault::Help { text } | UsageFault::Version { text } => match rt.print(text.as_str()) {
@@ -36,12 +36,12 @@ fn print_usage(rt: &(impl Print + Eprint), fault: UsageFault) -> ExitCode {
     }
 }
 
-// The words of the command line, without the program's name.
+// Returns the command-line arguments, without the program's name.
 fn command_words(rt: &(impl Env + AllocGlobal)) -> io::Result<Vec<String>> {
     Ok(env::args(rt)?.skip(1).collect(rt.alloc())?)
 }
 
-// The order that the words of the command line say.
+// Returns the order that the command-line arguments give.
 fn read_order(rt: &(impl Env + AllocGlobal)) -> Result<Order, UsageFault> {
     match command_words(rt) {
         Ok(words) => read_words(rt.alloc(), words.as_slice()),
@@ -52,7 +52,7 @@ fn read_order(rt: &(impl Env + AllocGlobal)) -> Result<Order, UsageFault> {
     }
 }
 
-// Runs an order that reads lines over standard input and output, and flushes the output once.
+// Runs an order that reads lines from standard input to standard output, and flushes the output once.
 fn run_streamed(rt: &HostRuntime, order: &Order) -> Result<u8, CommandFault>
     requires { IsStreamed order.now }
 {
@@ -62,14 +62,14 @@ fn run_streamed(rt: &HostRuntime, order: &Order) -> Result<u8, CommandFault>
     flushed(outcome, sink.into_inner().flush())
 }
 
-// Checks the folder over standard output, which is flushed once.
+// Checks the folder, and flushes standard output once.
 fn run_check(rt: &HostRuntime, folder: &str) -> Result<u8, CommandFault> {
     let mut sink = IntoWrite::new(rt.stdout());
     let outcome = check_folder(rt, folder, &mut sink);
     flushed(outcome, sink.into_inner().flush())
 }
 
-// Upgrades a journal's file. The new one is made when something is written to it.
+// Upgrades a journal file. The new file is created when something is written to it.
 fn upgrade_files(rt: &HostRuntime, order: &UpgradeOrder) -> Result<u8, CommandFault> {
     let Ok(file) = File::open(rt, order.journal.as_str()) else {
         return Err(CommandFault::Read);
@@ -87,7 +87,7 @@ fn upgrade_files(rt: &HostRuntime, order: &UpgradeOrder) -> Result<u8, CommandFa
     flushed(outcome, sink.into_inner().flush())
 }
 
-// Dumps a journal's file to standard output, which is flushed once.
+// Prints the messages of a journal file to standard output, which is flushed once.
 fn run_dump(rt: &HostRuntime, order: &DumpOrder) -> Result<u8, CommandFault> {
     let Ok(file) = File::open(rt, order.journal.as_str()) else {
         return Err(CommandFault::Read);
