@@ -1,4 +1,4 @@
-//! What a feed handler does with a datagram.
+//! An example of a feed handler: what it does with each datagram of two lines.
 #![tactic(auto)]
 
 #[cfg(test)]
@@ -8,14 +8,16 @@ use mold_receiver::{Arbiter, Batch, Line, Receiver, Refusal};
 use mold_wire::decode;
 use std::alloc::Global;
 
-/// Begins at message 1 of the session of a datagram, where that spells a packet.
+/// Returns an arbiter for the session of a datagram, which starts at message 1. Returns `None` if the datagram is not
+/// a valid packet or an allocation fails.
 pub fn begin(alloc: Global, datagram: &[u8]) -> Option<Arbiter> {
     let packet = decode(datagram).ok()?;
     let receiver = Receiver::new(alloc, packet.session, 1, 1024).ok()?;
     Some(Arbiter::new(receiver))
 }
 
-/// Takes a datagram of a line. The batch then has what to handle; the answer is what to request.
+/// Takes a datagram that came on a line. The messages to handle are then in `batch`. Returns the encoding of a request
+/// for the missing messages, if any are missing.
 pub fn hear(
     arbiter: &mut Arbiter,
     line: Line,

@@ -1,17 +1,17 @@
-//! A gap on line A is asked for, and closed by line B.
+//! Tests that a gap on line A is requested, and that line B closes it.
 
 use crate::{begin, hear};
 use mold_receiver::{Batch, Line};
 use std::process::Abort;
 use std::test::Fail;
 
-/// Messages 1, which is `AB`, and 2, which is empty.
+/// A packet with message 1, which is `AB`, and message 2, which is empty.
 const DATA: &[u8] = b"SESSION001\0\0\0\0\0\0\0\x01\0\x02\0\x02AB\0\0";
 
-/// The end behind two messages.
+/// The end packet after two messages.
 const END: &[u8] = b"SESSION001\0\0\0\0\0\0\0\x03\xff\xff";
 
-/// Asks for two messages from 1 on.
+/// A request for two messages, from 1 on.
 const REQUEST: &[u8; 20] = b"SESSION001\0\0\0\0\0\0\0\x01\0\x02";
 
 fn same_request(rt: &impl Abort, found: Option<[u8; 20]>, wanted: Option<[u8; 20]>) {
