@@ -18,7 +18,7 @@ use Rattle.mold_capture.specs.Seen.{Seen, BringsNew, after, seen_of}
 use Rattle.mold_capture.specs.Verdict.{IsVerdict, IsVerdictOn}
 use Rattle.mold_capture.proofs.ListLemmas.{ReadsBack}
 use Rattle.mold_capture.proofs.RefusalLemmas.{RuleLaw}
-use Rattle.mold_capture.proofs.SumLemmas.{none_consistent, accepted, not_refused, after_more, heard_whole, whole_heard}
+use Rattle.mold_capture.proofs.SumLemmas.{none_consistent, accepted, not_refused, after_more, received_whole, whole_received}
 
 -- The prefix with one more datagram.
 pub front_more : (list : List (List ℕ)) (i : ℕ) (bytes : List ℕ) → i < length list → get_or list i [] ≡ bytes →
@@ -84,9 +84,9 @@ checked_more reads rule list i bytes seen now v checked within is at spelled non
 
 pub verdict_on : ReadsBack → (list : List (List ℕ)) → Consistent list → (v : Verdict) → IsVerdict v (seen_of list) →
     IsVerdictOn v list
-verdict_on reads list consistent (IsWhole messages) is = heard_whole reads list consistent messages is
+verdict_on reads list consistent (IsWhole messages) is = received_whole reads list consistent messages is
 verdict_on reads list consistent (Incomplete missing end) is =
-    (consistent, is.0, is.1, λ P whole. is.2 (length P + 1) (whole_heard reads list P whole))
+    (consistent, is.0, is.1, λ P whole. is.2 (length P + 1) (whole_received reads list P whole))
 
 -- The borrowed datagrams.
 abbrev pub bytes_of : List (Bor (List ℕ)) → List (List ℕ)

@@ -192,10 +192,10 @@ still_there runs kept ms are g r q has covers =
 new_place : (runs now : Runs) (kept ms : List (List ℕ)) (number f : ℕ) (run : Run) → Growth runs now kept ms number f run →
     (q : ℕ) → number ≤ q → slice_get (kept ++ ms) (run.start + (q - f)) ≡ message_at number ms q
 new_place runs now kept ms number f run growth q low =
-    let place : run.start + (q - f) ≡ length kept + (q - number) =
+    let index : run.start + (q - f) ≡ length kept + (q - number) =
     omega (arith, growth.grown.ends, growth.grown.places, growth.grown.long)
     in
-    ap (slice_get (kept ++ ms)) place ∙ slice_get_back kept ms (q - number) ∙ sym (message_within number ms q low)
+    ap (slice_get (kept ++ ms)) index ∙ slice_get_back kept ms (q - number) ∙ sym (message_within number ms q low)
 
 grown_to : (runs now : Runs) (kept ms : List (List ℕ)) (number f : ℕ) (run : Run) → Growth runs now kept ms number f run →
     (q : ℕ) (m : List ℕ) → RunAt now (kept ++ ms) q m
@@ -302,14 +302,14 @@ pairs_grown runs now kept ms number f run growth q =
     (λ m is. grown_to runs now kept ms number f run growth q m (at_pairs now (kept ++ ms) are q m is))
     (λ m is. pairs_at now (kept ++ ms) are q m (grown_from runs now kept ms number f run growth q m is))
 
-pub since_same : (runs : Runs) (place : ℕ) → IsSince runs runs place
-since_same runs place = record { kept = λ f run has. has; others = λ f run has low. has }
+pub since_same : (runs : Runs) (index : ℕ) → IsSince runs runs index
+since_same runs index = record { kept = λ f run has. has; others = λ f run has low. has }
 
 -- A run of messages that were added later doesn't change the earlier runs.
-pub since_grown : (before runs now : Runs) (kept ms : List (List ℕ)) (number f : ℕ) (run : Run) (place : ℕ) →
-    Growth runs now kept ms number f run → AreRuns before place → place ≤ run.start
-    → IsSince before runs place → IsSince before now place
-since_grown before runs now kept ms number f run place growth are high since =
+pub since_grown : (before runs now : Runs) (kept ms : List (List ℕ)) (number f : ℕ) (run : Run) (index : ℕ) →
+    Growth runs now kept ms number f run → AreRuns before index → index ≤ run.start
+    → IsSince before runs index → IsSince before now index
+since_grown before runs now kept ms number f run index growth are high since =
     record {
       kept = λ g r has.
           elim (cases_eq f g) [
@@ -331,12 +331,12 @@ since_grown before runs now kept ms number f run place growth are high since =
     }
 
 -- Without the runs that were added later, the runs are the earlier ones.
-pub back_is : (before now after : Runs) (place : ℕ) → AreRuns before place → IsSince before now place →
+pub back_is : (before now after : Runs) (index : ℕ) → AreRuns before index → IsSince before now index →
     tree.IsOrdered nat_cmp after
-    → ((f : ℕ) (run : Run) → HasRun after f run → HasRun now f run × (run.start < place))
-    → ((f : ℕ) (run : Run) → HasRun now f run → run.start < place → HasRun after f run)
+    → ((f : ℕ) (run : Run) → HasRun after f run → HasRun now f run × (run.start < index))
+    → ((f : ℕ) (run : Run) → HasRun now f run → run.start < index → HasRun after f run)
     → after.entries ≡ before.entries
-back_is before now after place are since ordered out stays =
+back_is before now after index are since ordered out stays =
     btree_map_from_get nat_cmp_total after before ordered are.ordered
     (λ q. same_option _ _
     (λ run has. let found = out q run has in since.others q run found.0 found.1)

@@ -26,7 +26,7 @@ use Rattle.mold_capture.proofs.CheckLemmas.{front_more, refused_for}
 use Rattle.mold_capture.proofs.CheckerLemmas.{none_whole, whole_none}
 use Rattle.mold_capture.proofs.ListLemmas.{ReadsBack}
 use Rattle.mold_capture.proofs.RefusalLemmas.{RuleLaw}
-use Rattle.mold_capture.proofs.SumLemmas.{sums_up, none_consistent, front_consistent, read_or_refused, accepted, one_whole, whole_heard, heard_whole}
+use Rattle.mold_capture.proofs.SumLemmas.{sums_up, none_consistent, front_consistent, read_or_refused, accepted, one_whole, whole_received, received_whole}
 
 -- Each prefix of consistent datagrams is consistent.
 taken_consistent : (list : List (List ℕ)) (i : ℕ) → Consistent list → Consistent (take i list)
@@ -116,14 +116,14 @@ ends_by reads list consistent None missing ends is = (
     consistent,
     sym is,
     sym ends,
-    λ P whole. none-some _ (sym ends ∙ (whole_heard reads list P whole).ended),
+    λ P whole. none-some _ (sym ends ∙ (whole_received reads list P whole).ended),
   ),
 )
 ends_by reads list consistent (Some end) [] ends is =
     let sound = (sums_up reads list consistent).sound in
-    let heard = none_whole (seen_of list) sound end ends is in
+    let received = none_whole (seen_of list) sound end ends is in
     let number : end ≡ end - 1 + 1 = omega (arith, sound.first, sound.ended end ends) in
-    (whole (end - 1), heard_whole reads list consistent (end - 1) (subst (IsWholeSeen (seen_of list)) number heard))
+    (whole (end - 1), received_whole reads list consistent (end - 1) (subst (IsWholeSeen (seen_of list)) number received))
 ends_by reads list consistent (Some end) (r ∷ missing) ends is =
     let sound = (sums_up reads list consistent).sound in (
       incomplete (r ∷ missing) (Some end),
@@ -132,7 +132,7 @@ ends_by reads list consistent (Some end) (r ∷ missing) ends is =
         sym is,
         sym ends,
         λ P whole.
-            let none = whole_none (seen_of list) sound (length P + 1) (whole_heard reads list P whole) in
+            let none = whole_none (seen_of list) sound (length P + 1) (whole_received reads list P whole) in
             not_nil r missing (sym is ∙ none),
       ),
     )

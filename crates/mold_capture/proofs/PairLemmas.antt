@@ -60,20 +60,20 @@ message_none n q =
 
 pub message_first : (n : ℕ) (m : List ℕ) (ms : List (List ℕ)) (q : ℕ) → q ≡ n → message_at n (m ∷ ms) q ≡ Some m
 message_first n m ms q same =
-    let place : q - n ≡ zero = omega arith in
-    message_within n (m ∷ ms) q (omega arith) ∙ ap (slice_get (m ∷ ms)) place
+    let index : q - n ≡ zero = omega arith in
+    message_within n (m ∷ ms) q (omega arith) ∙ ap (slice_get (m ∷ ms)) index
 
 pub message_next : (n : ℕ) (m : List ℕ) (ms : List (List ℕ)) (q : ℕ) → n < q →
     message_at n (m ∷ ms) q ≡ message_at (suc n) ms q
 message_next n m ms q above =
-    let place : q - n ≡ suc (q - suc n) = omega arith in
-    message_within n (m ∷ ms) q (omega arith) ∙ ap (slice_get (m ∷ ms)) place
+    let index : q - n ≡ suc (q - suc n) = omega arith in
+    message_within n (m ∷ ms) q (omega arith) ∙ ap (slice_get (m ∷ ms)) index
     ∙ sym (message_within (suc n) ms q (omega arith))
 
 pub published_in : (P : List (List ℕ)) (i : ℕ) → published_at P (suc i) ≡ slice_get P i
 published_in P i =
-    let place : suc i - 1 ≡ i = omega arith in
-    message_within 1 P (suc i) (omega arith) ∙ ap (slice_get P) place
+    let index : suc i - 1 ≡ i = omega arith in
+    message_within 1 P (suc i) (omega arith) ∙ ap (slice_get P) index
 
 pub lookup-numbered : (n : ℕ) (ms : List (List ℕ)) (q : ℕ) → lookup (eqb q) (numbered n ms) ≡ message_at n ms q
 lookup-numbered n [] q = sym (message_none n q)

@@ -189,25 +189,25 @@ unfiltered p Q (e ∷ es) all =
           (unfiltered p Q es (subst (All Q) (cond-false (p e) (e ∷ filter p es) (filter p es) f) all))
     ]
 
--- Whether a run starts below index `place`.
+-- Whether a run starts below index `index`.
 abbrev pub is_before : ℕ → ℕ × Run → Bool
-is_before place e = ltb e.1.start place
+is_before index e = ltb e.1.start index
 
-pub retained_out : (old new : Runs) (place : ℕ) → tree.IsOrdered nat_cmp old → new.entries ≡ filter (is_before place) old.entries
-    → (f : ℕ) (run : Run) → HasRun new f run → HasRun old f run × (run.start < place)
-retained_out old new place ordered is f run has =
-    let P = λ (e : ℕ × Run). HasRun old e.0 e.1 × (is_before place e ≡ true) in
-    let all = filtered (is_before place) (λ e. HasRun old e.0 e.1) old.entries (All-found nat_cmp_total old ordered) in
+pub retained_out : (old new : Runs) (index : ℕ) → tree.IsOrdered nat_cmp old → new.entries ≡ filter (is_before index) old.entries
+    → (f : ℕ) (run : Run) → HasRun new f run → HasRun old f run × (run.start < index)
+retained_out old new index ordered is f run has =
+    let P = λ (e : ℕ × Run). HasRun old e.0 e.1 × (is_before index e ≡ true) in
+    let all = filtered (is_before index) (λ e. HasRun old e.0 e.1) old.entries (All-found nat_cmp_total old ordered) in
     let found = lookup_all P f run new.entries (subst (All P) (sym is) all) (sym (lookup_at f new.entries) ∙ has) in
-    (found.0, ltb-true run.start place found.1)
+    (found.0, ltb-true run.start index found.1)
 
-pub retained_stays : (old new : Runs) (place : ℕ) → tree.IsOrdered nat_cmp new → new.entries ≡ filter (is_before place) old.entries
-    → (f : ℕ) (run : Run) → HasRun old f run → run.start < place → HasRun new f run
-retained_stays old new place ordered is f run has low =
+pub retained_stays : (old new : Runs) (index : ℕ) → tree.IsOrdered nat_cmp new → new.entries ≡ filter (is_before index) old.entries
+    → (f : ℕ) (run : Run) → HasRun old f run → run.start < index → HasRun new f run
+retained_stays old new index ordered is f run has low =
     let Q = λ (e : ℕ × Run). HasRun new e.0 e.1 in
-    let all = unfiltered (is_before place) Q old.entries (subst (All Q) is (All-found nat_cmp_total new ordered)) in
-    lookup_all (λ e. is_before place e ≡ true → Q e) f run old.entries all (sym (lookup_at f old.entries) ∙ has)
-    (lt-ltb run.start place low)
+    let all = unfiltered (is_before index) Q old.entries (subst (All Q) is (All-found nat_cmp_total new ordered)) in
+    lookup_all (λ e. is_before index e ≡ true → Q e) f run old.entries all (sym (lookup_at f old.entries) ∙ has)
+    (lt-ltb run.start index low)
 
 -- Each number of a run has a carried message.
 pub covered_pairs : (runs : Runs) (kept : List (List ℕ)) → AreRuns runs (length kept) → (q f : ℕ) (run : Run) →

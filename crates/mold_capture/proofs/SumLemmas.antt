@@ -215,8 +215,8 @@ one_whole reads list P Q whole other =
     ∙ sym (get_or_from_slice_get Q k found.0 d (sym (published_in Q k) ∙ two)))
 
 -- If datagrams are whole, they have an end packet and carry every message below the end.
-pub whole_heard : ReadsBack → (list P : List (List ℕ)) → Whole list P → IsWholeSeen (seen_of list) (length P + 1)
-whole_heard reads list P whole =
+pub whole_received : ReadsBack → (list P : List (List ℕ)) → Whole list P → IsWholeSeen (seen_of list) (length P + 1)
+whole_received reads list P whole =
     let session = whole.session in
     let has = whole.ended.1 in
     let sums = sums_up reads list (session, P, whole.explained) in
@@ -231,17 +231,17 @@ whole_heard reads list P whole =
     }
 
 -- If datagrams have an end packet and carry every message below the end, they are whole.
-pub heard_whole : ReadsBack → (list : List (List ℕ)) → Consistent list → (count : ℕ) →
+pub received_whole : ReadsBack → (list : List (List ℕ)) → Consistent list → (count : ℕ) →
     IsWholeSeen (seen_of list) (count + 1) → (P : List (List ℕ)) × (Whole list P × (length P ≡ count))
-heard_whole reads list (session, P, explained) count heard =
+received_whole reads list (session, P, explained) count received =
     let sums = sums_up reads list (session, P, explained) in
-    let length_is : count + 1 ≡ length P + 1 = (sums.allows session P explained).ended (count + 1) heard.ended in
+    let length_is : count + 1 ≡ length P + 1 = (sums.allows session P explained).ended (count + 1) received.ended in
     let whole : Whole list P = record {
       session = session;
       explained = explained;
-      ended = (count + 1, end_told reads session P list explained.each (count + 1) heard.ended);
+      ended = (count + 1, end_told reads session P list explained.each (count + 1) received.ended);
       carried = λ q low high.
-          let found = heard.carried q low (omega arith) in
+          let found = received.carried q low (omega arith) in
           (found.0, get_carried reads session P list explained.each q found.0 found.1);
     }
     in

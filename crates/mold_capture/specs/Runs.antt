@@ -77,8 +77,8 @@ pub record IsGrown (runs : Runs) (kept number count first : ℕ) (run : Run) : T
   pub front : count < run.count →
       (old : Run) × (HasRun runs first old × (old.start ≡ run.start) × (old.count + count ≡ run.count))
 
--- The map `now` has all runs of the map `before`. Each of its runs that starts below index `place` is one of
+-- The map `now` has all runs of the map `before`. Each of its runs that starts below index `index` is one of
 -- these.
-pub record IsSince (before now : Runs) (place : ℕ) : Type 0 where
+pub record IsSince (before now : Runs) (index : ℕ) : Type 0 where
   pub kept : (f : ℕ) (run : Run) → HasRun before f run → HasRun now f run
-  pub others : (f : ℕ) (run : Run) → HasRun now f run → run.start < place → HasRun before f run
+  pub others : (f : ℕ) (run : Run) → HasRun now f run → run.start < index → HasRun before f run

@@ -41,7 +41,7 @@ pub fn after_law()
 /// end packet, and carry each number below the end.
 pub fn whole_is_one_law()
     ensures one { (list one other : List (List ℕ)) → Whole list one → Whole list other → one ≡ other }
-    ensures heard { (list messages : List (List ℕ)) →
+    ensures received { (list messages : List (List ℕ)) →
         Whole list messages → IsWholeSeen (seen_of list) (length messages + 1) }
     ensures whole { (list : List (List ℕ)) (count : ℕ) → Consistent list →
         IsWholeSeen (seen_of list) (count + 1) →

@@ -108,13 +108,13 @@ pub(crate) fn grown_run(
 }
 
 // Whether the run ends right before this number and this index.
-fn joins(first: u64, run: Run, place: usize, number: u64) -> bool
-    ensures { IsTrue result ↔ ((first + run.count ≡ number) × (run.start + run.count ≡ place)) }
+fn joins(first: u64, run: Run, index: usize, number: u64) -> bool
+    ensures { IsTrue result ↔ ((first + run.count ≡ number) × (run.start + run.count ≡ index)) }
 {
     first <= number
         && number - first == run.count
-        && run.start <= place
-        && (place - run.start) as u64 == run.count
+        && run.start <= index
+        && (index - run.start) as u64 == run.count
 }
 
 /// Inserts a run, or replaces the one that begins with the same number. It returns an error if an allocation
@@ -130,11 +130,11 @@ pub(crate) fn put_run(runs: &mut BTreeMap<u64, Run>, first: u64, run: Run) -> Re
     }
 }
 
-/// Removes the runs that start at index `place` or later.
-pub(crate) fn take_back(runs: &mut BTreeMap<u64, Run>, place: usize)
+/// Removes the runs that start at index `index` or later.
+pub(crate) fn take_back(runs: &mut BTreeMap<u64, Run>, index: usize)
     ensures ordered { tree.IsOrdered nat_cmp runs.new }
-    ensures out { (f : ℕ) (run : Run) → HasRun runs.new f run → HasRun runs.old f run × (run.start < place) }
-    ensures stays { (f : ℕ) (run : Run) → HasRun runs.old f run → run.start < place → HasRun runs.new f run }
+    ensures out { (f : ℕ) (run : Run) → HasRun runs.new f run → HasRun runs.old f run × (run.start < index) }
+    ensures stays { (f : ℕ) (run : Run) → HasRun runs.old f run → run.start < index → HasRun runs.new f run }
 {
-    runs.retain(|_, run| run.start < place);
+    runs.retain(|_, run| run.start < index);
 }

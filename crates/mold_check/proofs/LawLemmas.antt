@@ -26,7 +26,7 @@ pub record CaptureLaws : Type 0 where
   pub refused : (list : List (List ℕ)) (bytes : List ℕ) → Consistent (list ++ bytes ∷ []) → reason list bytes ≡ None
   pub after : (list : List (List ℕ)) (bytes : List ℕ) → Consistent (list ++ bytes ∷ []) →
       seen_of (list ++ bytes ∷ []) ≡ after (seen_of list) bytes
-  pub heard : (list messages : List (List ℕ)) → Whole list messages → IsWholeSeen (seen_of list) (length messages + 1)
+  pub received : (list messages : List (List ℕ)) → Whole list messages → IsWholeSeen (seen_of list) (length messages + 1)
   pub whole : (list : List (List ℕ)) (count : ℕ) → Consistent list → IsWholeSeen (seen_of list) (count + 1) →
       (messages : List (List ℕ)) × (Whole list messages × (length messages ≡ count))
   pub lacking : NoneLacks
@@ -36,12 +36,12 @@ pub record CaptureLaws : Type 0 where
 told_end : CaptureLaws → (list messages : List (List ℕ)) (end : ℕ) → (seen_of list).ended ≡ Some end → Whole list messages →
     end ≡ suc (length messages)
 told_end laws list messages end is so =
-    same_Some _ _ (sym is ∙ (laws.heard list messages so).ended ∙ ap Some (add-one (length messages)))
+    same_Some _ _ (sym is ∙ (laws.received list messages so).ended ∙ ap Some (add-one (length messages)))
 
 end_outcome : CaptureLaws → (list : List (List ℕ)) → Consistent list → (end : Option ℕ) → (seen_of list).ended ≡ end →
     IsOutcome list (outcome_at (seen_of list) end)
 end_outcome laws list consistent None is =
-    (consistent, refl, sym is, λ messages so. none-some _ (sym is ∙ (laws.heard list messages so).ended))
+    (consistent, refl, sym is, λ messages so. none-some _ (sym is ∙ (laws.received list messages so).ended))
 end_outcome laws list consistent (Some zero) is =
     (consistent, refl, sym is, λ messages so. omega (arith, told_end laws list messages zero is so))
 end_outcome laws list consistent (Some (suc count)) is =
@@ -61,7 +61,7 @@ end_outcome laws list consistent (Some (suc count)) is =
           (sym (eq-eqb _ 0 (whole_at laws.lacking (seen_of list) count
           (subst (IsWholeSeen (seen_of list))
           (add-one (length messages) ∙ sym (told_end laws list messages (suc count) is so))
-          (laws.heard list messages so))))
+          (laws.received list messages so))))
           ∙ some),
     )
 

@@ -47,10 +47,10 @@ joined_line : (joined piece more : List ℕ) (at : ℕ) → HasNoEnd joined → 
     lines_of (joined ++ (piece ++ more)) ≡ (joined ++ take at piece) ∷ lines_of (drop (at + 1) piece ++ more)
 joined_line [] piece more at none end =
     let within = end.within in
-    let place = λ (k : ℕ) (lt : k < length piece). get_or_append_left piece more 0 k lt in
+    let buffer = λ (k : ℕ) (lt : k < length piece). get_or_append_left piece more 0 k lt in
     first_line (piece ++ more) at (omega (arith, length-append piece more))
-    (subst (λ (b : ℕ). eqb b 10 ≡ true) (sym (place at within)) end.here)
-    (λ k lt is. end.before k lt (subst (λ (b : ℕ). eqb b 10 ≡ true) (place k (omega arith)) is))
+    (subst (λ (b : ℕ). eqb b 10 ≡ true) (sym (buffer at within)) end.here)
+    (λ k lt is. end.before k lt (subst (λ (b : ℕ). eqb b 10 ≡ true) (buffer k (omega arith)) is))
     ∙ ap (λ (t : List ℕ). t ∷ lines_of (drop (suc at) (piece ++ more))) (take-append-le at piece more (omega arith))
     ∙ ap (λ (t : List ℕ). take at piece ∷ lines_of t) (drop-append-le (suc at) piece more (omega arith))
     ∙ ap (λ (n : ℕ). take at piece ∷ lines_of (drop n piece ++ more)) (sym (add-one at))

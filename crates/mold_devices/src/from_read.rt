@@ -61,9 +61,9 @@ impl<R: Read> Source for FromRead<R> {
 
     ghost failed = { λ s. s.failures };
 
-    fn read(&mut self, place: &mut [u8]) -> Result<usize, DeviceFault>
-        ensures count { ReadsAtMost result place.new }
-        ensures bytes { ReadConsumes (R.remaining self.old.reader) (R.remaining self.new.reader) result place.new }
+    fn read(&mut self, buffer: &mut [u8]) -> Result<usize, DeviceFault>
+        ensures count { ReadsAtMost result buffer.new }
+        ensures bytes { ReadConsumes (R.remaining self.old.reader) (R.remaining self.new.reader) result buffer.new }
         ensures kept { self.new.calls_left ≤ self.old.calls_left }
         ensures failures { Counts self.old.failures self.new.failures result }
 
@@ -74,7 +74,7 @@ impl<R: Read> Source for FromRead<R> {
     {
         if self.calls_left > 0 {
             self.calls_left -= 1;
-            if let Ok(count) = self.reader.read(place) {
+            if let Ok(count) = self.reader.read(buffer) {
                 return Ok(count);
             }
         }

@@ -66,27 +66,27 @@ impl<'a> Source for MemorySource<'a> {
 
     ghost failed = { λ s. s.failures };
 
-    fn read(&mut self, place: &mut [u8]) -> Result<usize, DeviceFault>
+    fn read(&mut self, buffer: &mut [u8]) -> Result<usize, DeviceFault>
         // The contract of every source.
-        ensures count { ReadsAtMost result place.new }
-        ensures bytes { ReadConsumes (Some self.old.left) (Some self.new.left) result place.new }
+        ensures count { ReadsAtMost result buffer.new }
+        ensures bytes { ReadConsumes (Some self.old.left) (Some self.new.left) result buffer.new }
         ensures bound { IfOk result (λ n. 0 < n → length self.new.left < length self.old.left) }
         ensures kept { length self.new.left ≤ length self.old.left }
         ensures failures { Counts self.old.failures self.new.failures result }
 
         // What this source does in addition.
         ensures fails { IsErr result ↔ (self.old.fails_at ≡ 1) }
-        ensures moved { IfOk result (λ n. n ≡ min (length self.old.left) (min (length place.old) self.old.most)) }
+        ensures moved { IfOk result (λ n. n ≡ min (length self.old.left) (min (length buffer.old) self.old.most)) }
         ensures left { IfOk result (λ n. self.new.left ≡ drop n self.old.left) }
-        ensures place { IfOk result (λ n. place.new ≡ take n self.old.left ++ drop n place.old) }
-        ensures untouched { OnErr result (place.new ≡ place.old) }
+        ensures buffer { IfOk result (λ n. buffer.new ≡ take n self.old.left ++ drop n buffer.old) }
+        ensures untouched { OnErr result (buffer.new ≡ buffer.old) }
         ensures fails_at { self.new.fails_at ≡ self.old.fails_at - 1 }
         ensures most { self.new.most ≡ self.old.most }
     {
         self.plan.begin()?;
-        let count = self.left.len().min(place.len().min(self.plan.most));
+        let count = self.left.len().min(buffer.len().min(self.plan.most));
         let (given, left) = self.left.split_at(count);
-        place[..count].copy_from_slice(given);
+        buffer[..count].copy_from_slice(given);
         self.left = left;
         Ok(count)
     }

@@ -39,22 +39,22 @@ impl<'a> Source for SliceSource<'a> {
 
     ghost failed = { λ _. 0 };
 
-    fn read(&mut self, place: &mut [u8]) -> Result<usize, DeviceFault>
+    fn read(&mut self, buffer: &mut [u8]) -> Result<usize, DeviceFault>
         // The contract of every source.
-        ensures count { ReadsAtMost result place.new }
-        ensures bytes { ReadConsumes (Some self.old) (Some self.new) result place.new }
+        ensures count { ReadsAtMost result buffer.new }
+        ensures bytes { ReadConsumes (Some self.old) (Some self.new) result buffer.new }
         ensures bound { IfOk result (λ n. 0 < n → length self.new < length self.old) }
         ensures kept { length self.new ≤ length self.old }
         ensures failures { Counts 0 0 result }
 
         // What this source does in addition.
-        ensures moved { result ≡ Ok (min (length self.old) (length place.old)) }
-        ensures left { self.new ≡ drop (length place.old) self.old }
-        ensures place { IfOk result (λ n. place.new ≡ take n self.old ++ drop n place.old) }
+        ensures moved { result ≡ Ok (min (length self.old) (length buffer.old)) }
+        ensures left { self.new ≡ drop (length buffer.old) self.old }
+        ensures buffer { IfOk result (λ n. buffer.new ≡ take n self.old ++ drop n buffer.old) }
     {
-        let count = self.left.len().min(place.len());
+        let count = self.left.len().min(buffer.len());
         let (given, left) = self.left.split_at(count);
-        place[..count].copy_from_slice(given);
+        buffer[..count].copy_from_slice(given);
         self.left = left;
         Ok(count)
     }

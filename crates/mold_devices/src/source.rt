@@ -19,11 +19,11 @@ pub trait Source {
     // The number of failures. It stays at `u64::MAX` once it is there.
     ghost failed: { Self → ℕ };
 
-    /// Reads bytes into the start of `place` and returns how many. If `place` is not empty, 0 means the end
-    /// of the source. After a fault, the contents of `place` are unspecified.
-    fn read(&mut self, place: &mut [u8]) -> Result<usize, DeviceFault>
-        ensures count { ReadsAtMost result place.new }
-        ensures bytes { ReadConsumes (left self.old) (left self.new) result place.new }
+    /// Reads bytes into the start of `buffer` and returns how many. If `buffer` is not empty, 0 means the end
+    /// of the source. After a fault, the contents of `buffer` are unspecified.
+    fn read(&mut self, buffer: &mut [u8]) -> Result<usize, DeviceFault>
+        ensures count { ReadsAtMost result buffer.new }
+        ensures bytes { ReadConsumes (left self.old) (left self.new) result buffer.new }
         ensures bound { IfOk result (λ n. 0 < n → bound self.new < bound self.old) }
         ensures kept { bound self.new ≤ bound self.old }
         ensures failures { Counts (failed self.old) (failed self.new) result };

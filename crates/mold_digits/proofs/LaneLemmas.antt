@@ -84,11 +84,11 @@ picked_woven at zero high low h l fits = refl
 picked_woven at (suc n) high low h l fits =
     let first = get_or_append_left high low 0 at (omega arith) in
     let second = get_or-append_right high low 16 (16 + at) 0 h (omega arith) in
-    let place : 16 + at - 16 ≡ at = omega arith in
+    let offset : 16 + at - 16 ≡ at = omega arith in
     let rest = picked_woven (at + 1) n high low h l (omega arith) in
     let high_more = chunk_more at n high (omega arith) in
     let low_more = chunk_more at n low (omega arith) in
-    rw (first, second, place, rest, high_more, low_more) refl
+    rw (first, second, offset, rest, high_more, low_more) refl
 
 -- ---- The test of two vectors, and the bytes of pairs.
 

@@ -133,9 +133,9 @@ spelled_text number (line ∷ lines) (message ∷ messages) spelled =
     (spelled_text (number + 1) lines messages behind)
 
 -- a part of the lines encodes the same part of the messages
-piece_map : {X Y : Type 0} (f : X → Y) (count place : ℕ) (xs : List X) →
-    map f (take count (drop place xs)) ≡ take count (drop place (map f xs))
-piece_map f count place xs = sym (take-map f count (drop place xs)) ∙ ap (take count) (sym (drop-map f place xs))
+piece_map : {X Y : Type 0} (f : X → Y) (count index : ℕ) (xs : List X) →
+    map f (take count (drop index xs)) ≡ take count (drop index (map f xs))
+piece_map f count index xs = sym (take-map f count (drop index xs)) ∙ ap (take count) (sym (drop-map f index xs))
 
 pub spelled_between : (lines : List (List ℕ)) (messages : List Message) (first next : ℕ) → AreSpelled lines messages →
     AreSpelled (between lines first next) (between messages first next)
@@ -162,10 +162,10 @@ pub messages_said : (printed_lines : List PrintedLine) (number : ℕ) (messages 
 unfolding handed_text
 messages_said [] number [] handed = refl
 messages_said [] number (message ∷ messages) handed = let no : ⊥ = cc in absurd no
-messages_said (Handed place said ∷ printed_lines) number [] handed = let no : ⊥ = cc in absurd no
-messages_said (Handed place said ∷ printed_lines) number (message ∷ messages) handed =
-    let parts = same_parts (place, said) (number, message) (handed_of printed_lines) (numbered (suc number) messages) handed in
-    let at : place ≡ number = ap (λ (pair : ℕ × Message). pair.0) parts.0 in
+messages_said (Handed index said ∷ printed_lines) number [] handed = let no : ⊥ = cc in absurd no
+messages_said (Handed index said ∷ printed_lines) number (message ∷ messages) handed =
+    let parts = same_parts (index, said) (number, message) (handed_of printed_lines) (numbered (suc number) messages) handed in
+    let at : index ≡ number = ap (λ (pair : ℕ × Message). pair.0) parts.0 in
     let same : said ≡ message = ap (λ (pair : ℕ × Message). pair.1) parts.0 in
     let after : suc number ≡ number + 1 = omega arith in
     ap (λ (n : ℕ). handed_line n said ++ messages_text printed_lines) at

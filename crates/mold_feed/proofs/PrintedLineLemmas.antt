@@ -34,11 +34,11 @@ pub between_joined : (published : List Message) (from mid to : ℕ) → 1 ≤ fr
 between_joined published from mid to first low high =
     let behind : List Message = drop (from - 1) published in
     let sum : to - from ≡ mid - from + (to - mid) = omega (arith, low, high) in
-    let place : from - 1 + (mid - from) ≡ mid - 1 = omega (arith, first, low) in
+    let index : from - 1 + (mid - from) ≡ mid - 1 = omega (arith, first, low) in
     ap (λ (n : ℕ). take n behind) sum
     ∙ take-add (mid - from) (to - mid) behind
     ∙ ap (λ (l : List Message). take (mid - from) behind ++ take (to - mid) l)
-    (drop-drop (mid - from) (from - 1) published ∙ ap (λ (n : ℕ). drop n published) place)
+    (drop-drop (mid - from) (from - 1) published ∙ ap (λ (n : ℕ). drop n published) index)
 
 -- the messages between two numbers are the same in a prefix of the messages that is long enough
 pub between_front : (published : List Message) (count from to : ℕ) → 1 ≤ from → from ≤ to → to ≤ count + 1 →
@@ -65,31 +65,31 @@ counted_joined {X} F joins published from mid to first low high within =
     ∙ ap (λ (n : ℕ). F from front ++ F n behind) next
 
 -- messages each of which is in a list, from an index on, are the part of the list from there on
-stands_within : (place : ℕ) (messages published : List Message) → place ≤ length published →
-    ((i : ℕ) (m : Message) → slice_get messages i ≡ Some m → slice_get published (place + i) ≡ Some m) →
-    place + length messages ≤ length published
-stands_within place [] published low each = omega (arith, low)
-stands_within place (message ∷ messages) published low each =
+stands_within : (index : ℕ) (messages published : List Message) → index ≤ length published →
+    ((i : ℕ) (m : Message) → slice_get messages i ≡ Some m → slice_get published (index + i) ≡ Some m) →
+    index + length messages ≤ length published
+stands_within index [] published low each = omega (arith, low)
+stands_within index (message ∷ messages) published low each =
     let last : ℕ = length messages in
     let some : slice_get (message ∷ messages) last ≡ Some (get_or (message ∷ messages) last []) =
     slice_get-get_or (message ∷ messages) last [] (omega arith) in
-    let within = slice_get_within published (place + last) (get_or (message ∷ messages) last [])
+    let within = slice_get_within published (index + last) (get_or (message ∷ messages) last [])
     (each last (get_or (message ∷ messages) last []) some) in
     omega (arith, within)
 
-is_piece : (place : ℕ) (messages published : List Message) → place ≤ length published →
-    ((i : ℕ) (m : Message) → slice_get messages i ≡ Some m → slice_get published (place + i) ≡ Some m) →
-    messages ≡ take (length messages) (drop place published)
-is_piece place messages published low each =
+is_piece : (index : ℕ) (messages published : List Message) → index ≤ length published →
+    ((i : ℕ) (m : Message) → slice_get messages i ≡ Some m → slice_get published (index + i) ≡ Some m) →
+    messages ≡ take (length messages) (drop index published)
+is_piece index messages published low each =
     let count : ℕ = length messages in
-    let all : count ≤ length (drop place published) =
-    omega (arith, stands_within place messages published low each, length-drop place published) in
-    same_lists messages (take count (drop place published)) (sym (length-take-le count (drop place published) all))
+    let all : count ≤ length (drop index published) =
+    omega (arith, stands_within index messages published low each, length-drop index published) in
+    same_lists messages (take count (drop index published)) (sym (length-take-le count (drop index published) all))
     (λ i other inside.
     sym
-    (get_or-take count (drop place published) i other inside
-    ∙ get_or-drop place published i other
-    ∙ get_or_from_slice_get published (place + i) (get_or messages i []) other
+    (get_or-take count (drop index published) i other inside
+    ∙ get_or-drop index published i other
+    ∙ get_or_from_slice_get published (index + i) (get_or messages i []) other
     (each i (get_or messages i []) (slice_get-get_or messages i [] inside))
     ∙ get_or_default messages i [] other inside))
 

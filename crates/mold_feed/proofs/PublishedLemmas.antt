@@ -36,9 +36,9 @@ use Rattle.mold_feed.proofs.SentLemmas.{each_append, sent_front, sent_offered}
 pub record PublishedLaws : Type 0 where
   pub may : (publisher : PublisherState) (message : List ℕ) →
       append_refusal publisher.journal message ≡ None → MayPublish publisher message
-  pub told : (journal : JournalState) (limit : ℕ) (plan : PlanState) (place : ℕ) (packet : Packet) →
+  pub told : (journal : JournalState) (limit : ℕ) (plan : PlanState) (index : ℕ) (packet : Packet) →
       MayAnswer journal limit → IsPlan plan → plan.to ≤ length journal.messages + 1 →
-      plan.session ≡ journal.session → slice_get (planned journal.messages limit plan) place ≡ Some packet →
+      plan.session ≡ journal.session → slice_get (planned journal.messages limit plan) index ≡ Some packet →
       IsTrueDatagram journal (spelling_of packet)
 
 -- ---- the lines
@@ -50,7 +50,7 @@ as_spelled messages = map Ok messages
 -- lines were published up to this one: all of them, or those before one that is refused
 record StopsAt (lines : List (List ℕ)) (count : ℕ) (why : LineRefusal) (journal : JournalState) : Type 0 where
   pub line : List ℕ
-  pub place : slice_get lines count ≡ Some line
+  pub found : slice_get lines count ≡ Some line
   pub refused : line_outcome journal (decode_of line) ≡ Err why
 
 abbrev EndsAt : List (List ℕ) → ℕ → JournalState → Option LineRefusal → Type 0
@@ -63,7 +63,7 @@ ends_behind : (line : List ℕ) (lines : List (List ℕ)) (count : ℕ) (journal
     EndsAt (line ∷ lines) (suc count) journal refused
 ends_behind line lines count journal None ends = ap suc ends
 ends_behind line lines count journal (Some why) ends =
-    record { line = ends.line; place = ends.place; refused = ends.refused }
+    record { line = ends.line; found = ends.found; refused = ends.refused }
 
 -- lines were published: the journal is still a journal with the same longest message; the messages of the first lines
 -- follow those that it had
@@ -97,7 +97,7 @@ module _ (laws : PublishedLaws) where
     longest = refl;
     count = 0;
     spelled = append-nil (as_spelled journal.messages);
-    ends = record { line = line; place = refl; refused = refused };
+    ends = record { line = line; found = refl; refused = refused };
     closed = refl;
   }
 
@@ -199,13 +199,13 @@ some_spelled : (lines : List (List ℕ)) (count : ℕ) (journal : JournalState) 
     map decode_of (take count lines) ≡ as_spelled journal.messages → StopsAt lines count why journal →
     journal.closed ≡ false → HasLinesBefore lines why journal
 some_spelled lines count journal why spelled stops unclosed =
-    let within = slice_get_within lines count stops.line stops.place in
+    let within = slice_get_within lines count stops.line stops.found in
     let as_many = spelled_length (take count lines) journal.messages spelled in
     let long : length (take count lines) ≡ count = length-take-le count lines (omega (arith, within)) in
     let many : count ≡ length journal.messages = omega (arith, as_many, long) in
     record {
       line = stops.line;
-      place = ap (slice_get lines) (sym many) ∙ stops.place;
+      found = ap (slice_get lines) (sym many) ∙ stops.found;
       refused = stops.refused;
       spelled = ap (λ (n : ℕ). map decode_of (take n lines)) (sym many) ∙ spelled;
       unclosed = unclosed;
@@ -258,11 +258,11 @@ published_may laws limit other journal lines is limited room =
 
 -- what holds of the datagram of the packet at each index holds of all datagrams
 each_told : (Good : List ℕ → Type 0) (packets : List Packet) →
-    ((place : ℕ) (packet : Packet) → slice_get packets place ≡ Some packet → Good (spelling_of packet)) →
+    ((index : ℕ) (packet : Packet) → slice_get packets index ≡ Some packet → Good (spelling_of packet)) →
     AllByRecursion Good (map spelling_of packets)
 each_told Good [] told = tt
 each_told Good (packet ∷ packets) told =
-    (told zero packet refl, each_told Good packets (λ place. told (suc place)))
+    (told zero packet refl, each_told Good packets (λ index. told (suc index)))
 
 -- the data packets of all messages are those that a plan sends
 whole_plan : ℕ → JournalState → PlanState
@@ -287,9 +287,9 @@ data_true : (laws : PublishedLaws) (limit : ℕ) (journal : JournalState) → Ma
 unfolding whole_plan
 data_true laws limit journal may =
     each_told (IsTrueDatagram journal) (packets_after limit 0 journal)
-    (λ place packet found.
-    laws.told journal limit (whole_plan limit journal) place packet may (omega arith, omega arith) (omega arith) refl
-    (ap (λ (packets : List Packet). slice_get packets place) (all_planned limit journal) ∙ found))
+    (λ index packet found.
+    laws.told journal limit (whole_plan limit journal) index packet may (omega arith, omega arith) (omega arith) refl
+    (ap (λ (packets : List Packet). slice_get packets index) (all_planned limit journal) ∙ found))
 
 -- the same without the last one
 without_last : (Good : List ℕ → Type 0) (packets : List Packet) → AllByRecursion Good (map spelling_of packets) →

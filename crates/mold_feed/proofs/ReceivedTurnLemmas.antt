@@ -22,8 +22,8 @@ use Rattle.mold_listen.specs.Listening.{after_lines, listening, missed, receives
 use Rattle.mold_turns.specs.Runs.{run}
 use Rattle.mold_listen.specs.Text.{handed_text}
 use Rattle.mold_feed.proofs.PrintedLineLemmas.{refused-weaker, text-handing}
-use Rattle.mold_feed.proofs.TakingLemmas.{HasHeard, HearingLaws, IsSound, MayCome, last_number, nothing_heard}
-use Rattle.mold_feed.proofs.TakingLemmas.{taken_heard, then_heard}
+use Rattle.mold_feed.proofs.TakingLemmas.{HasHeard, HearingLaws, IsSound, MayCome, last_number, nothing_received}
+use Rattle.mold_feed.proofs.TakingLemmas.{taken_received, then_received}
 use Rattle.mold_listen.proofs.ListenLemmas.{stepped}
 use Rattle.mold_wire.specs.declared.limits.TheConstants.{MAX_LIMIT}
 
@@ -52,27 +52,27 @@ record HeardTurns {P : Type 0} (journal : JournalState) (Plain : Type 0) (Good :
   gives : ReceivesOnly Good new
 
 -- after a turn the run ends or goes on
-either_heard : {P : Type 0} (journal : JournalState) (Plain : Type 0) (Good : List ℕ → Type 0) (old : Progress)
+either_received : {P : Type 0} (journal : JournalState) (Plain : Type 0) (Good : List ℕ → Type 0) (old : Progress)
     (over : Bool) (one all : ListenerState P) → HeardTurns journal Plain Good old one →
     HeardTurns journal Plain Good old all → HeardTurns journal Plain Good old (if over then one else all)
-either_heard journal Plain Good old true one all first whole = first
-either_heard journal Plain Good old false one all first whole = whole
+either_received journal Plain Good old true one all first whole = first
+either_received journal Plain Good old false one all first whole = whole
 
 module _ (journal : JournalState) (Plain : Type 0) (Good : List ℕ → Type 0) (laws : HearingLaws)
     (may : MayCome journal Plain Good) where
   -- ---- one receive
 
-  receipt_heard : {P : Type 0} (line : Option Line) (receipt : Receipt P) (e : Progress) → IsSound journal e →
+  receipt_received : {P : Type 0} (line : Option Line) (receipt : Receipt P) (e : Progress) → IsSound journal e →
       Gives Good receipt → HasHeard journal Plain Good e (with_receipt line (cut MAX_LIMIT receipt) e)
-  receipt_heard line (Datagram from bytes) e sound gives =
-      taken_heard journal Plain Good laws may line (take MAX_LIMIT bytes) e sound gives
-  receipt_heard line Quiet e sound gives = nothing_heard journal Plain Good e e sound refl refl
-  receipt_heard line Failure e sound gives = nothing_heard journal Plain Good e (missed e) sound refl refl
+  receipt_received line (Datagram from bytes) e sound gives =
+      taken_received journal Plain Good laws may line (take MAX_LIMIT bytes) e sound gives
+  receipt_received line Quiet e sound gives = nothing_received journal Plain Good e e sound refl refl
+  receipt_received line Failure e sound gives = nothing_received journal Plain Good e (missed e) sound refl refl
 
-  pub port_heard : {P : Type 0} (line : Option Line) (port : Port P) (e : Progress) → IsSound journal e →
+  pub port_received : {P : Type 0} (line : Option Line) (port : Port P) (e : Progress) → IsSound journal e →
       GivesOnly Good port → HasHeard journal Plain Good e (with_next_receipt line port e)
   unfolding with_next_receipt
-  port_heard line port e sound gives = receipt_heard line (next_of port) e sound (next_gives Good port.comes gives)
+  port_received line port e sound gives = receipt_received line (next_of port) e sound (next_gives Good port.comes gives)
 
   -- ---- the responses to a request
 
@@ -80,49 +80,49 @@ module _ (journal : JournalState) (Plain : Type 0) (Good : List ℕ → Type 0) 
       HeardAnswers journal Plain Good s.progress (receive_responses count s)
   unfolding receive_responses
   after_responses zero s sound gives = record {
-    received = nothing_heard journal Plain Good s.progress s.progress sound refl refl;
+    received = nothing_received journal Plain Good s.progress s.progress sound refl refl;
     gives = gives;
   }
   after_responses (suc count) s sound gives =
-      let one = port_heard None s.port s.progress sound gives in
+      let one = port_received None s.port s.progress sound gives in
       let more = after_responses count (stepped s) one.sound (rest_gives Good s.port.comes gives) in
       record {
-        received = then_heard journal Plain Good s.progress (stepped s).progress (receive_responses count (stepped s)).progress sound one more.received;
+        received = then_received journal Plain Good s.progress (stepped s).progress (receive_responses count (stepped s)).progress sound one more.received;
         gives = more.gives;
       }
 
-  asked_heard : {P : Type 0} (wish : Option Request) (server : P) (burst : ℕ) (fails : Bool) (s : Asking P) →
+  asked_received : {P : Type 0} (wish : Option Request) (server : P) (burst : ℕ) (fails : Bool) (s : Asking P) →
       IsSound journal s.progress → GivesOnly Good s.port →
       HeardAnswers journal Plain Good s.progress (asked wish server burst fails s)
-  asked_heard None server burst fails s sound gives = record {
-    received = nothing_heard journal Plain Good s.progress s.progress sound refl refl;
+  asked_received None server burst fails s sound gives = record {
+    received = nothing_received journal Plain Good s.progress s.progress sound refl refl;
     gives = gives;
   }
-  asked_heard (Some request) server burst true s sound gives = record {
-    received = nothing_heard journal Plain Good s.progress (missed s.progress) sound refl refl;
+  asked_received (Some request) server burst true s sound gives = record {
+    received = nothing_received journal Plain Good s.progress (missed s.progress) sound refl refl;
     gives = gives;
   }
-  asked_heard (Some request) server burst false s sound gives =
+  asked_received (Some request) server burst false s sound gives =
       after_responses (receives burst s.port.comes)
       (record { port = offered false server (request_spelling request) s.port; progress = s.progress }) sound gives
 
   -- ---- turns
 
-  turn_heard : {P : Type 0} (server : P) (burst : ℕ) (fails : Bool) (s : ListenerState P) →
+  turn_received : {P : Type 0} (server : P) (burst : ℕ) (fails : Bool) (s : ListenerState P) →
       IsSound journal s.progress → ReceivesOnly Good s →
       HeardTurns journal Plain Good s.progress (turn server burst fails s)
   unfolding turn
-  turn_heard {P} server burst fails s sound gives =
+  turn_received {P} server burst fails s sound gives =
       let mid : Progress = with_next_receipt (Some A) s.a s.progress in
-      let a = port_heard (Some A) s.a s.progress sound gives.a in
-      let b = port_heard (Some B) s.b mid a.sound gives.b in
-      let lines = then_heard journal Plain Good s.progress mid (after_lines s) sound a b in
+      let a = port_received (Some A) s.a s.progress sound gives.a in
+      let b = port_received (Some B) s.b mid a.sound gives.b in
+      let lines = then_received journal Plain Good s.progress mid (after_lines s) sound a b in
       let before : Asking P = record { port = s.requests; progress = after_lines s } in
       let answers : HeardAnswers journal Plain Good (after_lines s) (turn_asked server burst fails s) =
-      asked_heard (wanted (after_lines s).arbitration.view) server burst fails before lines.sound gives.requests in
+      asked_received (wanted (after_lines s).arbitration.view) server burst fails before lines.sound gives.requests in
       record {
         received =
-            then_heard journal Plain Good s.progress (after_lines s) (turn_asked server burst fails s).progress sound lines answers.received;
+            then_received journal Plain Good s.progress (after_lines s) (turn_asked server burst fails s).progress sound lines answers.received;
         gives = record {
           a = rest_gives Good s.a.comes gives.a;
           b = rest_gives Good s.b.comes gives.b;
@@ -130,22 +130,22 @@ module _ (journal : JournalState) (Plain : Type 0) (Good : List ℕ → Type 0) 
         };
       }
 
-  run_heard : {P : Type 0} (server : P) (burst : ℕ) (choices : List Bool) (s : ListenerState P) →
+  run_received : {P : Type 0} (server : P) (burst : ℕ) (choices : List Bool) (s : ListenerState P) →
       IsSound journal s.progress → ReceivesOnly Good s →
       HeardTurns journal Plain Good s.progress (run (listening server burst) choices s)
   unfolding run
-  run_heard server burst [] s sound gives = record {
-    received = nothing_heard journal Plain Good s.progress s.progress sound refl refl;
+  run_received server burst [] s sound gives = record {
+    received = nothing_received journal Plain Good s.progress s.progress sound refl refl;
     gives = gives;
   }
-  run_heard {P} server burst (fails ∷ more) s sound gives =
+  run_received {P} server burst (fails ∷ more) s sound gives =
       let after : ListenerState P = turn server burst fails s in
       let end : ListenerState P = run (listening server burst) more after in
-      let one = turn_heard server burst fails s sound gives in
-      let rest = run_heard server burst more after one.received.sound one.gives in
-      either_heard journal Plain Good s.progress (is_finished after.progress) after end one
+      let one = turn_received server burst fails s sound gives in
+      let rest = run_received server burst more after one.received.sound one.gives in
+      either_received journal Plain Good s.progress (is_finished after.progress) after end one
       (record {
-        received = then_heard journal Plain Good s.progress after.progress end.progress sound one.received rest.received;
+        received = then_received journal Plain Good s.progress after.progress end.progress sound one.received rest.received;
         gives = rest.gives;
       })
 
@@ -196,7 +196,7 @@ pub run_listened : {P : Type 0} → HearingLaws → (journal : JournalState) (se
 run_listened {P} laws journal server burst choices start honest session hears =
     let Good : List ℕ → Type 0 = Both (IsHarmless journal) (CanReceive start) in
     let done : HasHeard journal ⊥ Good start.progress (run (listening server burst) choices start).progress =
-    (run_heard journal ⊥ Good laws
+    (run_received journal ⊥ Good laws
     (record { harmless = λ bytes good. good.0; told = λ never bytes good. absurd never }) server burst choices start
     (record { honest = honest; session = session }) (ports_give (IsHarmless journal) start hears)).received in
     record {
@@ -222,7 +222,7 @@ run_plain {P} laws journal server burst choices start honest session hears =
     let front : List ℕ = start.progress.outgoing.text in
     let from : ℕ = start.progress.arbitration.view.next in
     let done : HasHeard journal (Unit {0}) (IsTrueDatagram journal) start.progress (run (listening server burst) choices start).progress =
-    (run_heard journal (Unit {0}) (IsTrueDatagram journal) laws
+    (run_received journal (Unit {0}) (IsTrueDatagram journal) laws
     (record { harmless = λ bytes told. inl told; told = λ is_plain bytes told. told }) server burst choices start
     (record { honest = honest; session = session }) hears).received in
     done.text

@@ -29,9 +29,9 @@ pub record ServingLaws : Type 0 where
   pub answer_is : (journal : JournalState) (limit burst : ℕ) (request : Request) → IsAnswerable journal request →
       planned journal.messages limit (plan_for journal burst request)
       ≡ answer journal.messages journal.session limit request.sequence request.count burst
-  pub told : (journal : JournalState) (limit : ℕ) (plan : PlanState) (place : ℕ) (packet : Packet) →
+  pub told : (journal : JournalState) (limit : ℕ) (plan : PlanState) (index : ℕ) (packet : Packet) →
       MayAnswer journal limit → IsPlan plan → plan.to ≤ length journal.messages + 1 →
-      plan.session ≡ journal.session → slice_get (planned journal.messages limit plan) place ≡ Some packet →
+      plan.session ≡ journal.session → slice_get (planned journal.messages limit plan) index ≡ Some packet →
       IsTrueDatagram journal (spelling_of packet)
 
 -- ---- packets that are offered
@@ -42,9 +42,9 @@ AllSpelled Good packets = AllByRecursion (λ packet. Good (spelling_of packet)) 
 
 -- what holds at each index of a list holds of all of it
 each_at : {X : Type 0} (Q : X → Type 0) (xs : List X) →
-    ((place : ℕ) (x : X) → slice_get xs place ≡ Some x → Q x) → AllByRecursion Q xs
+    ((index : ℕ) (x : X) → slice_get xs index ≡ Some x → Q x) → AllByRecursion Q xs
 each_at Q [] at = tt
-each_at Q (x ∷ xs) at = (at 0 x refl, each_at Q xs (λ place y found. at (suc place) y found))
+each_at Q (x ∷ xs) at = (at 0 x refl, each_at Q xs (λ index y found. at (suc index) y found))
 
 -- one more datagram
 served_more : {P : Type 0} (Good : List ℕ → Type 0) (sent : List (P × List ℕ)) (letter : P × List ℕ) →
@@ -92,8 +92,8 @@ module _ (laws : ServingLaws) (service : Service) (may : MayAnswer service.journ
       (laws.answer_is service.journal service.limit service.burst request is)
       (each_at (λ packet. IsTrueDatagram service.journal (spelling_of packet))
       (planned service.journal.messages service.limit plan)
-      (λ place packet found.
-      laws.told service.journal service.limit plan place packet may (laws.plan service.journal service.burst request is)
+      (λ index packet found.
+      laws.told service.journal service.limit plan index packet may (laws.plan service.journal service.burst request is)
       (laws.within service.journal service.burst request) refl found))
 
   reply_tells_to : (bytes : List ℕ) (asked : Result Request AnswerError) → asking service.journal bytes ≡ asked →

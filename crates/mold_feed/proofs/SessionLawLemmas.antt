@@ -163,9 +163,9 @@ module _ {P : Type 0} (laws : FeedLaws P) (limit : ℕ) (journal : JournalState)
       abbrev next : ℕ
       next = ending.progress.arbitration.view.next
 
-      has_heard : ReceivesOnly (IsHarmless (left_by journal lines)) start →
+      has_received : ReceivesOnly (IsHarmless (left_by journal lines)) start →
           HasListened (left_by journal lines) (CanReceive start) first [] ending.progress
-      has_heard hears =
+      has_received hears =
           subst (λ (n : ℕ). HasListened (left_by journal lines) (CanReceive start) n [] ending.progress) at_first
           (laws.received (left_by journal lines) server burst ran.choices start honest in_session hears)
 
@@ -185,9 +185,9 @@ module _ {P : Type 0} (laws : FeedLaws P) (limit : ℕ) (journal : JournalState)
           hears_weaker (IsTrueDatagram (left_by journal lines)) (IsHarmless (left_by journal lines))
           (λ bytes modeled. inl modeled) start hears
 
-      text_heard : ReceivesOnly (IsTrueDatagram (left_by journal lines)) start →
+      text_received : ReceivesOnly (IsTrueDatagram (left_by journal lines)) start →
           ending.progress.outgoing.text ≡ handed_text first (between (left_by journal lines).messages first next)
-      text_heard hears =
+      text_received hears =
           laws.plain (left_by journal lines) server burst ran.choices start honest in_session hears
           ∙ ap (λ (n : ℕ). handed_text n (between (left_by journal lines).messages n next)) at_first
 
@@ -199,7 +199,7 @@ module _ {P : Type 0} (laws : FeedLaws P) (limit : ℕ) (journal : JournalState)
 
         comes_to : ReceivesOnly (IsHarmless (left_by journal lines)) start → HasCome reporting lines first ending result old new
         comes_to hears =
-            has_come (left_by journal lines) (CanReceive start) has_lines.spelled (has_heard hears) (has_finished hears)
+            has_come (left_by journal lines) (CanReceive start) has_lines.spelled (has_received hears) (has_finished hears)
             ran.whole ran.front
 
         pub session_prints_among : ReceivesOnly (IsFed P journal limit lines) start →
@@ -208,14 +208,14 @@ module _ {P : Type 0} (laws : FeedLaws P) (limit : ℕ) (journal : JournalState)
             let hears = hears_weaker (IsFed P journal limit lines) (IsHarmless (left_by journal lines)) fed_harmless start
             fed in
             subst (λ (s : Session). PrintsAmong reporting s (CanReceive start) lines first result old new) (left_session journal lines)
-            (listened_among (left_by journal lines) (CanReceive start) has_lines.spelled (has_heard hears) (comes_to hears))
+            (listened_among (left_by journal lines) (CanReceive start) has_lines.spelled (has_received hears) (comes_to hears))
 
         pub session_prints_lines : ReceivesOnly (IsSent P journal limit lines) start →
             PrintsLines reporting lines first result old new
         session_prints_lines sent =
             let hears = all_true sent in
             prints_lines (comes_to (all_harmless hears))
-            (text_heard hears ∙ text_between lines (left_by journal lines).messages first next has_lines.spelled)
+            (text_received hears ∙ text_between lines (left_by journal lines).messages first next has_lines.spelled)
 
       -- a line is refused
 
@@ -243,11 +243,11 @@ module _ {P : Type 0} (laws : FeedLaws P) (limit : ℕ) (journal : JournalState)
             ending.progress.arbitration.view.known ≤ count + 1
         known_to hears =
             let many = ap (λ (messages : List Message). length messages) same in
-            let most = (has_heard hears).honest.known in
+            let most = (has_received hears).honest.known in
             omega (arith, many, most)
 
         ahead : ReceivesOnly (IsHarmless (left_by journal lines)) start → next ≤ ending.progress.arbitration.view.known
-        ahead hears = (has_heard hears).honest.well_formed.ahead
+        ahead hears = (has_received hears).honest.well_formed.ahead
 
         up_to : ReceivesOnly (IsHarmless (left_by journal lines)) start → next ≤ count + 1
         up_to hears = omega (arith, ahead hears, known_to hears)
@@ -255,11 +255,11 @@ module _ {P : Type 0} (laws : FeedLaws P) (limit : ℕ) (journal : JournalState)
         lines_printed : ReceivesOnly (IsTrueDatagram (left_by journal lines)) start →
             ending.progress.outgoing.text ≡ lines_text first (between lines first next)
         lines_printed hears =
-            text_heard hears
+            text_received hears
             ∙ ap (λ (messages : List Message). handed_text first (between messages first next)) same
             ∙ text_between (take count lines) (lines_published journal lines).journal.messages first next before.spelled
             ∙ ap (lines_text first)
-            (between_front lines count first next least (has_heard (all_harmless hears)).from (up_to (all_harmless hears)))
+            (between_front lines count first next least (has_received (all_harmless hears)).from (up_to (all_harmless hears)))
 
         all_printed : ReceivesOnly (IsTrueDatagram (left_by journal lines)) start →
             ending.progress.outgoing.text ++ listened_lines reporting ending
@@ -283,7 +283,7 @@ module _ {P : Type 0} (laws : FeedLaws P) (limit : ℕ) (journal : JournalState)
               known = ending.progress.arbitration.view.known;
               failures = ending.progress.outgoing.failures;
               reports = ending.progress.arbitration.reports;
-              from = (has_heard harmless).from;
+              from = (has_received harmless).from;
               to = up_to harmless;
               ahead = ahead harmless;
               received = known_to harmless;

@@ -140,10 +140,10 @@ has_reason laws v session bytes (Ok packet) why same strange is refused =
 
 module _ (journal : JournalState) (Plain : Type 0) (Good : List ℕ → Type 0) where
   -- nothing is printed
-  pub nothing_heard : (old new : Progress) → IsSound journal old → new.arbitration.view ≡ old.arbitration.view →
+  pub nothing_received : (old new : Progress) → IsSound journal old → new.arbitration.view ≡ old.arbitration.view →
       new.outgoing.text ≡ old.outgoing.text → HasHeard journal Plain Good old new
   unfolding handing
-  nothing_heard old new sound same text =
+  nothing_received old new sound same text =
       let next : new.arbitration.view.next ≡ old.arbitration.view.next = ap (λ (v : View). v.next) same in
       record {
         printed_lines = [];
@@ -156,13 +156,13 @@ module _ (journal : JournalState) (Plain : Type 0) (Good : List ℕ → Type 0) 
       }
 
   -- messages are delivered, and each is the published one with its number
-  messages_heard : (old new : Progress) (messages : List Message) → IsSound journal old →
+  messages_received : (old new : Progress) (messages : List Message) → IsSound journal old →
       new.arbitration.view.next ≡ old.arbitration.view.next + length messages →
       new.outgoing.text ≡ old.outgoing.text ++ handed_text old.arbitration.view.next messages →
       ((i : ℕ) (m : Message) → slice_get messages i ≡ Some m →
       published_at journal.messages (old.arbitration.view.next + i) ≡ Some m) → IsSound journal new →
       HasHeard journal Plain Good old new
-  messages_heard old new messages sound next text each after =
+  messages_received old new messages sound next text each after =
       let from : ℕ = old.arbitration.view.next in
       let piece : messages ≡ between journal.messages from new.arbitration.view.next =
       handed_between journal.messages messages from new.arbitration.view.next (first_number journal old sound)
@@ -178,9 +178,9 @@ module _ (journal : JournalState) (Plain : Type 0) (Good : List ℕ → Type 0) 
       }
 
   -- one after the other
-  pub then_heard : (old mid new : Progress) → IsSound journal old → HasHeard journal Plain Good old mid →
+  pub then_received : (old mid new : Progress) → IsSound journal old → HasHeard journal Plain Good old mid →
       HasHeard journal Plain Good mid new → HasHeard journal Plain Good old new
-  then_heard old mid new sound before behind =
+  then_received old mid new sound before behind =
       let first : ℕ = old.arbitration.view.next in
       let middle : ℕ = mid.arbitration.view.next in
       let last : ℕ = new.arbitration.view.next in
@@ -212,9 +212,9 @@ module _ (journal : JournalState) (Plain : Type 0) (Good : List ℕ → Type 0) 
 
   module _ (laws : HearingLaws) (may : MayCome journal Plain Good) where
     -- a true datagram is taken
-    true_heard : (line : Option Line) (bytes : List ℕ) (e : Progress) → IsSound journal e → IsTrueDatagram journal bytes →
+    true_received : (line : Option Line) (bytes : List ℕ) (e : Progress) → IsSound journal e → IsTrueDatagram journal bytes →
         HasHeard journal Plain Good e (taken line bytes e)
-    true_heard line bytes e sound told =
+    true_received line bytes e sound told =
         let v : View = e.arbitration.view in
         let took : IsTakenHonestly v bytes journal.messages journal.closed =
         laws.take v told.packet bytes journal.messages journal.closed sound.honest told.spelled
@@ -226,7 +226,7 @@ module _ (journal : JournalState) (Plain : Type 0) (Good : List ℕ → Type 0) 
         let next : took.reception.view.next ≡ v.next + length took.reception.handed =
         ap (λ (r : Reception). r.view.next) rule.taken
         ∙ ap (λ (r : Reception). v.next + length r.handed) (sym rule.taken) in
-        messages_heard e (taken line bytes e) took.reception.handed sound (ap (λ (w : View). w.next) view ∙ next)
+        messages_received e (taken line bytes e) took.reception.handed sound (ap (λ (w : View). w.next) view ∙ next)
         (ap (λ (t : Result Reception Refusal). e.outgoing.text ++ taking_text v.next t) took.received) took.handed
         (record {
           honest = subst (λ (w : View). IsHonest w journal.messages journal.closed) (sym view) took.honest;
@@ -235,10 +235,10 @@ module _ (journal : JournalState) (Plain : Type 0) (Good : List ℕ → Type 0) 
         })
 
     -- bytes that do not encode a packet of the session are refused
-    refused_heard : (line : Option Line) (bytes : List ℕ) (e : Progress) (why : Refusal) → IsSound journal e →
+    refused_received : (line : Option Line) (bytes : List ℕ) (e : Progress) (why : Refusal) → IsSound journal e →
         Good bytes → IsForeign journal.session bytes → (Plain → ⊥) → receive e.arbitration.view bytes ≡ Err why →
         HasHeard journal Plain Good e (taken line bytes e)
-    refused_heard line bytes e why sound good strange never is =
+    refused_received line bytes e why sound good strange never is =
         let new : Progress = taken line bytes e in
         let reason : IsReason journal.session bytes why =
         has_reason laws e.arbitration.view journal.session bytes (reading bytes) why sound.session strange refl is in
@@ -258,24 +258,24 @@ module _ (journal : JournalState) (Plain : Type 0) (Good : List ℕ → Type 0) 
           sound = still_sound journal e new sound view;
         }
 
-    strange_heard : (line : Option Line) (bytes : List ℕ) (e : Progress) (received : Result Reception Refusal) →
+    strange_received : (line : Option Line) (bytes : List ℕ) (e : Progress) (received : Result Reception Refusal) →
         IsSound journal e → Good bytes → IsForeign journal.session bytes → (Plain → ⊥) →
         receive e.arbitration.view bytes ≡ received → HasHeard journal Plain Good e (taken line bytes e)
-    strange_heard line bytes e (Ok reception) sound good strange never is =
+    strange_received line bytes e (Ok reception) sound good strange never is =
         let rule : IsTakenPacket e.arbitration.view bytes reception = laws.taken e.arbitration.view bytes reception is in
         absurd
         (strange.1 rule.packet (laws.spelled rule.packet bytes strange.0 rule.read) (rule.session ∙ sound.session))
-    strange_heard line bytes e (Err why) sound good strange never is =
-        refused_heard line bytes e why sound good strange never is
+    strange_received line bytes e (Err why) sound good strange never is =
+        refused_received line bytes e why sound good strange never is
 
     -- what may be received is taken or refused
-    pub taken_heard : (line : Option Line) (bytes : List ℕ) (e : Progress) → IsSound journal e → Good bytes →
+    pub taken_received : (line : Option Line) (bytes : List ℕ) (e : Progress) → IsSound journal e → Good bytes →
         HasHeard journal Plain Good e (taken line bytes e)
-    taken_heard line bytes e sound good =
+    taken_received line bytes e sound good =
         elim (may.harmless bytes good) [
-          | inl told ↦ true_heard line bytes e sound told
+          | inl told ↦ true_received line bytes e sound told
           | inr strange ↦
-              strange_heard line bytes e (receive e.arbitration.view bytes) sound good strange
+              strange_received line bytes e (receive e.arbitration.view bytes) sound good strange
               (λ is_plain.
               let told : IsTrueDatagram journal bytes = may.told is_plain bytes good in
               strange.1 told.packet told.spelled told.session)

@@ -186,11 +186,11 @@ pub record PrintsLines {E : Type 0} (reporting : Bool) (lines : List (List ℕ))
   pub front : AppendsPrefix old new
       (lines_text first (between lines first next) ++ closing_lines reporting reports finished next known failures)
 
--- What a listener that started at line `first` has written at its end, if line `place` is refused. Its text is the
+-- What a listener that started at line `first` has written at its end, if line `refused_at` is refused. Its text is the
 -- published lines from `first` to `next - 1`. The reports, if requested, and its last line follow. `next` and `known`
--- are at most `place`. The status is 1, since the session has no end. After a fault, a prefix of such a text is
+-- are at most `refused_at`. The status is 1, since the session has no end. After a fault, a prefix of such a text is
 -- written.
-pub record PrintsOpen {E : Type 0} (reporting : Bool) (lines : List (List ℕ)) (place first : ℕ) (result : Result ℕ E)
+pub record PrintsOpen {E : Type 0} (reporting : Bool) (lines : List (List ℕ)) (refused_at first : ℕ) (result : Result ℕ E)
     (old new : Option (List ℕ)) : Type 0 where
   -- the number of the next message to deliver
   pub next : ℕ
@@ -201,9 +201,9 @@ pub record PrintsOpen {E : Type 0} (reporting : Bool) (lines : List (List ℕ)) 
   -- what was received on lines A and B
   pub reports : LineReports
   pub from : first ≤ next
-  pub to : next ≤ place
+  pub to : next ≤ refused_at
   pub ahead : next ≤ known
-  pub received : known ≤ place
+  pub received : known ≤ refused_at
   -- after a success, the whole text is written
   pub text : IfOk result (λ status. (status ≡ 1) × Appends old new
       (lines_text first (between lines first next) ++ closing_lines reporting reports false next known failures))
@@ -211,20 +211,20 @@ pub record PrintsOpen {E : Type 0} (reporting : Bool) (lines : List (List ℕ)) 
   pub front : AppendsPrefix old new
       (lines_text first (between lines first next) ++ closing_lines reporting reports false next known failures)
 
--- What a loop of publisher, server and listener has written, if its listener started at line `first` and line `place`
--- is refused. Its text is published lines from `first` on, all of them before `place`, and then the line of the
+-- What a loop of publisher, server and listener has written, if its listener started at line `first` and line `refused_at`
+-- is refused. Its text is published lines from `first` on, all of them before `refused_at`, and then the line of the
 -- refusal. The status is 2. After a fault, a prefix of such a text is written.
-pub record PrintsRefused {E : Type 0} (lines : List (List ℕ)) (place : ℕ) (why : LineRefusal) (first : ℕ)
+pub record PrintsRefused {E : Type 0} (lines : List (List ℕ)) (refused_at : ℕ) (why : LineRefusal) (first : ℕ)
     (result : Result ℕ E) (old new : Option (List ℕ)) : Type 0 where
   -- the number of the next message to deliver
   pub next : ℕ
   pub from : first ≤ next
-  pub to : next ≤ place
+  pub to : next ≤ refused_at
   -- after a success, the whole text is written
   pub text : IfOk result (λ status. (status ≡ 2) × Appends old new
-      (lines_text first (between lines first next) ++ refused_text place why))
+      (lines_text first (between lines first next) ++ refused_text refused_at why))
   -- in any case, a prefix of the text is written
-  pub front : AppendsPrefix old new (lines_text first (between lines first next) ++ refused_text place why)
+  pub front : AppendsPrefix old new (lines_text first (between lines first next) ++ refused_text refused_at why)
 
 -- The text of those printed lines that deliver a message.
 abbrev pub messages_text : List PrintedLine → List ℕ

@@ -1,4 +1,5 @@
 -- Which datagrams a publisher of some lines and the servers of its journal send.
+use Rattle.mold_wire.specs.declared.limits.TheConstants.{MESSAGE_OVERHEAD}
 use Rattle.std.specs.Prelude.{◌≡◌, ◌⊎◌, ℕ, ◌+◌, ◌≤◌, Bool, true, false, List, [], length, map, take, slice_get}
 use Rattle.std.specs.Prelude.{Option, Some, Result, Ok, Err}
 use Rattle.std.specs.List.{AllByRecursion, Contains}
@@ -20,7 +21,7 @@ pub record IsOpening (journal : JournalState) (limit : ℕ) : Type 0 where
   pub named : length journal.session.0 ≡ 10
   pub limited : IsLimit limit
   -- a message of the greatest length fits a packet alone, with 22 bytes of header and length
-  pub longest : journal.max_message + 22 ≤ limit
+  pub longest : journal.max_message + MESSAGE_OVERHEAD ≤ limit
   pub empty : journal.messages ≡ []
   pub unclosed : journal.closed ≡ false
 
@@ -36,7 +37,7 @@ pub record HasLinesBefore (lines : List (List ℕ)) (why : LineRefusal) (journal
   -- the refused line
   pub line : List ℕ
   -- it is the first line that has no message in the journal
-  pub place : slice_get lines (length journal.messages) ≡ Some line
+  pub found : slice_get lines (length journal.messages) ≡ Some line
   pub refused : line_outcome journal (decode_of line) ≡ Err why
   -- each line before it decodes to the message with the same index
   pub spelled : map decode_of (take (length journal.messages) lines) ≡ map Ok journal.messages

@@ -1,6 +1,7 @@
 //! Laws about the definitions that the contracts of the publishing, serving and listening loops cite. Each law is a
 //! function that does nothing; its contract is the theorem.
 
+ghost use Rattle.mold_wire.specs.declared.limits.TheConstants.{MESSAGE_OVERHEAD};
 ghost use Rattle.std.specs.Prelude.{◌≡◌, ◌+◌, ◌++◌, ◌≤◌, Bool, List, [], None, Option, Result, Some, length, true, ℕ};
 ghost use Rattle.std.specs.List.{AllByRecursion};
 ghost use Rattle.mold_devices.specs.declared.fault.CommandFault.{CommandFault};
@@ -54,7 +55,7 @@ pub fn published_law<D: Datagrams>()
         IsOpening journal limit → (lines_published journal lines).refused ≡ Some why →
         HasLinesBefore lines why (lines_published journal lines).journal }
     ensures answers { (limit other : ℕ) (journal : JournalState) (lines : List (List ℕ)) → IsOpening journal limit →
-        IsLimit other → journal.max_message + 22 ≤ other →
+        IsLimit other → journal.max_message + MESSAGE_OVERHEAD ≤ other →
         MayAnswer (left_journal (lines_published journal lines)) other }
 {
     publisher_law();

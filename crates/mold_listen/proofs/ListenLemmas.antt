@@ -45,10 +45,10 @@ taken_ok line bytes old new before after t outgoing out empty has written =
 -- ---- one receive
 
 -- a receive gave what the port gives next, truncated to the buffer
-pub heard_next : {P : Type 0} (line : Option Line) (port : Port P) (e : Progress) (n : ℕ) (receipt : Receipt P) →
+pub received_next : {P : Type 0} (line : Option Line) (port : Port P) (e : Progress) (n : ℕ) (receipt : Receipt P) →
     n ≡ MAX_LIMIT → receipt ≡ cut n (next_of port) → with_receipt line receipt e ≡ with_next_receipt line port e
 unfolding with_next_receipt
-heard_next {P} line port e n receipt long is =
+received_next {P} line port e n receipt long is =
     ap (λ (r : Receipt P). with_receipt line r e) (is ∙ ap (λ (k : ℕ). cut k (next_of port)) long)
 
 cut_is : {P : Type 0} (n : ℕ) (receipt : Receipt P) → is_datagram (cut n receipt) ≡ is_datagram receipt
@@ -66,36 +66,36 @@ datagram_next n port receipt is = ap is_datagram is ∙ cut_is n (next_of port)
 abbrev pub stepped : {P : Type 0} → Asking P → Asking P
 stepped s = record { port = received s.port; progress = with_next_receipt None s.port s.progress }
 
-more_heard : {P : Type 0} (n : ℕ) (comes : List (Receipt P)) (sent : List (P × List ℕ)) (failures : ℕ) (e : Progress) →
+more_received : {P : Type 0} (n : ℕ) (comes : List (Receipt P)) (sent : List (P × List ℕ)) (failures : ℕ) (e : Progress) →
     let s : Asking P = record { port = record { comes = comes; sent = sent; failures = failures }; progress = e } in
     is_datagram (next_of s.port) ≡ true →
     receive_responses (receives n (stepped s).port.comes) (stepped s) ≡ receive_responses (receives (suc n) comes) s
 unfolding receives receive_responses
-more_heard n [] sent failures e came = let no : ⊥ = cc in absurd no
-more_heard n (Datagram from bytes ∷ comes) sent failures e came = refl
-more_heard n (Quiet ∷ comes) sent failures e came = let no : ⊥ = cc in absurd no
-more_heard n (Failure ∷ comes) sent failures e came = let no : ⊥ = cc in absurd no
+more_received n [] sent failures e came = let no : ⊥ = cc in absurd no
+more_received n (Datagram from bytes ∷ comes) sent failures e came = refl
+more_received n (Quiet ∷ comes) sent failures e came = let no : ⊥ = cc in absurd no
+more_received n (Failure ∷ comes) sent failures e came = let no : ⊥ = cc in absurd no
 
-last_heard : {P : Type 0} (n : ℕ) (comes : List (Receipt P)) (sent : List (P × List ℕ)) (failures : ℕ) (e : Progress) →
+last_received : {P : Type 0} (n : ℕ) (comes : List (Receipt P)) (sent : List (P × List ℕ)) (failures : ℕ) (e : Progress) →
     let s : Asking P = record { port = record { comes = comes; sent = sent; failures = failures }; progress = e } in
     is_datagram (next_of s.port) ≡ false → stepped s ≡ receive_responses (receives (suc n) comes) s
 unfolding receives receive_responses
-last_heard n [] sent failures e came = refl
-last_heard n (Datagram from bytes ∷ comes) sent failures e came = let no : ⊥ = cc in absurd no
-last_heard n (Quiet ∷ comes) sent failures e came = refl
-last_heard n (Failure ∷ comes) sent failures e came = refl
+last_received n [] sent failures e came = refl
+last_received n (Datagram from bytes ∷ comes) sent failures e came = let no : ⊥ = cc in absurd no
+last_received n (Quiet ∷ comes) sent failures e came = refl
+last_received n (Failure ∷ comes) sent failures e came = refl
 
-pub none_heard : {P : Type 0} (left : ℕ) (s : Asking P) → left ≡ 0 → s ≡ receive_responses (receives left s.port.comes) s
+pub none_received : {P : Type 0} (left : ℕ) (s : Asking P) → left ≡ 0 → s ≡ receive_responses (receives left s.port.comes) s
 unfolding receives receive_responses
-none_heard left s none = ap (λ (n : ℕ). receive_responses (receives n s.port.comes) s) (sym none)
+none_received left s none = ap (λ (n : ℕ). receive_responses (receives n s.port.comes) s) (sym none)
 
 -- a response came: the remaining receives give the same end as all receives
-pub answer_heard : {P : Type 0} (left n : ℕ) (s after whole : Asking P) → left ≡ suc n →
+pub answer_received : {P : Type 0} (left n : ℕ) (s after whole : Asking P) → left ≡ suc n →
     is_datagram (next_of s.port) ≡ true → after ≡ stepped s →
     receive_responses (receives left s.port.comes) s ≡ whole → receive_responses (receives n after.port.comes) after ≡ whole
-answer_heard {P} left n s after whole more came is printed =
+answer_received {P} left n s after whole more came is printed =
     ap (λ (a : Asking P). receive_responses (receives n a.port.comes) a) is
-    ∙ more_heard n s.port.comes s.port.sent s.port.failures s.progress came
+    ∙ more_received n s.port.comes s.port.sent s.port.failures s.progress came
     ∙ ap (λ (k : ℕ). receive_responses (receives k s.port.comes) s) (sym more)
     ∙ printed
 
@@ -105,7 +105,7 @@ pub after_responses : {P : Type 0} (left n : ℕ) (s after whole : Asking P) →
     receive_responses (receives left s.port.comes) s ≡ whole → after ≡ whole
 after_responses {P} left n s after whole more came is printed =
     is
-    ∙ last_heard n s.port.comes s.port.sent s.port.failures s.progress came
+    ∙ last_received n s.port.comes s.port.sent s.port.failures s.progress came
     ∙ ap (λ (k : ℕ). receive_responses (receives k s.port.comes) s) (sym more)
     ∙ printed
 

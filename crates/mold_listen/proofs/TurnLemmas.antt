@@ -32,18 +32,18 @@ hearing_before front e = record { arbitration = e.arbitration; outgoing = with_f
 abbrev pub asking_before : {P : Type 0} → List ℕ → Asking P → Asking P
 asking_before front s = record { port = s.port; progress = hearing_before front s.progress }
 
-heard_before : {P : Type 0} (front : List ℕ) (line : Option Line) (receipt : Receipt P) (e : Progress) →
+received_before : {P : Type 0} (front : List ℕ) (line : Option Line) (receipt : Receipt P) (e : Progress) →
     with_receipt line receipt (hearing_before front e) ≡ hearing_before front (with_receipt line receipt e)
-heard_before front line (Datagram from bytes) e =
+received_before front line (Datagram from bytes) e =
     ap (progress (with_receipt line (Datagram from bytes) e).arbitration)
     (more_after front (taking_text e.arbitration.view.next (receive e.arbitration.view bytes)) e.outgoing)
-heard_before front line Quiet e = refl
-heard_before front line Failure e = refl
+received_before front line Quiet e = refl
+received_before front line Failure e = refl
 
 pub hear_before : {P : Type 0} (front : List ℕ) (line : Option Line) (port : Port P) (e : Progress) →
     with_next_receipt line port (hearing_before front e) ≡ hearing_before front (with_next_receipt line port e)
 unfolding with_next_receipt
-hear_before front line port e = heard_before front line (cut MAX_LIMIT (next_of port)) e
+hear_before front line port e = received_before front line (cut MAX_LIMIT (next_of port)) e
 
 pub answers_before : {P : Type 0} (front : List ℕ) (count : ℕ) (s : Asking P) →
     receive_responses count (asking_before front s) ≡ asking_before front (receive_responses count s)
@@ -82,17 +82,17 @@ turn_before {P} server burst front fails s =
 
 -- ---- a turn only appends to what is printed and sent
 
-heard_prints : {P : Type 0} (line : Option Line) (receipt : Receipt P) (e : Progress) →
+received_prints : {P : Type 0} (line : Option Line) (receipt : Receipt P) (e : Progress) →
     Begins e.outgoing.text (with_receipt line receipt e).outgoing.text
-heard_prints line (Datagram from bytes) e =
+received_prints line (Datagram from bytes) e =
     begins_more e.outgoing.text (taking_text e.arbitration.view.next (receive e.arbitration.view bytes))
-heard_prints line Quiet e = begins_whole e.outgoing.text
-heard_prints line Failure e = begins_whole e.outgoing.text
+received_prints line Quiet e = begins_whole e.outgoing.text
+received_prints line Failure e = begins_whole e.outgoing.text
 
 pub hear_prints : {P : Type 0} (line : Option Line) (port : Port P) (e : Progress) →
     Begins e.outgoing.text (with_next_receipt line port e).outgoing.text
 unfolding with_next_receipt
-hear_prints line port e = heard_prints line (cut MAX_LIMIT (next_of port)) e
+hear_prints line port e = received_prints line (cut MAX_LIMIT (next_of port)) e
 
 pub answers_print : {P : Type 0} (count : ℕ) (s : Asking P) → Begins s.progress.outgoing.text (receive_responses count s).progress.outgoing.text
 unfolding receive_responses

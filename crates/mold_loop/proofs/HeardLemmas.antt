@@ -99,35 +99,35 @@ offered_before {P} front a b pass s =
     ap (λ (r : OutgoingState). of (outgoing_after pass.b r)) (outgoing_before front pass.a s.progress.outgoing)
     ∙ ap of (outgoing_before front pass.b (outgoing_after pass.a s.progress.outgoing))
 
-heard_if_before : {P : Type 0} (front : List ℕ) (on : Bool) (line : Line) (port : Port P) (e : Progress) →
+received_if_before : {P : Type 0} (front : List ℕ) (on : Bool) (line : Line) (port : Port P) (e : Progress) →
     after_line_if on line port (hearing_before front e) ≡ hearing_before front (after_line_if on line port e)
-heard_if_before front false line port e = refl
-heard_if_before front true line port e = hear_before front (Some line) port e
+received_if_before front false line port e = refl
+received_if_before front true line port e = hear_before front (Some line) port e
 
-heard_on_before : {P : Type 0} (front : List ℕ) (lines : Routes) (s : LineState P) →
+received_on_before : {P : Type 0} (front : List ℕ) (lines : Routes) (s : LineState P) →
     after_routes lines (text_front front s) ≡ text_front front (after_routes lines s)
-heard_on_before {P} front lines s =
+received_on_before {P} front lines s =
     let of : Progress → LineState P =
     λ e. record { publisher = s.publisher; a = received_if lines.a s.a; b = received_if lines.b s.b; progress = e } in
-    ap (λ (e : Progress). of (after_line_if lines.b B s.b e)) (heard_if_before front lines.a A s.a s.progress)
-    ∙ ap of (heard_if_before front lines.b B s.b (after_line_if lines.a A s.a s.progress))
+    ap (λ (e : Progress). of (after_line_if lines.b B s.b e)) (received_if_before front lines.a A s.a s.progress)
+    ∙ ap of (received_if_before front lines.b B s.b (after_line_if lines.a A s.a s.progress))
 
 passed_before : {P : Type 0} (a b : P) (front : List ℕ) (pass : Pass) (s : LineState P) →
     passed a b pass (text_front front s) ≡ text_front front (passed a b pass s)
 unfolding passed
 passed_before a b front pass s =
     ap (after_routes (sent_by pass)) (offered_before front a b pass s)
-    ∙ heard_on_before front (sent_by pass) (offered_by a b pass s)
+    ∙ received_on_before front (sent_by pass) (offered_by a b pass s)
 
 outgoing_prints : (o : Outcome) (r : OutgoingState) → (outgoing_after o r).text ≡ r.text
 outgoing_prints LeftOut r = refl
 outgoing_prints Failed r = refl
 outgoing_prints Sent r = refl
 
-heard_if_prints : {P : Type 0} (on : Bool) (line : Line) (port : Port P) (e : Progress) →
+received_if_prints : {P : Type 0} (on : Bool) (line : Line) (port : Port P) (e : Progress) →
     Begins e.outgoing.text (after_line_if on line port e).outgoing.text
-heard_if_prints false line port e = begins_whole e.outgoing.text
-heard_if_prints true line port e = hear_prints (Some line) port e
+received_if_prints false line port e = begins_whole e.outgoing.text
+received_if_prints true line port e = hear_prints (Some line) port e
 
 passed_prints : {P : Type 0} (a b : P) (pass : Pass) (s : LineState P) →
     Begins s.progress.outgoing.text (passed a b pass s).progress.outgoing.text
@@ -137,8 +137,8 @@ passed_prints {P} a b pass s =
     let with_receipt : Progress = after_line_if (is_sent pass.a) A mid.a mid.progress in
     subst (λ (t : List ℕ). Begins t (after_routes (sent_by pass) mid).progress.outgoing.text)
     (outgoing_prints pass.b (outgoing_after pass.a s.progress.outgoing) ∙ outgoing_prints pass.a s.progress.outgoing)
-    (begins_trans (heard_if_prints (is_sent pass.a) A mid.a mid.progress)
-    (heard_if_prints (is_sent pass.b) B mid.b with_receipt))
+    (begins_trans (received_if_prints (is_sent pass.a) A mid.a mid.progress)
+    (received_if_prints (is_sent pass.b) B mid.b with_receipt))
 
 port_sends : {P : Type 0} (o : Outcome) (to : P) (datagram : List ℕ) (port : Port P) →
     Begins port.sent (port_after o to datagram port).sent
@@ -228,9 +228,9 @@ pub record HeardFront {P : Type 0} (a b : P) (datagrams : List (Routes × List �
   pub text : Begins written (run (passing a b) passes before).progress.outgoing.text
   pub offered : after.publisher ≡ (run (passing a b) passes before).publisher
 
-pub heard_none : {P : Type 0} (a b : P) (s : LineState P) (held : Option (List ℕ)) → Heard a b [] s s held held
+pub received_none : {P : Type 0} (a b : P) (s : LineState P) (held : Option (List ℕ)) → Heard a b [] s s held held
 unfolding run
-heard_none a b s held =
+received_none a b s held =
     record { passes = []; are = refl; written = []; appended = Appends-nil held; whole = refl }
 
 both_are : (xs ys : List Pass) (ds es : List (Routes × List ℕ)) → map routed_by xs ≡ ds → map routed_by ys ≡ es →
@@ -248,10 +248,10 @@ more_run a b xs ys written before now whole =
     ∙ run_behind (passing a b) text_front (passes_are a b) ys written now
 
 -- more datagrams are passed
-pub heard_more : {P T E : Type 0} (a b : P) {xs ys : List (Routes × List ℕ)} {before now after : LineState P}
+pub received_more : {P T E : Type 0} (a b : P) {xs ys : List (Routes × List ℕ)} {before now after : LineState P}
     {old new : Option (List ℕ)} (value : T) → Heard a b xs before now old new →
     HasPassed {T = T} {E = E} a b ys (Ok value) now after → Heard a b (xs ++ ys) before after old new
-heard_more {P} a b {xs} {ys} {before} {now} value with_receipt has = record {
+received_more {P} a b {xs} {ys} {before} {now} value with_receipt has = record {
   passes = with_receipt.passes ++ has.passes;
   are = both_are with_receipt.passes has.passes xs ys with_receipt.are has.are;
   written = with_receipt.written;
@@ -262,11 +262,11 @@ heard_more {P} a b {xs} {ys} {before} {now} value with_receipt has = record {
 }
 
 -- some text is written
-pub heard_moved : {P : Type 0} (a b : P) {xs : List (Routes × List ℕ)} {before now : LineState P}
+pub received_moved : {P : Type 0} (a b : P) {xs : List (Routes × List ℕ)} {before now : LineState P}
     {old mid new : Option (List ℕ)} {left : List ℕ} (after : LineState P) → Heard a b xs before now old mid →
     (moves : Moves mid new now.progress.outgoing.text left) → now ≡ text_front moves.front after →
     Heard a b xs before after old new
-heard_moved {P} a b {xs} {before} {now} {old} {mid} {new} after with_receipt moves same = record {
+received_moved {P} a b {xs} {before} {now} {old} {mid} {new} after with_receipt moves same = record {
   passes = with_receipt.passes;
   are = with_receipt.are;
   written = with_receipt.written ++ moves.front;
@@ -277,10 +277,10 @@ heard_moved {P} a b {xs} {before} {now} {old} {mid} {new} after with_receipt mov
 }
 
 -- a fault occurs while the datagrams are passed
-pub heard_failed : {P T E : Type 0} (a b : P) {xs ys : List (Routes × List ℕ)} {before now after : LineState P}
+pub received_failed : {P T E : Type 0} (a b : P) {xs ys : List (Routes × List ℕ)} {before now after : LineState P}
     {old new : Option (List ℕ)} (result : Result T E) → Heard a b xs before now old new →
     HasPassed a b ys result now after → HeardFront a b (xs ++ ys) before after old new
-heard_failed {P} a b {xs} {ys} {before} {now} {after} result with_receipt has =
+received_failed {P} a b {xs} {ys} {before} {now} {after} result with_receipt has =
     let end : run (passing a b) (with_receipt.passes ++ has.passes) before
     ≡ text_front with_receipt.written (run (passing a b) has.passes now) =
     more_run a b with_receipt.passes has.passes with_receipt.written before now with_receipt.whole in
@@ -296,11 +296,11 @@ heard_failed {P} a b {xs} {ys} {before} {now} {after} result with_receipt has =
     }
 
 -- a write fails after the datagrams are passed
-pub heard_cut : {P : Type 0} (a b : P) {xs : List (Routes × List ℕ)} {before now : LineState P}
+pub received_cut : {P : Type 0} (a b : P) {xs : List (Routes × List ℕ)} {before now : LineState P}
     {old mid new : Option (List ℕ)} (after : LineState P) → after.publisher ≡ now.publisher →
     Heard a b xs before now old mid → AppendsPrefix mid new now.progress.outgoing.text →
     HeardFront a b xs before after old new
-heard_cut {P} a b {xs} {before} {now} {old} {mid} {new} after same with_receipt cut = record {
+received_cut {P} a b {xs} {before} {now} {old} {mid} {new} after same with_receipt cut = record {
   passes = with_receipt.passes;
   are = with_receipt.are;
   written = with_receipt.written ++ cut.front;
@@ -311,10 +311,10 @@ heard_cut {P} a b {xs} {before} {now} {old} {mid} {new} after same with_receipt 
   offered = same ∙ ap (λ (s : LineState P). s.publisher) (sym with_receipt.whole);
 }
 
-pub heard_still : {P : Type 0} (a b : P) {xs : List (Routes × List ℕ)} {before now : LineState P}
+pub received_still : {P : Type 0} (a b : P) {xs : List (Routes × List ℕ)} {before now : LineState P}
     {old new : Option (List ℕ)} → Heard a b xs before now old new → HeardFront a b xs before now old new
-heard_still a b {xs} {before} {now} {old} {new} with_receipt =
-    heard_cut a b now refl with_receipt (record { front = []; rest = _; parts = refl; appended = Appends-nil new })
+received_still a b {xs} {before} {now} {old} {new} with_receipt =
+    received_cut a b now refl with_receipt (record { front = []; rest = _; parts = refl; appended = Appends-nil new })
 
 -- the text written is a prefix of the text of the state
 pub lines_moved : {P : Type 0} (publisher a b : Port P) (arbitration : Arbitration) (old new : OutgoingState) (front : List ℕ) →

@@ -10,7 +10,7 @@ use Rattle.mold_publish.specs.Publishing.{Fills}
 use Rattle.mold_publish.specs.declared.filling.Filled.TheVariants.{Full, End, Refused}
 use Rattle.mold_publish.specs.declared.line_refusal.LineRefusal.{LineRefusal}
 use Rattle.mold_session.specs.Publisher.{PublisherState, after_datagram, next_datagram}
-use Rattle.mold_loop.proofs.HeardLemmas.{Heard, HeardFront, heard_cut, heard_failed, heard_more, heard_moved, heard_none, heard_still}
+use Rattle.mold_loop.proofs.HeardLemmas.{Heard, HeardFront, received_cut, received_failed, received_more, received_moved, received_none, received_still}
 use Rattle.mold_loop.proofs.HeardLemmas.{routed_more}
 use Rattle.mold_send.proofs.SendingLemmas.{LeftToSend, any_known, begun, begun_all, left_end, left_full, left_refused, left_same}
 use Rattle.mold_turns.proofs.RunLemmas.{begins_more, none_answered, none_ok}
@@ -36,7 +36,7 @@ pub so_far_begun : {P : Type 0} (drops : Drops) (a b : P) (start : PublisherStat
 so_far_begun drops a b start known rest s held empty =
     subst (λ (l : Option (List ℕ)). HeardSoFar drops a b start start known l s s held held 0)
     (sym (ap (λ (xs : List ℕ). prepend_known xs known) empty ∙ prepend_known-nil known))
-    (record { front = []; counted = refl; behind = left_same start known; received = heard_none a b s held })
+    (record { front = []; counted = refl; behind = left_same start known; received = received_none a b s held })
 
 routed_next : (drops : Drops) (front ys : List (List ℕ)) (count : ℕ) → count ≡ length front →
     routed drops 1 front ++ routed drops (count + 1) ys ≡ routed drops 1 (front ++ ys)
@@ -63,7 +63,7 @@ so_far_full {P} laws drops a b start before now after known left behind first he
       received =
           subst (λ (l : List (Routes × List ℕ)). Heard a b l first there old new)
           (routed_next drops so_far.front (spelled_some (next_datagram now)) count so_far.counted)
-          (heard_more a b value so_far.received has);
+          (received_more a b value so_far.received has);
     })
 
 -- some text is written
@@ -76,7 +76,7 @@ so_far_moved drops a b start now known left first here old mid new count rest th
   front = so_far.front;
   counted = so_far.counted;
   behind = so_far.behind;
-  received = heard_moved a b there so_far.received moves same;
+  received = received_moved a b there so_far.received moves same;
 }
 
 -- a fault: the datagrams passed are a prefix
@@ -103,7 +103,7 @@ pub hears_none : {P E : Type 0} (drops : Drops) (a b : P) (start last : Publishe
     (result : Result (Option LineRefusal) E) (s : LineState P) (held : Option (List ℕ)) → IsErr result →
     ReceivesLines drops a b start last known result s s held held
 hears_none drops a b start last known result s held failed =
-    hears_cut drops a b start last known [] result s s held held (heard_still a b (heard_none a b s held))
+    hears_cut drops a b start last known [] result s s held held (received_still a b (received_none a b s held))
     (any_known known _ (λ input. record { rest = _; parts = refl })) failed
 
 -- a fault between two datagrams
@@ -112,7 +112,7 @@ pub hears_still : {P E : Type 0} (drops : Drops) (a b : P) (start now last : Pub
     (old new : Option (List ℕ)) (count : ℕ) → HeardSoFar drops a b start now known left first here old new count →
     IsErr result → ReceivesLines drops a b start last known result first here old new
 hears_still drops a b start now last known left result first here old new count so_far failed =
-    hears_cut drops a b start last known so_far.front result first here old new (heard_still a b so_far.received)
+    hears_cut drops a b start last known so_far.front result first here old new (received_still a b so_far.received)
     (begun start now known left so_far.front so_far.behind) failed
 
 -- a fault while a datagram is passed
@@ -127,7 +127,7 @@ hears_more drops a b start now last known left first here there old new count ys
     hears_cut drops a b start last known (so_far.front ++ ys) result first there old new
     (subst (λ (l : List (Routes × List ℕ)). HeardFront a b l first there old new)
     (routed_next drops so_far.front ys count so_far.counted)
-    (heard_failed a b passing_result so_far.received has))
+    (received_failed a b passing_result so_far.received has))
     begins failed
 
 pub hears_full : {P T E F : Type 0} → PackingLaws → (drops : Drops) (a b : P) (start before now last : PublisherState)
@@ -152,7 +152,7 @@ pub hears_unwritten : {P E : Type 0} (drops : Drops) (a b : P) (start now last :
     ReceivesLines drops a b start last known result first there old new
 hears_unwritten drops a b start now last known left result first here there old mid new count so_far same cut failed =
     hears_cut drops a b start last known so_far.front result first there old new
-    (heard_cut a b there same so_far.received cut)
+    (received_cut a b there same so_far.received cut)
     (begun start now known left so_far.front so_far.behind) failed
 
 -- a fault while the last datagram is passed
@@ -204,7 +204,7 @@ hears_end {P} {T} {E} laws drops a b start before now after known left behind fi
     (hears_all drops a b start (after_datagram now) known front None first there old new
     (subst (λ (l : List (Routes × List ℕ)). Heard a b l first there old new)
     (routed_next drops so_far.front (spelled_some (next_datagram now)) count so_far.counted)
-    (heard_more a b value so_far.received has))
+    (received_more a b value so_far.received has))
     (left_end laws start before now known left behind so_far.front so_far.behind filled))
 
 -- a line is refused

@@ -14,7 +14,7 @@ use Rattle.mold_receiver.specs.Arbiter.{Arbitration}
 use Rattle.mold_session.specs.Journal.{JournalState}
 use Rattle.mold_session.specs.Publisher.{PublisherState}
 use Rattle.mold_session.specs.Server.{ServerState}
-use Rattle.mold_loop.proofs.HeardLemmas.{Heard, heard_more, heard_failed, routed_more}
+use Rattle.mold_loop.proofs.HeardLemmas.{Heard, received_more, received_failed, routed_more}
 use Rattle.mold_send.proofs.SendingLemmas.{any_known}
 use Rattle.mold_turns.proofs.RunLemmas.{begins_more, begins_none, begins_trans, begins_whole}
 use Rattle.mold_turns.specs.Outgoing.{OutgoingState, written_out}
@@ -84,15 +84,15 @@ loop_unbegun reporting drops a b to turns start server lines rounds known result
     (record { rest = _; parts = refl }) failed refl refl)
 
 -- a fault while lines are read
-pub loop_unheard : {P E F : Type 0} (reporting : Bool) (drops : Drops) (a b to : P) (turns : ℕ) (start last : PublisherState)
+pub loop_unreceived : {P E F : Type 0} (reporting : Bool) (drops : Drops) (a b to : P) (turns : ℕ) (start last : PublisherState)
     (server : ServerState) (lines : LineState P) (rounds : RepairState P) (known : Option (List ℕ))
     (found : Result (Option LineRefusal) F) (result : Result ℕ E) (old new : Option (List ℕ)) (lines_left : LineState P)
     (rounds_left : RepairState P) → IsErr result → rounds_left.server ≡ rounds.server →
     rounds_left.requests ≡ rounds.requests → ReceivesLines drops a b start last known found lines lines_left old new →
     IfSome known (λ input. LoopRun reporting drops a b to turns start.limit start.sent
     (lines_published start.journal (lines_of input)) server lines rounds result old new lines_left rounds_left)
-loop_unheard reporting drops a b to turns start last server lines rounds None found result old new lines_left rounds_left failed kept same hears = tt
-loop_unheard reporting drops a b to turns start last server lines rounds (Some input) found result old new lines_left rounds_left failed kept same hears =
+loop_unreceived reporting drops a b to turns start last server lines rounds None found result old new lines_left rounds_left failed kept same hears = tt
+loop_unreceived reporting drops a b to turns start last server lines rounds (Some input) found result old new lines_left rounds_left failed kept same hears =
     let published : PublishedLines = lines_published start.journal (lines_of input) in
     run_cut drops a b to turns start.limit start.sent published server lines rounds result lines_left rounds_left old new
     (record {
@@ -105,11 +105,11 @@ loop_unheard reporting drops a b to turns start last server lines rounds (Some i
     })
     (begins_routed drops start.limit start.sent published hears.front hears.begins) failed kept same
 
-heard_of : {P E : Type 0} (drops : Drops) (a b : P) (start now : PublisherState) (known : Option (List ℕ))
+received_of : {P E : Type 0} (drops : Drops) (a b : P) (start now : PublisherState) (known : Option (List ℕ))
     (refused : Option LineRefusal) (first here : LineState P) (old new : Option (List ℕ)) →
     (hears : ReceivesLines {E = E} drops a b start now known (Ok refused) first here old new) →
     Heard a b (routed drops 1 hears.front) first here old new
-heard_of drops a b start now known refused first here old new hears = record {
+received_of drops a b start now known refused first here old new hears = record {
   passes = hears.passes;
   are = hears.are;
   written = hears.written;
@@ -142,7 +142,7 @@ loop_stopped {P} reporting drops a b to turns start now server lines rounds know
     (with_progress here.progress rounds) asked old mid mid new (replicate turns choice) []
     (subst (λ (l : List (Routes × List ℕ)). Heard a b l lines here old mid)
     (ap (λ (ds : List (List ℕ)). routed drops 1 ds) (sym whole) ∙ sym (append-nil _))
-    (heard_of drops a b start now known (Some why) lines here old mid hears))
+    (received_of drops a b start now known (Some why) lines here old mid hears))
     (length-replicate turns choice) (Appends-nil mid) refl
     (subst (λ (n : ℕ). AppendsPrefix mid new (text ++ refused_text n why)) numbered cut)
     (subst (λ (n : ℕ). IfOk result (λ status. Appends mid new (text ++ refused_text n why) × (status ≡ 2))) numbered done)
@@ -172,7 +172,7 @@ loop_unended {P} reporting drops a b to turns start now server lines rounds know
     left asked hears.all
     (λ whole.
     run_cut drops a b to turns start.limit start.sent published server lines rounds result left asked old new
-    (heard_failed a b ended (heard_of drops a b start now known None lines here old new hears) has)
+    (received_failed a b ended (received_of drops a b start now known None lines here old new hears) has)
     (subst (λ (l : List (Routes × List ℕ)). Begins l (all_routed drops start.limit start.sent published))
     (all_are drops start now.journal hears.front whole)
     (begins_whole (all_routed drops start.limit start.sent published)))
@@ -200,17 +200,17 @@ rests_from {P} to server turns journal other port requests arbitration printer r
     ∙ ap (λ (n : ℕ). of rounds.server rounds.requests n) answered)
     rests)
 
-heard_all : {P T F G : Type 0} (drops : Drops) (a b : P) (start now : PublisherState) (known : Option (List ℕ))
+received_all : {P T F G : Type 0} (drops : Drops) (a b : P) (start now : PublisherState) (known : Option (List ℕ))
     (lines here there : LineState P) (old new : Option (List ℕ)) (value : T) →
     (hears : ReceivesLines {E = F} drops a b start now known (Ok None) lines here old new) →
     HasPassed {T = T} {E = G} a b (routed_end now.journal None) (Ok value) here there →
     data_after start.limit start.sent (record { journal = now.journal; refused = None }) ≡ hears.front →
     Heard a b (all_routed drops start.limit start.sent (record { journal = now.journal; refused = None })) lines there old
     new
-heard_all {P} drops a b start now known lines here there old new value hears has whole =
+received_all {P} drops a b start now known lines here there old new value hears has whole =
     subst (λ (l : List (Routes × List ℕ)). Heard a b l lines there old new)
     (sym (all_are drops start now.journal hears.front whole))
-    (heard_more a b value (heard_of drops a b start now known None lines here old new hears) has)
+    (received_more a b value (received_of drops a b start now known None lines here old new hears) has)
 
 -- a fault in a round
 pub loop_unrepaired : {P T U E F G H : Type 0} (reporting : Bool) (drops : Drops) (a b to : P) (turns : ℕ) (start now : PublisherState)
@@ -231,7 +231,7 @@ loop_unrepaired reporting drops a b to turns start now server lines rounds known
     (λ whole.
     run_unrepaired drops a b to turns start.limit start.sent now.journal server lines rounds asked result there left
     made old mid new
-    (heard_all drops a b start now known lines here there old mid value hears has whole) rests failed same)
+    (received_all drops a b start now known lines here there old mid value hears has whole) rests failed same)
 
 -- the last line is printed, or a prefix of the remaining text
 pub loop_done : {P T U E F G H : Type 0} (reporting : Bool) (drops : Drops) (a b to : P) (turns : ℕ) (start now : PublisherState)
@@ -256,7 +256,7 @@ loop_done reporting drops a b to turns start now server lines rounds known v don
     (λ whole.
     run_end drops a b to turns start.limit start.sent (record { journal = now.journal; refused = None }) server lines
     rounds result there left made rest old mid next new rests.rests.choices rests.rests.written
-    (heard_all drops a b start now known lines here there old mid v hears has whole) rests.rests.counted
+    (received_all drops a b start now known lines here there old mid v hears has whole) rests.rests.counted
     rests.rests.appended rests.rests.whole cut printed is out)
 
 -- the journal that the publisher ends with

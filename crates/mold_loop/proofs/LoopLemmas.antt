@@ -153,13 +153,13 @@ module _ {P : Type 0} {reporting : Bool} (drops : Drops) (a b to : P) (turns lim
       let choice : Bool × List Bool = (false, []) in
       let choices : List (Bool × List Bool) = replicate turns choice in
       let service : Service = service_of (left_journal published) server in
-      let heard_there : Progress = (lines_after a b passes lines).progress in
-      let end : RepairState P = rounds_after to published server choices heard_there rounds in
+      let received_there : Progress = (lines_after a b passes lines).progress in
+      let end : RepairState P = rounds_after to published server choices received_there rounds in
       let text : Begins with_receipt.written (loop_text reporting published end.progress) =
       begins_trans with_receipt.text
       (begins_trans
       (lines_grow a b (passing a b).text (passes_are a b).prints with_receipt.passes rest lines)
-      (begins_trans (rounds_print published.refused to service choices (with_progress heard_there rounds))
+      (begins_trans (rounds_print published.refused to service choices (with_progress received_there rounds))
       (begins_more end.progress.outgoing.text (loop_lines reporting published.journal published.refused end.progress)))) in
       record {
         passes = passes;
@@ -176,10 +176,10 @@ module _ {P : Type 0} {reporting : Bool} (drops : Drops) (a b to : P) (turns lim
         offers = record { front = with_receipt.passes; begins = begins_more with_receipt.passes rest; port = with_receipt.offered };
         requests =
             subst (λ (p : Port P). Begins p.sent end.requests.sent) (sym same)
-            (rounds_send published.refused to service choices (with_progress heard_there rounds));
+            (rounds_send published.refused to service choices (with_progress received_there rounds));
         answers =
             subst (λ (p : Port P). Begins p.sent end.server.sent) (sym kept)
-            (rounds_answer published.refused to service choices (with_progress heard_there rounds));
+            (rounds_answer published.refused to service choices (with_progress received_there rounds));
       }
 
   -- everything is passed and requested: the remaining text is written, or a prefix of it

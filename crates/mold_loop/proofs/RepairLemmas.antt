@@ -158,14 +158,14 @@ unfolding receive_responses
 no_answer s = refl
 
 -- one more receive is made for a response
-pub one_heard : {P : Type 0} (left n : ℕ) (s after whole : Asking P) → left ≡ suc n → after ≡ stepped s →
+pub one_received : {P : Type 0} (left n : ℕ) (s after whole : Asking P) → left ≡ suc n → after ≡ stepped s →
     receive_responses left s ≡ whole → receive_responses n after ≡ whole
-one_heard left n s after whole more is with_receipt =
+one_received left n s after whole more is with_receipt =
     ap (receive_responses n) is ∙ answer_step n s ∙ ap (λ (k : ℕ). receive_responses k s) (sym more) ∙ with_receipt
 
 -- all receives are made
-pub all_heard : {P : Type 0} (left : ℕ) (s whole : Asking P) → left ≡ 0 → receive_responses left s ≡ whole → s ≡ whole
-all_heard left s whole none with_receipt = sym (no_answer s) ∙ ap (λ (k : ℕ). receive_responses k s) (sym none) ∙ with_receipt
+pub all_received : {P : Type 0} (left : ℕ) (s whole : Asking P) → left ≡ 0 → receive_responses left s ≡ whole → s ≡ whole
+all_received left s whole none with_receipt = sym (no_answer s) ∙ ap (λ (k : ℕ). receive_responses k s) (sym none) ∙ with_receipt
 
 -- ---- one round
 
@@ -180,12 +180,12 @@ turn_from {P} result service fails port server new same reached =
 state_is : {P : Type 0} (s : RepairState P) (responder : ResponderState P) (with_receipt : Asking P) → s.server ≡ responder.port →
     s.answered ≡ responder.requests → record { port = s.requests; progress = s.progress } ≡ with_receipt →
     s ≡ after_answers responder with_receipt
-state_is {P} s responder with_receipt is_server is_answered is_heard =
+state_is {P} s responder with_receipt is_server is_answered is_received =
     ap {B = RepairState P} (λ (p : Port P). record { server = p; requests = s.requests; answered = s.answered; progress = s.progress })
     is_server
     ∙ ap {B = RepairState P} (λ (n : ℕ). record { server = responder.port; requests = s.requests; answered = n; progress = s.progress })
     is_answered
-    ∙ ap (after_answers responder) is_heard
+    ∙ ap (after_answers responder) is_received
 
 -- the server took its turn, and its responses were received
 pub has_repaired : {P T E : Type 0} (result : Result T E) (service : Service) (fails : List Bool)

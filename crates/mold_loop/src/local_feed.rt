@@ -120,7 +120,7 @@ impl<'a, 'p, D: Datagrams + Drop> LocalFeed<'a, 'p, D> {
         let mut lines = Lines::new(self.alloc)?;
         let mut message = Vec::new(self.alloc);
         let mut number = 0;
-        'lines: loop {
+        'passing: loop {
             match fill(publisher, &mut lines, source, &mut message)? {
                 Filled::Full => self.pass_next(publisher, &mut number)?,
                 Filled::End => {

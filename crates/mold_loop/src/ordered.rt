@@ -1,5 +1,6 @@
 //! Makes the options and parts of a loop from the parsed command line.
 
+ghost use Rattle.mold_wire.specs.declared.limits.TheConstants.{MESSAGE_OVERHEAD};
 ghost use Rattle.std.specs.Prelude.{◌≡◌, ◌-◌, ◌≤◌, IfOk};
 ghost use Rattle.mold_loop.specs.Ordered.{drops_of, loop_arbiter_of, loop_publisher_of, loop_server_of};
 ghost use Rattle.mold_publish.specs.Publishing.{HasRoom};
@@ -19,7 +20,7 @@ use std::alloc::{AllocError, Global};
 fn make_publisher(alloc: Global, order: &LoopOrder) -> Result<Publisher, AllocError>
     ensures made { IfOk result (λ publisher. publisher ≡ loop_publisher_of order.now) }
     ensures room { IfOk result (λ publisher. HasRoom publisher) }
-    ensures longest { IfOk result (λ publisher. publisher.journal.max_message ≡ order.now.limits.limit - 22) }
+    ensures longest { IfOk result (λ publisher. publisher.journal.max_message ≡ order.now.limits.limit - MESSAGE_OVERHEAD) }
 {
     packet_length_law();
     match Publisher::new(alloc, Session(order.session), order.limits.limit) {
@@ -31,7 +32,7 @@ fn make_publisher(alloc: Global, order: &LoopOrder) -> Result<Publisher, AllocEr
 // The limits and the burst are in their ranges, so only an allocation can fail.
 fn make_server(alloc: Global, order: &LoopOrder) -> Result<Server, AllocError>
     ensures made { IfOk result (λ server. server ≡ loop_server_of order.now) }
-    ensures longest { IfOk result (λ server. server.max_message ≡ order.now.limits.limit - 22) }
+    ensures longest { IfOk result (λ server. server.max_message ≡ order.now.limits.limit - MESSAGE_OVERHEAD) }
 {
     let limits = order.limits;
     let longest = longest_message(limits.limit);

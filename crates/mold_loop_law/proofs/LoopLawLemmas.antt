@@ -23,9 +23,9 @@ use Rattle.mold_listen.specs.Text.{handed_text}
 use Rattle.mold_loop.specs.declared.loop_parts.Drops.{Drops}
 use Rattle.mold_loop.specs.declared.loop_parts.Routes.{Routes}
 use Rattle.mold_feed.proofs.PrintedLineLemmas.{between_front, text-handing}
-use Rattle.mold_feed.proofs.TakingLemmas.{HasHeard, HearingLaws, IsSound, MayCome, last_number, nothing_heard}
-use Rattle.mold_feed.proofs.TakingLemmas.{then_heard}
-use Rattle.mold_feed.proofs.ReceivedTurnLemmas.{after_responses, ends_so, port_heard, rest_gives}
+use Rattle.mold_feed.proofs.TakingLemmas.{HasHeard, HearingLaws, IsSound, MayCome, last_number, nothing_received}
+use Rattle.mold_feed.proofs.TakingLemmas.{then_received}
+use Rattle.mold_feed.proofs.ReceivedTurnLemmas.{after_responses, ends_so, port_received, rest_gives}
 use Rattle.mold_feed.proofs.LinesPrintedLemmas.{HasCome, prints_lines}
 use Rattle.mold_feed.proofs.LinesTextLemmas.{spelled_length, text_between}
 use Rattle.mold_feed.proofs.SentLemmas.{each_append, each_begun, each_front, each_rest, sent_front, sent_offered, sent_one}
@@ -178,79 +178,79 @@ module _ (journal : JournalState) (Plain : Type 0) (Good : List ℕ → Type 0) 
     (may : MayCome journal Plain Good) where
   -- ---- one pass
 
-  line_heard : {P : Type 0} (receives : Bool) (line : Line) (port : Port P) (e : Progress) → IsSound journal e →
+  line_received : {P : Type 0} (receives : Bool) (line : Line) (port : Port P) (e : Progress) → IsSound journal e →
       GivesOnly Good port → HasHeard journal Plain Good e (after_line_if receives line port e)
-  line_heard true line port e sound gives = port_heard journal Plain Good laws may (Some line) port e sound gives
-  line_heard false line port e sound gives = nothing_heard journal Plain Good e e sound refl refl
+  line_received true line port e sound gives = port_received journal Plain Good laws may (Some line) port e sound gives
+  line_received false line port e sound gives = nothing_received journal Plain Good e e sound refl refl
 
   after_lines : {P : Type 0} (lines : Routes) (s : LineState P) → IsSound journal s.progress → GivesOnly Good s.a →
       GivesOnly Good s.b → HeardLines journal Plain Good s.progress (after_routes lines s)
   after_lines lines s sound a b =
       let mid : Progress = after_line_if lines.a A s.a s.progress in
-      let on_a = line_heard lines.a A s.a s.progress sound a in
-      let on_b = line_heard lines.b B s.b mid on_a.sound b in
+      let on_a = line_received lines.a A s.a s.progress sound a in
+      let on_b = line_received lines.b B s.b mid on_a.sound b in
       record {
-        received = then_heard journal Plain Good s.progress mid (after_routes lines s).progress sound on_a on_b;
+        received = then_received journal Plain Good s.progress mid (after_routes lines s).progress sound on_a on_b;
         a = gives_if Good lines.a s.a a;
         b = gives_if Good lines.b s.b b;
       }
 
-  pass_heard : {P : Type 0} (a b : P) (pass : Pass) (s : LineState P) → IsSound journal s.progress →
+  pass_received : {P : Type 0} (a b : P) (pass : Pass) (s : LineState P) → IsSound journal s.progress →
       GivesOnly Good s.a → GivesOnly Good s.b → HeardLines journal Plain Good s.progress (passed a b pass s)
   unfolding passed
-  pass_heard {P} a b pass s sound on_a on_b =
+  pass_received {P} a b pass s sound on_a on_b =
       let mid : LineState P = offered_by a b pass s in
       let same : mid.progress.outgoing.text ≡ s.progress.outgoing.text =
       outcome_text pass.b (outgoing_after pass.a s.progress.outgoing) ∙ outcome_text pass.a s.progress.outgoing in
-      let offers = nothing_heard journal Plain Good s.progress mid.progress sound refl same in
+      let offers = nothing_received journal Plain Good s.progress mid.progress sound refl same in
       let hears = after_lines (sent_by pass) mid offers.sound on_a on_b in
       record {
         received =
-            then_heard journal Plain Good s.progress mid.progress (after_routes (sent_by pass) mid).progress sound offers
+            then_received journal Plain Good s.progress mid.progress (after_routes (sent_by pass) mid).progress sound offers
             hears.received;
         a = hears.a;
         b = hears.b;
       }
 
-  passes_heard : {P : Type 0} (a b : P) (passes : List Pass) (s : LineState P) → IsSound journal s.progress →
+  passes_received : {P : Type 0} (a b : P) (passes : List Pass) (s : LineState P) → IsSound journal s.progress →
       GivesOnly Good s.a → GivesOnly Good s.b → HasHeard journal Plain Good s.progress (lines_after a b passes s).progress
   unfolding run
-  passes_heard a b [] s sound on_a on_b = nothing_heard journal Plain Good s.progress s.progress sound refl refl
-  passes_heard {P} a b (pass ∷ passes) s sound on_a on_b =
+  passes_received a b [] s sound on_a on_b = nothing_received journal Plain Good s.progress s.progress sound refl refl
+  passes_received {P} a b (pass ∷ passes) s sound on_a on_b =
       let after : LineState P = passed a b pass s in
-      let one = pass_heard a b pass s sound on_a on_b in
-      then_heard journal Plain Good s.progress after.progress (lines_after a b passes after).progress sound one.received
-      (passes_heard a b passes after one.received.sound one.a one.b)
+      let one = pass_received a b pass s sound on_a on_b in
+      then_received journal Plain Good s.progress after.progress (lines_after a b passes after).progress sound one.received
+      (passes_received a b passes after one.received.sound one.a one.b)
 
   -- ---- one round
 
-  repaired_heard : {P : Type 0} (service : Service) (fails : List Bool) (s : RepairState P) → IsSound journal s.progress →
+  repaired_received : {P : Type 0} (service : Service) (fails : List Bool) (s : RepairState P) → IsSound journal s.progress →
       GivesOnly Good s.requests → HeardRounds journal Plain Good s.progress (repaired service fails s)
-  repaired_heard {P} service fails s sound gives =
+  repaired_received {P} service fails s sound gives =
       let tally = (served service fails s).tally in
       let mid : Progress = missed_more tally.outgoing.failures s.progress in
       let before : Asking P = record { port = s.requests; progress = mid } in
-      let same = nothing_heard journal Plain Good s.progress mid sound refl refl in
+      let same = nothing_received journal Plain Good s.progress mid sound refl refl in
       let answers = after_responses journal Plain Good laws may tally.answered before same.sound gives in
       record {
         received =
-            then_heard journal Plain Good s.progress mid (repaired service fails s).progress sound same answers.received;
+            then_received journal Plain Good s.progress mid (repaired service fails s).progress sound same answers.received;
         gives = answers.gives;
       }
 
-  requested_heard : {P : Type 0} (wish : Option Request) (to : P) (service : Service) (choice : Bool × List Bool)
+  requested_received : {P : Type 0} (wish : Option Request) (to : P) (service : Service) (choice : Bool × List Bool)
       (s : RepairState P) → IsSound journal s.progress → GivesOnly Good s.requests →
       HeardRounds journal Plain Good s.progress (requested wish to service choice s)
-  requested_heard None to service choice s sound gives = record {
-    received = nothing_heard journal Plain Good s.progress s.progress sound refl refl;
+  requested_received None to service choice s sound gives = record {
+    received = nothing_received journal Plain Good s.progress s.progress sound refl refl;
     gives = gives;
   }
-  requested_heard (Some request) to service (true, fails) s sound gives = record {
-    received = nothing_heard journal Plain Good s.progress (missed s.progress) sound refl refl;
+  requested_received (Some request) to service (true, fails) s sound gives = record {
+    received = nothing_received journal Plain Good s.progress (missed s.progress) sound refl refl;
     gives = gives;
   }
-  requested_heard (Some request) to service (false, fails) s sound gives =
-      repaired_heard service fails
+  requested_received (Some request) to service (false, fails) s sound gives =
+      repaired_received service fails
       (record {
         server = s.server;
         requests = offered false to (request_spelling request) s.requests;
@@ -259,24 +259,24 @@ module _ (journal : JournalState) (Plain : Type 0) (Good : List ℕ → Type 0) 
       })
       sound gives
 
-  rounds_heard : {P : Type 0} (to : P) (service : Service) (choices : List (Bool × List Bool)) (s : RepairState P) →
+  rounds_received : {P : Type 0} (to : P) (service : Service) (choices : List (Bool × List Bool)) (s : RepairState P) →
       IsSound journal s.progress → GivesOnly Good s.requests →
       HasHeard journal Plain Good s.progress (run (repairing to service) choices s).progress
   unfolding run round
-  rounds_heard to service [] s sound gives = nothing_heard journal Plain Good s.progress s.progress sound refl refl
-  rounds_heard {P} to service (choice ∷ choices) s sound gives =
+  rounds_received to service [] s sound gives = nothing_received journal Plain Good s.progress s.progress sound refl refl
+  rounds_received {P} to service (choice ∷ choices) s sound gives =
       let after : RepairState P = round to service choice s in
-      let one = requested_heard (wanted s.progress.arbitration.view) to service choice s sound gives in
-      then_heard journal Plain Good s.progress after.progress (run (repairing to service) choices after).progress sound
+      let one = requested_received (wanted s.progress.arbitration.view) to service choice s sound gives in
+      then_received journal Plain Good s.progress after.progress (run (repairing to service) choices after).progress sound
       one.received
-      (rounds_heard to service choices after one.received.sound one.gives)
+      (rounds_received to service choices after one.received.sound one.gives)
 
-  made_heard : {P : Type 0} (refused : Option LineRefusal) (to : P) (service : Service)
+  made_received : {P : Type 0} (refused : Option LineRefusal) (to : P) (service : Service)
       (choices : List (Bool × List Bool)) (s : RepairState P) → IsSound journal s.progress → GivesOnly Good s.requests →
       HasHeard journal Plain Good s.progress (rounds_made refused to service choices s).progress
-  made_heard None to service choices s sound gives = rounds_heard to service choices s sound gives
-  made_heard (Some why) to service choices s sound gives =
-      nothing_heard journal Plain Good s.progress s.progress sound refl refl
+  made_received None to service choices s sound gives = rounds_received to service choices s sound gives
+  made_received (Some why) to service choices s sound gives =
+      nothing_received journal Plain Good s.progress s.progress sound refl refl
 
 -- ---- the whole loop
 
@@ -341,11 +341,11 @@ module _ {P : Type 0} (laws : LoopLaws P) (reporting : Bool) (drops : Drops) (a 
       let comes : MayCome left (Unit {0}) Good =
       record { harmless = λ bytes told. inl told; told = λ is_plain bytes told. told } in
       let mid : Progress = (lines_after a b ran.passes start).progress in
-      let on_lines = passes_heard left (Unit {0}) Good laws.progress comes a b ran.passes start sound
+      let on_lines = passes_received left (Unit {0}) Good laws.progress comes a b ran.passes start sound
       (gives_true Good start_left.publisher.sent start.a publisher_true own.a)
       (gives_true Good start_left.publisher.sent start.b publisher_true own.b) in
-      then_heard left (Unit {0}) Good start.progress mid end sound on_lines
-      (made_heard left (Unit {0}) Good laws.progress comes published.refused to (service_of left server) ran.choices
+      then_received left (Unit {0}) Good start.progress mid end sound on_lines
+      (made_received left (Unit {0}) Good laws.progress comes published.refused to (service_of left server) ran.choices
       (with_progress mid rounds) on_lines.sound
       (gives_true Good rounds_left.server.sent rounds.requests server_true own.requests))
 

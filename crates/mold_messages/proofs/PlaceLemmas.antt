@@ -6,7 +6,7 @@ use Rattle.std.proofs.lemmas.List.{take_rest, drop_min, drop_at, take_all, lengt
 use Rattle.std.proofs.lemmas.List.{length-drop, take-append-le, drop-append-le, take-append-drop}
 use Rattle.std.proofs.lemmas.List.Sums.{sum_by-cons}
 use Rattle.mold_messages.specs.Listed.{byte_count, extended}
-use Rattle.mold_messages.specs.Offsets.{pieces, IsRising, place}
+use Rattle.mold_messages.specs.Offsets.{pieces, IsRising, start_at}
 
 pub length-pieces : (start : ℕ) (ends bytes : List ℕ) → length (pieces start ends bytes) ≡ length ends
 unfolding pieces
@@ -20,22 +20,22 @@ rising_within start [] total rising = omega (arith, rising)
 rising_within start (end ∷ ends) total rising = omega (arith, rising.0, rising_within end ends total rising.1)
 
 -- A message ends where the next one starts.
-pub place_behind : (start : ℕ) (ends : List ℕ) (i d : ℕ) → i < length ends → place start ends (suc i) ≡ get_or ends i d
-unfolding place
+pub place_behind : (start : ℕ) (ends : List ℕ) (i d : ℕ) → i < length ends → start_at start ends (suc i) ≡ get_or ends i d
+unfolding start_at
 place_behind start [] i d within = absurd (omega arith)
 place_behind start (end ∷ ends) zero d within = refl
 place_behind start (end ∷ ends) (suc i) d within = place_behind end ends i d (omega arith)
 
-pub place_first : (start : ℕ) (ends : List ℕ) → place start ends zero ≡ start
-unfolding place
+pub place_first : (start : ℕ) (ends : List ℕ) → start_at start ends zero ≡ start
+unfolding start_at
 place_first start [] = refl
 place_first start (end ∷ ends) = refl
 
 -- The messages from an index on.
 pub pieces-drop :
     (start : ℕ) (ends bytes : List ℕ) (i : ℕ) →
-    drop i (pieces start ends bytes) ≡ pieces (place start ends i) (drop i ends) bytes
-unfolding pieces place
+    drop i (pieces start ends bytes) ≡ pieces (start_at start ends i) (drop i ends) bytes
+unfolding pieces start_at
 pieces-drop start [] bytes zero = refl
 pieces-drop start [] bytes (suc i) = refl
 pieces-drop start (end ∷ ends) bytes zero = refl
@@ -43,48 +43,48 @@ pieces-drop start (end ∷ ends) bytes (suc i) = pieces-drop end ends bytes i
 
 pub rising-drop :
     (start : ℕ) (ends : List ℕ) (total i : ℕ) → IsRising start ends total →
-    IsRising (place start ends i) (drop i ends) total
-unfolding IsRising place
+    IsRising (start_at start ends i) (drop i ends) total
+unfolding IsRising start_at
 rising-drop start [] total zero rising = rising
 rising-drop start [] total (suc i) rising = rising
 rising-drop start (end ∷ ends) total zero rising = rising
 rising-drop start (end ∷ ends) total (suc i) rising = rising-drop end ends total i rising.1
 
-pub place-drop :
+pub start_at-drop :
     (start : ℕ) (ends : List ℕ) (i n : ℕ) → i ≤ length ends →
-    place (place start ends i) (drop i ends) n ≡ place start ends (i + n)
-unfolding place
-place-drop start [] zero n within = ap (place start []) (sym (omega arith))
-place-drop start [] (suc i) n within = absurd (omega arith)
-place-drop start (end ∷ ends) zero n within = ap (place start (end ∷ ends)) (omega arith)
-place-drop start (end ∷ ends) (suc i) n within =
+    start_at (start_at start ends i) (drop i ends) n ≡ start_at start ends (i + n)
+unfolding start_at
+start_at-drop start [] zero n within = ap (start_at start []) (sym (omega arith))
+start_at-drop start [] (suc i) n within = absurd (omega arith)
+start_at-drop start (end ∷ ends) zero n within = ap (start_at start (end ∷ ends)) (omega arith)
+start_at-drop start (end ∷ ends) (suc i) n within =
     let e : suc i + n ≡ suc (i + n) = omega arith in
-    place-drop end ends i n (omega arith) ∙ sym (ap (place start (end ∷ ends)) e)
+    start_at-drop end ends i n (omega arith) ∙ sym (ap (start_at start (end ∷ ends)) e)
 
 -- A later message does not start before an earlier one.
-pub place_later : (start : ℕ) (ends : List ℕ) (total i : ℕ) → IsRising start ends total → start ≤ place start ends i
-unfolding IsRising place
+pub place_later : (start : ℕ) (ends : List ℕ) (total i : ℕ) → IsRising start ends total → start ≤ start_at start ends i
+unfolding IsRising start_at
 place_later start [] total zero rising = omega arith
 place_later start [] total (suc i) rising = omega arith
 place_later start (end ∷ ends) total zero rising = omega arith
 place_later start (end ∷ ends) total (suc i) rising = omega (arith, rising.0, place_later end ends total i rising.1)
 
-pub place_within : (start : ℕ) (ends : List ℕ) (total i : ℕ) → IsRising start ends total → place start ends i ≤ total
-place_within start ends total i rising = rising_within (place start ends i) (drop i ends) total
+pub place_within : (start : ℕ) (ends : List ℕ) (total i : ℕ) → IsRising start ends total → start_at start ends i ≤ total
+place_within start ends total i rising = rising_within (start_at start ends i) (drop i ends) total
     (rising-drop start ends total i rising)
 
 pub place_ordered :
     (start : ℕ) (ends : List ℕ) (total i j : ℕ) → IsRising start ends total → i ≤ j → j ≤ length ends →
-    place start ends i ≤ place start ends j
+    start_at start ends i ≤ start_at start ends j
 place_ordered start ends total i j rising ordered within =
     let e : i + (j - i) ≡ j = omega arith in
-    let same : place (place start ends i) (drop i ends) (j - i) ≡ place start ends j =
-    place-drop start ends i (j - i) (omega arith) ∙ ap (place start ends) e
+    let same : start_at (start_at start ends i) (drop i ends) (j - i) ≡ start_at start ends j =
+    start_at-drop start ends i (j - i) (omega arith) ∙ ap (start_at start ends) e
     in
     omega (
       arith,
       same,
-      place_later (place start ends i) (drop i ends) total (j - i)
+      place_later (start_at start ends i) (drop i ends) total (j - i)
           (rising-drop start ends total i rising),
     )
 
@@ -92,8 +92,8 @@ place_ordered start ends total i j rising ordered within =
 pub piece_at :
     (start : ℕ) (ends bytes : List ℕ) (i : ℕ) → i < length ends →
     slice_get (pieces start ends bytes) i ≡ Some
-    (take (place start ends (suc i) - place start ends i) (drop (place start ends i) bytes))
-unfolding pieces place
+    (take (start_at start ends (suc i) - start_at start ends i) (drop (start_at start ends i) bytes))
+unfolding pieces start_at
 piece_at start [] bytes i within = absurd (omega arith)
 piece_at start (end ∷ ends) bytes zero within = ap (λ (n : ℕ). Some (take (n - start) (drop start bytes)))
     (sym (place_first end ends))
@@ -159,8 +159,8 @@ pieces-take start (end ∷ ends) bytes (suc n) = ap (λ (t : List (List ℕ)). t
 
 pub rising-take :
     (start : ℕ) (ends : List ℕ) (total n : ℕ) → IsRising start ends total →
-    IsRising start (take n ends) (place start ends n)
-unfolding IsRising place
+    IsRising start (take n ends) (start_at start ends n)
+unfolding IsRising start_at
 rising-take start [] total zero rising = refl
 rising-take start [] total (suc n) rising = refl
 rising-take start (end ∷ ends) total zero rising = refl
@@ -168,26 +168,26 @@ rising-take start (end ∷ ends) total (suc n) rising = (rising.0, rising-take e
 
 pub rising_cut :
     (start : ℕ) (ends bytes : List ℕ) (n : ℕ) → IsRising start ends (length bytes) →
-    IsRising start (take n ends) (length (take (place start ends n) bytes))
+    IsRising start (take n ends) (length (take (start_at start ends n) bytes))
 rising_cut start ends bytes n rising =
     subst (λ (m : ℕ). IsRising start (take n ends) m)
-    (sym (length-take-le (place start ends n) bytes (place_within start ends (length bytes) n rising)))
+    (sym (length-take-le (start_at start ends n) bytes (place_within start ends (length bytes) n rising)))
     (rising-take start ends (length bytes) n rising)
 
 pub pieces_cut :
     (start : ℕ) (ends bytes : List ℕ) (n : ℕ) → IsRising start ends (length bytes) →
-    pieces start (take n ends) (take (place start ends n) bytes) ≡ take n (pieces start ends bytes)
+    pieces start (take n ends) (take (start_at start ends n) bytes) ≡ take n (pieces start ends bytes)
 pieces_cut start ends bytes n rising =
-    sym (pieces_front start (take n ends) (take (place start ends n) bytes) (drop (place start ends n) bytes)
+    sym (pieces_front start (take n ends) (take (start_at start ends n) bytes) (drop (start_at start ends n) bytes)
     (rising_cut start ends bytes n rising))
-    ∙ ap (λ (t : List ℕ). pieces start (take n ends) t) (take-append-drop (place start ends n) bytes)
+    ∙ ap (λ (t : List ℕ). pieces start (take n ends) t) (take-append-drop (start_at start ends n) bytes)
     ∙ sym (pieces-take start ends bytes n)
 
 -- The length of the first messages together is the offset of the next one.
 joined_front :
     (start : ℕ) (ends bytes : List ℕ) (n : ℕ) → IsRising start ends (length bytes) →
-    start + byte_count (take n (pieces start ends bytes)) ≡ place start ends n
-unfolding pieces IsRising place
+    start + byte_count (take n (pieces start ends bytes)) ≡ start_at start ends n
+unfolding pieces IsRising start_at
 joined_front start [] bytes zero rising = omega arith
 joined_front start [] bytes (suc n) rising = omega arith
 joined_front start (end ∷ ends) bytes zero rising = omega arith
@@ -206,17 +206,17 @@ joined_front start (end ∷ ends) bytes (suc n) rising =
 -- The length of the messages from one index to another together.
 pub joined_between :
     (start : ℕ) (ends bytes : List ℕ) (i j : ℕ) → IsRising start ends (length bytes) → i ≤ j → j ≤ length ends →
-    place start ends i + byte_count (take (j - i) (drop i (pieces start ends bytes))) ≡ place start ends j
+    start_at start ends i + byte_count (take (j - i) (drop i (pieces start ends bytes))) ≡ start_at start ends j
 joined_between start ends bytes i j rising ordered within =
     let e : i + (j - i) ≡ j = omega arith in
-    ap (λ (t : List (List ℕ)). place start ends i + byte_count (take (j - i) t)) (pieces-drop start ends bytes i)
-    ∙ joined_front (place start ends i) (drop i ends) bytes (j - i) (rising-drop start ends (length bytes) i rising)
-    ∙ place-drop start ends i (j - i) (omega arith)
-    ∙ ap (place start ends) e
+    ap (λ (t : List (List ℕ)). start_at start ends i + byte_count (take (j - i) t)) (pieces-drop start ends bytes i)
+    ∙ joined_front (start_at start ends i) (drop i ends) bytes (j - i) (rising-drop start ends (length bytes) i rising)
+    ∙ start_at-drop start ends i (j - i) (omega arith)
+    ∙ ap (start_at start ends) e
 
 pub place_last :
-    (start : ℕ) (ends : List ℕ) (total : ℕ) → IsRising start ends total → place start ends (length ends) ≡ total
-unfolding IsRising place
+    (start : ℕ) (ends : List ℕ) (total : ℕ) → IsRising start ends total → start_at start ends (length ends) ≡ total
+unfolding IsRising start_at
 place_last start [] total rising = rising
 place_last start (end ∷ ends) total rising = place_last end ends total rising.1
 
@@ -254,19 +254,19 @@ pieces_first start left end ends bytes some = ap (λ (t : List ℕ). pieces star
 -- The bytes from the offset where a message starts to the offset where it ends are that message.
 pub piece_is :
     (ends bytes lent part : List ℕ) (messages : List (List ℕ)) (i start end : ℕ) → i < length ends →
-    start ≡ place 0 ends i → end ≡ place 0 ends (i + 1) → lent ≡ bytes → part ≡ take (end - start) (drop start lent) →
+    start ≡ start_at 0 ends i → end ≡ start_at 0 ends (i + 1) → lent ≡ bytes → part ≡ take (end - start) (drop start lent) →
     pieces 0 ends bytes ≡ messages → Some part ≡ slice_get messages i
 piece_is ends bytes lent part messages i start end within begins stops same is seen =
     let next : i + 1 ≡ suc i = add-one i in
     let found : slice_get (pieces 0 ends bytes) i ≡ Some
-    (take (place 0 ends (suc i) - place 0 ends i) (drop (place 0 ends i) bytes)) =
+    (take (start_at 0 ends (suc i) - start_at 0 ends i) (drop (start_at 0 ends i) bytes)) =
     piece_at 0 ends bytes i within
     in
     cc
 
 -- The offsets and messages from an index on.
 pub rising_from :
-    (ends bytes lent : List ℕ) (first start total : ℕ) → lent ≡ ends → start ≡ place 0 ends first →
+    (ends bytes lent : List ℕ) (first start total : ℕ) → lent ≡ ends → start ≡ start_at 0 ends first →
     total ≡ length bytes → IsRising 0 ends (length bytes) →
     IsRising start (take (length lent - first) (drop first lent)) total
 rising_from ends bytes lent first start total same begins all rising =
@@ -274,7 +274,7 @@ rising_from ends bytes lent first start total same begins all rising =
 
 pub pieces_from :
     (ends bytes lent shared : List ℕ) (messages : List (List ℕ)) (i first start : ℕ) → lent ≡ ends → shared ≡ bytes →
-    start ≡ place 0 ends first → first ≡ min (length ends) i → pieces 0 ends bytes ≡ messages →
+    start ≡ start_at 0 ends first → first ≡ min (length ends) i → pieces 0 ends bytes ≡ messages →
     pieces start (take (length lent - first) (drop first lent)) shared ≡ drop i messages
 pieces_from ends bytes lent shared messages i first start same all begins least seen =
     let cut : first ≡ min i (length (pieces 0 ends bytes)) = omega (arith, length-pieces 0 ends bytes) in
@@ -306,7 +306,7 @@ pub record Cut (ends bytes : List ℕ) (keep : ℕ) (new_ends new_bytes : List �
 
 pub cut :
     (ends bytes : List ℕ) (keep end : ℕ) (new_ends new_bytes : List ℕ) → IsRising 0 ends (length bytes) →
-    end ≡ place 0 ends keep → new_ends ≡ take keep ends → new_bytes ≡ take end bytes →
+    end ≡ start_at 0 ends keep → new_ends ≡ take keep ends → new_bytes ≡ take end bytes →
     Cut ends bytes keep new_ends new_bytes
 cut ends bytes keep end new_ends new_bytes rising stops fewer shorter = record {
   rising = rw (fewer, shorter, stops) (rising_cut 0 ends bytes keep rising);

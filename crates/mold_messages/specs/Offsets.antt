@@ -13,7 +13,7 @@ IsRising start (end ∷ ends) total = (start ≤ end) × IsRising end ends total
 
 -- The offset at which the message at an index starts. For an index after the last message, it is the offset
 -- at which the last message ends.
-unfoldable pub place : ℕ → List ℕ → ℕ → ℕ
-place start ends zero = start
-place start [] (suc i) = start
-place start (end ∷ ends) (suc i) = place end ends i
+unfoldable pub start_at : ℕ → List ℕ → ℕ → ℕ
+start_at start ends zero = start
+start_at start [] (suc i) = start
+start_at start (end ∷ ends) (suc i) = start_at end ends i

@@ -4,7 +4,7 @@ ghost use Rattle.std.specs.Prelude.{◌≡◌, ◌-◌, ◌<◌, ◌≤◌, ◌+
 ghost use Rattle.std.specs.Prelude.{OnErr, ◌==◌};
 ghost use Rattle.std.specs.Option.{option_copied};
 ghost use Rattle.mold_messages.specs.Listed.{byte_count, extended, HasRoom, KeepsRoom};
-ghost use Rattle.mold_messages.specs.Offsets.{place};
+ghost use Rattle.mold_messages.specs.Offsets.{start_at};
 
 use crate::iterator::MessageIterator;
 use crate::part::part;
@@ -15,7 +15,7 @@ use std::marker::Model;
 // the offset at which the last one ends.
 fn offset_of(ends: &[usize], i: usize) -> usize
     requires { i ≤ length ends.now }
-    ensures { result ≡ place 0 ends.now i }
+    ensures { result ≡ start_at 0 ends.now i }
 {
     if i == 0 { 0 } else { ends[i - 1] }
 }

@@ -14,8 +14,8 @@ abbrev pub five : List Message
 five = twenty 1 ∷ twenty 2 ∷ twenty 3 ∷ twenty 4 ∷ twenty 5 ∷ []
 
 -- A receiver with the next number 1 that stores these messages and knows of numbers up to 5.
-abbrev pub heard : ℕ → List (ℕ × Message) → View
-heard window stored = record {
+abbrev pub received : ℕ → List (ℕ × Message) → View
+received window stored = record {
   session = nameless;
   next = 1;
   known = 6;

@@ -4,7 +4,7 @@ ghost use Rattle.std.specs.Prelude.{◌≡◌, ◌+◌, ◌<◌, ◌≤◌, [], 
 ghost use Rattle.mold_receiver.specs.Store.{Message};
 ghost use Rattle.mold_receiver.specs.View.{View, IsWellFormed};
 ghost use Rattle.mold_receiver.specs.Wanted.{missing};
-ghost use Rattle.mold_rounds.specs.Examples.{five, heard, twenty};
+ghost use Rattle.mold_rounds.specs.Examples.{five, received, twenty};
 ghost use Rattle.mold_rounds.specs.Rounds.{asks, brought, carried, nameless, rounds};
 ghost use Rattle.mold_session.specs.Datagrams.{packing};
 ghost use Rattle.mold_wire.specs.Packing.{front};
@@ -50,11 +50,11 @@ pub fn rounds_law()
 /// message 3 is stored, so there are two gaps. In the next three cases nothing is stored, and the burst is 1, 2 and 3
 /// responses. In the last case messages 2 and 4 are stored, so there are three gaps of one message.
 pub fn example_law()
-    ensures two_gaps { rounds (heard 8 ((3, twenty 3) ∷ [])) five 64 1 ≡ 2 }
-    ensures one_gap { rounds (heard 1 []) five 64 1 ≡ 3 }
-    ensures bursts_of_two { rounds (heard 1 []) five 64 2 ≡ 2 }
-    ensures bursts_of_three { rounds (heard 1 []) five 64 3 ≡ 1 }
-    ensures three_gaps { rounds (heard 8 ((2, twenty 2) ∷ (4, twenty 4) ∷ [])) five 64 1 ≡ 3 }
-    ensures missing { (missing (heard 8 ((3, twenty 3) ∷ [])) ≡ 4) × (missing (heard 1 []) ≡ 5)
-        × (missing (heard 8 ((2, twenty 2) ∷ (4, twenty 4) ∷ [])) ≡ 3) }
+    ensures two_gaps { rounds (received 8 ((3, twenty 3) ∷ [])) five 64 1 ≡ 2 }
+    ensures one_gap { rounds (received 1 []) five 64 1 ≡ 3 }
+    ensures bursts_of_two { rounds (received 1 []) five 64 2 ≡ 2 }
+    ensures bursts_of_three { rounds (received 1 []) five 64 3 ≡ 1 }
+    ensures three_gaps { rounds (received 8 ((2, twenty 2) ∷ (4, twenty 4) ∷ [])) five 64 1 ≡ 3 }
+    ensures missing { (missing (received 8 ((3, twenty 3) ∷ [])) ≡ 4) × (missing (received 1 []) ≡ 5)
+        × (missing (received 8 ((2, twenty 2) ∷ (4, twenty 4) ∷ [])) ≡ 3) }
 {}

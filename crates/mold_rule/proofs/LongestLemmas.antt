@@ -13,9 +13,9 @@ some_same e = cc
 
 -- One of the ranges contains the number.
 pub record IsIn (rs : List Range) (number : ℕ) : Type 0 where
-  pub place : ℕ
+  pub index : ℕ
   pub range : Range
-  pub there : slice_get rs place ≡ Some range
+  pub there : slice_get rs index ≡ Some range
   pub low : range.first ≤ number
   pub high : number ≤ range.last
 
@@ -70,7 +70,7 @@ not_in lacks low high rs are number from below never =
 
 in_front : (r : Range) (rs : List Range) (number : ℕ) → IsIn rs number → IsIn (r ∷ rs) number
 in_front r rs number is = record {
-  place = suc is.place;
+  index = suc is.index;
   range = is.range;
   there = is.there;
   low = is.low;
@@ -94,14 +94,14 @@ alone lacks low high rs within lacked are apart = record {
           before = λ number from next. absurd (omega (arith, from, next));
           behind = λ below.
               not_in lacks (suc low) high rs are (suc low) (omega arith) below (λ is.
-              omega (arith, is.low, apart is.place is.range is.there));
+              omega (arith, is.low, apart is.index is.range is.there));
         })
         | suc k ↦ λ is. wider lacks low high r (are.each k r is) (λ same. absurd (omega (arith, same, apart k r is)))
       ] is;
   cover = λ number from below hole.
       elim (cases_eq number low) [
         | inl same ↦ record {
-          place = 0;
+          index = 0;
           range = range low low;
           there = refl;
           low = omega (arith, same);
@@ -149,16 +149,16 @@ joins lacks low high r rs lacked next are =
           ] is;
       cover = λ number from below hole.
           elim (cases_lt r.last number) [
-            | inr inside ↦ record { place = 0; range = range low r.last; there = refl; low = from; high = inside }
+            | inr inside ↦ record { index = 0; range = range low r.last; there = refl; low = from; high = inside }
             | inl past ↦
                 let found = are.cover number (omega (arith, past, next, first.ordered)) below hole in
-                elim found.place as (λ k. slice_get (r ∷ rs) k ≡ Some found.range →
+                elim found.index as (λ k. slice_get (r ∷ rs) k ≡ Some found.range →
                 IsIn (range low r.last ∷ rs) number) [
                   | zero ↦ λ is.
                       let last : r.last ≡ found.range.last = ap (λ (t : Range). t.last) (some_same is) in
                       absurd (omega (arith, last, past, found.high))
                   | suc k ↦ λ is.
-                      record { place = suc k; range = found.range; there = is; low = found.low; high = found.high }
+                      record { index = suc k; range = found.range; there = is; low = found.low; high = found.high }
                 ] found.there
           ];
       ascend = λ i j s t is at before.
@@ -261,7 +261,7 @@ longest_among lacks low count r longest =
     let are = are_longest lacks low count in
     let found = are.cover r.first longest.begins (omega (arith, longest.ordered, longest.ends))
     (longest.all r.first (omega arith) longest.ordered) in
-    let other = are.each found.place found.range found.there in
+    let other = are.each found.index found.range found.there in
     let first = not_before lacks low (low + count) r found.range longest other found.low found.high in
     let last : found.range.last ≡ r.last =
     elim (cases_lt found.range.last r.last) [
@@ -272,4 +272,4 @@ longest_among lacks low count r longest =
             | inr same ↦ omega (arith, more, same)
           ]
     ] in
-    (found.place, found.there ∙ ap (λ (t : Range). Some t) (same_range found.range r first last))
+    (found.index, found.there ∙ ap (λ (t : Range). Some t) (same_range found.range r first last))

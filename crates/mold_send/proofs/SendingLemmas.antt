@@ -65,7 +65,7 @@ lines_twice first second = record {
 }
 
 pub same_at_first : {D A : Type 0} (publication : Publication D A) → IsSame publication publication
-same_at_first publication = record { publisher = refl; lines = lines_at_first publication.lines }
+same_at_first publication = record { publisher = refl; two_lines = lines_at_first publication.two_lines }
 
 -- the same sender sends to the same two addresses
 pub sends_same : {D P : Type 0} (port : D → Port P) (datagrams : List (List ℕ)) (old mid new : TwoLines D P) →

@@ -74,7 +74,7 @@ pub record IsSameLines {D A : Type 0} (old new : TwoLines D A) : Type 0 where
 -- The publisher at work still has the same publisher, port and addresses.
 pub record IsSame {D A : Type 0} (old new : Publication D A) : Type 0 where
   pub publisher : new.publisher.ghost_name ≡ old.publisher.ghost_name
-  pub lines : IsSameLines old.lines new.lines
+  pub two_lines : IsSameLines old.two_lines new.two_lines
 
 -- The datagram of the packet, if there is a packet.
 abbrev pub spelled_some : Option Packet → List (List ℕ)
@@ -167,8 +167,8 @@ pub record SendsLines {P E : Type 0} (a b : P) (start now : PublisherState) (kno
 abbrev pub SendsInput : {D P E : Type 0} → (D → Port P) → Option (List ℕ) → Result (Option LineRefusal) E →
     Publication D P → Publication D P → Type 0
 SendsInput port known result old new =
-    SendsLines old.lines.a.now old.lines.b.now old.publisher.now new.publisher.now known result
-    (lines_state port old.lines) (lines_state port new.lines) new.datagrams
+    SendsLines old.two_lines.a.now old.two_lines.b.now old.publisher.now new.publisher.now known result
+    (lines_state port old.two_lines) (lines_state port new.two_lines) new.datagrams
 
 -- What publishing some lines leaves. For some choice of which sends fail, `end` is the state after all datagrams were
 -- offered to `a` and then to `b`. After a success, the port is that of `end`, the text and the journal's file are

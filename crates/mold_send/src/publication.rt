@@ -74,7 +74,7 @@ fn push_published(outgoing: &mut Outgoing, messages: u64, datagrams: u64) -> Res
 #[derive(Drop)]
 pub(crate) struct Publication<'a, 'p, D: Datagrams> {
     pub(crate) publisher: &'a mut Publisher,
-    pub(crate) lines: TwoLines<'a, 'p, D>,
+    pub(crate) two_lines: TwoLines<'a, 'p, D>,
     pub(crate) datagrams: u64,
     pub(crate) alloc: Global,
 }
@@ -84,7 +84,7 @@ impl<'a, 'p, D: Datagrams> Publication<'a, 'p, D> {
     fn send_next(&mut self)
         requires { self.old.datagrams ≤ self.old.publisher.now.sent }
         ensures sends { D.modeled ≡ true →
-            SendsBoth D.port (spelled_some (next_datagram self.old.publisher.now)) self.old.lines self.new.lines }
+            SendsBoth D.port (spelled_some (next_datagram self.old.publisher.now)) self.old.two_lines self.new.two_lines }
         ensures counted { self.new.datagrams
             ≡ self.old.datagrams + length (spelled_some (next_datagram self.old.publisher.now)) }
         ensures sent { self.new.publisher.now ≡ after_datagram self.old.publisher.now }
@@ -92,7 +92,7 @@ impl<'a, 'p, D: Datagrams> Publication<'a, 'p, D> {
     {
         publisher_holds(self.publisher);
         if let Some(datagram) = self.publisher.datagram() {
-            self.lines.send_both(datagram);
+            self.two_lines.send_both(datagram);
             self.datagrams += 1;
         }
     }
@@ -112,7 +112,7 @@ impl<'a, 'p, D: Datagrams> Publication<'a, 'p, D> {
         packing_law();
         let mut lines = Lines::new(self.alloc)?;
         let mut message = Vec::new(self.alloc);
-        'lines: loop {
+        'publishing: loop {
             match fill(self.publisher, &mut lines, source, &mut message)? {
                 Filled::Full => self.send_next(),
                 Filled::End => {
@@ -128,13 +128,13 @@ impl<'a, 'p, D: Datagrams> Publication<'a, 'p, D> {
     fn send_beats(&mut self, beats: u32)
         requires sent { self.old.publisher.now.sent ≡ length self.old.publisher.now.journal.messages }
         ensures sends { D.modeled ≡ true → self.old.publisher.now.journal.closed ≡ false → SendsBoth D.port
-            (replicate beats (spelling_of (beat_packet self.old.publisher.now.journal))) self.old.lines self.new.lines }
+            (replicate beats (spelling_of (beat_packet self.old.publisher.now.journal))) self.old.two_lines self.new.two_lines }
         ensures publisher { self.new.publisher ≡ self.old.publisher }
         ensures datagrams { self.new.datagrams ≡ self.old.datagrams }
         ensures same { IsSame self.old self.new }
     {
         if let Some(beat) = self.publisher.heartbeat() {
-            self.lines.send_often(beat, beats);
+            self.two_lines.send_often(beat, beats);
         }
     }
 
@@ -142,13 +142,13 @@ impl<'a, 'p, D: Datagrams> Publication<'a, 'p, D> {
     fn send_ends(&mut self, ends: u32)
         requires closed { self.old.publisher.now.journal.closed ≡ true }
         ensures sends { D.modeled ≡ true → SendsBoth D.port
-            (replicate ends (spelling_of (end_packet self.old.publisher.now.journal))) self.old.lines self.new.lines }
+            (replicate ends (spelling_of (end_packet self.old.publisher.now.journal))) self.old.two_lines self.new.two_lines }
         ensures publisher { self.new.publisher ≡ self.old.publisher }
         ensures datagrams { self.new.datagrams ≡ self.old.datagrams }
         ensures same { IsSame self.old self.new }
     {
         if let Some(end) = self.publisher.end() {
-            self.lines.send_often(end, ends);
+            self.two_lines.send_often(end, ends);
         }
     }
 
@@ -157,7 +157,7 @@ impl<'a, 'p, D: Datagrams> Publication<'a, 'p, D> {
     fn send_close(&mut self, beats: u32, ends: u32)
         requires { self.old.publisher.now.sent ≡ length self.old.publisher.now.journal.messages }
         ensures sends { D.modeled ≡ true → self.old.publisher.now.journal.closed ≡ false → SendsBoth D.port
-            (close_datagrams beats ends self.old.publisher.now.journal) self.old.lines self.new.lines }
+            (close_datagrams beats ends self.old.publisher.now.journal) self.old.two_lines self.new.two_lines }
         ensures closed { self.new.publisher.now ≡ closed self.old.publisher.now }
         ensures datagrams { self.new.datagrams ≡ self.old.datagrams }
         ensures same { IsSame self.old self.new }
@@ -182,12 +182,12 @@ impl<'a, 'p, D: Datagrams> Publication<'a, 'p, D> {
         requires unclosed { self.old.publisher.now.journal.closed ≡ false }
         requires empty { self.old.publisher.now.journal.messages ≡ [] }
         requires unsent { self.old.datagrams ≡ 0 }
-        requires quiet { self.old.lines.outgoing.now ≡ nothing_out }
+        requires quiet { self.old.two_lines.outgoing.now ≡ nothing_out }
         ensures run { D.modeled ≡ true → IfSome (S.left source.old) (λ input. PublishRun
-            self.old.lines.a.now self.old.lines.b.now
+            self.old.two_lines.a.now self.old.two_lines.b.now
             closing.beats closing.ends self.old.publisher.now.limit
             (lines_published self.old.publisher.now.journal (lines_of input))
-            result (D.port self.old.lines.port.now) (D.port self.new.lines.port.now)
+            result (D.port self.old.two_lines.port.now) (D.port self.new.two_lines.port.now)
             (K.held sink.old) (K.held sink.new) (J.held journal_sink.old) (J.held journal_sink.new)) }
         ensures journal { IfOk result (λ _. D.modeled ≡ true → IfSome (S.left source.old) (λ input.
             self.new.publisher.now.journal
@@ -200,15 +200,15 @@ impl<'a, 'p, D: Datagrams> Publication<'a, 'p, D> {
         packet_length_law();
         if let Some(why) = self.send_lines(source)? {
             let number = self.publisher.journal().next();
-            print_line_refused(self.lines.outgoing, number, why)?;
-            self.lines.outgoing.send(sink)?;
+            print_line_refused(self.two_lines.outgoing, number, why)?;
+            self.two_lines.outgoing.send(sink)?;
             return Ok(2);
         }
         self.send_close(closing.beats, closing.ends);
         save_journal(self.publisher.journal(), journal_sink)?;
         let messages = self.publisher.journal().next() - 1;
-        push_published(self.lines.outgoing, messages, self.datagrams)?;
-        self.lines.outgoing.send(sink)?;
+        push_published(self.two_lines.outgoing, messages, self.datagrams)?;
+        self.two_lines.outgoing.send(sink)?;
         Ok(0)
     }
 }

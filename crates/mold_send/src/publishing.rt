@@ -49,7 +49,7 @@ pub fn publish_loop<D: Datagrams, S: Source, K: Sink, J: Sink>(
         (K.failed sink.new) (J.failed journal_sink.old) (J.failed journal_sink.new) result }
 {
     let mut outgoing = Outgoing::new(alloc);
-    let lines = TwoLines {
+    let two_lines = TwoLines {
         port,
         a: &a,
         b: &b,
@@ -57,7 +57,7 @@ pub fn publish_loop<D: Datagrams, S: Source, K: Sink, J: Sink>(
     };
     let mut publication = Publication {
         publisher,
-        lines,
+        two_lines,
         datagrams: 0,
         alloc,
     };

@@ -1,4 +1,5 @@
 -- The turns of a server: what it receives, and what it sends and prints for it.
+use Rattle.mold_wire.specs.declared.limits.TheConstants.{MAX_NUMBER}
 use Rattle.std.specs.Prelude.{◌≡◌, ◌≤◌, ℕ, ◌+◌, min, Bool, true, false, List, [], ◌∷◌, drop, Result, Ok, Err}
 use Rattle.mold_ports.specs.Ports.{Port, Receipt, Datagram, Quiet, Failure, cut, next_of, offered, received}
 use Rattle.mold_turns.specs.Outgoing.{with_front}
@@ -117,7 +118,7 @@ replied to fails (Ok packets) responder =
     (record {
       port = responder.port;
       tally = responder.tally;
-      requests = min 18446744073709551615 (responder.requests + 1);
+      requests = min MAX_NUMBER (responder.requests + 1);
     })
 replied to fails (Err why) responder = record {
   port = responder.port;

@@ -34,11 +34,11 @@ between_behind :
     drop count (between published from to) ≡ between published (from + count) to
 between_behind published from to count first within =
     let sum : to - from ≡ count + (to - (from + count)) = omega (arith, within) in
-    let place : from - 1 + count ≡ from + count - 1 = omega (arith, first) in
+    let index : from - 1 + count ≡ from + count - 1 = omega (arith, first) in
     ap (λ (n : ℕ). drop count (take n (drop (from - 1) published))) sum
     ∙ drop-take count (to - (from + count)) (drop (from - 1) published)
     ∙ ap (λ (t : List (List ℕ)). take (to - (from + count)) t) (drop-drop count (from - 1) published)
-    ∙ ap (λ (n : ℕ). take (to - (from + count)) (drop n published)) place
+    ∙ ap (λ (n : ℕ). take (to - (from + count)) (drop n published)) index
 
 -- The messages of the next packet are a prefix of the plan's remaining messages.
 pub record IsPart (published : List (List ℕ)) (limit : ℕ) (plan : PlanState) (part : List (List ℕ)) : Type 0 where

@@ -128,10 +128,10 @@ closed_from zero small = refl
 closed_from (suc zero) small = refl
 closed_from (suc (suc byte)) small = absurd (omega arith)
 
-pub numbers_are : (place : List ℕ) (count byte number : ℕ) → 9 ≤ count → byte ≤ 1 → place ≡ byte ∷ be64 number →
-    take count place ≡ closed_byte (eqb byte 1) ∷ be64 number
-numbers_are place count byte number all small read =
-    take_all count place (omega (arith, ap (λ (t : List ℕ). length t) read))
+pub numbers_are : (index : List ℕ) (count byte number : ℕ) → 9 ≤ count → byte ≤ 1 → index ≡ byte ∷ be64 number →
+    take count index ≡ closed_byte (eqb byte 1) ∷ be64 number
+numbers_are index count byte number all small read =
+    take_all count index (omega (arith, ap (λ (t : List ℕ). length t) read))
     ∙ read
     ∙ ap (λ (n : ℕ). n ∷ be64 number) (sym (closed_from byte small))
 

@@ -105,26 +105,26 @@ same_fault : (most count level : ℕ) (one other : List (List ℕ)) (rest behind
     most ≤ 65535 → count + length other ≡ level + length one → AllByRecursion (IsWithin most) one →
     AllByRecursion (IsWithin most) other → blocks one ++ rest ≡ blocks other ++ behind →
     IsFaultAt most count rest error → IsFaultAt most level behind wrong → error ≡ wrong
-same_fault most count level [] [] rest behind error wrong bound place each also same first second =
-    let here : level ≡ count = omega (arith, place) in
+same_fault most count level [] [] rest behind error wrong bound index each also same first second =
+    let here : level ≡ count = omega (arith, index) in
     let there : behind ≡ rest = sym same in
     same_at most count rest error wrong first
     (subst (λ (t : List ℕ). IsFaultAt most count t wrong) there
     (subst (λ (n : ℕ). IsFaultAt most n behind wrong) here second))
-same_fault most count level [] (message ∷ other) rest behind error wrong bound place each also same first second =
+same_fault most count level [] (message ∷ other) rest behind error wrong bound index each also same first second =
     block_between most count level message (blocks other ++ behind) rest behind error wrong bound also.0
-    (same ∙ append_assoc (block message) (blocks other) behind) (omega (arith, place)) first second
-same_fault most count level (message ∷ one) [] rest behind error wrong bound place each also same first second =
+    (same ∙ append_assoc (block message) (blocks other) behind) (omega (arith, index)) first second
+same_fault most count level (message ∷ one) [] rest behind error wrong bound index each also same first second =
     sym (block_between most level count message (blocks one ++ rest) behind rest wrong error bound each.0
-    (sym same ∙ append_assoc (block message) (blocks one) rest) (omega (arith, place)) second first)
-same_fault most count level (message ∷ one) (next ∷ other) rest behind error wrong bound place each also same first second =
+    (sym same ∙ append_assoc (block message) (blocks one) rest) (omega (arith, index)) second first)
+same_fault most count level (message ∷ one) (next ∷ other) rest behind error wrong bound index each also same first second =
     let short : length message ≤ most = each.0 in
     let brief : length next ≤ most = also.0 in
     let begins = block_here message next (blocks one ++ rest) (blocks other ++ behind)
     (omega (arith, short, bound)) (omega (arith, brief, bound))
     (sym (append_assoc (block message) (blocks one) rest) ∙ same ∙ append_assoc (block next) (blocks other) behind)
     in
-    same_fault most count level one other rest behind error wrong bound (omega (arith, place)) each.1 also.1
+    same_fault most count level one other rest behind error wrong bound (omega (arith, index)) each.1 also.1
     begins.behind first second
 
 one_blocks_fault : (most : ℕ) (behind : List ℕ) (one other : FileError) → most ≤ 65535 →

@@ -200,24 +200,24 @@ next_says laws journal limit plan may is more last session =
     (laws.spelled (next_packet journal.messages limit plan) packet_is)
 
 in_cons :
-    (P : Packet → Type 0) (first packet : Packet) (rest : List Packet) (place : ℕ) →
-    slice_get (first ∷ rest) place ≡ Some packet → P first →
+    (P : Packet → Type 0) (first packet : Packet) (rest : List Packet) (index : ℕ) →
+    slice_get (first ∷ rest) index ≡ Some packet → P first →
     ((behind : ℕ) → slice_get rest behind ≡ Some packet → P packet) → P packet
 in_cons P first packet rest zero is one others = subst P (same_Some first packet is) one
-in_cons P first packet rest (suc place) is one others = others place is
+in_cons P first packet rest (suc index) is one others = others index is
 
 -- The encoding of every packet of a plan is true of the journal.
 pub planned_says :
     (laws : WireLaws) (journal : JournalState) (limit left : ℕ) (plan : PlanState) → plan.left ≡ left →
     MayAnswer journal limit → IsPlan plan → plan.to ≤ length journal.messages + 1 → plan.session ≡ journal.session →
-    (place : ℕ) (packet : Packet) → slice_get (planned journal.messages limit plan) place ≡ Some packet →
+    (index : ℕ) (packet : Packet) → slice_get (planned journal.messages limit plan) index ≡ Some packet →
     IsTrueDatagram journal (spelling_of packet)
-planned_says laws journal limit zero plan count may is last session place packet found =
-    absurd (none-some packet (sym (ap (λ (t : List Packet). slice_get t place)
+planned_says laws journal limit zero plan count may is last session index packet found =
+    absurd (none-some packet (sym (ap (λ (t : List Packet). slice_get t index)
     (none_of journal.messages limit plan (inl count))) ∙ found))
-planned_says laws journal limit (suc left) plan count may is last session place packet found =
+planned_says laws journal limit (suc left) plan count may is last session index packet found =
     elim (cases_eq plan.from plan.to) [
-      | inl all ↦ absurd (none-some packet (sym (ap (λ (t : List Packet). slice_get t place)
+      | inl all ↦ absurd (none-some packet (sym (ap (λ (t : List Packet). slice_get t index)
           (none_of journal.messages limit plan (inr all))) ∙ found))
       | inr more ↦
           let each = fit_alone journal.max_message limit journal.messages may.room may.journaled.each in
@@ -227,8 +227,8 @@ planned_says laws journal limit (suc left) plan count may is last session place 
           let next = next_of journal.messages limit plan laws.front_is laws.some laws.alone each is last unspent in
           let part : ℕ = length (next_part journal.messages limit plan) in
           in_cons (λ (t : Packet). IsTrueDatagram journal (spelling_of t)) (next_packet journal.messages limit plan)
-          packet (planned journal.messages limit (moved plan part)) place
-          (ap (λ (t : List Packet). slice_get t place) (sym next.sent) ∙ found)
+          packet (planned journal.messages limit (moved plan part)) index
+          (ap (λ (t : List Packet). slice_get t index) (sym next.sent) ∙ found)
           (next_says laws journal limit plan may is (omega (arith, is.1, more)) last session)
           (λ behind there. planned_says laws journal limit left (moved plan part) (omega (arith, count)) may
           (omega (arith, is.0), next.within) last session behind packet there)

@@ -236,33 +236,33 @@ first_taken n [] = refl
 first_taken n (byte ∷ bytes) = refl
 
 module _ (bytes : List ℕ) (are : IsBytes bytes) (long : 27 ≤ length bytes) (flag : get_or bytes 18 0 ≤ 1) where
-  abbrev place : List ℕ
-  place = take 9 (drop 18 bytes)
+  abbrev index : List ℕ
+  index = take 9 (drop 18 bytes)
 
   abbrev byte : ℕ
-  byte = get_or (take 1 place) 0 0
+  byte = get_or (take 1 index) 0 0
 
   abbrev number : ℕ
-  number = big_number 8 (drop 1 place)
+  number = big_number 8 (drop 1 index)
 
-  nine : length place ≡ 9
+  nine : length index ≡ 9
   nine = length-take-le 9 (drop 18 bytes) (omega (arith, long, length-drop 18 bytes))
 
-  bytes_taken : IsBytes place
+  bytes_taken : IsBytes index
   bytes_taken = taken_bytes 9 (drop 18 bytes) (bytes_behind 18 bytes are)
 
   byte_small : byte ≤ 1
   byte_small =
       let same : byte ≡ get_or bytes 18 0 =
-      first_taken 0 place ∙ first_taken 8 (drop 18 bytes) ∙ get_or-drop 18 bytes 0 0
+      first_taken 0 index ∙ first_taken 8 (drop 18 bytes) ∙ get_or-drop 18 bytes 0 0
       in
       omega (arith, same, flag)
 
-  place_is : place ≡ closed_byte (eqb byte 1) ∷ be64 number
+  place_is : index ≡ closed_byte (eqb byte 1) ∷ be64 number
   place_is =
-      sym (take_all 9 place (omega (arith, nine)))
-      ∙ numbers_are place 9 byte number (omega arith) byte_small
-      (byte_and_number place (take 1 place) (drop 1 place) number nine bytes_taken refl refl refl)
+      sym (take_all 9 index (omega (arith, nine)))
+      ∙ numbers_are index 9 byte number (omega arith) byte_small
+      (byte_and_number index (take 1 index) (drop 1 index) number nine bytes_taken refl refl refl)
 
   -- the flag and the number after the session
   numbers_at : drop 18 bytes ≡ (closed_byte (eqb byte 1) ∷ be64 number) ++ drop 27 bytes
@@ -274,7 +274,7 @@ module _ (bytes : List ℕ) (are : IsBytes bytes) (long : 27 ≤ length bytes) (
   version_2 : take 8 bytes ≡ magic_2 → FileContents bytes
   version_2 is =
       behind_some (record { session = session_of bytes; closed = eqb byte 1; stated = Some number }) bytes (drop 27 bytes)
-      (ten_bytes bytes (omega (arith, long))) (number_fits (drop 1 place) (bytes_behind 1 place bytes_taken))
+      (ten_bytes bytes (omega (arith, long))) (number_fits (drop 1 index) (bytes_behind 1 index bytes_taken))
       (head_parts bytes magic_2 (omega (arith, long)) is
       ∙ ap (λ (t : List ℕ). magic_2 ++ (take 10 (drop 8 bytes) ++ t)) numbers_at
       ∙ ap (λ (t : List ℕ). magic_2 ++ t)

@@ -34,13 +34,13 @@ datagram_true publisher bytes piece front_is is lends =
           let longest =
           front_is publisher.limit (unsent_of publisher) (length published) (omega (arith, is.limited.0)) in
           let packet : Packet = data_packet publisher.journal.session (publisher.sent + 1) (next_front publisher) in
-          let place : publisher.sent + 1 - 1 ≡ publisher.sent = omega arith in
+          let index : publisher.sent + 1 - 1 ≡ publisher.sent = omega arith in
           record {
             packet = packet;
             spelled = rw (ne_eqb publisher.sent (length published) some) at lends;
             session = refl;
             so = piece packet published longest.behind publisher.journal.closed is.journaled.few (omega arith) refl
-                (ap (λ (n : ℕ). drop n published) place ∙ longest.parts);
+                (ap (λ (n : ℕ). drop n published) index ∙ longest.parts);
           }
     ]
 

@@ -107,24 +107,24 @@ impl Journal {
     pub fn get(&self, number: u64) -> Option<&[u8]>
         ensures { option_copied result ≡ message_numbered self.now.messages number }
     {
-        let place = number.checked_sub(1)?;
-        self.list.get(place as usize)
+        let index = number.checked_sub(1)?;
+        self.list.get(index as usize)
     }
 
-    // The messages from index `place` on. The first message has index 0.
-    pub(crate) fn iter_from(&self, place: u64) -> MessageIterator<'_>
-        ensures from { result ≡ drop place self.now.messages }
+    // The messages from index `index` on. The first message has index 0.
+    pub(crate) fn iter_from(&self, index: u64) -> MessageIterator<'_>
+        ensures from { result ≡ drop index self.now.messages }
         ensures journal { IsJournal self.now }
     {
-        self.list.iter_from(place as usize)
+        self.list.iter_from(index as usize)
     }
 
-    // The total length in bytes of the messages from index `place` on, in constant time.
-    pub(crate) fn joined_from(&self, place: u64) -> usize
-        requires { place ≤ length self.now.messages }
-        ensures { result ≡ byte_count (drop place self.now.messages) }
+    // The total length in bytes of the messages from index `index` on, in constant time.
+    pub(crate) fn joined_from(&self, index: u64) -> usize
+        requires { index ≤ length self.now.messages }
+        ensures { result ≡ byte_count (drop index self.now.messages) }
     {
-        self.list.joined_length(place as usize, self.list.len())
+        self.list.joined_length(index as usize, self.list.len())
     }
 
     /// Appends a message and returns its sequence number. After an error the journal is unchanged. `Memory` is

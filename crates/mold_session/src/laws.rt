@@ -132,9 +132,9 @@ pub fn sending_law()
     ensures end { (publisher : PublisherState) (packet : Packet) → IsPublisher publisher →
         length publisher.journal.session.0 ≡ 10 → next_end publisher ≡ Some packet →
         IsTrueDatagram publisher.journal (spelling_of packet) }
-    ensures planned { (journal : JournalState) (limit : ℕ) (plan : PlanState) (place : ℕ) (packet : Packet) →
+    ensures planned { (journal : JournalState) (limit : ℕ) (plan : PlanState) (index : ℕ) (packet : Packet) →
         MayAnswer journal limit → IsPlan plan → plan.to ≤ length journal.messages + 1 →
-        plan.session ≡ journal.session → slice_get (planned journal.messages limit plan) place ≡ Some packet →
+        plan.session ≡ journal.session → slice_get (planned journal.messages limit plan) index ≡ Some packet →
         IsTrueDatagram journal (spelling_of packet) }
 {
     front_law();

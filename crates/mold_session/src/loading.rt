@@ -34,22 +34,22 @@ pub struct FileHead {
     pub stated: Option<u64>,
 }
 
-// Fills `place` from the source, and returns how many bytes it filled. That is fewer than its length if the
+// Fills `buffer` from the source, and returns how many bytes it filled. That is fewer than its length if the
 // source ends first.
-fn fill<S: Source>(piece: &mut Piece, source: &mut S, place: &mut [u8]) -> Result<usize, ReadFault>
-    ensures filled { IfOk result (λ count. count ≤ length place.new) }
+fn fill<S: Source>(piece: &mut Piece, source: &mut S, buffer: &mut [u8]) -> Result<usize, ReadFault>
+    ensures filled { IfOk result (λ count. count ≤ length buffer.new) }
     ensures bytes { IfOk result (λ count. Consumes (prepend_known piece.old (S.left source.old))
-        (prepend_known piece.new (S.left source.new)) (take count place.new)) }
-    ensures end { IfOk result (λ count. count < length place.new →
+        (prepend_known piece.new (S.left source.new)) (take count buffer.new)) }
+    ensures end { IfOk result (λ count. count < length buffer.new →
         IsAtEnd (prepend_known piece.new (S.left source.new))) }
     ensures failures { CountsRead (S.failed source.old) (S.failed source.new) result }
 {
     let mut count = 0;
-    while count < place.len() {
+    while count < buffer.len() {
         let Some(byte) = next_byte(piece, source)? else {
             return Ok(count);
         };
-        place[count] = byte;
+        buffer[count] = byte;
         count += 1;
     }
     Ok(count)

@@ -8,6 +8,6 @@ pub fn put_after(bytes: &mut [u8], used: usize, text: &[u8])
     ensures { bytes.new ≡ take used bytes.old ++ (text.now ++ drop (length text.now) (drop used bytes.old)) }
 {
     let (_, behind) = bytes.split_at_mut(used);
-    let (place, _) = behind.split_at_mut(text.len());
-    place.copy_from_slice(text);
+    let (slot, _) = behind.split_at_mut(text.len());
+    slot.copy_from_slice(text);
 }

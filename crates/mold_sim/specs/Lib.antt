@@ -1,4 +1,4 @@
 pub mod Reports
 pub mod Script
 pub mod Sim
-pub mod Words
+pub mod EventWords

@@ -5,6 +5,6 @@ mod reading;
 mod refusal;
 mod report;
 mod sim;
-mod words;
+mod event_words;
 
 pub use sim::Sim;

@@ -8,7 +8,7 @@ ghost use Rattle.mold_sim.specs.Script.{with_one, with_three, with_two};
 ghost use Rattle.mold_world.specs.Event.{seen};
 ghost use Rattle.mold_world.specs.declared.event.EventOf.TheVariants.{Ask};
 
-use crate::words::{Words, cut};
+use crate::event_words::{EventWords, cut};
 use mold_digits::read_number;
 use mold_receiver::Line;
 use mold_world::{Event, Way};
@@ -174,10 +174,10 @@ pub fn read_line<'a>(line: &[u8], bytes: &'a mut Vec<u8>) -> Result<Option<Event
     ensures { IfOk result (λ event. option_map seen event ≡ happening_of line.now) }
 {
     match cut(line) {
-        Some(Words::One(name)) => Ok(read_plain(name)),
-        Some(Words::Two(name, value)) => read_with_one(name, value, bytes),
-        Some(Words::Three(name, receiver, next)) => Ok(read_with_two(name, receiver, next)),
-        Some(Words::Four(name, receiver, way, value)) => {
+        Some(EventWords::One(name)) => Ok(read_plain(name)),
+        Some(EventWords::Two(name, value)) => read_with_one(name, value, bytes),
+        Some(EventWords::Three(name, receiver, next)) => Ok(read_with_two(name, receiver, next)),
+        Some(EventWords::Four(name, receiver, way, value)) => {
             read_with_three(name, receiver, way, value, bytes)
         }
         None => Ok(None),

@@ -1,5 +1,6 @@
 //! The commands whose ports are UDP sockets.
 
+ghost use Rattle.mold_wire.specs.declared.limits.TheConstants.{MESSAGE_OVERHEAD};
 ghost use Rattle.std.specs.Prelude.{◌≡◌, ◌-◌};
 
 use crate::options::{listen_options, publish_options, serve_turns};
@@ -61,7 +62,7 @@ fn serve_on(
     port: &mut UdpPort,
     journal: &Journal,
 ) -> Result<u8, CommandFault>
-    requires { journal.now.max_message ≡ order.now.limit - 22 }
+    requires { journal.now.max_message ≡ order.now.limit - MESSAGE_OVERHEAD }
 {
     let mut server = make_server(rt.alloc(), order)?;
     let mut sink = standard_output(rt, order.live);

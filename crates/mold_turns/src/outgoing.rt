@@ -1,5 +1,6 @@
 //! The text that a loop still has to write, and its count of failed sends and receives.
 
+ghost use Rattle.mold_devices.specs.declared.output.TheConstants.{LARGE};
 ghost use Rattle.std.specs.Prelude.{◌≡◌, ◌<◌, ◌≤◌, [], false, true, length, map, take, IfErr, IsOk, OnErr};
 ghost use Rattle.std.specs.Prelude.{OnOk};
 ghost use Rattle.std.specs.Io.KnownBytes.{Appends};
@@ -75,8 +76,8 @@ impl Outgoing {
     /// text. After a fault, a prefix of the text is written, and the text is unchanged.
     pub fn send_large<K: Sink>(&mut self, sink: &mut K) -> Result<(), CommandFault>
         ensures moved { OnOk result (Moves (K.held sink.old) (K.held sink.new) self.old.text self.new.text) }
-        ensures large { OnOk result (65536 ≤ length self.old.text → self.new.text ≡ []) }
-        ensures small { K.live sink.old ≡ false → length self.old.text < 65536 → IsOk result × (self.new ≡ self.old) }
+        ensures large { OnOk result (LARGE ≤ length self.old.text → self.new.text ≡ []) }
+        ensures small { K.live sink.old ≡ false → length self.old.text < LARGE → IsOk result × (self.new ≡ self.old) }
         ensures live { K.live sink.old ≡ true → OnOk result (self.new.text ≡ []) }
         ensures same { OnErr result (self.new ≡ self.old) }
         ensures failures { self.new.failures ≡ self.old.failures }

@@ -106,7 +106,7 @@ trailing_behind header bytes behind more stands found some =
       more = more;
       whole = spells_whole header front (blocks messages) messages body front_stands refl
           (body_of_is header.count messages found.counted found.each stands.count);
-      place = omega (arith, ap (λ (t : List ℕ). length t) parts, length-append front more);
+      offset = omega (arith, ap (λ (t : List ℕ). length t) parts, length-append front more);
       some = some;
       parts = parts;
     }

@@ -99,7 +99,7 @@ message_place packet bytes front behind message spells parts =
     ∙ sym (append_assoc head (blocks front) (be16 (length message) ++ rest))
     ∙ sym (append_assoc (head ++ blocks front) (be16 (length message)) rest)
     in
-    let place : length before ≡ packet_length front + 2 =
+    let offset : length before ≡ packet_length front + 2 =
     omega (
       arith,
       length-append (head ++ blocks front) (be16 (length message)),
@@ -109,7 +109,7 @@ message_place packet bytes front behind message spells parts =
     )
     in
     ap (λ (t : List ℕ). take (length message) (drop (packet_length front + 2) t)) laid
-    ∙ ap (take (length message)) (drop_at before rest (packet_length front + 2) place)
+    ∙ ap (take (length message)) (drop_at before rest (packet_length front + 2) offset)
     ∙ take_at message (blocks behind) (length message) refl
 
 pub ruleset spelling_lengths = (spelling_length, spelling_fits, most_messages)

@@ -241,7 +241,7 @@ reading-trailing at bytes is =
     reading-parts is.packet is.front is.more bytes is.whole is.parts
     ∙ cond-false (eqb (length is.more) 0) _ _ (ne_eqb (length is.more) 0 (λ e. omega (arith, is.some, e)))
     ∙ ap (λ (n : ℕ). refusal (Trailing n))
-    (omega (arith, is.place, ap (λ (t : List ℕ). length t) is.parts, length-append is.front is.more))
+    (omega (arith, is.offset, ap (λ (t : List ℕ). length t) is.parts, length-append is.front is.more))
 
 pub reading-cut :
     (index : ℕ) (bytes : List ℕ) → IsBytes bytes → IsCutPacket index bytes → reading bytes ≡ Err (BlockCut index)

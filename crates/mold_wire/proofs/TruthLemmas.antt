@@ -13,29 +13,29 @@ use Rattle.mold_wire.specs.declared.packet.Body.TheVariants.{Data, Heartbeat, En
 
 -- The messages of a list have consecutive numbers, from `first` on.
 pub message_at-from :
-    (first : ℕ) (messages : List (List ℕ)) (number place : ℕ) → number ≡ first + place →
-    message_at first messages number ≡ slice_get messages place
-message_at-from first messages number place is =
+    (first : ℕ) (messages : List (List ℕ)) (number index : ℕ) → number ≡ first + index →
+    message_at first messages number ≡ slice_get messages index
+message_at-from first messages number index is =
     cond-true (leb first number) (slice_get messages (number - first)) None (le-leb first number (omega (arith, is)))
     ∙ ap (λ (t : ℕ). slice_get messages t) (omega (arith, is))
 
 -- An element of a list keeps its index when the list gets longer.
 slice_get-longer :
-    {X : Type 0} (front behind : List X) (place : ℕ) (element : X) → slice_get front place ≡ Some element →
-    slice_get (front ++ behind) place ≡ Some element
-slice_get-longer [] behind place element is = absurd (none-some element is)
+    {X : Type 0} (front behind : List X) (index : ℕ) (element : X) → slice_get front index ≡ Some element →
+    slice_get (front ++ behind) index ≡ Some element
+slice_get-longer [] behind index element is = absurd (none-some element is)
 slice_get-longer (first ∷ front) behind zero element is = is
-slice_get-longer (first ∷ front) behind (suc place) element is = slice_get-longer front behind place element is
+slice_get-longer (first ∷ front) behind (suc index) element is = slice_get-longer front behind index element is
 
 -- A published message keeps its number when more messages are published.
 pub published_at-longer :
     (published behind : List (List ℕ)) (number : ℕ) (message : List ℕ) → published_at published number ≡ Some message →
     published_at (published ++ behind) number ≡ Some message
 published_at-longer published behind zero message is = absurd (none-some message is)
-published_at-longer published behind (suc place) message is =
-    let next : suc place ≡ 1 + place = omega arith in
-    message_at-from 1 (published ++ behind) (suc place) place next
-    ∙ slice_get-longer published behind place message (sym (message_at-from 1 published (suc place) place next) ∙ is)
+published_at-longer published behind (suc index) message is =
+    let next : suc index ≡ 1 + index = omega arith in
+    message_at-from 1 (published ++ behind) (suc index) index next
+    ∙ slice_get-longer published behind index message (sym (message_at-from 1 published (suc index) index next) ∙ is)
 
 -- What is true of an open session stays true when one more message is published.
 true_longer :
@@ -75,14 +75,14 @@ true_closes packet published is = record {
 
 -- Each message of a true data packet was published with its number.
 stands_at :
-    (messages published : List (List ℕ)) (sequence place : ℕ) → 1 ≤ sequence →
+    (messages published : List (List ℕ)) (sequence index : ℕ) → 1 ≤ sequence →
     ((number : ℕ) (message : List ℕ) → message_at sequence messages number ≡ Some message →
-    published_at published number ≡ Some message) → place < length messages →
-    slice_get published (sequence - 1 + place) ≡ Some (get_or messages place [])
-stands_at messages published sequence place first said within =
-    sym (message_at-from 1 published (sequence + place) (sequence - 1 + place) (omega (arith, first)))
-    ∙ said (sequence + place) (get_or messages place [])
-    (message_at-from sequence messages (sequence + place) place refl ∙ slice_get-get_or messages place [] within)
+    published_at published number ≡ Some message) → index < length messages →
+    slice_get published (sequence - 1 + index) ≡ Some (get_or messages index [])
+stands_at messages published sequence index first said within =
+    sym (message_at-from 1 published (sequence + index) (sequence - 1 + index) (omega (arith, first)))
+    ∙ said (sequence + index) (get_or messages index [])
+    (message_at-from sequence messages (sequence + index) index refl ∙ slice_get-get_or messages index [] within)
 
 -- So the number of the last message is not above that of the last published one.
 within_published :
@@ -120,13 +120,13 @@ piece_of (Data messages) sequence published closed said within =
     omega (arith, said.0, within, length-drop (sequence - 1) published)
     in
     same_lists messages (take (length messages) (drop (sequence - 1) published))
-    (sym (length-take-le (length messages) (drop (sequence - 1) published) all)) (λ place other inside.
+    (sym (length-take-le (length messages) (drop (sequence - 1) published) all)) (λ index other inside.
     sym
-    (get_or-take (length messages) (drop (sequence - 1) published) place other inside
-    ∙ get_or-drop (sequence - 1) published place other
-    ∙ get_or_from_slice_get published (sequence - 1 + place) (get_or messages place []) other
-    (stands_at messages published sequence place said.0 said.1 inside)
-    ∙ get_or_default messages place [] other inside))
+    (get_or-take (length messages) (drop (sequence - 1) published) index other inside
+    ∙ get_or-drop (sequence - 1) published index other
+    ∙ get_or_from_slice_get published (sequence - 1 + index) (get_or messages index []) other
+    (stands_at messages published sequence index said.0 said.1 inside)
+    ∙ get_or_default messages index [] other inside))
 piece_of Heartbeat sequence published closed said within = refl
 piece_of End sequence published closed said within = refl
 
@@ -139,13 +139,13 @@ true_messages packet published closed is told =
     piece_of packet.body packet.sequence published closed told.said (true_top packet published closed is told)
 
 slice_get-drop :
-    {X : Type 0} (number : ℕ) (elements : List X) (place : ℕ) →
-    slice_get (drop number elements) place ≡ slice_get elements (number + place)
-slice_get-drop zero elements place = ap (λ (t : ℕ). slice_get elements t) (omega arith)
-slice_get-drop (suc number) [] place = sym (slice_get_past [] (suc number + place) (omega arith))
-slice_get-drop (suc number) (element ∷ elements) place =
-    let next : suc (number + place) ≡ suc number + place = omega arith in
-    slice_get-drop number elements place ∙ ap (λ (t : ℕ). slice_get (element ∷ elements) t) next
+    {X : Type 0} (number : ℕ) (elements : List X) (index : ℕ) →
+    slice_get (drop number elements) index ≡ slice_get elements (number + index)
+slice_get-drop zero elements index = ap (λ (t : ℕ). slice_get elements t) (omega arith)
+slice_get-drop (suc number) [] index = sym (slice_get_past [] (suc number + index) (omega arith))
+slice_get-drop (suc number) (element ∷ elements) index =
+    let next : suc (number + index) ≡ suc number + index = omega arith in
+    slice_get-drop number elements index ∙ ap (λ (t : ℕ). slice_get (element ∷ elements) t) next
 
 -- A data packet with consecutive published messages and their numbers is true.
 pub piece_is_true :
@@ -163,12 +163,12 @@ piece_is_true packet published behind closed few first carries parts = record {
           | inl below ↦ absurd (none-some message
               (sym (cond-false (leb packet.sequence number) _ None (lt-leb packet.sequence number below)) ∙ at))
           | inr behind_it ↦
-              let place : ℕ = number - packet.sequence in
-              let found = sym (message_at-from packet.sequence messages number place (omega (arith, behind_it))) ∙ at in
-              message_at-from 1 published number (packet.sequence - 1 + place) (omega (arith, behind_it, first))
-              ∙ sym (slice_get-drop (packet.sequence - 1) published place)
-              ∙ ap (λ (t : List (List ℕ)). slice_get t place) parts
-              ∙ slice_get-longer messages behind place message found
+              let index : ℕ = number - packet.sequence in
+              let found = sym (message_at-from packet.sequence messages number index (omega (arith, behind_it))) ∙ at in
+              message_at-from 1 published number (packet.sequence - 1 + index) (omega (arith, behind_it, first))
+              ∙ sym (slice_get-drop (packet.sequence - 1) published index)
+              ∙ ap (λ (t : List (List ℕ)). slice_get t index) parts
+              ∙ slice_get-longer messages behind index message found
         ],
   );
 }

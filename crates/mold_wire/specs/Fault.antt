@@ -31,7 +31,7 @@ pub record IsTrailing (at : ℕ) (bytes : List ℕ) : Type 0 where
   -- The bytes after the packet.
   pub more : List ℕ
   pub whole : Spells packet front
-  pub place : length front ≡ at
+  pub offset : length front ≡ at
   pub some : 0 < length more
   pub parts : bytes ≡ front ++ more
 

@@ -54,6 +54,6 @@ pub(crate) fn put_block(out: &mut [u8], message: &[u8])
 {
     let (head, behind) = out.split_at_mut(LENGTH_BYTES);
     BigEndian::write_u16(head, message.len() as u16);
-    let (place, _) = behind.split_at_mut(message.len());
-    place.copy_from_slice(message);
+    let (slot, _) = behind.split_at_mut(message.len());
+    slot.copy_from_slice(message);
 }

@@ -1,5 +1,6 @@
 //! The parts of the command `serve`: the journal, which is loaded from a file, and the server.
 
+ghost use Rattle.mold_wire.specs.declared.limits.TheConstants.{MESSAGE_OVERHEAD};
 ghost use Rattle.std.specs.Prelude.{◌≡◌, ◌-◌, IfErr, IfOk, IfSome};
 ghost use Rattle.std.specs.Io.KnownBytes.{Appends};
 ghost use Rattle.mold_devices.specs.Devices.{AppendsPrefix};
@@ -24,9 +25,9 @@ pub fn load_journal<S: Source>(
     source: &mut S,
 ) -> Result<Result<Journal, FileError>, CommandFault>
     ensures longest { IfOk result (λ loaded. IfOk loaded (λ journal.
-        journal.max_message ≡ order.now.limit - 22)) }
+        journal.max_message ≡ order.now.limit - MESSAGE_OVERHEAD)) }
     ensures whole { IfOk result (λ loaded. IfOk loaded (λ journal. IfSome (S.left source.old) (SpellsFile journal))) }
-    ensures refused { IfOk result (λ loaded. IfErr loaded (IsAtFault (order.now.limit - 22) (S.left source.old))) }
+    ensures refused { IfOk result (λ loaded. IfErr loaded (IsAtFault (order.now.limit - MESSAGE_OVERHEAD) (S.left source.old))) }
     ensures failures { CountsSource (S.failed source.old) (S.failed source.new) result }
 {
     match Journal::load(alloc, longest_message(order.limit), source) {

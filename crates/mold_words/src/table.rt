@@ -245,7 +245,7 @@ pub static COMMANDS: [CommandRow; 10] = [
             REPORT,
         ],
         example: "Example:\n  mold listen --session SESSION001 --a 127.0.0.1:9001 --b 127.0.0.1:9002 \\\
-            \n    --server 127.0.0.1:9003 --turns 1000000 > heard",
+            \n    --server 127.0.0.1:9003 --turns 1000000 > received",
     },
     CommandRow {
         name: "loop",

@@ -61,13 +61,13 @@ pub applied_steps :
 applied_steps steps old new happening (Ok says) is applied = steps old new happening says is applied
 applied_steps steps old new happening (Err error) is applied = tt
 
-pub applied_heard :
-    (heard : (w new : WorldState) (happening : Happening) (says : Report) → IsWorld w →
+pub applied_received :
+    (received : (w new : WorldState) (happening : Happening) (says : Report) → IsWorld w →
     effect w happening ≡ Ok (says, new) → HasReceived happening says w new)
     (old new : WorldState) (happening : Happening) (result : Result Report WorldError) → IsWorld old →
     Applies old happening result new → IfOk result (λ says. HasReceived happening says old new)
-applied_heard heard old new happening (Ok says) is applied = heard old new happening says is applied
-applied_heard heard old new happening (Err error) is applied = tt
+applied_received received old new happening (Ok says) is applied = received old new happening says is applied
+applied_received received old new happening (Err error) is applied = tt
 
 -- The rule of events never refuses with `Memory`.
 ok_none :
@@ -101,35 +101,35 @@ want_none : (w : WorldState) (want : Option Asked) → asked_for w want ≡ Err 
 want_none w None is = ok_none _ is
 want_none w (Some request) is = ok_none _ is
 
-ask_none : (w : WorldState) (place : Option SubscriberState) → asked w place ≡ Err Memory → ⊥
+ask_none : (w : WorldState) (subscriber : Option SubscriberState) → asked w subscriber ≡ Err Memory → ⊥
 ask_none w None is = other_none _ (λ e. let f = e in cc) is
-ask_none w (Some place) is = want_none w (wanted place.arbitration.view) is
+ask_none w (Some subscriber) is = want_none w (wanted subscriber.arbitration.view) is
 
 deliver_none :
-    (w : WorldState) (receiver : ℕ) (way : Way) (place : Option SubscriberState) (datagram : Option (List ℕ)) →
-    delivered w receiver way place datagram ≡ Err Memory → ⊥
+    (w : WorldState) (receiver : ℕ) (way : Way) (subscriber : Option SubscriberState) (datagram : Option (List ℕ)) →
+    delivered w receiver way subscriber datagram ≡ Err Memory → ⊥
 deliver_none w receiver way None datagram is = other_none _ (λ e. let f = e in cc) is
-deliver_none w receiver way (Some place) None is = other_none _ (λ e. let f = e in cc) is
-deliver_none w receiver way (Some place) (Some bytes) is = ok_none _ is
+deliver_none w receiver way (Some subscriber) None is = other_none _ (λ e. let f = e in cc) is
+deliver_none w receiver way (Some subscriber) (Some bytes) is = ok_none _ is
 
 noise_none :
-    (w : WorldState) (receiver : ℕ) (way : Way) (bytes : List ℕ) (place : Option SubscriberState) (own : Bool) →
-    noised w receiver way bytes place own ≡ Err Memory → ⊥
+    (w : WorldState) (receiver : ℕ) (way : Way) (bytes : List ℕ) (subscriber : Option SubscriberState) (own : Bool) →
+    noised w receiver way bytes subscriber own ≡ Err Memory → ⊥
 noise_none w receiver way bytes None own is = other_none _ (λ e. let f = e in cc) is
-noise_none w receiver way bytes (Some place) true is = other_none _ (λ e. let f = e in cc) is
-noise_none w receiver way bytes (Some place) false is = ok_none _ is
+noise_none w receiver way bytes (Some subscriber) true is = other_none _ (λ e. let f = e in cc) is
+noise_none w receiver way bytes (Some subscriber) false is = ok_none _ is
 
 restart_none_at :
-    (w : WorldState) (receiver next : ℕ) (place : SubscriberState) (reached : Bool) →
-    cond {A = Outcome} reached (Ok (report.Restarted next, with_subscriber w receiver (restarted_at place next)))
-    (Err (NotReached place.arbitration.view.next)) ≡ Err Memory → ⊥
-restart_none_at w receiver next place true is = ok_none _ is
-restart_none_at w receiver next place false is = other_none _ (λ e. let f = e in cc) is
+    (w : WorldState) (receiver next : ℕ) (subscriber : SubscriberState) (reached : Bool) →
+    cond {A = Outcome} reached (Ok (report.Restarted next, with_subscriber w receiver (restarted_at subscriber next)))
+    (Err (NotReached subscriber.arbitration.view.next)) ≡ Err Memory → ⊥
+restart_none_at w receiver next subscriber true is = ok_none _ is
+restart_none_at w receiver next subscriber false is = other_none _ (λ e. let f = e in cc) is
 
-restart_none : (w : WorldState) (receiver next : ℕ) (place : Option SubscriberState) → restarted w receiver next place ≡ Err Memory → ⊥
+restart_none : (w : WorldState) (receiver next : ℕ) (subscriber : Option SubscriberState) → restarted w receiver next subscriber ≡ Err Memory → ⊥
 restart_none w receiver next None is = other_none _ (λ e. let f = e in cc) is
-restart_none w receiver next (Some place) is =
-    restart_none_at w receiver next place (leb 1 next && leb next place.arbitration.view.next) is
+restart_none w receiver next (Some subscriber) is =
+    restart_none_at w receiver next subscriber (leb 1 next && leb next subscriber.arbitration.view.next) is
 
 pub effect_never_wants : (w : WorldState) (happening : Happening) → effect w happening ≡ Err Memory → ⊥
 unfolding effect

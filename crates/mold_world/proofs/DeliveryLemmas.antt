@@ -41,36 +41,36 @@ TakesTruth = (v : View) (packet : Packet) (bytes : List ℕ) (published : List (
 
 -- A receiver of the world accepts what was sent.
 pub sent_taken :
-    (take : TakesTruth) (w : WorldState) (receiver at : ℕ) (place : SubscriberState) (bytes : List ℕ) → IsWorld w →
-    slice_get w.subscribers receiver ≡ Some place → slice_get w.sent at ≡ Some bytes →
-    IsTakenHonestly place.arbitration.view bytes w.publisher.journal.messages w.publisher.journal.closed
-sent_taken take w receiver at place bytes is here found =
-    let kept = is.subscribers receiver place here in
+    (take : TakesTruth) (w : WorldState) (receiver at : ℕ) (subscriber : SubscriberState) (bytes : List ℕ) → IsWorld w →
+    slice_get w.subscribers receiver ≡ Some subscriber → slice_get w.sent at ≡ Some bytes →
+    IsTakenHonestly subscriber.arbitration.view bytes w.publisher.journal.messages w.publisher.journal.closed
+sent_taken take w receiver at subscriber bytes is here found =
+    let kept = is.subscribers receiver subscriber here in
     let said = is.said at bytes found in
-    take place.arbitration.view said.packet bytes w.publisher.journal.messages w.publisher.journal.closed kept.honest
+    take subscriber.arbitration.view said.packet bytes w.publisher.journal.messages w.publisher.journal.closed kept.honest
     said.spelled (said.session ∙ sym kept.session) said.so
 
 -- A receiver that refuses bytes.
 pub unmoved :
-    (place : SubscriberState) (way : Way) (bytes : List ℕ) (refused : Refusal) →
-    receive place.arbitration.view bytes ≡ Err refused → IsUnmoved place way bytes
-unmoved place way bytes refused is = record {
+    (subscriber : SubscriberState) (way : Way) (bytes : List ℕ) (refused : Refusal) →
+    receive subscriber.arbitration.view bytes ≡ Err refused → IsUnmoved subscriber way bytes
+unmoved subscriber way bytes refused is = record {
   refused = refused;
   received = is;
-  view = ap (λ (t : Result Reception Refusal). (arbitrated (line_of way) bytes place.arbitration t).view) is
-      ∙ view_refused way bytes place.arbitration refused;
-  book = ap (λ (t : Result Reception Refusal). book_after place.book place.arbitration.view.next t) is;
+  view = ap (λ (t : Result Reception Refusal). (arbitrated (line_of way) bytes subscriber.arbitration t).view) is
+      ∙ view_refused way bytes subscriber.arbitration refused;
+  book = ap (λ (t : Result Reception Refusal). book_after subscriber.book subscriber.arbitration.view.next t) is;
 }
 
 pub noise_unmoved :
-    (w : WorldState) (receiver : ℕ) (way : Way) (bytes : List ℕ) (place : SubscriberState) → IsWorld w →
-    slice_get w.subscribers receiver ≡ Some place → is_own w.publisher.journal.session (reading bytes) ≡ false →
-    IsUnmoved place way bytes
-noise_unmoved w receiver way bytes place is here other =
-    let refused = not_own place.arbitration.view w.publisher.journal.session (reading bytes)
-    (is.subscribers receiver place here).session other
+    (w : WorldState) (receiver : ℕ) (way : Way) (bytes : List ℕ) (subscriber : SubscriberState) → IsWorld w →
+    slice_get w.subscribers receiver ≡ Some subscriber → is_own w.publisher.journal.session (reading bytes) ≡ false →
+    IsUnmoved subscriber way bytes
+noise_unmoved w receiver way bytes subscriber is here other =
+    let refused = not_own subscriber.arbitration.view w.publisher.journal.session (reading bytes)
+    (is.subscribers receiver subscriber here).session other
     in
-    unmoved place way bytes refused.0 refused.1
+    unmoved subscriber way bytes refused.0 refused.1
 
 -- Bytes that encode no packet of the session are not decoded as one.
 read_strange :
@@ -88,23 +88,23 @@ read_strange spelled session bytes (Ok packet) are is strange =
 
 pub strange_unmoved :
     (spelled : (packet : Packet) (bytes : List ℕ) → IsBytes bytes → reading bytes ≡ Ok packet → Spells packet bytes)
-    (w : WorldState) (receiver : ℕ) (place : SubscriberState) (way : Way) (bytes : List ℕ) → IsWorld w →
-    slice_get w.subscribers receiver ≡ Some place → IsBytes bytes → AreForeign w.publisher.journal.session bytes →
-    IsUnmoved place way bytes
-strange_unmoved spelled w receiver place way bytes is here are strange =
-    noise_unmoved w receiver way bytes place is here
+    (w : WorldState) (receiver : ℕ) (subscriber : SubscriberState) (way : Way) (bytes : List ℕ) → IsWorld w →
+    slice_get w.subscribers receiver ≡ Some subscriber → IsBytes bytes → AreForeign w.publisher.journal.session bytes →
+    IsUnmoved subscriber way bytes
+strange_unmoved spelled w receiver subscriber way bytes is here are strange =
+    noise_unmoved w receiver way bytes subscriber is here
     (read_strange spelled w.publisher.journal.session bytes (reading bytes) are refl strange)
 
 -- Noise delivers nothing.
 noise_hands :
-    (w : WorldState) (receiver : ℕ) (way : Way) (bytes : List ℕ) (place : Option SubscriberState) (own : Bool) →
-    IsWorld w → slice_get w.subscribers receiver ≡ place → is_own w.publisher.journal.session (reading bytes) ≡ own →
-    handed_of_noise receiver place bytes own ≡ []
-noise_hands w receiver way bytes place true is here mine = refl
+    (w : WorldState) (receiver : ℕ) (way : Way) (bytes : List ℕ) (subscriber : Option SubscriberState) (own : Bool) →
+    IsWorld w → slice_get w.subscribers receiver ≡ subscriber → is_own w.publisher.journal.session (reading bytes) ≡ own →
+    handed_of_noise receiver subscriber bytes own ≡ []
+noise_hands w receiver way bytes subscriber true is here mine = refl
 noise_hands w receiver way bytes None false is here mine = refl
-noise_hands w receiver way bytes (Some place) false is here mine =
-    ap (λ (t : Result Reception Refusal). handed_of receiver place.arbitration.view.next t)
-    (noise_unmoved w receiver way bytes place is here mine).received
+noise_hands w receiver way bytes (Some subscriber) false is here mine =
+    ap (λ (t : Result Reception Refusal). handed_of receiver subscriber.arbitration.view.next t)
+    (noise_unmoved w receiver way bytes subscriber is here mine).received
 
 pub noise_hands_nothing :
     (w : WorldState) (receiver : ℕ) (way : Way) (bytes : List ℕ) → IsWorld w →
@@ -115,19 +115,19 @@ noise_hands_nothing w receiver way bytes is =
 
 -- A refused event delivers nothing.
 refused_delivery :
-    (w : WorldState) (receiver : ℕ) (way : Way) (place : Option SubscriberState) (datagram : Option (List ℕ))
-    (error : WorldError) → delivered w receiver way place datagram ≡ Err error → handed_at receiver place datagram ≡ []
+    (w : WorldState) (receiver : ℕ) (way : Way) (subscriber : Option SubscriberState) (datagram : Option (List ℕ))
+    (error : WorldError) → delivered w receiver way subscriber datagram ≡ Err error → handed_at receiver subscriber datagram ≡ []
 refused_delivery w receiver way None datagram error same = refl
-refused_delivery w receiver way (Some place) None error same = refl
-refused_delivery w receiver way (Some place) (Some bytes) error same = ok_refused _ error same
+refused_delivery w receiver way (Some subscriber) None error same = refl
+refused_delivery w receiver way (Some subscriber) (Some bytes) error same = ok_refused _ error same
 
 refused_noise :
-    (w : WorldState) (receiver : ℕ) (way : Way) (bytes : List ℕ) (place : Option SubscriberState) (own : Bool)
-    (error : WorldError) → noised w receiver way bytes place own ≡ Err error →
-    handed_of_noise receiver place bytes own ≡ []
-refused_noise w receiver way bytes place true error same = refl
+    (w : WorldState) (receiver : ℕ) (way : Way) (bytes : List ℕ) (subscriber : Option SubscriberState) (own : Bool)
+    (error : WorldError) → noised w receiver way bytes subscriber own ≡ Err error →
+    handed_of_noise receiver subscriber bytes own ≡ []
+refused_noise w receiver way bytes subscriber true error same = refl
 refused_noise w receiver way bytes None false error same = refl
-refused_noise w receiver way bytes (Some place) false error same = ok_refused _ error same
+refused_noise w receiver way bytes (Some subscriber) false error same = ok_refused _ error same
 
 pub refused_hands_nothing :
     (w : WorldState) (happening : Happening) (error : WorldError) → effect w happening ≡ Err error →
@@ -147,54 +147,54 @@ refused_hands_nothing w (Noise receiver way bytes) error same =
     (is_own w.publisher.journal.session (reading bytes)) error same
 refused_hands_nothing w (Restart receiver next) error same = refl
 
-deliver_heard :
-    (take : TakesTruth) (w : WorldState) (receiver at : ℕ) (way : Way) (place : Option SubscriberState)
-    (datagram : Option (List ℕ)) (done : Report × WorldState) → IsWorld w → slice_get w.subscribers receiver ≡ place →
-    slice_get w.sent at ≡ datagram → delivered w receiver way place datagram ≡ Ok done → ReportsTaken done.0
-deliver_heard take w receiver at way None datagram done is here found same =
+deliver_received :
+    (take : TakesTruth) (w : WorldState) (receiver at : ℕ) (way : Way) (subscriber : Option SubscriberState)
+    (datagram : Option (List ℕ)) (done : Report × WorldState) → IsWorld w → slice_get w.subscribers receiver ≡ subscriber →
+    slice_get w.sent at ≡ datagram → delivered w receiver way subscriber datagram ≡ Ok done → ReportsTaken done.0
+deliver_received take w receiver at way None datagram done is here found same =
     err_so (λ (t : Report × WorldState). ReportsTaken t.0) _ done same
-deliver_heard take w receiver at way (Some place) None done is here found same =
+deliver_received take w receiver at way (Some subscriber) None done is here found same =
     err_so (λ (t : Report × WorldState). ReportsTaken t.0) _ done same
-deliver_heard take w receiver at way (Some place) (Some bytes) done is here found same =
-    let took = sent_taken take w receiver at place bytes is here found in
+deliver_received take w receiver at way (Some subscriber) (Some bytes) done is here found same =
+    let took = sent_taken take w receiver at subscriber bytes is here found in
     ok_so (λ (t : Report × WorldState). ReportsTaken t.0) _ done same
     (record { taken = took.reception.taken; so = ap told took.received })
 
-noise_heard :
-    (w : WorldState) (receiver : ℕ) (way : Way) (bytes : List ℕ) (place : Option SubscriberState) (own : Bool)
-    (done : Report × WorldState) → IsWorld w → slice_get w.subscribers receiver ≡ place →
-    is_own w.publisher.journal.session (reading bytes) ≡ own → noised w receiver way bytes place own ≡ Ok done →
+noise_received :
+    (w : WorldState) (receiver : ℕ) (way : Way) (bytes : List ℕ) (subscriber : Option SubscriberState) (own : Bool)
+    (done : Report × WorldState) → IsWorld w → slice_get w.subscribers receiver ≡ subscriber →
+    is_own w.publisher.journal.session (reading bytes) ≡ own → noised w receiver way bytes subscriber own ≡ Ok done →
     ReportsRefused done.0 × KeepsBooks w done.1
-noise_heard w receiver way bytes None own done is here mine same =
+noise_received w receiver way bytes None own done is here mine same =
     err_so (λ (t : Report × WorldState). ReportsRefused t.0 × KeepsBooks w t.1) _ done same
-noise_heard w receiver way bytes (Some place) true done is here mine same =
+noise_received w receiver way bytes (Some subscriber) true done is here mine same =
     err_so (λ (t : Report × WorldState). ReportsRefused t.0 × KeepsBooks w t.1) _ done same
-noise_heard w receiver way bytes (Some place) false done is here mine same =
-    let stays = noise_unmoved w receiver way bytes place is here mine in
+noise_received w receiver way bytes (Some subscriber) false done is here mine same =
+    let stays = noise_unmoved w receiver way bytes subscriber is here mine in
     ok_so (λ (t : Report × WorldState). ReportsRefused t.0 × KeepsBooks w t.1) _ done same (
       record { refused = stays.refused; so = ap told stays.received },
       record {
-        views = map_set (λ (t : SubscriberState). t.arbitration.view) w.subscribers receiver place (given place way bytes) here
+        views = map_set (λ (t : SubscriberState). t.arbitration.view) w.subscribers receiver subscriber (given subscriber way bytes) here
             stays.view;
-        books = map_set (λ (t : SubscriberState). t.book) w.subscribers receiver place (given place way bytes) here stays.book;
+        books = map_set (λ (t : SubscriberState). t.book) w.subscribers receiver subscriber (given subscriber way bytes) here stays.book;
       },
     )
 
 -- Every event that is not refused.
-pub event_heard :
+pub event_received :
     (take : TakesTruth) (w : WorldState) (happening : Happening) (done : Report × WorldState) → IsWorld w →
     effect w happening ≡ Ok done → HasReceived happening done.0 w done.1
 unfolding effect
-event_heard take w (Publish message) done is same = tt
-event_heard take w Datagram done is same = tt
-event_heard take w Heartbeat done is same = tt
-event_heard take w Close done is same = tt
-event_heard take w End done is same = tt
-event_heard take w (Request bytes) done is same = tt
-event_heard take w (Ask receiver) done is same = tt
-event_heard take w (Deliver receiver way at) done is same =
-    deliver_heard take w receiver at way (slice_get w.subscribers receiver) (slice_get w.sent at) done is refl refl same
-event_heard take w (Noise receiver way bytes) done is same =
-    noise_heard w receiver way bytes (slice_get w.subscribers receiver)
+event_received take w (Publish message) done is same = tt
+event_received take w Datagram done is same = tt
+event_received take w Heartbeat done is same = tt
+event_received take w Close done is same = tt
+event_received take w End done is same = tt
+event_received take w (Request bytes) done is same = tt
+event_received take w (Ask receiver) done is same = tt
+event_received take w (Deliver receiver way at) done is same =
+    deliver_received take w receiver at way (slice_get w.subscribers receiver) (slice_get w.sent at) done is refl refl same
+event_received take w (Noise receiver way bytes) done is same =
+    noise_received w receiver way bytes (slice_get w.subscribers receiver)
     (is_own w.publisher.journal.session (reading bytes)) done is refl refl same
-event_heard take w (Restart receiver next) done is same = tt
+event_received take w (Restart receiver next) done is same = tt

@@ -80,7 +80,7 @@ world_with_publisher :
     new.journal.session ≡ w.publisher.journal.session → new.journal.max_message ≡ w.publisher.journal.max_message →
     ((packet : Packet) → IsTruePacket packet w.publisher.journal.messages w.publisher.journal.closed →
     IsTruePacket packet new.journal.messages new.journal.closed) →
-    ((place : SubscriberState) → IsSubscriberKept w.publisher.journal w.sent place → IsSubscriberKept new.journal w.sent place) →
+    ((subscriber : SubscriberState) → IsSubscriberKept w.publisher.journal w.sent place → IsSubscriberKept new.journal w.sent place) →
     IsWorld (record w { publisher = new })
 world_with_publisher w new is publisher named longest still kept = record {
   publisher = publisher;
@@ -90,15 +90,15 @@ world_with_publisher w new is publisher named longest still kept = record {
     limited = is.answers.limited;
     room = omega (arith, longest, is.answers.room);
   };
-  said = λ place bytes found.
-      let told = is.said place bytes found in
+  said = λ subscriber bytes found.
+      let told = is.said subscriber bytes found in
       record {
         packet = told.packet;
         spelled = told.spelled;
         session = told.session ∙ sym named;
         so = still told.packet told.so;
       };
-  subscribers = λ receiver place found. kept place (is.subscribers receiver place found);
+  subscribers = λ receiver subscriber found. kept subscriber (is.subscribers receiver subscriber found);
 }
 
 -- A message is published.
@@ -134,22 +134,22 @@ world_closed laws receivers w is all =
 world_sent :
     (w : WorldState) (publisher : PublisherState) (more : List (List ℕ)) → IsWorld w → IsPublisher publisher →
     publisher.journal ≡ w.publisher.journal →
-    ((place : ℕ) (bytes : List ℕ) → slice_get more place ≡ Some bytes → IsTrueDatagram w.publisher.journal bytes) →
+    ((place : ℕ) (bytes : List ℕ) → slice_get more subscriber ≡ Some bytes → IsTrueDatagram w.publisher.journal bytes) →
     IsWorld (record w { publisher = publisher; sent = w.sent ++ more })
 world_sent w publisher more is still same true_all =
     let back = sym same in
     record {
       publisher = still;
       answers = subst (λ (t : JournalState). MayAnswer t w.server_limit) back is.answers;
-      said = λ place bytes found.
+      said = λ subscriber bytes found.
           subst (λ (t : JournalState). IsTrueDatagram t bytes) back
-          (elim (append_cases w.sent more place bytes found) [
-            | inl before ↦ is.said place bytes before
+          (elim (append_cases w.sent more subscriber bytes found) [
+            | inl before ↦ is.said subscriber bytes before
             | inr new ↦ true_all new.0 bytes new.2
           ]);
-      subscribers = λ receiver place found.
-          subst (λ (t : JournalState). IsSubscriberKept t (w.sent ++ more) place) back
-          (place_sent w.publisher.journal w.sent more place (is.subscribers receiver place found));
+      subscribers = λ receiver subscriber found.
+          subst (λ (t : JournalState). IsSubscriberKept t (w.sent ++ more) subscriber) back
+          (place_sent w.publisher.journal w.sent more subscriber (is.subscribers receiver subscriber found));
     }
 
 world_with_place :
@@ -159,10 +159,10 @@ world_with_place w receiver new is kept = record {
   publisher = is.publisher;
   answers = is.answers;
   said = is.said;
-  subscribers = λ other place found.
-      elim (set_cases w.subscribers receiver new other place found) [
+  subscribers = λ other subscriber found.
+      elim (set_cases w.subscribers receiver new other subscriber found) [
         | inl here ↦ subst (λ (t : SubscriberState). IsSubscriberKept w.publisher.journal w.sent t) here kept
-        | inr there ↦ is.subscribers other place there
+        | inr there ↦ is.subscribers other subscriber there
       ];
 }
 
@@ -211,15 +211,15 @@ close_kept laws receivers w false done is none same =
     (omega (arith, ltb-false 0 (unsent_count w.publisher) none, is.publisher.published))) same
 
 deliver_kept :
-    (receivers : ReceiverLaws) (w : WorldState) (receiver at : ℕ) (way : Way) (place : Option SubscriberState)
-    (datagram : Option (List ℕ)) (done : Report × WorldState) → IsWorld w → slice_get w.subscribers receiver ≡ place →
-    slice_get w.sent at ≡ datagram → delivered w receiver way place datagram ≡ Ok done → IsWorld done.1
+    (receivers : ReceiverLaws) (w : WorldState) (receiver at : ℕ) (way : Way) (subscriber : Option SubscriberState)
+    (datagram : Option (List ℕ)) (done : Report × WorldState) → IsWorld w → slice_get w.subscribers receiver ≡ subscriber →
+    slice_get w.sent at ≡ datagram → delivered w receiver way subscriber datagram ≡ Ok done → IsWorld done.1
 deliver_kept receivers w receiver at way None datagram done is here sent same = err_world _ done same
-deliver_kept receivers w receiver at way (Some place) None done is here sent same = err_world _ done same
-deliver_kept receivers w receiver at way (Some place) (Some bytes) done is here sent same =
-    ok_world _ done (world_with_place w receiver (given place way bytes) is
-    (given_kept receivers w.publisher.journal w.sent place way bytes (is.subscribers receiver place here)
-    (record { place = at; found = sent; told = is.said at bytes sent }))) same
+deliver_kept receivers w receiver at way (Some subscriber) None done is here sent same = err_world _ done same
+deliver_kept receivers w receiver at way (Some subscriber) (Some bytes) done is here sent same =
+    ok_world _ done (world_with_place w receiver (given subscriber way bytes) is
+    (given_kept receivers w.publisher.journal w.sent place way bytes (is.subscribers receiver subscriber here)
+    (record { subscriber = at; found = sent; told = is.said at bytes sent }))) same
 
 -- Bytes that are not a packet of the session are refused.
 pub not_own :
@@ -242,38 +242,38 @@ not_own view own (Ok packet) same other =
     )
 
 noise_given :
-    (w : WorldState) (receiver : ℕ) (way : Way) (bytes : List ℕ) (place : Option SubscriberState) (own : Bool)
-    (done : Report × WorldState) → IsWorld w → slice_get w.subscribers receiver ≡ place →
-    is_own w.publisher.journal.session (reading bytes) ≡ own → noised w receiver way bytes place own ≡ Ok done →
+    (w : WorldState) (receiver : ℕ) (way : Way) (bytes : List ℕ) (subscriber : Option SubscriberState) (own : Bool)
+    (done : Report × WorldState) → IsWorld w → slice_get w.subscribers receiver ≡ subscriber →
+    is_own w.publisher.journal.session (reading bytes) ≡ own → noised w receiver way bytes subscriber own ≡ Ok done →
     IsWorld done.1
 noise_given w receiver way bytes None own done is here mine same = err_world _ done same
-noise_given w receiver way bytes (Some place) true done is here mine same = err_world _ done same
-noise_given w receiver way bytes (Some place) false done is here mine same =
-    let kept = is.subscribers receiver place here in
-    let refused = not_own place.arbitration.view w.publisher.journal.session (reading bytes) kept.session mine in
-    ok_world _ done (world_with_place w receiver (given place way bytes) is
+noise_given w receiver way bytes (Some subscriber) true done is here mine same = err_world _ done same
+noise_given w receiver way bytes (Some subscriber) false done is here mine same =
+    let kept = is.subscribers receiver subscriber here in
+    let refused = not_own subscriber.arbitration.view w.publisher.journal.session (reading bytes) kept.session mine in
+    ok_world _ done (world_with_place w receiver (given subscriber way bytes) is
     (noise_kept w.publisher.journal w.sent place way bytes refused.0 refused.1 kept)) same
 
 restart_given :
-    (receivers : ReceiverLaws) (w : WorldState) (receiver next : ℕ) (place : SubscriberState) (reached : Bool)
-    (done : Report × WorldState) → IsWorld w → slice_get w.subscribers receiver ≡ Some place →
-    (leb 1 next && leb next place.arbitration.view.next) ≡ reached →
-    cond {A = Outcome} reached (Ok (report.Restarted next, with_subscriber w receiver (restarted_at place next)))
-    (Err (NotReached place.arbitration.view.next)) ≡ Ok done → IsWorld done.1
-restart_given receivers w receiver next place false done is here reached same = err_world _ done same
-restart_given receivers w receiver next place true done is here reached same =
-    let both = and_parts (leb 1 next) (leb next place.arbitration.view.next) reached in
-    ok_world _ done (world_with_place w receiver (restarted_at place next) is
+    (receivers : ReceiverLaws) (w : WorldState) (receiver next : ℕ) (subscriber : SubscriberState) (reached : Bool)
+    (done : Report × WorldState) → IsWorld w → slice_get w.subscribers receiver ≡ Some subscriber →
+    (leb 1 next && leb next subscriber.arbitration.view.next) ≡ reached →
+    cond {A = Outcome} reached (Ok (report.Restarted next, with_subscriber w receiver (restarted_at subscriber next)))
+    (Err (NotReached subscriber.arbitration.view.next)) ≡ Ok done → IsWorld done.1
+restart_given receivers w receiver next subscriber false done is here reached same = err_world _ done same
+restart_given receivers w receiver next subscriber true done is here reached same =
+    let both = and_parts (leb 1 next) (leb next subscriber.arbitration.view.next) reached in
+    ok_world _ done (world_with_place w receiver (restarted_at subscriber next) is
     (renewed_kept receivers w.publisher.journal w.sent place next is.publisher.journaled.few (leb-true 1 next both.0)
-    (leb-true next place.arbitration.view.next both.1) (is.subscribers receiver place here))) same
+    (leb-true next subscriber.arbitration.view.next both.1) (is.subscribers receiver subscriber here))) same
 
 restart_kept :
-    (receivers : ReceiverLaws) (w : WorldState) (receiver next : ℕ) (place : Option SubscriberState)
-    (done : Report × WorldState) → IsWorld w → slice_get w.subscribers receiver ≡ place →
-    restarted w receiver next place ≡ Ok done → IsWorld done.1
+    (receivers : ReceiverLaws) (w : WorldState) (receiver next : ℕ) (subscriber : Option SubscriberState)
+    (done : Report × WorldState) → IsWorld w → slice_get w.subscribers receiver ≡ subscriber →
+    restarted w receiver next subscriber ≡ Ok done → IsWorld done.1
 restart_kept receivers w receiver next None done is here same = err_world _ done same
-restart_kept receivers w receiver next (Some place) done is here same =
-    restart_given receivers w receiver next place (leb 1 next && leb next place.arbitration.view.next) done is here refl
+restart_kept receivers w receiver next (Some subscriber) done is here same =
+    restart_given receivers w receiver next subscriber (leb 1 next && leb next subscriber.arbitration.view.next) done is here refl
     same
 
 -- The laws on responses and requests.
@@ -340,10 +340,10 @@ request_kept answers w bytes (Err refusal) done is asked_now same = err_world _ 
 
 -- The journal has what a receiver of the world wants.
 pub wanted_answerable :
-    (answers : AnswerLaws) (journal : JournalState) (sent : List (List ℕ)) (place : SubscriberState) (request : Asked) →
-    IsSubscriberKept journal sent place → wanted place.arbitration.view ≡ Some request → IsAnswerable journal request
+    (answers : AnswerLaws) (journal : JournalState) (sent : List (List ℕ)) (subscriber : SubscriberState) (request : Asked) →
+    IsSubscriberKept journal sent place → wanted subscriber.arbitration.view ≡ Some request → IsAnswerable journal request
 wanted_answerable answers journal sent place request kept want =
-    let view : View = place.arbitration.view in
+    let view : View = subscriber.arbitration.view in
     let asks = answers.asks view request want in
     let gap = answers.gap view request kept.honest.well_formed want in
     record {
@@ -354,20 +354,20 @@ wanted_answerable answers journal sent place request kept want =
     }
 
 ask_wanted :
-    (answers : AnswerLaws) (w : WorldState) (place : SubscriberState) (want : Option Asked) (done : Report × WorldState) →
-    IsWorld w → IsSubscriberKept w.publisher.journal w.sent place → wanted place.arbitration.view ≡ want →
+    (answers : AnswerLaws) (w : WorldState) (subscriber : SubscriberState) (want : Option Asked) (done : Report × WorldState) →
+    IsWorld w → IsSubscriberKept w.publisher.journal w.sent place → wanted subscriber.arbitration.view ≡ want →
     asked_for w want ≡ Ok done → IsWorld done.1
-ask_wanted answers w place None done is kept want same = ok_world _ done is same
-ask_wanted answers w place (Some request) done is kept want same =
+ask_wanted answers w subscriber None done is kept want same = ok_world _ done is same
+ask_wanted answers w subscriber (Some request) done is kept want same =
     answer_kept answers w request done is (wanted_answerable answers w.publisher.journal w.sent place request kept want)
     same
 
 ask_kept :
-    (answers : AnswerLaws) (w : WorldState) (receiver : ℕ) (place : Option SubscriberState) (done : Report × WorldState) →
-    IsWorld w → slice_get w.subscribers receiver ≡ place → asked w place ≡ Ok done → IsWorld done.1
+    (answers : AnswerLaws) (w : WorldState) (receiver : ℕ) (subscriber : Option SubscriberState) (done : Report × WorldState) →
+    IsWorld w → slice_get w.subscribers receiver ≡ subscriber → asked w subscriber ≡ Ok done → IsWorld done.1
 ask_kept answers w receiver None done is here same = err_world _ done same
-ask_kept answers w receiver (Some place) done is here same =
-    ask_wanted answers w place (wanted place.arbitration.view) done is (is.subscribers receiver place here) refl same
+ask_kept answers w receiver (Some subscriber) done is here same =
+    ask_wanted answers w subscriber (wanted subscriber.arbitration.view) done is (is.subscribers receiver subscriber here) refl same
 
 pub record AllLaws : Type 0 where
   pub sending : SendingLaws
@@ -430,11 +430,11 @@ run_kept laws w (happening ∷ happenings) is =
 
 -- Each book is a prefix of the published messages.
 pub world_books :
-    (w : WorldState) (receiver : ℕ) (place : SubscriberState) → IsWorld w → slice_get w.subscribers receiver ≡ Some place →
-    IsPrefix place.book.messages w.publisher.journal.messages
-world_books w receiver place is here =
-    let kept = is.subscribers receiver place here in
-    let front : ℕ = place.arbitration.view.next - 1 in
+    (w : WorldState) (receiver : ℕ) (subscriber : SubscriberState) → IsWorld w → slice_get w.subscribers receiver ≡ Some subscriber →
+    IsPrefix subscriber.book.messages w.publisher.journal.messages
+world_books w receiver subscriber is here =
+    let kept = is.subscribers receiver subscriber here in
+    let front : ℕ = subscriber.arbitration.view.next - 1 in
     record {
       behind = drop front w.publisher.journal.messages;
       parts = sym (take-append-drop front w.publisher.journal.messages)
@@ -443,10 +443,10 @@ world_books w receiver place is here =
 
 -- If the receiver is finished, its book is all of them.
 pub world_whole :
-    (w : WorldState) (receiver : ℕ) (place : SubscriberState) → IsWorld w → slice_get w.subscribers receiver ≡ Some place →
-    place.arbitration.view.ended ≡ Some place.arbitration.view.next →
-    (w.publisher.journal.closed ≡ true) × (place.book.messages ≡ w.publisher.journal.messages)
-world_whole w receiver place is here finished =
-    let kept = is.subscribers receiver place here in
-    let end = kept.honest.ends place.arbitration.view.next finished in
-    (end.0, kept.book ∙ take_all (place.arbitration.view.next - 1) w.publisher.journal.messages (omega (arith, end.1)))
+    (w : WorldState) (receiver : ℕ) (subscriber : SubscriberState) → IsWorld w → slice_get w.subscribers receiver ≡ Some subscriber →
+    subscriber.arbitration.view.ended ≡ Some subscriber.arbitration.view.next →
+    (w.publisher.journal.closed ≡ true) × (subscriber.book.messages ≡ w.publisher.journal.messages)
+world_whole w receiver subscriber is here finished =
+    let kept = is.subscribers receiver subscriber here in
+    let end = kept.honest.ends subscriber.arbitration.view.next finished in
+    (end.0, kept.book ∙ take_all (subscriber.arbitration.view.next - 1) w.publisher.journal.messages (omega (arith, end.1)))

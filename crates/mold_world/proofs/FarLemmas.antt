@@ -38,15 +38,15 @@ TakenLaw = (v : View) (bytes : List ℕ) (r : Reception) → receive v bytes ≡
 
 -- The receiver's next number is at least this number.
 pub record IsReached (w : WorldState) (receiver next : ℕ) : Type 0 where
-  pub place : SubscriberState
-  pub here : slice_get w.subscribers receiver ≡ Some place
-  pub far : next ≤ place.arbitration.view.next
+  pub subscriber : SubscriberState
+  pub here : slice_get w.subscribers receiver ≡ Some subscriber
+  pub far : next ≤ subscriber.arbitration.view.next
 
 -- The event sends no new messages, and the receiver's next number doesn't fall.
 pub record IsAsFar (w new : WorldState) (receiver : ℕ) : Type 0 where
   pub sent : new.publisher.sent ≡ w.publisher.sent
-  pub reached : (place : SubscriberState) → slice_get w.subscribers receiver ≡ Some place →
-      IsReached new receiver place.arbitration.view.next
+  pub reached : (subscriber : SubscriberState) → slice_get w.subscribers receiver ≡ Some subscriber →
+      IsReached new receiver subscriber.arbitration.view.next
 
 ok_far :
     (w : WorldState) (receiver : ℕ) (here done : Report × WorldState) → IsAsFar w here.1 receiver →
@@ -65,8 +65,8 @@ same_far :
     IsAsFar w new receiver
 same_far w new receiver sent subscribers = record {
   sent = sent;
-  reached = λ place here. record {
-    place = place;
+  reached = λ subscriber here. record {
+    subscriber = subscriber;
     here = ap (λ (t : List SubscriberState). slice_get t receiver) subscribers ∙ here;
     far = omega arith;
   };
@@ -79,48 +79,48 @@ pub with_far :
     IsAsFar w (with_subscriber w other new) receiver
 with_far w receiver other old new is far = record {
   sent = refl;
-  reached = λ place here.
-      elim (set_at w.subscribers other new receiver place here) [
+  reached = λ subscriber here.
+      elim (set_at w.subscribers other new receiver subscriber here) [
         | inl set ↦
-            let same : old ≡ place = same_Some old place
+            let same : old ≡ subscriber = same_Some old subscriber
             (sym is ∙ ap (λ (t : ℕ). slice_get w.subscribers t) (sym set.0) ∙ here)
             in
             record {
-              place = new;
+              subscriber = new;
               here = set.1;
               far = subst (λ (t : SubscriberState). t.arbitration.view.next ≤ new.arbitration.view.next) same (far set.0);
             }
-        | inr there ↦ record { place = place; here = there; far = omega arith }
+        | inr there ↦ record { subscriber = subscriber; here = there; far = omega arith }
       ];
 }
 
 -- A datagram never lowers a receiver's next number.
 outcome_next :
-    (law : TakenLaw) (place : SubscriberState) (way : Way) (bytes : List ℕ)
-    (outcome : Result Reception Refusal) → receive place.arbitration.view bytes ≡ outcome →
-    place.arbitration.view.next ≤ (given place way bytes).arbitration.view.next
-outcome_next law place way bytes (Ok r) received =
-    let view : View = place.arbitration.view in
+    (law : TakenLaw) (subscriber : SubscriberState) (way : Way) (bytes : List ℕ)
+    (outcome : Result Reception Refusal) → receive subscriber.arbitration.view bytes ≡ outcome →
+    subscriber.arbitration.view.next ≤ (given subscriber way bytes).arbitration.view.next
+outcome_next law subscriber way bytes (Ok r) received =
+    let view : View = subscriber.arbitration.view in
     let is = law view bytes r received in
-    let next : (given place way bytes).arbitration.view.next ≡ r.view.next =
-    rw (received) (ap (λ (t : View). t.next) (view_taken way bytes place.arbitration r))
+    let next : (given subscriber way bytes).arbitration.view.next ≡ r.view.next =
+    rw (received) (ap (λ (t : View). t.next) (view_taken way bytes subscriber.arbitration r))
     in
     omega (
       arith,
       next,
       ap (λ (t : Reception). t.view.next) is.taken,
     )
-outcome_next law place way bytes (Err refused) received =
-    let next : (given place way bytes).arbitration.view.next ≡ place.arbitration.view.next =
-    rw (received) (ap (λ (t : View). t.next) (view_refused way bytes place.arbitration refused))
+outcome_next law subscriber way bytes (Err refused) received =
+    let next : (given subscriber way bytes).arbitration.view.next ≡ subscriber.arbitration.view.next =
+    rw (received) (ap (λ (t : View). t.next) (view_refused way bytes subscriber.arbitration refused))
     in
     omega (arith, next)
 
 pub given_next :
-    (law : TakenLaw) (place : SubscriberState) (way : Way) (bytes : List ℕ) →
-    place.arbitration.view.next ≤ (given place way bytes).arbitration.view.next
-given_next law place way bytes =
-    outcome_next law place way bytes (receive place.arbitration.view bytes) refl
+    (law : TakenLaw) (subscriber : SubscriberState) (way : Way) (bytes : List ℕ) →
+    subscriber.arbitration.view.next ≤ (given subscriber way bytes).arbitration.view.next
+given_next law subscriber way bytes =
+    outcome_next law subscriber way bytes (receive subscriber.arbitration.view bytes) refl
 
 -- Every event except a data packet of new messages and a restart of the receiver.
 publish_far :
@@ -155,48 +155,48 @@ want_far w receiver None done same = ok_far w receiver _ done (same_far w _ rece
 want_far w receiver (Some request) done same = ok_far w receiver _ done (same_far w _ receiver refl refl) same
 
 ask_far :
-    (w : WorldState) (receiver : ℕ) (place : Option SubscriberState) (done : Report × WorldState) →
-    asked w place ≡ Ok done → IsAsFar w done.1 receiver
+    (w : WorldState) (receiver : ℕ) (subscriber : Option SubscriberState) (done : Report × WorldState) →
+    asked w subscriber ≡ Ok done → IsAsFar w done.1 receiver
 ask_far w receiver None done same = err_far w receiver _ done same
-ask_far w receiver (Some place) done same = want_far w receiver (wanted place.arbitration.view) done same
+ask_far w receiver (Some subscriber) done same = want_far w receiver (wanted subscriber.arbitration.view) done same
 
 deliver_far :
-    (law : TakenLaw) (w : WorldState) (receiver other : ℕ) (way : Way) (place : Option SubscriberState)
-    (datagram : Option (List ℕ)) (done : Report × WorldState) → slice_get w.subscribers other ≡ place →
-    delivered w other way place datagram ≡ Ok done → IsAsFar w done.1 receiver
+    (law : TakenLaw) (w : WorldState) (receiver other : ℕ) (way : Way) (subscriber : Option SubscriberState)
+    (datagram : Option (List ℕ)) (done : Report × WorldState) → slice_get w.subscribers other ≡ subscriber →
+    delivered w other way subscriber datagram ≡ Ok done → IsAsFar w done.1 receiver
 deliver_far law w receiver other way None datagram done is same = err_far w receiver _ done same
-deliver_far law w receiver other way (Some place) None done is same = err_far w receiver _ done same
-deliver_far law w receiver other way (Some place) (Some bytes) done is same =
-    ok_far w receiver _ done (with_far w receiver other place (given place way bytes) is (λ here.
-    given_next law place way bytes)) same
+deliver_far law w receiver other way (Some subscriber) None done is same = err_far w receiver _ done same
+deliver_far law w receiver other way (Some subscriber) (Some bytes) done is same =
+    ok_far w receiver _ done (with_far w receiver other subscriber (given subscriber way bytes) is (λ here.
+    given_next law subscriber way bytes)) same
 
 noise_far :
     (law : TakenLaw) (w : WorldState) (receiver other : ℕ) (way : Way) (bytes : List ℕ)
-    (place : Option SubscriberState) (own : Bool) (done : Report × WorldState) → slice_get w.subscribers other ≡ place →
-    noised w other way bytes place own ≡ Ok done → IsAsFar w done.1 receiver
+    (subscriber : Option SubscriberState) (own : Bool) (done : Report × WorldState) → slice_get w.subscribers other ≡ subscriber →
+    noised w other way bytes subscriber own ≡ Ok done → IsAsFar w done.1 receiver
 noise_far law w receiver other way bytes None own done is same = err_far w receiver _ done same
-noise_far law w receiver other way bytes (Some place) true done is same = err_far w receiver _ done same
-noise_far law w receiver other way bytes (Some place) false done is same =
-    ok_far w receiver _ done (with_far w receiver other place (given place way bytes) is (λ here.
-    given_next law place way bytes)) same
+noise_far law w receiver other way bytes (Some subscriber) true done is same = err_far w receiver _ done same
+noise_far law w receiver other way bytes (Some subscriber) false done is same =
+    ok_far w receiver _ done (with_far w receiver other subscriber (given subscriber way bytes) is (λ here.
+    given_next law subscriber way bytes)) same
 
 restart_at_far :
-    (w : WorldState) (receiver other next : ℕ) (place : SubscriberState) (reached : Bool) (done : Report × WorldState) →
-    slice_get w.subscribers other ≡ Some place → (receiver ≡ other → ⊥) →
-    cond {A = Outcome} reached (Ok (report.Restarted next, with_subscriber w other (restarted_at place next)))
-    (Err (NotReached place.arbitration.view.next)) ≡ Ok done → IsAsFar w done.1 receiver
-restart_at_far w receiver other next place true done is another same =
-    ok_far w receiver _ done (with_far w receiver other place (restarted_at place next) is (λ here. absurd (another here)))
+    (w : WorldState) (receiver other next : ℕ) (subscriber : SubscriberState) (reached : Bool) (done : Report × WorldState) →
+    slice_get w.subscribers other ≡ Some subscriber → (receiver ≡ other → ⊥) →
+    cond {A = Outcome} reached (Ok (report.Restarted next, with_subscriber w other (restarted_at subscriber next)))
+    (Err (NotReached subscriber.arbitration.view.next)) ≡ Ok done → IsAsFar w done.1 receiver
+restart_at_far w receiver other next subscriber true done is another same =
+    ok_far w receiver _ done (with_far w receiver other subscriber (restarted_at subscriber next) is (λ here. absurd (another here)))
     same
-restart_at_far w receiver other next place false done is another same = err_far w receiver _ done same
+restart_at_far w receiver other next subscriber false done is another same = err_far w receiver _ done same
 
 restart_far :
-    (w : WorldState) (receiver other next : ℕ) (place : Option SubscriberState) (done : Report × WorldState) →
-    slice_get w.subscribers other ≡ place → (receiver ≡ other → ⊥) → restarted w other next place ≡ Ok done →
+    (w : WorldState) (receiver other next : ℕ) (subscriber : Option SubscriberState) (done : Report × WorldState) →
+    slice_get w.subscribers other ≡ subscriber → (receiver ≡ other → ⊥) → restarted w other next subscriber ≡ Ok done →
     IsAsFar w done.1 receiver
 restart_far w receiver other next None done is another same = err_far w receiver _ done same
-restart_far w receiver other next (Some place) done is another same =
-    restart_at_far w receiver other next place (leb 1 next && leb next place.arbitration.view.next) done is another same
+restart_far w receiver other next (Some subscriber) done is another same =
+    restart_at_far w receiver other next subscriber (leb 1 next && leb next subscriber.arbitration.view.next) done is another same
 
 pub event_far :
     (law : TakenLaw) (w : WorldState) (receiver : ℕ) (happening : Happening) (done : Report × WorldState) →

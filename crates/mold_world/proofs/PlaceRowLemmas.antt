@@ -35,11 +35,11 @@ pub none_there :
 none_there xs count at same outside = past_end xs count at (ltb at count) refl same outside
 
 pub put_back :
-    (w : WorldState) (receiver : ℕ) (place new : SubscriberState) → slice_get w.subscribers receiver ≡ Some place →
-    new ≡ place → with_subscriber w receiver new ≡ w
-put_back w receiver place new here same =
+    (w : WorldState) (receiver : ℕ) (subscriber new : SubscriberState) → slice_get w.subscribers receiver ≡ Some subscriber →
+    new ≡ subscriber → with_subscriber w receiver new ≡ w
+put_back w receiver subscriber new here same =
     ap (λ (t : SubscriberState). with_subscriber w receiver t) same
-    ∙ ap (λ (t : List SubscriberState). record w { subscribers = t }) (set_back w.subscribers receiver place here)
+    ∙ ap (λ (t : List SubscriberState). record w { subscribers = t }) (set_back w.subscribers receiver subscriber here)
 
 pub deliver_nobody :
     (w : WorldState) (receiver : ℕ) (way : Way) (at : ℕ) → slice_get w.subscribers receiver ≡ None →
@@ -50,43 +50,43 @@ deliver_nobody w receiver way at none =
 
 -- The rule of a delivery, for a receiver and a datagram that are known to exist or not.
 deliver_at :
-    (w : WorldState) (receiver : ℕ) (way : Way) (at : ℕ) (place : SubscriberState)
-    (datagram : Option (List ℕ)) → slice_get w.subscribers receiver ≡ Some place → slice_get w.sent at ≡ datagram →
-    effect w (Deliver receiver way at) ≡ delivered w receiver way (Some place) datagram
+    (w : WorldState) (receiver : ℕ) (way : Way) (at : ℕ) (subscriber : SubscriberState)
+    (datagram : Option (List ℕ)) → slice_get w.subscribers receiver ≡ Some subscriber → slice_get w.sent at ≡ datagram →
+    effect w (Deliver receiver way at) ≡ delivered w receiver way (Some subscriber) datagram
 unfolding effect
 deliver_at w receiver way at place datagram here found =
     λ j. delivered w receiver way (here j) (found j)
 
 pub deliver_nothing :
-    (w : WorldState) (receiver : ℕ) (way : Way) (at : ℕ) (place new : SubscriberState) →
-    slice_get w.subscribers receiver ≡ Some place → slice_get w.sent at ≡ None → new ≡ place →
+    (w : WorldState) (receiver : ℕ) (way : Way) (at : ℕ) (subscriber new : SubscriberState) →
+    slice_get w.subscribers receiver ≡ Some subscriber → slice_get w.sent at ≡ None → new ≡ subscriber →
     Refuses w (Deliver receiver way at) NoSuchDatagram × (with_subscriber w receiver new ≡ w)
-deliver_nothing w receiver way at place new here none same =
-    (inr (deliver_at w receiver way at place None here none), put_back w receiver place new here same)
+deliver_nothing w receiver way at subscriber new here none same =
+    (inr (deliver_at w receiver way at subscriber None here none), put_back w receiver subscriber new here same)
 
 pub deliver_done :
-    (w : WorldState) (receiver : ℕ) (way : Way) (at : ℕ) (place new : SubscriberState) (bytes : List ℕ)
-    (says : Report) → slice_get w.subscribers receiver ≡ Some place → slice_get w.sent at ≡ Some bytes →
-    says ≡ told (receive place.arbitration.view bytes) → new ≡ given place way bytes →
+    (w : WorldState) (receiver : ℕ) (way : Way) (at : ℕ) (subscriber new : SubscriberState) (bytes : List ℕ)
+    (says : Report) → slice_get w.subscribers receiver ≡ Some subscriber → slice_get w.sent at ≡ Some bytes →
+    says ≡ told (receive subscriber.arbitration.view bytes) → new ≡ given subscriber way bytes →
     effect w (Deliver receiver way at) ≡ Ok (says, with_subscriber w receiver new)
-deliver_done w receiver way at place new bytes says here found reported is =
-    deliver_at w receiver way at place (Some bytes) here found
+deliver_done w receiver way at subscriber new bytes says here found reported is =
+    deliver_at w receiver way at subscriber (Some bytes) here found
     ∙ (λ j. Ok (sym reported j, with_subscriber w receiver (sym is j)))
 
 pub deliver_wanting :
-    (w : WorldState) (receiver : ℕ) (way : Way) (at : ℕ) (place new : SubscriberState) (bytes : List ℕ) →
-    slice_get w.subscribers receiver ≡ Some place → slice_get w.sent at ≡ Some bytes →
-    IsCopied place.arbitration.view bytes → new ≡ place →
+    (w : WorldState) (receiver : ℕ) (way : Way) (at : ℕ) (subscriber new : SubscriberState) (bytes : List ℕ) →
+    slice_get w.subscribers receiver ≡ Some subscriber → slice_get w.sent at ≡ Some bytes →
+    IsCopied subscriber.arbitration.view bytes → new ≡ subscriber →
     Refuses w (Deliver receiver way at) Memory × (with_subscriber w receiver new ≡ w)
-deliver_wanting w receiver way at place new bytes here found copied same = (
-  inl (refl, record { place = place; bytes = bytes; here = here; found = found; copied = copied }),
-  put_back w receiver place new here same,
+deliver_wanting w receiver way at subscriber new bytes here found copied same = (
+  inl (refl, record { subscriber = subscriber; bytes = bytes; here = here; found = found; copied = copied }),
+  put_back w receiver subscriber new here same,
 )
 
 noise_at :
-    (w : WorldState) (receiver : ℕ) (way : Way) (bytes : List ℕ) (place : Option SubscriberState) (own : Bool) →
-    slice_get w.subscribers receiver ≡ place → own ≡ is_own w.publisher.journal.session (reading bytes) →
-    effect w (Noise receiver way bytes) ≡ noised w receiver way bytes place own
+    (w : WorldState) (receiver : ℕ) (way : Way) (bytes : List ℕ) (subscriber : Option SubscriberState) (own : Bool) →
+    slice_get w.subscribers receiver ≡ subscriber → own ≡ is_own w.publisher.journal.session (reading bytes) →
+    effect w (Noise receiver way bytes) ≡ noised w receiver way bytes subscriber own
 unfolding effect
 noise_at w receiver way bytes place own here mine = λ j. noised w receiver way bytes (here j) (sym mine j)
 
@@ -97,29 +97,29 @@ noise_nobody w receiver way bytes none =
     inr (noise_at w receiver way bytes None (is_own w.publisher.journal.session (reading bytes)) none refl)
 
 pub noise_own :
-    (w : WorldState) (receiver : ℕ) (way : Way) (bytes : List ℕ) (place new : SubscriberState) →
-    slice_get w.subscribers receiver ≡ Some place → true ≡ is_own w.publisher.journal.session (reading bytes) →
-    new ≡ place → Refuses w (Noise receiver way bytes) NotNoise × (with_subscriber w receiver new ≡ w)
-noise_own w receiver way bytes place new here mine same =
-    (inr (noise_at w receiver way bytes (Some place) true here mine), put_back w receiver place new here same)
+    (w : WorldState) (receiver : ℕ) (way : Way) (bytes : List ℕ) (subscriber new : SubscriberState) →
+    slice_get w.subscribers receiver ≡ Some subscriber → true ≡ is_own w.publisher.journal.session (reading bytes) →
+    new ≡ subscriber → Refuses w (Noise receiver way bytes) NotNoise × (with_subscriber w receiver new ≡ w)
+noise_own w receiver way bytes subscriber new here mine same =
+    (inr (noise_at w receiver way bytes (Some subscriber) true here mine), put_back w receiver subscriber new here same)
 
 pub noise_done :
-    (w : WorldState) (receiver : ℕ) (way : Way) (bytes : List ℕ) (place new : SubscriberState) (says : Report) →
-    slice_get w.subscribers receiver ≡ Some place → false ≡ is_own w.publisher.journal.session (reading bytes) →
-    says ≡ told (receive place.arbitration.view bytes) → new ≡ given place way bytes →
+    (w : WorldState) (receiver : ℕ) (way : Way) (bytes : List ℕ) (subscriber new : SubscriberState) (says : Report) →
+    slice_get w.subscribers receiver ≡ Some subscriber → false ≡ is_own w.publisher.journal.session (reading bytes) →
+    says ≡ told (receive subscriber.arbitration.view bytes) → new ≡ given subscriber way bytes →
     effect w (Noise receiver way bytes) ≡ Ok (says, with_subscriber w receiver new)
-noise_done w receiver way bytes place new says here other reported is =
-    noise_at w receiver way bytes (Some place) false here other
+noise_done w receiver way bytes subscriber new says here other reported is =
+    noise_at w receiver way bytes (Some subscriber) false here other
     ∙ (λ j. Ok (sym reported j, with_subscriber w receiver (sym is j)))
 
 -- Nothing is copied from bytes that are not a packet of the session.
 pub noise_never_wants :
-    (w : WorldState) (receiver : ℕ) (bytes : List ℕ) (place : SubscriberState) → IsWorld w →
-    slice_get w.subscribers receiver ≡ Some place → false ≡ is_own w.publisher.journal.session (reading bytes) →
-    IsCopied place.arbitration.view bytes → ⊥
-noise_never_wants w receiver bytes place is here other copied =
-    let refused = not_own place.arbitration.view w.publisher.journal.session (reading bytes)
-    (is.subscribers receiver place here).session (sym other)
+    (w : WorldState) (receiver : ℕ) (bytes : List ℕ) (subscriber : SubscriberState) → IsWorld w →
+    slice_get w.subscribers receiver ≡ Some subscriber → false ≡ is_own w.publisher.journal.session (reading bytes) →
+    IsCopied subscriber.arbitration.view bytes → ⊥
+noise_never_wants w receiver bytes subscriber is here other copied =
+    let refused = not_own subscriber.arbitration.view w.publisher.journal.session (reading bytes)
+    (is.subscribers receiver subscriber here).session (sym other)
     in
     let both : ◌≡◌ {A = Result Reception Refusal} (Ok copied.reception) (Err refused.0) =
     sym copied.received ∙ refused.1
@@ -128,29 +128,29 @@ noise_never_wants w receiver bytes place is here other copied =
 
 -- The rule of a restart.
 restart_at :
-    (w : WorldState) (receiver next : ℕ) (place : SubscriberState) (reached : Bool) →
-    slice_get w.subscribers receiver ≡ Some place → (leb 1 next && leb next place.arbitration.view.next) ≡ reached →
+    (w : WorldState) (receiver next : ℕ) (subscriber : SubscriberState) (reached : Bool) →
+    slice_get w.subscribers receiver ≡ Some subscriber → (leb 1 next && leb next subscriber.arbitration.view.next) ≡ reached →
     effect w (Restart receiver next)
-    ≡ cond {A = Outcome} reached (Ok (Restarted next, with_subscriber w receiver (restarted_at place next)))
-    (Err (NotReached place.arbitration.view.next))
+    ≡ cond {A = Outcome} reached (Ok (Restarted next, with_subscriber w receiver (restarted_at subscriber next)))
+    (Err (NotReached subscriber.arbitration.view.next))
 unfolding effect
-restart_at w receiver next place reached here is =
+restart_at w receiver next subscriber reached here is =
     ap (λ (t : Option SubscriberState). restarted w receiver next t) here
-    ∙ ap (λ (t : Bool). cond {A = Outcome} t (Ok (Restarted next, with_subscriber w receiver (restarted_at place next)))
-    (Err (NotReached place.arbitration.view.next))) is
+    ∙ ap (λ (t : Bool). cond {A = Outcome} t (Ok (Restarted next, with_subscriber w receiver (restarted_at subscriber next)))
+    (Err (NotReached subscriber.arbitration.view.next))) is
 
-reached_true : (place : SubscriberState) (next : ℕ) → HasReached place next →
-    (leb 1 next && leb next place.arbitration.view.next) ≡ true
-reached_true place next reached =
-    λ j. le-leb 1 next reached.0 j && le-leb next place.arbitration.view.next reached.1 j
+reached_true : (subscriber : SubscriberState) (next : ℕ) → HasReached subscriber next →
+    (leb 1 next && leb next subscriber.arbitration.view.next) ≡ true
+reached_true subscriber next reached =
+    λ j. le-leb 1 next reached.0 j && le-leb next subscriber.arbitration.view.next reached.1 j
 
 unreached :
-    (place : SubscriberState) (next : ℕ) (reached : Bool) → (leb 1 next && leb next place.arbitration.view.next) ≡ reached →
-    (HasReached place next → ⊥) → reached ≡ false
-unreached place next false is not = refl
-unreached place next true is not =
-    let both = and_parts (leb 1 next) (leb next place.arbitration.view.next) is in
-    absurd (not (leb-true 1 next both.0, leb-true next place.arbitration.view.next both.1))
+    (subscriber : SubscriberState) (next : ℕ) (reached : Bool) → (leb 1 next && leb next subscriber.arbitration.view.next) ≡ reached →
+    (HasReached subscriber next → ⊥) → reached ≡ false
+unreached subscriber next false is not = refl
+unreached subscriber next true is not =
+    let both = and_parts (leb 1 next) (leb next subscriber.arbitration.view.next) is in
+    absurd (not (leb-true 1 next both.0, leb-true next subscriber.arbitration.view.next both.1))
 
 pub restart_nobody :
     (w : WorldState) (receiver next : ℕ) → slice_get w.subscribers receiver ≡ None →
@@ -159,22 +159,22 @@ unfolding effect
 restart_nobody w receiver next none = inr (ap (λ (t : Option SubscriberState). restarted w receiver next t) none)
 
 pub restart_applied :
-    (w : WorldState) (receiver next : ℕ) (place new : SubscriberState) (result : Result Report WorldError) →
-    slice_get w.subscribers receiver ≡ Some place → Restarts place next result new →
+    (w : WorldState) (receiver next : ℕ) (subscriber new : SubscriberState) (result : Result Report WorldError) →
+    slice_get w.subscribers receiver ≡ Some subscriber → Restarts subscriber next result new →
     Applies w (Restart receiver next) result (with_subscriber w receiver new)
-restart_applied w receiver next place new (Ok says) here is =
-    restart_at w receiver next place true here (reached_true place next is.0)
+restart_applied w receiver next subscriber new (Ok says) here is =
+    restart_at w receiver next subscriber true here (reached_true subscriber next is.0)
     ∙ (λ j. Ok (sym is.1 j, with_subscriber w receiver (sym is.2 j)))
-restart_applied w receiver next place new (Err error) here is = (
+restart_applied w receiver next subscriber new (Err error) here is = (
   elim is.1 [
     | inl wanting ↦ inl (
       wanting.1,
       subst (λ (t : Outcome). IsOk t)
-          (sym (restart_at w receiver next place true here (reached_true place next wanting.0))) refl,
+          (sym (restart_at w receiver next subscriber true here (reached_true subscriber next wanting.0))) refl,
     )
-    | inr other ↦ inr (restart_at w receiver next place false here
-        (unreached place next (leb 1 next && leb next place.arbitration.view.next) refl other.0)
+    | inr other ↦ inr (restart_at w receiver next subscriber false here
+        (unreached subscriber next (leb 1 next && leb next subscriber.arbitration.view.next) refl other.0)
         ∙ ap (λ (t : WorldError). Err t) (sym other.1))
   ],
-  put_back w receiver place new here is.0,
+  put_back w receiver subscriber new here is.0,
 )

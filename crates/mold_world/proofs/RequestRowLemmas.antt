@@ -94,32 +94,32 @@ unfolding effect
 ask_nobody w receiver none = inr (ap (asked w) none)
 
 asked_at :
-    (w : WorldState) (receiver : ℕ) (place : SubscriberState) (want : Option Asked) →
-    slice_get w.subscribers receiver ≡ Some place → want ≡ wanted place.arbitration.view →
+    (w : WorldState) (receiver : ℕ) (subscriber : SubscriberState) (want : Option Asked) →
+    slice_get w.subscribers receiver ≡ Some subscriber → want ≡ wanted subscriber.arbitration.view →
     effect w (Ask receiver) ≡ asked_for w want
 unfolding effect
 asked_at w receiver place want here is = ap (asked w) here ∙ ap (asked_for w) (sym is)
 
 pub ask_nothing :
-    (w : WorldState) (receiver : ℕ) (place : SubscriberState) → slice_get w.subscribers receiver ≡ Some place →
-    None ≡ wanted place.arbitration.view → effect w (Ask receiver) ≡ Ok (Nothing, w)
-ask_nothing w receiver place here none = asked_at w receiver place None here none
+    (w : WorldState) (receiver : ℕ) (subscriber : SubscriberState) → slice_get w.subscribers receiver ≡ Some subscriber →
+    None ≡ wanted subscriber.arbitration.view → effect w (Ask receiver) ≡ Ok (Nothing, w)
+ask_nothing w receiver subscriber here none = asked_at w receiver subscriber None here none
 
 -- Asking for a receiver is the request that it wants.
 pub ask_applied :
-    (w new : WorldState) (receiver : ℕ) (place : SubscriberState) (request : Asked) (bytes : List ℕ)
-    (result : Result Report WorldError) → slice_get w.subscribers receiver ≡ Some place →
-    Some request ≡ wanted place.arbitration.view → asking w.publisher.journal bytes ≡ Ok request →
+    (w new : WorldState) (receiver : ℕ) (subscriber : SubscriberState) (request : Asked) (bytes : List ℕ)
+    (result : Result Report WorldError) → slice_get w.subscribers receiver ≡ Some subscriber →
+    Some request ≡ wanted subscriber.arbitration.view → asking w.publisher.journal bytes ≡ Ok request →
     Applies w (Request bytes) result new → Applies w (Ask receiver) result new
-ask_applied w new receiver place request bytes (Ok says) here want asks applied =
-    asked_at w receiver place (Some request) here want ∙ sym (requested_at w bytes request asks) ∙ applied
-ask_applied w new receiver place request bytes (Err error) here want asks applied = (
+ask_applied w new receiver subscriber request bytes (Ok says) here want asks applied =
+    asked_at w receiver subscriber (Some request) here want ∙ sym (requested_at w bytes request asks) ∙ applied
+ask_applied w new receiver subscriber request bytes (Err error) here want asks applied = (
   elim applied.0 [
     | inl wanting ↦ inl (
       wanting.0,
-      record { place = place; request = request; here = here; lacks = sym want },
+      record { subscriber = subscriber; request = request; here = here; lacks = sym want },
     )
-    | inr other ↦ inr (asked_at w receiver place (Some request) here want
+    | inr other ↦ inr (asked_at w receiver subscriber (Some request) here want
         ∙ sym (requested_at w bytes request asks) ∙ other)
   ],
   applied.1,

@@ -46,11 +46,11 @@ use Rattle.mold_world.proofs.OutcomeLemmas.{ok_so, err_so}
 
 -- `IsWorld` holds of a new world.
 place_of :
-    (session : Session) (windows : List ℕ) (receiver : ℕ) (place : SubscriberState) →
-    slice_get (map (subscriber_at session) windows) receiver ≡ Some place → (window : ℕ) × (subscriber_at session window ≡ place)
-place_of session [] receiver place is = absurd (none-some place is)
-place_of session (window ∷ windows) zero place is = (window, same_Some (subscriber_at session window) place is)
-place_of session (window ∷ windows) (suc receiver) place is = place_of session windows receiver place is
+    (session : Session) (windows : List ℕ) (receiver : ℕ) (subscriber : SubscriberState) →
+    slice_get (map (subscriber_at session) windows) receiver ≡ Some subscriber → (window : ℕ) × (subscriber_at session window ≡ subscriber)
+place_of session [] receiver subscriber is = absurd (none-some subscriber is)
+place_of session (window ∷ windows) zero subscriber is = (window, same_Some (subscriber_at session window) subscriber is)
+place_of session (window ∷ windows) (suc receiver) subscriber is = place_of session windows receiver subscriber is
 
 pub begins :
     (laws : AllLaws) (session : Session) (limit server_limit burst : ℕ) (windows : List ℕ) →
@@ -71,9 +71,9 @@ begins laws session limit server_limit burst windows may =
         limited = may.served;
         room = omega (arith, may.limited.0, may.room);
       };
-      said = λ place bytes found. absurd (none-some bytes found);
-      subscribers = λ receiver place found.
-          let here = place_of session windows receiver place found in
+      said = λ subscriber bytes found. absurd (none-some bytes found);
+      subscribers = λ receiver subscriber found.
+          let here = place_of session windows receiver subscriber found in
           subst (λ (t : SubscriberState). IsSubscriberKept w.publisher.journal w.sent t) here.1
           (record {
             session = refl;
@@ -138,38 +138,38 @@ want_grows w None done same = ok_grows w _ done (stays w) same
 want_grows w (Some request) done same = ok_grows w _ done (stays w) same
 
 ask_grows :
-    (w : WorldState) (place : Option SubscriberState) (done : Report × WorldState) → asked w place ≡ Ok done →
+    (w : WorldState) (subscriber : Option SubscriberState) (done : Report × WorldState) → asked w subscriber ≡ Ok done →
     GrowsTo w done.1
 ask_grows w None done same = err_grows w _ done same
-ask_grows w (Some place) done same = want_grows w (wanted place.arbitration.view) done same
+ask_grows w (Some subscriber) done same = want_grows w (wanted subscriber.arbitration.view) done same
 
 deliver_grows :
-    (w : WorldState) (receiver : ℕ) (way : Way) (place : Option SubscriberState) (datagram : Option (List ℕ))
-    (done : Report × WorldState) → delivered w receiver way place datagram ≡ Ok done → GrowsTo w done.1
+    (w : WorldState) (receiver : ℕ) (way : Way) (subscriber : Option SubscriberState) (datagram : Option (List ℕ))
+    (done : Report × WorldState) → delivered w receiver way subscriber datagram ≡ Ok done → GrowsTo w done.1
 deliver_grows w receiver way None datagram done same = err_grows w _ done same
-deliver_grows w receiver way (Some place) None done same = err_grows w _ done same
-deliver_grows w receiver way (Some place) (Some bytes) done same = ok_grows w _ done (stays w) same
+deliver_grows w receiver way (Some subscriber) None done same = err_grows w _ done same
+deliver_grows w receiver way (Some subscriber) (Some bytes) done same = ok_grows w _ done (stays w) same
 
 noise_grows :
-    (w : WorldState) (receiver : ℕ) (way : Way) (bytes : List ℕ) (place : Option SubscriberState) (own : Bool)
-    (done : Report × WorldState) → noised w receiver way bytes place own ≡ Ok done → GrowsTo w done.1
+    (w : WorldState) (receiver : ℕ) (way : Way) (bytes : List ℕ) (subscriber : Option SubscriberState) (own : Bool)
+    (done : Report × WorldState) → noised w receiver way bytes subscriber own ≡ Ok done → GrowsTo w done.1
 noise_grows w receiver way bytes None own done same = err_grows w _ done same
-noise_grows w receiver way bytes (Some place) true done same = err_grows w _ done same
-noise_grows w receiver way bytes (Some place) false done same = ok_grows w _ done (stays w) same
+noise_grows w receiver way bytes (Some subscriber) true done same = err_grows w _ done same
+noise_grows w receiver way bytes (Some subscriber) false done same = ok_grows w _ done (stays w) same
 
 restart_at_grows :
-    (w : WorldState) (receiver next : ℕ) (place : SubscriberState) (reached : Bool) (done : Report × WorldState) →
-    cond {A = Outcome} reached (Ok (report.Restarted next, with_subscriber w receiver (restarted_at place next)))
-    (Err (NotReached place.arbitration.view.next)) ≡ Ok done → GrowsTo w done.1
-restart_at_grows w receiver next place true done same = ok_grows w _ done (stays w) same
-restart_at_grows w receiver next place false done same = err_grows w _ done same
+    (w : WorldState) (receiver next : ℕ) (subscriber : SubscriberState) (reached : Bool) (done : Report × WorldState) →
+    cond {A = Outcome} reached (Ok (report.Restarted next, with_subscriber w receiver (restarted_at subscriber next)))
+    (Err (NotReached subscriber.arbitration.view.next)) ≡ Ok done → GrowsTo w done.1
+restart_at_grows w receiver next subscriber true done same = ok_grows w _ done (stays w) same
+restart_at_grows w receiver next subscriber false done same = err_grows w _ done same
 
 restart_grows :
-    (w : WorldState) (receiver next : ℕ) (place : Option SubscriberState) (done : Report × WorldState) →
-    restarted w receiver next place ≡ Ok done → GrowsTo w done.1
+    (w : WorldState) (receiver next : ℕ) (subscriber : Option SubscriberState) (done : Report × WorldState) →
+    restarted w receiver next subscriber ≡ Ok done → GrowsTo w done.1
 restart_grows w receiver next None done same = err_grows w _ done same
-restart_grows w receiver next (Some place) done same =
-    restart_at_grows w receiver next place (leb 1 next && leb next place.arbitration.view.next) done same
+restart_grows w receiver next (Some subscriber) done same =
+    restart_at_grows w receiver next subscriber (leb 1 next && leb next subscriber.arbitration.view.next) done same
 
 event_grows :
     (w : WorldState) (happening : Happening) (done : Report × WorldState) → effect w happening ≡ Ok done →
@@ -222,14 +222,14 @@ later_at laws w (happening ∷ happenings) number message is =
 
 -- The messages that a delivery delivers were published.
 handed_here :
-    (laws : AllLaws) (w : WorldState) (receiver at : ℕ) (place : Option SubscriberState) (datagram : Option (List ℕ)) →
-    IsWorld w → slice_get w.subscribers receiver ≡ place → slice_get w.sent at ≡ datagram →
-    ArePublished w.publisher.journal.messages (handed_at receiver place datagram)
+    (laws : AllLaws) (w : WorldState) (receiver at : ℕ) (subscriber : Option SubscriberState) (datagram : Option (List ℕ)) →
+    IsWorld w → slice_get w.subscribers receiver ≡ subscriber → slice_get w.sent at ≡ datagram →
+    ArePublished w.publisher.journal.messages (handed_at receiver subscriber datagram)
 handed_here laws w receiver at None datagram is here sent = tt
-handed_here laws w receiver at (Some place) None is here sent = tt
-handed_here laws w receiver at (Some place) (Some bytes) is here sent =
-    let view : View = place.arbitration.view in
-    let took = sent_taken laws.receivers.take w receiver at place bytes is here sent in
+handed_here laws w receiver at (Some subscriber) None is here sent = tt
+handed_here laws w receiver at (Some subscriber) (Some bytes) is here sent =
+    let view : View = subscriber.arbitration.view in
+    let took = sent_taken laws.receivers.take w receiver at subscriber bytes is here sent in
     subst (λ (t : Result Reception Refusal). ArePublished w.publisher.journal.messages (handed_of receiver view.next t))
     (sym took.received)
     (handed_published w.publisher.journal.messages receiver view.next took.reception.handed took.handed)

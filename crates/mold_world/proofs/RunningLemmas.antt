@@ -21,12 +21,12 @@ use Rattle.mold_world.specs.declared.report.Report.{Report}
 -- The laws of runs.
 pub record RunLaws : Type 0 where
   pub run : (w : WorldState) (happenings : List Happening) → IsWorld w → IsWorld (run_events w happenings)
-  pub books : (w : WorldState) (receiver : ℕ) (place : SubscriberState) → IsWorld w →
-      slice_get w.subscribers receiver ≡ Some place → IsPrefix place.book.messages w.publisher.journal.messages
-  pub whole : (w : WorldState) (receiver : ℕ) (place : SubscriberState) → IsWorld w →
-      slice_get w.subscribers receiver ≡ Some place →
-      place.arbitration.view.ended ≡ Some place.arbitration.view.next →
-      (w.publisher.journal.closed ≡ true) × (place.book.messages ≡ w.publisher.journal.messages)
+  pub books : (w : WorldState) (receiver : ℕ) (subscriber : SubscriberState) → IsWorld w →
+      slice_get w.subscribers receiver ≡ Some subscriber → IsPrefix subscriber.book.messages w.publisher.journal.messages
+  pub whole : (w : WorldState) (receiver : ℕ) (subscriber : SubscriberState) → IsWorld w →
+      slice_get w.subscribers receiver ≡ Some subscriber →
+      subscriber.arbitration.view.ended ≡ Some subscriber.arbitration.view.next →
+      (w.publisher.journal.closed ≡ true) × (subscriber.book.messages ≡ w.publisher.journal.messages)
   pub steps : (w new : WorldState) (happening : Happening) (report : Report) → IsWorld w →
       effect w happening ≡ Ok (report, new) → AreSteps w happening new
 

@@ -134,17 +134,17 @@ request_steps laws w bytes (Ok request) done is asked_now same =
 request_steps laws w bytes (Err refusal) done is asked_now same = err_so (IsSent w.burst w) _ done same
 
 want_steps :
-    (laws : AllLaws) (w : WorldState) (place : SubscriberState) (want : Option Asked) (done : Report × WorldState) →
-    IsWorld w → IsSubscriberKept w.publisher.journal w.sent place → wanted place.arbitration.view ≡ want →
+    (laws : AllLaws) (w : WorldState) (subscriber : SubscriberState) (want : Option Asked) (done : Report × WorldState) →
+    IsWorld w → IsSubscriberKept w.publisher.journal w.sent place → wanted subscriber.arbitration.view ≡ want →
     asked_for w want ≡ Ok done → DidSend w.burst w done.1
-want_steps laws w place None done is kept want same = ok_so (IsSent w.burst w) _ done same (none w.burst w)
-want_steps laws w place (Some request) done is kept want same =
+want_steps laws w subscriber None done is kept want same = ok_so (IsSent w.burst w) _ done same (none w.burst w)
+want_steps laws w subscriber (Some request) done is kept want same =
     answer_steps laws w request done is
     (wanted_answerable laws.answers w.publisher.journal w.sent place request kept want) same
 
 pub ask_steps :
-    (laws : AllLaws) (w : WorldState) (receiver : ℕ) (place : Option SubscriberState) (done : Report × WorldState) →
-    IsWorld w → slice_get w.subscribers receiver ≡ place → asked w place ≡ Ok done → DidSend w.burst w done.1
+    (laws : AllLaws) (w : WorldState) (receiver : ℕ) (subscriber : Option SubscriberState) (done : Report × WorldState) →
+    IsWorld w → slice_get w.subscribers receiver ≡ subscriber → asked w subscriber ≡ Ok done → DidSend w.burst w done.1
 ask_steps laws w receiver None done is here same = err_so (IsSent w.burst w) _ done same
-ask_steps laws w receiver (Some place) done is here same =
-    want_steps laws w place (wanted place.arbitration.view) done is (is.subscribers receiver place here) refl same
+ask_steps laws w receiver (Some subscriber) done is here same =
+    want_steps laws w subscriber (wanted subscriber.arbitration.view) done is (is.subscribers receiver subscriber here) refl same

@@ -50,29 +50,29 @@ end_is None next is = absurd (false≢true is)
 end_is (Some end) next is = ap (λ (t : ℕ). Some t) (eqb-true end next is)
 
 pub stands_same :
-    (w : WorldState) (receiver : ℕ) (place : SubscriberState) → slice_get w.subscribers receiver ≡ Some place → (other : ℕ) →
-    with_log (λ (q : ℕ). log_of (slice_get w.subscribers q)) receiver (log_of (Some place)) other
+    (w : WorldState) (receiver : ℕ) (subscriber : SubscriberState) → slice_get w.subscribers receiver ≡ Some subscriber → (other : ℕ) →
+    with_log (λ (q : ℕ). log_of (slice_get w.subscribers q)) receiver (log_of (Some subscriber)) other
     ≡ log_of (slice_get w.subscribers other)
-stands_same w receiver place here other =
+stands_same w receiver subscriber here other =
     elim (cases_eq other receiver) [
       | inl is ↦
-          cond-true (other == receiver) (log_of (Some place)) (log_of (slice_get w.subscribers other))
+          cond-true (other == receiver) (log_of (Some subscriber)) (log_of (slice_get w.subscribers other))
           (eq-eqb other receiver is)
           ∙ sym (ap log_of (ap (λ (t : ℕ). slice_get w.subscribers t) is ∙ here))
       | inr differs ↦
-          cond-false (other == receiver) (log_of (Some place)) (log_of (slice_get w.subscribers other))
+          cond-false (other == receiver) (log_of (Some subscriber)) (log_of (slice_get w.subscribers other))
           (ne_eqb other receiver differs)
     ]
 
 -- The length of a book.
 pub book_length :
-    (journal : JournalState) (sent : List (List ℕ)) (place : SubscriberState) → IsSubscriberKept journal sent place →
-    length place.book.messages + 1 ≡ place.arbitration.view.next
+    (journal : JournalState) (sent : List (List ℕ)) (subscriber : SubscriberState) → IsSubscriberKept journal sent place →
+    length subscriber.book.messages + 1 ≡ subscriber.arbitration.view.next
 book_length journal sent place kept =
     omega (
       arith,
       ap (λ (t : List (List ℕ)). length t) kept.book,
-      length-take (place.arbitration.view.next - 1) journal.messages,
+      length-take (subscriber.arbitration.view.next - 1) journal.messages,
       kept.honest.well_formed.first,
       kept.honest.well_formed.ahead,
       kept.honest.known,

@@ -126,13 +126,13 @@ pub record HandsOnLaw : Type 0 where
 
 -- A receiver accepts what was sent.
 taken_hands :
-    (laws : AllLaws) (law : HandsOnLaw) (w : WorldState) (receiver at : ℕ) (way : Way) (place : SubscriberState)
-    (bytes : List ℕ) (r : Reception) → IsWorld w → slice_get w.subscribers receiver ≡ Some place →
-    slice_get w.sent at ≡ Some bytes → receive place.arbitration.view bytes ≡ Ok r →
-    HandsOnSent w receiver place (given place way bytes) r.handed
-taken_hands laws law w receiver at way place bytes r is here found received =
-    let view : View = place.arbitration.view in
-    let kept = is.subscribers receiver place here in
+    (laws : AllLaws) (law : HandsOnLaw) (w : WorldState) (receiver at : ℕ) (way : Way) (subscriber : SubscriberState)
+    (bytes : List ℕ) (r : Reception) → IsWorld w → slice_get w.subscribers receiver ≡ Some subscriber →
+    slice_get w.sent at ≡ Some bytes → receive subscriber.arbitration.view bytes ≡ Ok r →
+    HandsOnSent w receiver subscriber (given subscriber way bytes) r.handed
+taken_hands laws law w receiver at way subscriber bytes r is here found received =
+    let view : View = subscriber.arbitration.view in
+    let kept = is.subscribers receiver subscriber here in
     let told = is.said at bytes found in
     let took = laws.receivers.taken view bytes r received in
     let packet : Packet = took.packet in
@@ -144,15 +144,15 @@ taken_hands laws law w receiver at way place bytes r is here found received =
       here = here;
       kept = kept;
       still = given_kept laws.receivers w.publisher.journal w.sent place way bytes kept
-          (record { place = at; found = found; told = told });
-      book = ap (λ (t : Result Reception Refusal). (book_after place.book view.next t).messages) received
-          ∙ followed_messages place.book view.next r.handed;
+          (record { subscriber = at; found = found; told = told });
+      book = ap (λ (t : Result Reception Refusal). (book_after subscriber.book view.next t).messages) received
+          ∙ followed_messages subscriber.book view.next r.handed;
       each = λ i message at_i.
           elim (law.handed view packet i message
           (sym (ap (λ (t : Reception). slice_get t.handed i) took.taken) ∙ at_i)) [
             | inl stored ↦ kept.stored (view.next + i) message stored
             | inr carried ↦ record {
-              place = at;
+              subscriber = at;
               bytes = bytes;
               packet = packet;
               found = found;
@@ -164,38 +164,38 @@ taken_hands laws law w receiver at way place bytes r is here found received =
 
 -- So the event delivers what its step delivers.
 handed_taken :
-    (w : WorldState) (receiver at : ℕ) (way : Way) (place : SubscriberState) (bytes : List ℕ) (r : Reception) →
-    slice_get w.subscribers receiver ≡ Some place → slice_get w.sent at ≡ Some bytes →
-    receive place.arbitration.view bytes ≡ Ok r →
-    handed_by w (DeliverEvent receiver way at) ≡ handed_from receiver place.arbitration.view.next r.handed
-handed_taken w receiver at way place bytes r here found received =
+    (w : WorldState) (receiver at : ℕ) (way : Way) (subscriber : SubscriberState) (bytes : List ℕ) (r : Reception) →
+    slice_get w.subscribers receiver ≡ Some subscriber → slice_get w.sent at ≡ Some bytes →
+    receive subscriber.arbitration.view bytes ≡ Ok r →
+    handed_by w (DeliverEvent receiver way at) ≡ handed_from receiver subscriber.arbitration.view.next r.handed
+handed_taken w receiver at way subscriber bytes r here found received =
     (λ j. handed_at receiver (here j) (found j))
-    ∙ ap (λ (t : Result Reception Refusal). handed_of receiver place.arbitration.view.next t) received
+    ∙ ap (λ (t : Result Reception Refusal). handed_of receiver subscriber.arbitration.view.next t) received
 
 deliver_steps :
     (laws : AllLaws) (law : HandsOnLaw) (w : WorldState) (receiver at : ℕ) (way : Way)
-    (place : Option SubscriberState) (datagram : Option (List ℕ)) (done : Report × WorldState) → IsWorld w →
-    slice_get w.subscribers receiver ≡ place → slice_get w.sent at ≡ datagram →
-    delivered w receiver way place datagram ≡ Ok done → AreSteps w (DeliverEvent receiver way at) done.1
+    (subscriber : Option SubscriberState) (datagram : Option (List ℕ)) (done : Report × WorldState) → IsWorld w →
+    slice_get w.subscribers receiver ≡ subscriber → slice_get w.sent at ≡ datagram →
+    delivered w receiver way subscriber datagram ≡ Ok done → AreSteps w (DeliverEvent receiver way at) done.1
 deliver_steps laws law w receiver at way None datagram done is here found same =
     err_so (IsDone w (DeliverEvent receiver way at)) _ done same
-deliver_steps laws law w receiver at way (Some place) None done is here found same =
+deliver_steps laws law w receiver at way (Some subscriber) None done is here found same =
     err_so (IsDone w (DeliverEvent receiver way at)) _ done same
-deliver_steps laws law w receiver at way (Some place) (Some bytes) done is here found same =
-    let took = sent_taken laws.receivers.take w receiver at place bytes is here found in
+deliver_steps laws law w receiver at way (Some subscriber) (Some bytes) done is here found same =
+    let took = sent_taken laws.receivers.take w receiver at subscriber bytes is here found in
     ok_so (IsDone w (DeliverEvent receiver way at)) _ done same
-    (deliver_made w receiver at way place (given place way bytes) took.reception.handed
-    (taken_hands laws law w receiver at way place bytes took.reception is here found took.received)
-    (handed_taken w receiver at way place bytes took.reception here found took.received))
+    (deliver_made w receiver at way subscriber (given subscriber way bytes) took.reception.handed
+    (taken_hands laws law w receiver at way subscriber bytes took.reception is here found took.received)
+    (handed_taken w receiver at way subscriber bytes took.reception here found took.received))
 
 -- A receiver that refuses bytes is unchanged for the machine.
 refused_made :
-    (w : WorldState) (receiver : ℕ) (way : Way) (bytes : List ℕ) (place : SubscriberState) → IsWorld w →
-    slice_get w.subscribers receiver ≡ Some place → IsUnmoved place way bytes →
-    AreSteps w (Noise receiver way bytes) (with_subscriber w receiver (given place way bytes))
-refused_made w receiver way bytes place is here stays =
-    let new : SubscriberState = given place way bytes in
-    let log : log_of (Some new) ≡ log_of (Some place) =
+    (w : WorldState) (receiver : ℕ) (way : Way) (bytes : List ℕ) (subscriber : SubscriberState) → IsWorld w →
+    slice_get w.subscribers receiver ≡ Some subscriber → IsUnmoved subscriber way bytes →
+    AreSteps w (Noise receiver way bytes) (with_subscriber w receiver (given subscriber way bytes))
+refused_made w receiver way bytes subscriber is here stays =
+    let new : SubscriberState = given subscriber way bytes in
+    let log : log_of (Some new) ≡ log_of (Some subscriber) =
     λ i. record { book = (stays.book i).messages; ended = is_finished (stays.view i) }
     in
     record {
@@ -208,43 +208,43 @@ refused_made w receiver way bytes place is here stays =
         closed = w.publisher.journal.closed;
         sent = w.sent;
         logs = λ other.
-            (stands_at w receiver place new (log_of (Some place)) here log other
-            ∙ stands_same w receiver place here other) i;
+            (stands_at w receiver subscriber new (log_of (Some subscriber)) here log other
+            ∙ stands_same w receiver subscriber here other) i;
       };
       handed = sym (noise_hands_nothing w receiver way bytes is);
     }
 
 noise_steps :
-    (w : WorldState) (receiver : ℕ) (way : Way) (bytes : List ℕ) (place : Option SubscriberState) (own : Bool)
-    (done : Report × WorldState) → IsWorld w → slice_get w.subscribers receiver ≡ place →
-    is_own w.publisher.journal.session (reading bytes) ≡ own → noised w receiver way bytes place own ≡ Ok done →
+    (w : WorldState) (receiver : ℕ) (way : Way) (bytes : List ℕ) (subscriber : Option SubscriberState) (own : Bool)
+    (done : Report × WorldState) → IsWorld w → slice_get w.subscribers receiver ≡ subscriber →
+    is_own w.publisher.journal.session (reading bytes) ≡ own → noised w receiver way bytes subscriber own ≡ Ok done →
     AreSteps w (Noise receiver way bytes) done.1
 noise_steps w receiver way bytes None own done is here mine same =
     err_so (IsDone w (Noise receiver way bytes)) _ done same
-noise_steps w receiver way bytes (Some place) true done is here mine same =
+noise_steps w receiver way bytes (Some subscriber) true done is here mine same =
     err_so (IsDone w (Noise receiver way bytes)) _ done same
-noise_steps w receiver way bytes (Some place) false done is here mine same =
+noise_steps w receiver way bytes (Some subscriber) false done is here mine same =
     ok_so (IsDone w (Noise receiver way bytes)) _ done same
-    (refused_made w receiver way bytes place is here (noise_unmoved w receiver way bytes place is here mine))
+    (refused_made w receiver way bytes subscriber is here (noise_unmoved w receiver way bytes subscriber is here mine))
 
 restart_at_steps :
-    (w : WorldState) (receiver next : ℕ) (place : SubscriberState) (reached : Bool) (done : Report × WorldState) →
-    IsWorld w → slice_get w.subscribers receiver ≡ Some place →
-    (leb 1 next && leb next place.arbitration.view.next) ≡ reached →
-    cond {A = Outcome} reached (Ok (report.Restarted next, with_subscriber w receiver (restarted_at place next)))
-    (Err (NotReached place.arbitration.view.next)) ≡ Ok done → AreSteps w (RestartEvent receiver next) done.1
-restart_at_steps w receiver next place false done is here reached same =
+    (w : WorldState) (receiver next : ℕ) (subscriber : SubscriberState) (reached : Bool) (done : Report × WorldState) →
+    IsWorld w → slice_get w.subscribers receiver ≡ Some subscriber →
+    (leb 1 next && leb next subscriber.arbitration.view.next) ≡ reached →
+    cond {A = Outcome} reached (Ok (report.Restarted next, with_subscriber w receiver (restarted_at subscriber next)))
+    (Err (NotReached subscriber.arbitration.view.next)) ≡ Ok done → AreSteps w (RestartEvent receiver next) done.1
+restart_at_steps w receiver next subscriber false done is here reached same =
     err_so (IsDone w (RestartEvent receiver next)) _ done same
-restart_at_steps w receiver next place true done is here reached same =
-    let kept = is.subscribers receiver place here in
-    let both = and_parts (leb 1 next) (leb next place.arbitration.view.next) reached in
+restart_at_steps w receiver next subscriber true done is here reached same =
+    let kept = is.subscribers receiver subscriber here in
+    let both = and_parts (leb 1 next) (leb next subscriber.arbitration.view.next) reached in
     let log : ReceiverLog = log_of (slice_get w.subscribers receiver) in
-    let book : log.book ≡ place.book.messages =
+    let book : log.book ≡ subscriber.book.messages =
     ap (λ (t : Option SubscriberState). (log_of t).book) here
     in
-    let cut : take (next - 1) log.book ≡ (restarted_at place next).book.messages =
+    let cut : take (next - 1) log.book ≡ (restarted_at subscriber next).book.messages =
     ap (λ (t : List (List ℕ)). take (next - 1) t) book
-    ∙ sym (handed_messages place.book.first (take (next - 1) place.book.messages))
+    ∙ sym (handed_messages subscriber.book.first (take (next - 1) subscriber.book.messages))
     in
     ok_so (IsDone w (RestartEvent receiver next)) _ done same (record {
       steps = Restart receiver next ∷ [];
@@ -254,26 +254,26 @@ restart_at_steps w receiver next place true done is here reached same =
           leb-true 1 next both.0,
           omega (
             arith,
-            leb-true next place.arbitration.view.next both.1,
+            leb-true next subscriber.arbitration.view.next both.1,
             book_length w.publisher.journal w.sent place kept,
             ap (λ (t : List (List ℕ)). length t) book,
           ),
         ),
         tt,
       );
-      made = machine_with w receiver place (restarted_at place next)
+      made = machine_with w receiver subscriber (restarted_at subscriber next)
           (record { book = take (next - 1) log.book; ended = false }) here
           (ap (λ (t : List (List ℕ)). record { book = t; ended = false }) (sym cut));
       handed = refl;
     })
 
 restart_steps :
-    (w : WorldState) (receiver next : ℕ) (place : Option SubscriberState) (done : Report × WorldState) → IsWorld w →
-    slice_get w.subscribers receiver ≡ place → restarted w receiver next place ≡ Ok done →
+    (w : WorldState) (receiver next : ℕ) (subscriber : Option SubscriberState) (done : Report × WorldState) → IsWorld w →
+    slice_get w.subscribers receiver ≡ subscriber → restarted w receiver next subscriber ≡ Ok done →
     AreSteps w (RestartEvent receiver next) done.1
 restart_steps w receiver next None done is here same = err_so (IsDone w (RestartEvent receiver next)) _ done same
-restart_steps w receiver next (Some place) done is here same =
-    restart_at_steps w receiver next place (leb 1 next && leb next place.arbitration.view.next) done is here refl same
+restart_steps w receiver next (Some subscriber) done is here same =
+    restart_at_steps w receiver next subscriber (leb 1 next && leb next subscriber.arbitration.view.next) done is here refl same
 
 -- Every event that is not refused.
 pub event_steps :

@@ -50,18 +50,18 @@ pub record StraightLaws : Type 0 where
 
 -- The receiver's next number is above all messages that were sent in datagrams.
 record IsBeyond (w : WorldState) (receiver : ℕ) : Type 0 where
-  place : SubscriberState
-  here : slice_get w.subscribers receiver ≡ Some place
-  beyond : w.publisher.sent < place.arbitration.view.next
+  subscriber : SubscriberState
+  here : slice_get w.subscribers receiver ≡ Some subscriber
+  beyond : w.publisher.sent < subscriber.arbitration.view.next
 
 -- This is the same as a book that begins with them.
 beyond_of : (w : WorldState) (receiver : ℕ) → IsWorld w → HasSent w receiver → IsBeyond w receiver
 beyond_of w receiver is has =
-    let kept = is.subscribers receiver has.place has.here in
+    let kept = is.subscribers receiver has.subscriber has.here in
     let messages : List (List ℕ) = w.publisher.journal.messages in
-    let next : ℕ = has.place.arbitration.view.next in
+    let next : ℕ = has.subscriber.arbitration.view.next in
     record {
-      place = has.place;
+      subscriber = has.subscriber;
       here = has.here;
       beyond = omega (
         arith,
@@ -77,13 +77,13 @@ beyond_of w receiver is has =
 
 has_sent : (w : WorldState) (receiver : ℕ) → IsWorld w → IsBeyond w receiver → HasSent w receiver
 has_sent w receiver is up =
-    let kept = is.subscribers receiver up.place up.here in
+    let kept = is.subscribers receiver up.subscriber up.here in
     let messages : List (List ℕ) = w.publisher.journal.messages in
     let sent : ℕ = w.publisher.sent in
-    let next : ℕ = up.place.arbitration.view.next in
+    let next : ℕ = up.subscriber.arbitration.view.next in
     let sum : next - 1 ≡ sent + (next - 1 - sent) = omega (arith, up.beyond) in
     record {
-      place = up.place;
+      subscriber = up.subscriber;
       here = up.here;
       front = record {
         behind = take (next - 1 - sent) (drop sent messages);
@@ -96,7 +96,7 @@ has_sent w receiver is up =
 still_beyond :
     (w new : WorldState) (receiver : ℕ) → IsBeyond w receiver → IsAsFar w new receiver → IsBeyond new receiver
 still_beyond w new receiver up as_far =
-    let reached = as_far.reached up.place up.here in
+    let reached = as_far.reached up.subscriber up.here in
     record {
       place = reached.place;
       here = reached.here;
@@ -140,14 +140,14 @@ next_is publisher packet next =
 
 -- A receiver that gets it reaches its end.
 given_next_datagram :
-    (laws : StraightLaws) (w : WorldState) (receiver : ℕ) (place : SubscriberState) (packet : Packet) (way : Way) →
-    IsWorld w → slice_get w.subscribers receiver ≡ Some place → w.publisher.sent < place.arbitration.view.next →
+    (laws : StraightLaws) (w : WorldState) (receiver : ℕ) (subscriber : SubscriberState) (packet : Packet) (way : Way) →
+    IsWorld w → slice_get w.subscribers receiver ≡ Some subscriber → w.publisher.sent < subscriber.arbitration.view.next →
     next_datagram w.publisher ≡ Some packet →
-    (after_datagram w.publisher).sent < (given place way (spelling_of packet)).arbitration.view.next
-given_next_datagram laws w receiver place packet way is here beyond next =
-    let view : View = place.arbitration.view in
+    (after_datagram w.publisher).sent < (given subscriber way (spelling_of packet)).arbitration.view.next
+given_next_datagram laws w receiver subscriber packet way is here beyond next =
+    let view : View = subscriber.arbitration.view in
     let bytes : List ℕ = spelling_of packet in
-    let kept = is.subscribers receiver place here in
+    let kept = is.subscribers receiver subscriber here in
     let told = laws.datagram w.publisher packet is.publisher is.answers.named next in
     let took = laws.take view told.packet bytes w.publisher.journal.messages w.publisher.journal.closed
     kept.honest told.spelled (told.session ∙ sym kept.session) told.so
@@ -158,9 +158,9 @@ given_next_datagram laws w receiver place packet way is here beyond next =
     in
     let datagram = next_is w.publisher packet next in
     let through = laws.through view packet kept.honest.well_formed (omega (arith, datagram.begins, beyond)) in
-    let now : (given place way bytes).arbitration.view.next ≡ (view_after view packet).next =
+    let now : (given subscriber way bytes).arbitration.view.next ≡ (view_after view packet).next =
     rw (took.received)
-    (ap (λ (t : View). t.next) (view_taken way bytes place.arbitration took.reception)
+    (ap (λ (t : View). t.next) (view_taken way bytes subscriber.arbitration took.reception)
     ∙ ap (λ (t : Reception). t.view.next) taken.taken
     ∙ ap (λ (t : Packet). (view_after view t).next) (sym same))
     in
@@ -184,16 +184,16 @@ deliver_beyond laws w receiver packet way is up next =
     in
     let bytes : List ℕ = spelling_of packet in
     let last : slice_get (w.sent ++ bytes ∷ []) (length w.sent) ≡ Some bytes = last_at w.sent bytes in
-    let after : WorldState = with_subscriber new receiver (given up.place way bytes) in
+    let after : WorldState = with_subscriber new receiver (given up.subscriber way bytes) in
     let so : after ≡ after_event new (Deliver receiver way (length w.sent)) =
-    ap (λ (t : Option (List ℕ)). after_outcome new (delivered new receiver way (Some up.place) t)) (sym last)
+    ap (λ (t : Option (List ℕ)). after_outcome new (delivered new receiver way (Some up.subscriber) t)) (sym last)
     ∙ ap (λ (t : Option SubscriberState). after_outcome new (delivered new receiver way t
     (slice_get (w.sent ++ bytes ∷ []) (length w.sent)))) (sym up.here)
     in
     subst (λ (t : WorldState). IsBeyond t receiver) so (record {
-      place = given up.place way bytes;
-      here = set_here w.subscribers receiver (given up.place way bytes) up.place up.here;
-      beyond = given_next_datagram laws w receiver up.place packet way is up.here up.beyond next;
+      subscriber = given up.subscriber way bytes;
+      here = set_here w.subscribers receiver (given up.subscriber way bytes) up.subscriber up.here;
+      beyond = given_next_datagram laws w receiver up.subscriber packet way is up.here up.beyond next;
     })
 
 -- After a data packet event and the event after it: nothing was sent, or the datagram was delivered.

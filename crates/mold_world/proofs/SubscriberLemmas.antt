@@ -81,9 +81,9 @@ end_longer sent more session number is = record {
 }
 
 pub place_sent :
-    (journal : JournalState) (sent more : List (List ℕ)) (place : SubscriberState) → IsSubscriberKept journal sent place →
-    IsSubscriberKept journal (sent ++ more) place
-place_sent journal sent more place kept = record {
+    (journal : JournalState) (sent more : List (List ℕ)) (subscriber : SubscriberState) → IsSubscriberKept journal sent place →
+    IsSubscriberKept journal (sent ++ more) subscriber
+place_sent journal sent more subscriber kept = record {
   session = kept.session;
   honest = kept.honest;
   book = kept.book;
@@ -94,16 +94,16 @@ place_sent journal sent more place kept = record {
 
 -- A receiver's next number is at most the next number to publish.
 next_within :
-    (journal : JournalState) (sent : List (List ℕ)) (place : SubscriberState) → IsSubscriberKept journal sent place →
-    place.arbitration.view.next - 1 ≤ length journal.messages
+    (journal : JournalState) (sent : List (List ℕ)) (subscriber : SubscriberState) → IsSubscriberKept journal sent place →
+    subscriber.arbitration.view.next - 1 ≤ length journal.messages
 next_within journal sent place kept =
     omega (arith, kept.honest.well_formed.ahead, kept.honest.known, kept.honest.well_formed.first)
 
 pub place_published :
-    (laws : ReceiverLaws) (journal : JournalState) (sent : List (List ℕ)) (message : List ℕ) (place : SubscriberState) →
+    (laws : ReceiverLaws) (journal : JournalState) (sent : List (List ℕ)) (message : List ℕ) (subscriber : SubscriberState) →
     journal.closed ≡ false → IsSubscriberKept journal sent place → IsSubscriberKept (appended journal message) sent place
-place_published laws journal sent message place unclosed kept =
-    let view : View = place.arbitration.view in
+place_published laws journal sent message subscriber unclosed kept =
+    let view : View = subscriber.arbitration.view in
     record {
       session = kept.session;
       honest = subst (λ (t : Bool). IsHonest view (journal.messages ++ message ∷ []) t) (sym unclosed)
@@ -123,11 +123,11 @@ honest_once_closed laws view messages true is = is
 honest_once_closed laws view messages false is = laws.closed view messages is
 
 pub place_closed :
-    (laws : ReceiverLaws) (journal : JournalState) (sent : List (List ℕ)) (place : SubscriberState) →
+    (laws : ReceiverLaws) (journal : JournalState) (sent : List (List ℕ)) (subscriber : SubscriberState) →
     IsSubscriberKept journal sent place → IsSubscriberKept (record journal { closed = true }) sent place
 place_closed laws journal sent place kept = record {
   session = kept.session;
-  honest = honest_once_closed laws place.arbitration.view journal.messages journal.closed kept.honest;
+  honest = honest_once_closed laws subscriber.arbitration.view journal.messages journal.closed kept.honest;
   book = kept.book;
   follows = kept.follows;
   stored = kept.stored;
@@ -136,9 +136,9 @@ place_closed laws journal sent place kept = record {
 
 -- The receiver after a datagram, given the receiving rule's result.
 abbrev given_by : SubscriberState → Way → List ℕ → Result Reception Refusal → SubscriberState
-given_by place way bytes outcome = record {
-  arbitration = arbitrated (line_of way) bytes place.arbitration outcome;
-  book = book_after place.book place.arbitration.view.next outcome;
+given_by subscriber way bytes outcome = record {
+  arbitration = arbitrated (line_of way) bytes subscriber.arbitration outcome;
+  book = book_after subscriber.book subscriber.arbitration.view.next outcome;
 }
 
 pub view_taken :
@@ -215,14 +215,14 @@ is_end_packet packet session end named body number =
 
 -- The receiver accepted a packet that was sent.
 taken_kept :
-    (laws : ReceiverLaws) (journal : JournalState) (sent : List (List ℕ)) (place : SubscriberState) (way : Way)
+    (laws : ReceiverLaws) (journal : JournalState) (sent : List (List ℕ)) (subscriber : SubscriberState) (way : Way)
     (bytes : List ℕ) (r : Reception) → IsSubscriberKept journal sent place → IsSentTruly journal sent bytes →
-    receive place.arbitration.view bytes ≡ Ok r → IsHonest r.view journal.messages journal.closed →
+    receive subscriber.arbitration.view bytes ≡ Ok r → IsHonest r.view journal.messages journal.closed →
     ((i : ℕ) (message : List ℕ) → slice_get r.handed i ≡ Some message →
-    published_at journal.messages (place.arbitration.view.next + i) ≡ Some message) →
-    IsSubscriberKept journal sent (given_by place way bytes (Ok r))
+    published_at journal.messages (subscriber.arbitration.view.next + i) ≡ Some message) →
+    IsSubscriberKept journal sent (given_by subscriber way bytes (Ok r))
 taken_kept laws journal sent place way bytes r kept truly received honest handed =
-    let v : View = place.arbitration.view in
+    let v : View = subscriber.arbitration.view in
     let is = laws.taken v bytes r received in
     let packet : Packet = is.packet in
     let told = truly.told in
@@ -235,18 +235,18 @@ taken_kept laws journal sent place way bytes r kept truly received honest handed
     ap (λ (t : View). t.next) view
     ∙ ap (λ (t : List (List ℕ)). v.next + length t) (sym (ap (λ (t : Reception). t.handed) is.taken))
     in
-    let now : (given_by place way bytes (Ok r)).arbitration.view ≡ r.view =
-    view_taken way bytes place.arbitration r
+    let now : (given_by subscriber way bytes (Ok r)).arbitration.view ≡ r.view =
+    view_taken way bytes subscriber.arbitration r
     in
     record {
       session = ap (λ (t : View). t.session) now ∙ ap (λ (t : View). t.session) view ∙ kept.session;
       honest = subst (λ (t : View). IsHonest t journal.messages journal.closed) (sym now) honest;
-      book = followed_messages place.book v.next r.handed
+      book = followed_messages subscriber.book v.next r.handed
           ∙ ap (λ (t : List (List ℕ)). t ++ r.handed) kept.book
           ∙ book_longer journal.messages r.handed v.next kept.honest.well_formed.first handed
           ∙ ap (λ (t : ℕ). take (t - 1) journal.messages) (sym (ap (λ (t : View). t.next) now ∙ moved));
-      follows = subst (λ (t : ℕ). Follows (followed_by place.book v.next r.handed) t)
-          (sym (ap (λ (t : View). t.next) now ∙ moved)) (laws.follows place.book v.next r.handed kept.follows);
+      follows = subst (λ (t : ℕ). Follows (followed_by subscriber.book v.next r.handed) t)
+          (sym (ap (λ (t : View). t.next) now ∙ moved)) (laws.follows subscriber.book v.next r.handed kept.follows);
       stored = λ number message found.
           elim (laws.stored v packet number message
           (sym (ap (λ (t : View). finite.get t.store number) (now ∙ view)) ∙ found)) [
@@ -276,29 +276,29 @@ taken_kept laws journal sent place way bytes r kept truly received honest handed
 
 -- So a receiver stays valid when it receives what was sent.
 pub given_kept :
-    (laws : ReceiverLaws) (journal : JournalState) (sent : List (List ℕ)) (place : SubscriberState) (way : Way)
+    (laws : ReceiverLaws) (journal : JournalState) (sent : List (List ℕ)) (subscriber : SubscriberState) (way : Way)
     (bytes : List ℕ) → IsSubscriberKept journal sent place → IsSentTruly journal sent bytes →
-    IsSubscriberKept journal sent (given place way bytes)
+    IsSubscriberKept journal sent (given subscriber way bytes)
 given_kept laws journal sent place way bytes kept truly =
-    let v : View = place.arbitration.view in
+    let v : View = subscriber.arbitration.view in
     let told = truly.told in
     let took = laws.take v told.packet bytes journal.messages journal.closed kept.honest told.spelled
     (told.session ∙ sym kept.session) told.so
     in
-    subst (λ (t : Result Reception Refusal). IsSubscriberKept journal sent (given_by place way bytes t))
+    subst (λ (t : Result Reception Refusal). IsSubscriberKept journal sent (given_by subscriber way bytes t))
     (sym took.received)
     (taken_kept laws journal sent place way bytes took.reception kept truly took.received took.honest took.handed)
 
 -- It stays valid when it refuses bytes, since only a report changes.
 refused_kept :
-    (journal : JournalState) (sent : List (List ℕ)) (place : SubscriberState) (way : Way) (bytes : List ℕ)
+    (journal : JournalState) (sent : List (List ℕ)) (subscriber : SubscriberState) (way : Way) (bytes : List ℕ)
     (refused : Refusal) → IsSubscriberKept journal sent place →
-    IsSubscriberKept journal sent (given_by place way bytes (Err refused))
+    IsSubscriberKept journal sent (given_by subscriber way bytes (Err refused))
 refused_kept journal sent place way bytes refused kept =
-    let now = view_refused way bytes place.arbitration refused in
+    let now = view_refused way bytes subscriber.arbitration refused in
     subst (λ (t : View). IsSubscriberKept journal sent (record {
-      arbitration = record { view = t; reports = (arbitrated (line_of way) bytes place.arbitration (Err refused)).reports };
-      book = place.book;
+      arbitration = record { view = t; reports = (arbitrated (line_of way) bytes subscriber.arbitration (Err refused)).reports };
+      book = subscriber.book;
     })) (sym now)
     (record {
       session = kept.session;
@@ -310,11 +310,11 @@ refused_kept journal sent place way bytes refused kept =
     })
 
 pub noise_kept :
-    (journal : JournalState) (sent : List (List ℕ)) (place : SubscriberState) (way : Way) (bytes : List ℕ)
-    (refused : Refusal) → receive place.arbitration.view bytes ≡ Err refused → IsSubscriberKept journal sent place →
-    IsSubscriberKept journal sent (given place way bytes)
+    (journal : JournalState) (sent : List (List ℕ)) (subscriber : SubscriberState) (way : Way) (bytes : List ℕ)
+    (refused : Refusal) → receive subscriber.arbitration.view bytes ≡ Err refused → IsSubscriberKept journal sent place →
+    IsSubscriberKept journal sent (given subscriber way bytes)
 noise_kept journal sent place way bytes refused is kept =
-    subst (λ (t : Result Reception Refusal). IsSubscriberKept journal sent (given_by place way bytes t)) (sym is)
+    subst (λ (t : Result Reception Refusal). IsSubscriberKept journal sent (given_by subscriber way bytes t)) (sym is)
     (refused_kept journal sent place way bytes refused kept)
 
 -- Messages that are cut to their first ones.
@@ -347,23 +347,23 @@ take_twice {X = X} (suc few) (suc many) (x ∷ xs) less =
 
 -- It stays valid when it restarts.
 pub renewed_kept :
-    (laws : ReceiverLaws) (journal : JournalState) (sent : List (List ℕ)) (place : SubscriberState) (next : ℕ) →
-    length journal.messages < 18446744073709551615 → 1 ≤ next → next ≤ place.arbitration.view.next →
-    IsSubscriberKept journal sent place → IsSubscriberKept journal sent (restarted_at place next)
+    (laws : ReceiverLaws) (journal : JournalState) (sent : List (List ℕ)) (subscriber : SubscriberState) (next : ℕ) →
+    length journal.messages < 18446744073709551615 → 1 ≤ next → next ≤ subscriber.arbitration.view.next →
+    IsSubscriberKept journal sent place → IsSubscriberKept journal sent (restarted_at subscriber next)
 renewed_kept laws journal sent place next few first reached kept =
-    let v : View = place.arbitration.view in
+    let v : View = subscriber.arbitration.view in
     let within = next_within journal sent place kept in
-    let whole : length place.book.messages ≡ v.next - 1 =
+    let whole : length subscriber.book.messages ≡ v.next - 1 =
     omega (arith, ap (λ (t : List (List ℕ)). length t) kept.book, length-take (v.next - 1) journal.messages, within)
     in
     record {
       session = kept.session;
       honest = laws.fresh v.session next v.window journal.messages journal.closed first
           (omega (arith, reached, within, kept.honest.well_formed.first)) few;
-      book = handed_messages place.book.first (take (next - 1) place.book.messages)
+      book = handed_messages subscriber.book.first (take (next - 1) subscriber.book.messages)
           ∙ ap (λ (t : List (List ℕ)). take (next - 1) t) kept.book
           ∙ take_twice (next - 1) (v.next - 1) journal.messages (omega (arith, reached));
-      follows = cut_follows place.book v.next next kept.follows whole kept.honest.well_formed.first first reached;
+      follows = cut_follows subscriber.book v.next next kept.follows whole kept.honest.well_formed.first first reached;
       stored = λ number message found. absurd (none-some message (sym (finite.get-empty nat_cmp number) ∙ found));
       ends = λ end known. absurd (none-some end known);
     }

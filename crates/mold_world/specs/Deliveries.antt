@@ -13,11 +13,11 @@ use Rattle.mold_world.specs.declared.report.Report.TheVariants.{Delivered, Noise
 use Rattle.mold_world.specs.declared.way.Way.{Way}
 
 -- The receiver refuses the bytes, and its view and its book are unchanged.
-pub record IsUnmoved (place : SubscriberState) (way : Way) (bytes : List ℕ) : Type 0 where
+pub record IsUnmoved (subscriber : SubscriberState) (way : Way) (bytes : List ℕ) : Type 0 where
   pub refused : Refusal
-  pub received : receive place.arbitration.view bytes ≡ Err refused
-  pub view : (given place way bytes).arbitration.view ≡ place.arbitration.view
-  pub book : (given place way bytes).book ≡ place.book
+  pub received : receive subscriber.arbitration.view bytes ≡ Err refused
+  pub view : (given subscriber way bytes).arbitration.view ≡ subscriber.arbitration.view
+  pub book : (given subscriber way bytes).book ≡ subscriber.book
 
 -- A datagram was reported as accepted.
 pub record ReportsTaken (told : Report) : Type 0 where
@@ -31,10 +31,10 @@ pub record ReportsRefused (told : Report) : Type 0 where
 
 -- Every receiver's view and book are unchanged.
 pub record KeepsBooks (old new : WorldState) : Type 0 where
-  pub views : map (λ (place : SubscriberState). place.arbitration.view) new.subscribers
-      ≡ map (λ (place : SubscriberState). place.arbitration.view) old.subscribers
-  pub books : map (λ (place : SubscriberState). place.book) new.subscribers
-      ≡ map (λ (place : SubscriberState). place.book) old.subscribers
+  pub views : map (λ (subscriber : SubscriberState). subscriber.arbitration.view) new.subscribers
+      ≡ map (λ (subscriber : SubscriberState). subscriber.arbitration.view) old.subscribers
+  pub books : map (λ (subscriber : SubscriberState). subscriber.book) new.subscribers
+      ≡ map (λ (subscriber : SubscriberState). subscriber.book) old.subscribers
 
 -- What a receiver's report states. A delivered datagram was accepted. Noise was refused, and every view and every
 -- book is unchanged. Other events state nothing here.

@@ -88,11 +88,11 @@ asked_for w (Some request) = answered w request
 -- The outcome of asking for what a receiver wants, if the receiver exists.
 abbrev pub asked : WorldState → Option SubscriberState → Outcome
 asked w None = Err NoReceiver
-asked w (Some place) = asked_for w (wanted place.arbitration.view)
+asked w (Some subscriber) = asked_for w (wanted subscriber.arbitration.view)
 
 -- The world in which the receiver with this number is replaced.
 abbrev pub with_subscriber : WorldState → ℕ → SubscriberState → WorldState
-with_subscriber w receiver place = record w { subscribers = slice_set w.subscribers receiver place }
+with_subscriber w receiver subscriber = record w { subscribers = slice_set w.subscribers receiver subscriber }
 
 -- The book after a datagram: the delivered messages are appended. After a refusal, it is unchanged.
 abbrev pub book_after : Handed → ℕ → Result Reception Refusal → Handed
@@ -101,9 +101,9 @@ book_after book next (Err refused) = book
 
 -- The receiver and its book after it received a datagram, accepted or refused.
 abbrev pub given : SubscriberState → Way → List ℕ → SubscriberState
-given place way bytes = record {
-  arbitration = arbitrates (line_of way) bytes place.arbitration;
-  book = book_after place.book place.arbitration.view.next (receive place.arbitration.view bytes);
+given subscriber way bytes = record {
+  arbitration = arbitrates (line_of way) bytes subscriber.arbitration;
+  book = book_after subscriber.book subscriber.arbitration.view.next (receive subscriber.arbitration.view bytes);
 }
 
 -- The report of what a receiver did with a datagram.
@@ -113,14 +113,14 @@ told (Err refused) = report.NoiseRefused refused
 
 -- The outcome of giving a receiver a datagram.
 abbrev pub giving : WorldState → ℕ → SubscriberState → Way → List ℕ → Outcome
-giving w receiver place way bytes =
-    Ok (told (receive place.arbitration.view bytes), with_subscriber w receiver (given place way bytes))
+giving w receiver subscriber way bytes =
+    Ok (told (receive subscriber.arbitration.view bytes), with_subscriber w receiver (given subscriber way bytes))
 
 -- The outcome of delivering a datagram that was sent, if the receiver and the datagram exist.
 abbrev pub delivered : WorldState → ℕ → Way → Option SubscriberState → Option (List ℕ) → Outcome
 delivered w receiver way None datagram = Err NoReceiver
-delivered w receiver way (Some place) None = Err NoSuchDatagram
-delivered w receiver way (Some place) (Some bytes) = giving w receiver place way bytes
+delivered w receiver way (Some subscriber) None = Err NoSuchDatagram
+delivered w receiver way (Some subscriber) (Some bytes) = giving w receiver subscriber way bytes
 
 -- What was decoded is a packet of the session `own`.
 abbrev pub is_own : Session → Result Packet DecodeError → Bool
@@ -130,25 +130,25 @@ is_own own (Err error) = false
 -- The outcome of giving a receiver bytes as noise. It is refused if the bytes are a packet of the session.
 abbrev pub noised : WorldState → ℕ → Way → List ℕ → Option SubscriberState → Bool → Outcome
 noised w receiver way bytes None own = Err NoReceiver
-noised w receiver way bytes (Some place) true = Err NotNoise
-noised w receiver way bytes (Some place) false = giving w receiver place way bytes
+noised w receiver way bytes (Some subscriber) true = Err NotNoise
+noised w receiver way bytes (Some subscriber) false = giving w receiver subscriber way bytes
 
 -- The receiver after a restart at `next`. Its view and its reports are new, and its book keeps only the messages
 -- before `next`.
 abbrev pub restarted_at : SubscriberState → ℕ → SubscriberState
-restarted_at place next = record {
-  arbitration = fresh_arbitration place.arbitration.view.session next place.arbitration.view.window;
-  book = handed_from place.book.first (take (next - 1) place.book.messages);
+restarted_at subscriber next = record {
+  arbitration = fresh_arbitration subscriber.arbitration.view.session next subscriber.arbitration.view.window;
+  book = handed_from subscriber.book.first (take (next - 1) subscriber.book.messages);
 }
 
 -- The outcome of a restart at `next`, if the receiver exists. It is refused unless the receiver had reached that
 -- number.
 abbrev pub restarted : WorldState → ℕ → ℕ → Option SubscriberState → Outcome
 restarted w receiver next None = Err NoReceiver
-restarted w receiver next (Some place) =
-    if nat_le 1 next && nat_le next place.arbitration.view.next
-    then Ok (report.Restarted next, with_subscriber w receiver (restarted_at place next))
-    else Err (NotReached place.arbitration.view.next)
+restarted w receiver next (Some subscriber) =
+    if nat_le 1 next && nat_le next subscriber.arbitration.view.next
+    then Ok (report.Restarted next, with_subscriber w receiver (restarted_at subscriber next))
+    else Err (NotReached subscriber.arbitration.view.next)
 
 -- The rule of events: the outcome of an event in a world.
 unfoldable pub effect : WorldState → Happening → Outcome

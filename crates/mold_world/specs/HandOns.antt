@@ -19,15 +19,15 @@ handed_of receiver next (Err refused) = []
 -- The messages that a receiver delivers when it receives a datagram, if both exist.
 abbrev pub handed_at : ℕ → Option SubscriberState → Option (List ℕ) → List HandOn
 handed_at receiver None datagram = []
-handed_at receiver (Some place) None = []
-handed_at receiver (Some place) (Some bytes) =
-    handed_of receiver place.arbitration.view.next (receive place.arbitration.view bytes)
+handed_at receiver (Some subscriber) None = []
+handed_at receiver (Some subscriber) (Some bytes) =
+    handed_of receiver subscriber.arbitration.view.next (receive subscriber.arbitration.view bytes)
 
 -- The messages that a receiver delivers from noise. Bytes that are a packet of the session are refused as noise, so
 -- there are none.
 abbrev pub handed_of_noise : ℕ → Option SubscriberState → List ℕ → Bool → List HandOn
-handed_of_noise receiver place bytes true = []
-handed_of_noise receiver place bytes false = handed_at receiver place (Some bytes)
+handed_of_noise receiver subscriber bytes true = []
+handed_of_noise receiver subscriber bytes false = handed_at receiver subscriber (Some bytes)
 
 -- The messages that an event delivers. Only a delivery or noise can deliver any.
 abbrev pub handed_by : WorldState → Happening → List HandOn

@@ -11,17 +11,17 @@ use Rattle.mold_world.specs.World.{SubscriberState, WorldState}
 
 -- The receiver is honest, and its book is the published messages before its next number. Each stored message was
 -- sent, and so was the end packet of a known end.
-pub record IsSubscriberKept (journal : JournalState) (sent : List (List ℕ)) (place : SubscriberState) : Type 0 where
-  pub session : place.arbitration.view.session ≡ journal.session
-  pub honest : IsHonest place.arbitration.view journal.messages journal.closed
-  pub book : place.book.messages ≡ take (place.arbitration.view.next - 1) journal.messages
+pub record IsSubscriberKept (journal : JournalState) (sent : List (List ℕ)) (subscriber : SubscriberState) : Type 0 where
+  pub session : subscriber.arbitration.view.session ≡ journal.session
+  pub honest : IsHonest subscriber.arbitration.view journal.messages journal.closed
+  pub book : subscriber.book.messages ≡ take (subscriber.arbitration.view.next - 1) journal.messages
   -- The book is empty or ends just before the receiver's next number.
-  pub follows : Follows place.book place.arbitration.view.next
+  pub follows : Follows subscriber.book subscriber.arbitration.view.next
   -- Each stored message was sent with its number.
-  pub stored : (number : ℕ) (message : List ℕ) → finite.get place.arbitration.view.store number ≡ Some message →
+  pub stored : (number : ℕ) (message : List ℕ) → finite.get subscriber.arbitration.view.store number ≡ Some message →
       IsSentAs sent number message
   -- The end packet of a known end was sent.
-  pub ends : (end : ℕ) → place.arbitration.view.ended ≡ Some end → IsEndSent sent journal.session end
+  pub ends : (end : ℕ) → subscriber.arbitration.view.ended ≡ Some end → IsEndSent sent journal.session end
 
 -- What holds of every world. Its publisher and server are valid, everything sent is true of the journal, and its
 -- receivers are as `IsSubscriberKept` states.
@@ -32,5 +32,5 @@ pub record IsWorld (w : WorldState) : Type 0 where
   -- Each datagram that was sent is true of the journal.
   pub said : (place : ℕ) (bytes : List ℕ) → slice_get w.sent place ≡ Some bytes →
       IsTrueDatagram w.publisher.journal bytes
-  pub subscribers : (receiver : ℕ) (place : SubscriberState) → slice_get w.subscribers receiver ≡ Some place →
+  pub subscribers : (receiver : ℕ) (subscriber : SubscriberState) → slice_get w.subscribers receiver ≡ Some subscriber →
       IsSubscriberKept w.publisher.journal w.sent place

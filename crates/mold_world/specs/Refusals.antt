@@ -44,18 +44,18 @@ world_refusal limit server_limit burst windows =
 
 -- A datagram that was sent is delivered to a receiver, which delivers or stores at least one of its messages.
 pub record IsCopying (w : WorldState) (receiver sent : ℕ) : Type 0 where
-  pub place : SubscriberState
+  pub subscriber : SubscriberState
   pub bytes : List ℕ
-  pub here : slice_get w.subscribers receiver ≡ Some place
+  pub here : slice_get w.subscribers receiver ≡ Some subscriber
   pub found : slice_get w.sent sent ≡ Some bytes
-  pub copied : IsCopied place.arbitration.view bytes
+  pub copied : IsCopied subscriber.arbitration.view bytes
 
 -- The receiver exists and misses messages, so it wants a request.
 pub record IsAsking (w : WorldState) (receiver : ℕ) : Type 0 where
-  pub place : SubscriberState
+  pub subscriber : SubscriberState
   pub request : Asked
-  pub here : slice_get w.subscribers receiver ≡ Some place
-  pub lacks : wanted place.arbitration.view ≡ Some request
+  pub here : slice_get w.subscribers receiver ≡ Some subscriber
+  pub lacks : wanted subscriber.arbitration.view ≡ Some request
 
 -- An allocation can fail at this event. It can't if the event needs no memory or is refused for another reason. The
 -- publisher allocates space before it knows whether there is anything to send.

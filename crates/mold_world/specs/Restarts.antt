@@ -9,7 +9,7 @@ use Rattle.mold_world.specs.declared.report.WorldError.TheVariants.{Memory, NotR
 
 -- The receiver had reached the number, which is at least 1.
 abbrev pub HasReached : SubscriberState → ℕ → Type 0
-HasReached place next = (1 ≤ next) × (next ≤ place.arbitration.view.next)
+HasReached subscriber next = (1 ≤ next) × (next ≤ subscriber.arbitration.view.next)
 
 -- The result of a restart. The receiver restarts if it had reached the number. Otherwise, or if an allocation fails,
 -- it is unchanged and the error states the reason.

@@ -22,8 +22,8 @@ pub record IsStopped (w : WorldState) (happenings : List Happening) (at : ℕ) :
 -- The headline of a world. Each book is a prefix of the published messages. If a receiver has delivered up to a known
 -- end, its book is the whole closed session.
 pub record IsHeadline (w : WorldState) : Type 0 where
-  pub books : (receiver : ℕ) (place : SubscriberState) → slice_get w.subscribers receiver ≡ Some place →
-      IsPrefix place.book.messages w.publisher.journal.messages
-  pub whole : (receiver : ℕ) (place : SubscriberState) → slice_get w.subscribers receiver ≡ Some place →
-      place.arbitration.view.ended ≡ Some place.arbitration.view.next →
-      (w.publisher.journal.closed ≡ true) × (place.book.messages ≡ w.publisher.journal.messages)
+  pub books : (receiver : ℕ) (subscriber : SubscriberState) → slice_get w.subscribers receiver ≡ Some subscriber →
+      IsPrefix subscriber.book.messages w.publisher.journal.messages
+  pub whole : (receiver : ℕ) (subscriber : SubscriberState) → slice_get w.subscribers receiver ≡ Some subscriber →
+      subscriber.arbitration.view.ended ≡ Some subscriber.arbitration.view.next →
+      (w.publisher.journal.closed ≡ true) × (subscriber.book.messages ≡ w.publisher.journal.messages)

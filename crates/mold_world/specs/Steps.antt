@@ -26,7 +26,7 @@ is_finished view = is_end view.ended view.next
 -- an empty book.
 abbrev pub log_of : Option SubscriberState → ReceiverLog
 log_of None = record { book = []; ended = false }
-log_of (Some place) = record { book = place.book.messages; ended = is_finished place.arbitration.view }
+log_of (Some subscriber) = record { book = subscriber.book.messages; ended = is_finished subscriber.arbitration.view }
 
 -- The world as the machine's state.
 abbrev pub machine_of : WorldState → Machine

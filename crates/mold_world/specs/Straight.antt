@@ -27,7 +27,7 @@ pub record IsStraight (w : WorldState) (receiver : ℕ) (happenings : List Happe
 
 -- The receiver's book begins with all messages that were sent in datagrams.
 pub record HasSent (w : WorldState) (receiver : ℕ) : Type 0 where
-  pub place : SubscriberState
-  pub here : slice_get w.subscribers receiver ≡ Some place
+  pub subscriber : SubscriberState
+  pub here : slice_get w.subscribers receiver ≡ Some subscriber
   -- The messages that were sent in datagrams are a prefix of the book.
-  pub front : IsPrefix (take w.publisher.sent w.publisher.journal.messages) place.book.messages
+  pub front : IsPrefix (take w.publisher.sent w.publisher.journal.messages) subscriber.book.messages

@@ -72,12 +72,12 @@ pub fn run_law()
     ensures kept { (w new : WorldState) (happening : Happening) (report : Report) → IsWorld w →
         effect w happening ≡ Ok (report, new) → IsWorld new }
     ensures run { (w : WorldState) (happenings : List Happening) → IsWorld w → IsWorld (run_events w happenings) }
-    ensures books { (w : WorldState) (receiver : ℕ) (place : SubscriberState) → IsWorld w →
-        slice_get w.subscribers receiver ≡ Some place → IsPrefix place.book.messages w.publisher.journal.messages }
-    ensures whole { (w : WorldState) (receiver : ℕ) (place : SubscriberState) → IsWorld w →
-        slice_get w.subscribers receiver ≡ Some place →
-        place.arbitration.view.ended ≡ Some place.arbitration.view.next →
-        (w.publisher.journal.closed ≡ true) × (place.book.messages ≡ w.publisher.journal.messages) }
+    ensures books { (w : WorldState) (receiver : ℕ) (subscriber : SubscriberState) → IsWorld w →
+        slice_get w.subscribers receiver ≡ Some subscriber → IsPrefix subscriber.book.messages w.publisher.journal.messages }
+    ensures whole { (w : WorldState) (receiver : ℕ) (subscriber : SubscriberState) → IsWorld w →
+        slice_get w.subscribers receiver ≡ Some subscriber →
+        subscriber.arbitration.view.ended ≡ Some subscriber.arbitration.view.next →
+        (w.publisher.journal.closed ≡ true) × (subscriber.book.messages ≡ w.publisher.journal.messages) }
     ensures handed { (w : WorldState) (happenings : List Happening) → IsWorld w →
         ArePublished (run_events w happenings).publisher.journal.messages (handed_by_all w happenings) }
     ensures starts { (session : Session) (limit server_limit burst : ℕ) (windows : List ℕ) →
@@ -102,13 +102,13 @@ pub fn run_law()
 /// receiver refuses bytes that don't encode a packet of the session, and its view and its book are unchanged. So a
 /// delivery is always reported as accepted and noise as refused. A law doesn't cover failed allocations.
 pub fn delivery_law()
-    ensures sent { (w : WorldState) (receiver at : ℕ) (place : SubscriberState) (bytes : List ℕ) → IsWorld w →
-        slice_get w.subscribers receiver ≡ Some place → slice_get w.sent at ≡ Some bytes →
-        IsTakenHonestly place.arbitration.view bytes w.publisher.journal.messages w.publisher.journal.closed }
-    ensures strange { (w : WorldState) (receiver : ℕ) (place : SubscriberState) (way : Way) (bytes : List ℕ) →
-        IsWorld w → slice_get w.subscribers receiver ≡ Some place → IsBytes bytes →
-        AreForeign w.publisher.journal.session bytes → IsUnmoved place way bytes }
-    ensures heard { (w new : WorldState) (happening : Happening) (report : Report) → IsWorld w →
+    ensures sent { (w : WorldState) (receiver at : ℕ) (subscriber : SubscriberState) (bytes : List ℕ) → IsWorld w →
+        slice_get w.subscribers receiver ≡ Some subscriber → slice_get w.sent at ≡ Some bytes →
+        IsTakenHonestly subscriber.arbitration.view bytes w.publisher.journal.messages w.publisher.journal.closed }
+    ensures strange { (w : WorldState) (receiver : ℕ) (subscriber : SubscriberState) (way : Way) (bytes : List ℕ) →
+        IsWorld w → slice_get w.subscribers receiver ≡ Some subscriber → IsBytes bytes →
+        AreForeign w.publisher.journal.session bytes → IsUnmoved subscriber way bytes }
+    ensures received { (w new : WorldState) (happening : Happening) (report : Report) → IsWorld w →
         effect w happening ≡ Ok (report, new) → HasReceived happening report w new }
 {
     reading_law();

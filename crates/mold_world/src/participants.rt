@@ -162,10 +162,10 @@ impl Participants {
         answered_law();
         sending_law();
         wanted_law();
-        let Some(place) = self.subscribers.get(r) else {
+        let Some(subscriber) = self.subscribers.get(r) else {
             return Err(WorldError::NoReceiver);
         };
-        match place.receiver().wanted() {
+        match subscriber.receiver().wanted() {
             Some(request) => self.request(&request.encode()),
             None => Ok(Report::Nothing),
         }
@@ -176,13 +176,13 @@ impl Participants {
         ensures applied { Applies (world_of self.old) (Deliver r way sent) result (world_of self.new) }
         ensures serves { KeepsServing self.old self.new }
     {
-        let Some(place) = self.subscribers.get_mut(r) else {
+        let Some(subscriber) = self.subscribers.get_mut(r) else {
             return Err(WorldError::NoReceiver);
         };
         let Some(bytes) = self.sent.get(sent) else {
             return Err(WorldError::NoSuchDatagram);
         };
-        Ok(place.give(way, bytes)?)
+        Ok(subscriber.give(way, bytes)?)
     }
 
     fn noise(&mut self, r: usize, way: Way, bytes: &[u8]) -> Result<Report, WorldError>
@@ -190,13 +190,13 @@ impl Participants {
         ensures applied { Applies (world_of self.old) (Noise r way bytes.now) result (world_of self.new) }
         ensures serves { KeepsServing self.old self.new }
     {
-        let Some(place) = self.subscribers.get_mut(r) else {
+        let Some(subscriber) = self.subscribers.get_mut(r) else {
             return Err(WorldError::NoReceiver);
         };
         if is_own(self.publisher.journal().session(), bytes) {
             return Err(WorldError::NotNoise);
         }
-        Ok(place.give(way, bytes)?)
+        Ok(subscriber.give(way, bytes)?)
     }
 
     fn restart(&mut self, r: usize, next: u64) -> Result<Report, WorldError>
@@ -204,7 +204,7 @@ impl Participants {
         ensures serves { KeepsServing self.old self.new }
     {
         match self.subscribers.get_mut(r) {
-            Some(place) => place.restart(self.alloc, next),
+            Some(subscriber) => subscriber.restart(self.alloc, next),
             None => Err(WorldError::NoReceiver),
         }
     }

@@ -43,7 +43,7 @@ impl Subscriber {
         session: Session,
         window: u32,
     ) -> Result<Subscriber, AllocError>
-        ensures { IfOk result (λ place. place ≡ subscriber_at session window) }
+        ensures { IfOk result (λ subscriber. subscriber ≡ subscriber_at session window) }
     {
         match Receiver::new(alloc, session, 1, window) {
             Ok(receiver) => Ok(Subscriber {

@@ -97,7 +97,7 @@ impl World {
         ensures done { IfOk result (λ report. effect self.old (seen event.now) ≡ Ok (report, self.new)) }
         ensures refused { IfErr result (λ error. Refuses self.old (seen event.now) error) }
         ensures same { OnErr result (self.new ≡ self.old) }
-        ensures heard { IfOk result (λ report. HasReceived (seen event.now) report self.old self.new) }
+        ensures received { IfOk result (λ report. HasReceived (seen event.now) report self.old self.new) }
         ensures step { OnOk result (AreSteps self.old (seen event.now) self.new) }
     {
         delivery_law();
@@ -204,7 +204,7 @@ impl World {
     /// Returns the book of receiver `r`: what it delivered, from message 1 on. After a restart, the book has the
     /// messages before the restart's number and what was delivered since. It is `None` if there is no such receiver.
     pub fn book(&self, r: usize) -> Option<&Batch>
-        ensures { option_copied result ≡ option_map (λ place. place.book) (slice_get self.now.subscribers r) }
+        ensures { option_copied result ≡ option_map (λ subscriber. subscriber.book) (slice_get self.now.subscribers r) }
     {
         Some(self.parts.subscribers.get(r)?.book())
     }
@@ -212,7 +212,7 @@ impl World {
     /// Returns whether receiver `r` knows the session's end and delivered every message up to it, or `None` if there
     /// is no such receiver.
     pub fn finished(&self, r: usize) -> Option<bool>
-        ensures { result ≡ option_map (λ place. is_finished place.arbitration.view) (slice_get self.now.subscribers r) }
+        ensures { result ≡ option_map (λ subscriber. is_finished subscriber.arbitration.view) (slice_get self.now.subscribers r) }
     {
         Some(self.parts.subscribers.get(r)?.receiver().finished())
     }
@@ -220,7 +220,7 @@ impl World {
     /// Returns receiver `r`, or `None` if there is no such receiver.
     pub fn receiver(&self, r: usize) -> Option<&Receiver>
         ensures { option_copied result
-            ≡ option_map (λ place. place.arbitration.view) (slice_get self.now.subscribers r) }
+            ≡ option_map (λ subscriber. subscriber.arbitration.view) (slice_get self.now.subscribers r) }
     {
         Some(self.parts.subscribers.get(r)?.receiver())
     }
@@ -229,7 +229,7 @@ impl World {
     /// receiver.
     pub fn report(&self, r: usize, line: Line) -> Option<LineReport>
         ensures { result ≡
-            option_map (λ place. report_on line place.arbitration.reports) (slice_get self.now.subscribers r) }
+            option_map (λ subscriber. report_on line subscriber.arbitration.reports) (slice_get self.now.subscribers r) }
     {
         Some(self.parts.subscribers.get(r)?.report(line))
     }

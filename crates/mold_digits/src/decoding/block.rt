@@ -26,22 +26,22 @@ pub fn decode_blocks(digits: &[u8], out: &mut [u8]) -> bool
     true
 }
 
-// Writes sixteen bytes from offset `place` on. Returns whether all of their digits are valid.
-fn decode_block(digits: &[u8], place: usize, out: &mut [u8]) -> bool
-    requires digits { 2 * place + 32 ≤ length digits.now }
-    requires room { place + 16 ≤ length out.old }
-    ensures { MatchResult (decode_pairs (2 * place) (chunk (2 * place) 32 digits.now))
-        (λ bytes. (result ≡ true) × (take (place + 16) out.new ≡ take place out.old ++ bytes))
+// Writes sixteen bytes from offset `offset` on. Returns whether all of their digits are valid.
+fn decode_block(digits: &[u8], offset: usize, out: &mut [u8]) -> bool
+    requires digits { 2 * offset + 32 ≤ length digits.now }
+    requires room { offset + 16 ≤ length out.old }
+    ensures { MatchResult (decode_pairs (2 * offset) (chunk (2 * offset) 32 digits.now))
+        (λ bytes. (result ≡ true) × (take (offset + 16) out.new ≡ take offset out.old ++ bytes))
         (λ _. result ≡ false) }
 {
-    let first = readings(digits, 2 * place);
-    let second = readings(digits, 2 * place + LANES);
+    let first = readings(digits, 2 * offset);
+    let second = readings(digits, 2 * offset + LANES);
     let high = at_even_places(first, second);
     let low = at_odd_places(first, second);
     if has_large(high, low) {
         return false;
     }
-    pair_bytes(high, low).copy_to_slice(&mut out[place..]);
+    pair_bytes(high, low).copy_to_slice(&mut out[offset..]);
     true
 }
 

@@ -22,17 +22,17 @@ pub fn encode_blocks(bytes: &[u8], out: &mut [u8])
     encode_block(bytes, bytes.len() - LANES, out);
 }
 
-// Writes the digits of the sixteen bytes from offset `place` on.
-fn encode_block(bytes: &[u8], place: usize, out: &mut [u8])
-    requires bytes { place + 16 ≤ length bytes.now }
-    requires room { 2 * place + 32 ≤ length out.old }
-    ensures { take (2 * place + 32) out.new ≡ take (2 * place) out.old ++ encode_lower (chunk place 16 bytes.now) }
+// Writes the digits of the sixteen bytes from offset `offset` on.
+fn encode_block(bytes: &[u8], offset: usize, out: &mut [u8])
+    requires bytes { offset + 16 ≤ length bytes.now }
+    requires room { 2 * offset + 32 ≤ length out.old }
+    ensures { take (2 * offset + 32) out.new ≡ take (2 * offset) out.old ++ encode_lower (chunk offset 16 bytes.now) }
 {
-    let lanes = u8x16::from_slice(&bytes[place..]);
+    let lanes = u8x16::from_slice(&bytes[offset..]);
     let high = lower_digits(high_halves(lanes));
     let low = lower_digits(masked(lanes, 15));
-    woven_front(high, low).copy_to_slice(&mut out[2 * place..]);
-    woven_back(high, low).copy_to_slice(&mut out[2 * place + LANES..]);
+    woven_front(high, low).copy_to_slice(&mut out[2 * offset..]);
+    woven_back(high, low).copy_to_slice(&mut out[2 * offset + LANES..]);
 }
 
 // Returns the digit of each value, which is below sixteen.

@@ -10,7 +10,7 @@ returns-clause-datagrams c =
       accepted = c.reason_law.ensures.accepted;
       refused = c.reason_law.ensures.refused;
       after = c.after_law.ensures;
-      heard = c.whole_is_one_law.ensures.heard;
+      received = c.whole_is_one_law.ensures.received;
       whole = c.whole_is_one_law.ensures.whole;
       lacking = c.lacking_law.ensures.none;
     })
@@ -22,7 +22,7 @@ returns-clause-lines c = λ lines.
       accepted = c.reason_law.ensures.accepted;
       refused = c.reason_law.ensures.refused;
       after = c.after_law.ensures;
-      heard = c.whole_is_one_law.ensures.heard;
+      received = c.whole_is_one_law.ensures.received;
       whole = c.whole_is_one_law.ensures.whole;
       lacking = c.lacking_law.ensures.none;
     }) (datagrams_of lines) (spelled_bytes lines)

@@ -3,7 +3,7 @@ use Rattle.std.proofs.lemmas.Grind.{common_steps}
 use Rattle.mold_ports.specs.Ports.{Quiet, Failure}
 use Rattle.mold_receiver.specs.Origin.{line_of}
 use Rattle.mold_listen.specs.Listening.{progress}
-use Rattle.mold_listen.proofs.ListenLemmas.{datagram_next, heard_next}
+use Rattle.mold_listen.proofs.ListenLemmas.{datagram_next, received_next}
 use Rattle.mold_listen.proofs.receiving.receive_on.Goals as goal
 use Rattle.mold_wire.specs.declared.limits.TheConstants.{MAX_LIMIT}
 
@@ -12,7 +12,7 @@ returns-in_ok-take-in-Ok-Some-clause-received g c = λ t.
     let long : length c.receive.new.buffer ≡ MAX_LIMIT = grind (arith, common_steps) in
     let before = progress c.args.arbiter.now c.args.printer.now.outgoing in
     let next =
-    heard_next (line_of c.args.origin) (g.D.Datagrams.port c.args.port.now) before (length c.receive.new.buffer) _ long
+    received_next (line_of c.args.origin) (g.D.Datagrams.port c.args.port.now) before (length c.receive.new.buffer) _ long
     (rw c.in-Ok-Some.field-0-is at c.in-Ok-Some.ensures.came t) in
     c.in_ok-take-in-Ok-Some.ensures ∙ next
 
@@ -24,7 +24,7 @@ returns-in-Ok-None-clause-came g c = λ t.
 pub returns-in-Ok-None-clause-received : goal.returns-in-Ok-None-clause-received
 returns-in-Ok-None-clause-received g c = λ t.
     let long : length c.receive.new.buffer ≡ MAX_LIMIT = grind (arith, common_steps) in
-    heard_next (line_of c.args.origin) (g.D.Datagrams.port c.args.port.now) (progress c.args.arbiter.now c.args.printer.now.outgoing)
+    received_next (line_of c.args.origin) (g.D.Datagrams.port c.args.port.now) (progress c.args.arbiter.now c.args.printer.now.outgoing)
     (length c.receive.new.buffer) Quiet long (rw c.in-Ok-None.field-0-is at c.in-Ok-None.ensures.came t)
 
 pub returns-in-Err-clause-came : goal.returns-in-Err-clause-came
@@ -35,5 +35,5 @@ pub returns-in-Err-clause-received : goal.returns-in-Err-clause-received
 returns-in-Err-clause-received g c = λ t.
     let long : length c.receive.new.buffer ≡ MAX_LIMIT = grind (arith, common_steps) in
     rw c.count_failure.ensures
-    (heard_next (line_of c.args.origin) (g.D.Datagrams.port c.args.port.now) (progress c.args.arbiter.now c.args.printer.now.outgoing)
+    (received_next (line_of c.args.origin) (g.D.Datagrams.port c.args.port.now) (progress c.args.arbiter.now c.args.printer.now.outgoing)
     (length c.receive.new.buffer) Failure long (c.in-Err.ensures.came t))

@@ -5,8 +5,8 @@ use Rattle.mold_send.proofs.publishing.publish_loop.Goals as goal
 pub returns-clause-run : goal.returns-clause-run
 returns-clause-run g c modeled =
     published_so g.D.Datagrams.port c.args.a c.args.b c.args.beats c.args.ends c.args.publisher.now _ c.publish.result
-    _ c.publish.new.self.lines.port.now _ _ _ _ _
-    (let same = sym c.publish.ensures.same.lines.port in search rules)
+    _ c.publish.new.self.two_lines.port.now _ _ _ _ _
+    (let same = sym c.publish.ensures.same.two_lines.port in search rules)
     (c.publish.ensures.run modeled)
 
 pub returns-clause-journal : goal.returns-clause-journal

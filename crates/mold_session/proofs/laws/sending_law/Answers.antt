@@ -19,6 +19,6 @@ returns c = record {
   datagram = datagram_says (wire_laws c);
   heartbeat = heartbeat_says (wire_laws c);
   end = end_says (wire_laws c);
-  planned = λ journal limit plan place packet may is last session found.
-      planned_says (wire_laws c) journal limit plan.left plan refl may is last session place packet found;
+  planned = λ journal limit plan index packet may is last session found.
+      planned_says (wire_laws c) journal limit plan.left plan refl may is last session index packet found;
 }

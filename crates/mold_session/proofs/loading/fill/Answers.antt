@@ -8,5 +8,5 @@ returns-in_default-clause-bytes g c =
     Consumes-kept (prepend_known c.args.piece.now (g.S.Source.left c.args.source.now))
     (prepend_known c.loop-count.piece (g.S.Source.left c.loop-count.source))
     (prepend_known c.next_byte.new.piece (g.S.Source.left c.next_byte.new.source))
-    (take c.loop-count.count c.loop-count.place) c.loop-count.invariant.bytes
+    (take c.loop-count.count c.loop-count.buffer) c.loop-count.invariant.bytes
     (rw c.in_default.is at c.in_ok-byte.ensures.same)

@@ -12,7 +12,7 @@ pub returns-then-ne-clause-refused : goal.returns-then-ne-clause-refused
 returns-then-ne-clause-refused g c = λ most.
     let known = prepend_known c.args.piece.now (g.S.Source.left c.args.source.now) in
     let left = prepend_known c.fill.new.piece (g.S.Source.left c.fill.new.source) in
-    let front = c.fill.new.place in
+    let front = c.fill.new.buffer in
     let long : length front ≡ 18 = omega arith in
     let all : take c.in_ok-count.count front ≡ front =
     take_all c.in_ok-count.count front (omega (arith, c.if-count-lt18.false, long))
@@ -29,7 +29,7 @@ pub returns-clause-refused : goal.returns-clause-refused
 returns-clause-refused g c =
     let known = prepend_known c.args.piece.now (g.S.Source.left c.args.source.now) in
     let left = prepend_known c.fill.new.piece (g.S.Source.left c.fill.new.source) in
-    let front = c.fill.new.place in
+    let front = c.fill.new.buffer in
     let long : length front ≡ 18 = omega arith in
     let all : take c.in_ok-count.count front ≡ front =
     take_all c.in_ok-count.count front (omega (arith, c.if-count-lt18.false, long))

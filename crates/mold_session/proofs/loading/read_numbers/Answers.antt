@@ -11,8 +11,8 @@ returns-clause-read g c =
     let left = prepend_known c.fill.new.piece (g.S.Source.left c.fill.new.source) in
     let byte = c.split_numbers-byte.result.0 in
     let number = c.split_numbers-byte.result.1 in
-    let bytes : take c.in_ok-count.count c.fill.new.place ≡ closed_byte (eqb byte 1) ∷ be64 number =
-    numbers_are c.fill.new.place c.in_ok-count.count byte number c.if-count-lt9.false c.if-byte-gt1.false
+    let bytes : take c.in_ok-count.count c.fill.new.buffer ≡ closed_byte (eqb byte 1) ∷ be64 number =
+    numbers_are c.fill.new.buffer c.in_ok-count.count byte number c.if-count-lt9.false c.if-byte-gt1.false
     c.split_numbers-byte.ensures.parts
     in
     record {

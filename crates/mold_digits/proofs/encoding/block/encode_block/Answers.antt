@@ -9,17 +9,17 @@ use Rattle.mold_digits.proofs.encoding.block.encode_block.Goals as goal
 
 pub returns : goal.returns
 returns c =
-    let bytes = below_from_Fits w8 _ (chunk-fits w8 c.args.place 16 c.args.bytes.now c.type_inv.bytes) in
+    let bytes = below_from_Fits w8 _ (chunk-fits w8 c.args.offset 16 c.args.bytes.now c.type_inv.bytes) in
     let high = c.lower_digits-high.ensures ∙ ap (map digit_of) c.high_halves.ensures in
     let low = c.lower_digits-low.ensures ∙ ap (map digit_of) c.masked.ensures in
-    block_written c.args.bytes.now c.args.out.now _ _ _ _ c.args.place c.requires.bytes c.requires.room bytes high low
+    block_written c.args.bytes.now c.args.out.now _ _ _ _ c.args.offset c.requires.bytes c.requires.room bytes high low
     c.woven_front.ensures c.woven_back.ensures
 
 pub lower_digits-high-requires : goal.lower_digits-high-requires
 lower_digits-high-requires c =
-    let bytes = below_from_Fits w8 _ (chunk-fits w8 c.args.place 16 c.args.bytes.now c.type_inv.bytes) in
-    subst (Each1 (λ x. x < 16)) (sym c.high_halves.ensures) (halves_small (chunk c.args.place 16 c.args.bytes.now) bytes)
+    let bytes = below_from_Fits w8 _ (chunk-fits w8 c.args.offset 16 c.args.bytes.now c.type_inv.bytes) in
+    subst (Each1 (λ x. x < 16)) (sym c.high_halves.ensures) (halves_small (chunk c.args.offset 16 c.args.bytes.now) bytes)
 
 pub lower_digits-low-requires : goal.lower_digits-low-requires
 lower_digits-low-requires c =
-    subst (Each1 (λ x. x < 16)) (sym c.masked.ensures) (rests_small (chunk c.args.place 16 c.args.bytes.now))
+    subst (Each1 (λ x. x < 16)) (sym c.masked.ensures) (rests_small (chunk c.args.offset 16 c.args.bytes.now))

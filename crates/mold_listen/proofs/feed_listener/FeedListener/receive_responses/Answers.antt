@@ -1,7 +1,7 @@
 use Rattle.std.proofs.Common.{arith, ◌≡◌, ◌∙◌, ◌-◌, ◌+◌, ℕ, ap, sym, refl}
 use Rattle.mold_ports.specs.Ports.{Port}
 use Rattle.mold_listen.specs.Listening.{asking, asking_state, receive_responses, receives}
-use Rattle.mold_listen.proofs.ListenLemmas.{answer_heard, after_responses, asking_is, none_heard, stepped}
+use Rattle.mold_listen.proofs.ListenLemmas.{answer_received, after_responses, asking_is, none_received, stepped}
 use Rattle.mold_listen.proofs.TurnLemmas.{same_at_first}
 use Rattle.mold_listen.proofs.feed_listener.FeedListener.receive_responses.Goals as goal
 
@@ -24,7 +24,7 @@ loop-preserved g c = record {
       let after = asking (g.D.Datagrams.port c.receive_on.new.port) c.receive_on.new.arbiter c.receive_on.new.printer.outgoing in
       let is : after ≡ stepped before =
       asking_is _ _ _ (stepped before) (c.receive_on.ensures.port t) (c.in_ok-receive_on.ensures.received t) in
-      answer_heard (c.args.most - c.loop.counter) (c.args.most - (c.loop.counter + 1)) before after _
+      answer_received (c.args.most - c.loop.counter) (c.args.most - (c.loop.counter + 1)) before after _
       (omega (arith, c.loop-test.true)) (sym (c.in_ok-receive_on.ensures.came t) ∙ c.if-not-branch.false) is
       (c.loop.invariant.received t);
   sent = λ t. ap (λ (p : Port _). p.sent) (c.receive_on.ensures.port t) ∙ c.loop.invariant.sent t;
@@ -55,7 +55,7 @@ returns-after-loop-clause-sent g c = c.loop.invariant.sent
 
 pub returns-after-loop-clause-received : goal.returns-after-loop-clause-received
 returns-after-loop-clause-received g c = λ t.
-    none_heard (c.args.most - c.loop.counter) _ (omega (arith, c.loop-test.false)) ∙ c.loop.invariant.received t
+    none_received (c.args.most - c.loop.counter) _ (omega (arith, c.loop-test.false)) ∙ c.loop.invariant.received t
 
 pub returns-after-loop-clause-a : goal.returns-after-loop-clause-a
 returns-after-loop-clause-a g c = c.loop.invariant.a

@@ -24,8 +24,8 @@ laws g c = record {
   first = c.packing_law.ensures.first;
 }
 
-pub lines-init : goal.lines-init
-lines-init g c = record {
+pub passing-init : goal.passing-init
+passing-init g c = record {
   room = c.requires.room;
   few = omega arith;
   received = λ modeled.
@@ -38,29 +38,29 @@ lines-init g c = record {
   sink = refl;
 }
 
-pub lines-preserved : goal.lines-preserved
-lines-preserved g c =
+pub passing-preserved : goal.passing-preserved
+passing-preserved g c =
     let port = g.D.Datagrams.port in
     let feed = c.args.self.now in
     let filled = rw c.in-Full.is at c.in_ok-fill.ensures.filled in
-    let known = laws g (goal.at.lines-preserved g c).After-packing_law in
-    let went = full_went known c.lines.publisher c.fill.new.publisher c.pass_next.new.publisher c.lines.number _
-    filled.room filled.sent c.lines.invariant.few c.pass_next.ensures.sent c.pass_next.ensures.counted in
-    let only = passes_twice c.lines.invariant.only c.pass_next.ensures.only in
+    let known = laws g (goal.at.passing-preserved g c).After-packing_law in
+    let went = full_went known c.passing.publisher c.fill.new.publisher c.pass_next.new.publisher c.passing.number _
+    filled.room filled.sent c.passing.invariant.few c.pass_next.ensures.sent c.pass_next.ensures.counted in
+    let only = passes_twice c.passing.invariant.only c.pass_next.ensures.only in
     record {
       room = went.0;
       few = went.1;
       received = λ modeled.
           let made = lines port c.pass_next.new.self in
           let after = line_state made.publisher made.a made.b made.progress.arbitration c.send_large.new.self in
-          let has = next_passed port (c.lines.number + 1) (spelled_some (next_datagram c.fill.new.publisher)) _
-          c.pass_next.new.self c.lines.invariant.only.same (c.in_ok-pass_next-in-Full.ensures.passed modeled) in
+          let has = next_passed port (c.passing.number + 1) (spelled_some (next_datagram c.fill.new.publisher)) _
+          c.pass_next.new.self c.passing.invariant.only.same (c.in_ok-pass_next-in-Full.ensures.passed modeled) in
           let moves = c.in_ok-send_large.ensures.moved in
           so_far_moved feed.options.now.drops feed.options.now.peers.a feed.options.now.peers.b c.args.publisher.now c.pass_next.new.publisher
           _ _ _ made _ _ _ c.pass_next.new.number _ after
-          (so_far_full known feed.options.now.drops feed.options.now.peers.a feed.options.now.peers.b c.args.publisher.now c.lines.publisher
-          c.fill.new.publisher c.pass_next.new.publisher _ _ _ _ _ made _ _ c.lines.number c.pass_next.new.number
-          c.in_ok-pass_next-in-Full.field-0 (c.lines.invariant.received modeled) filled c.pass_next.ensures.sent
+          (so_far_full known feed.options.now.drops feed.options.now.peers.a feed.options.now.peers.b c.args.publisher.now c.passing.publisher
+          c.fill.new.publisher c.pass_next.new.publisher _ _ _ _ _ made _ _ c.passing.number c.pass_next.new.number
+          c.in_ok-pass_next-in-Full.field-0 (c.passing.invariant.received modeled) filled c.pass_next.ensures.sent
           has c.pass_next.ensures.counted)
           moves
           (lines_moved _ _ _ _ c.pass_next.new.self.listener.now.printer.outgoing c.send_large.new.self moves.front
@@ -77,9 +77,9 @@ lines-preserved g c =
         a = only.a;
         b = only.b;
       };
-      limit = ap (λ (p : PublisherState). p.limit) c.pass_next.ensures.sent ∙ filled.limit ∙ c.lines.invariant.limit;
-      source = c.in_ok-fill.ensures.failures ∙ c.lines.invariant.source;
-      sink = c.in_ok-send_large.ensures.sink ∙ c.lines.invariant.sink;
+      limit = ap (λ (p : PublisherState). p.limit) c.pass_next.ensures.sent ∙ filled.limit ∙ c.passing.invariant.limit;
+      source = c.in_ok-fill.ensures.failures ∙ c.passing.invariant.source;
+      sink = c.in_ok-send_large.ensures.sink ∙ c.passing.invariant.sink;
     }
 
 pub returns-in-End-clause-all : goal.returns-in-End-clause-all
@@ -97,21 +97,21 @@ returns-in_err-lines-clause-received g c modeled =
 pub returns-in_err-fill-clause-received : goal.returns-in_err-fill-clause-received
 returns-in_err-fill-clause-received g c modeled =
     let feed = c.args.self.now in
-    hears_still feed.options.now.drops feed.options.now.peers.a feed.options.now.peers.b c.args.publisher.now c.lines.publisher
+    hears_still feed.options.now.drops feed.options.now.peers.a feed.options.now.peers.b c.args.publisher.now c.passing.publisher
     c.fill.new.publisher _ _
-    c.from_residual-in_err-fill.result _ _ _ _ c.lines.number (c.lines.invariant.received modeled)
+    c.from_residual-in_err-fill.result _ _ _ _ c.passing.number (c.passing.invariant.received modeled)
     c.from_residual-in_err-fill.ensures.0
 
 pub returns-in_err-pass_next-in-Full-clause-received : goal.returns-in_err-pass_next-in-Full-clause-received
 returns-in_err-pass_next-in-Full-clause-received g c modeled =
     let feed = c.args.self.now in
     hears_full (laws g (goal.at.returns-in_err-pass_next-in-Full-clause-received g c).After-packing_law) feed.options.now.drops
-    feed.options.now.peers.a feed.options.now.peers.b c.args.publisher.now c.lines.publisher c.fill.new.publisher
-    c.pass_next.new.publisher _ _ _ _ _ _ _ _ c.lines.number c.pass_next.result
-    c.from_residual-in_err-pass_next-in-Full.result (c.lines.invariant.received modeled)
+    feed.options.now.peers.a feed.options.now.peers.b c.args.publisher.now c.passing.publisher c.fill.new.publisher
+    c.pass_next.new.publisher _ _ _ _ _ _ _ _ c.passing.number c.pass_next.result
+    c.from_residual-in_err-pass_next-in-Full.result (c.passing.invariant.received modeled)
     (rw c.in-Full.is at c.in_ok-fill.ensures.filled)
-    (next_passed g.D.Datagrams.port (c.lines.number + 1) (spelled_some (next_datagram c.fill.new.publisher)) _
-    c.pass_next.new.self c.lines.invariant.only.same (c.pass_next.ensures.passed modeled))
+    (next_passed g.D.Datagrams.port (c.passing.number + 1) (spelled_some (next_datagram c.fill.new.publisher)) _
+    c.pass_next.new.self c.passing.invariant.only.same (c.pass_next.ensures.passed modeled))
     c.from_residual-in_err-pass_next-in-Full.ensures.0
 
 pub returns-in_err-send_large-clause-received : goal.returns-in_err-send_large-clause-received
@@ -121,13 +121,13 @@ returns-in_err-send_large-clause-received g c modeled =
     let filled = rw c.in-Full.is at c.in_ok-fill.ensures.filled in
     let known = laws g (goal.at.returns-in_err-send_large-clause-received g c).After-packing_law in
     let made = lines port c.pass_next.new.self in
-    let has = next_passed port (c.lines.number + 1) (spelled_some (next_datagram c.fill.new.publisher)) _
-    c.pass_next.new.self c.lines.invariant.only.same (c.in_ok-pass_next-in-Full.ensures.passed modeled) in
+    let has = next_passed port (c.passing.number + 1) (spelled_some (next_datagram c.fill.new.publisher)) _
+    c.pass_next.new.self c.passing.invariant.only.same (c.in_ok-pass_next-in-Full.ensures.passed modeled) in
     hears_unwritten feed.options.now.drops feed.options.now.peers.a feed.options.now.peers.b c.args.publisher.now c.pass_next.new.publisher
     c.pass_next.new.publisher _ _ c.from_residual-in_err-send_large.result _ made _ _ _ _ c.pass_next.new.number
-    (so_far_full known feed.options.now.drops feed.options.now.peers.a feed.options.now.peers.b c.args.publisher.now c.lines.publisher
-    c.fill.new.publisher c.pass_next.new.publisher _ _ _ _ _ made _ _ c.lines.number c.pass_next.new.number
-    c.in_ok-pass_next-in-Full.field-0 (c.lines.invariant.received modeled) filled c.pass_next.ensures.sent
+    (so_far_full known feed.options.now.drops feed.options.now.peers.a feed.options.now.peers.b c.args.publisher.now c.passing.publisher
+    c.fill.new.publisher c.pass_next.new.publisher _ _ _ _ _ made _ _ c.passing.number c.pass_next.new.number
+    c.in_ok-pass_next-in-Full.field-0 (c.passing.invariant.received modeled) filled c.pass_next.ensures.sent
     has c.pass_next.ensures.counted)
     refl c.send_large.ensures.front c.from_residual-in_err-send_large.ensures.0
 
@@ -135,44 +135,44 @@ pub returns-in_err-pass_next-in-End-clause-received : goal.returns-in_err-pass_n
 returns-in_err-pass_next-in-End-clause-received g c modeled =
     let feed = c.args.self.now in
     hears_last (laws g (goal.at.returns-in_err-pass_next-in-End-clause-received g c).After-packing_law) feed.options.now.drops
-    feed.options.now.peers.a feed.options.now.peers.b c.args.publisher.now c.lines.publisher c.fill.new.publisher
-    c.pass_next-in-End.new.publisher _ _ _ _ _ _ _ _ c.lines.number c.pass_next-in-End.result
-    c.from_residual-in_err-pass_next-in-End.result (c.lines.invariant.received modeled)
+    feed.options.now.peers.a feed.options.now.peers.b c.args.publisher.now c.passing.publisher c.fill.new.publisher
+    c.pass_next-in-End.new.publisher _ _ _ _ _ _ _ _ c.passing.number c.pass_next-in-End.result
+    c.from_residual-in_err-pass_next-in-End.result (c.passing.invariant.received modeled)
     (rw c.in-End.is at c.in_ok-fill.ensures.filled)
-    (next_passed g.D.Datagrams.port (c.lines.number + 1) (spelled_some (next_datagram c.fill.new.publisher)) _
-    c.pass_next-in-End.new.self c.lines.invariant.only.same (c.pass_next-in-End.ensures.passed modeled))
+    (next_passed g.D.Datagrams.port (c.passing.number + 1) (spelled_some (next_datagram c.fill.new.publisher)) _
+    c.pass_next-in-End.new.self c.passing.invariant.only.same (c.pass_next-in-End.ensures.passed modeled))
     c.from_residual-in_err-pass_next-in-End.ensures.0
 
 pub returns-in-End-clause-received : goal.returns-in-End-clause-received
 returns-in-End-clause-received g c modeled =
     let feed = c.args.self.now in
     hears_end (laws g (goal.at.returns-in-End-clause-received g c).After-packing_law) feed.options.now.drops
-    feed.options.now.peers.a feed.options.now.peers.b c.args.publisher.now c.lines.publisher c.fill.new.publisher
-    c.pass_next-in-End.new.publisher _ _ _ _ _ _ _ _ c.lines.number c.in_ok-pass_next-in-End.field-0
-    (c.lines.invariant.received modeled) (rw c.in-End.is at c.in_ok-fill.ensures.filled)
-    (next_passed g.D.Datagrams.port (c.lines.number + 1) (spelled_some (next_datagram c.fill.new.publisher)) _
-    c.pass_next-in-End.new.self c.lines.invariant.only.same (c.in_ok-pass_next-in-End.ensures.passed modeled))
+    feed.options.now.peers.a feed.options.now.peers.b c.args.publisher.now c.passing.publisher c.fill.new.publisher
+    c.pass_next-in-End.new.publisher _ _ _ _ _ _ _ _ c.passing.number c.in_ok-pass_next-in-End.field-0
+    (c.passing.invariant.received modeled) (rw c.in-End.is at c.in_ok-fill.ensures.filled)
+    (next_passed g.D.Datagrams.port (c.passing.number + 1) (spelled_some (next_datagram c.fill.new.publisher)) _
+    c.pass_next-in-End.new.self c.passing.invariant.only.same (c.in_ok-pass_next-in-End.ensures.passed modeled))
     c.pass_next-in-End.ensures.sent
 
 pub returns-in-Refused-clause-received : goal.returns-in-Refused-clause-received
 returns-in-Refused-clause-received g c modeled =
     let feed = c.args.self.now in
     hears_refused (laws g (goal.at.returns-in-Refused-clause-received g c).After-packing_law) feed.options.now.drops
-    feed.options.now.peers.a feed.options.now.peers.b c.args.publisher.now c.lines.publisher c.fill.new.publisher _ _ _
-    c.in-Refused.why _ _ _ _ c.lines.number (c.lines.invariant.received modeled)
+    feed.options.now.peers.a feed.options.now.peers.b c.args.publisher.now c.passing.publisher c.fill.new.publisher _ _ _
+    c.in-Refused.why _ _ _ _ c.passing.number (c.passing.invariant.received modeled)
     (rw c.in-Refused.is at c.in_ok-fill.ensures.filled)
 
 pub returns-in_err-fill-clause-only : goal.returns-in_err-fill-clause-only
-returns-in_err-fill-clause-only g c = c.lines.invariant.only
+returns-in_err-fill-clause-only g c = c.passing.invariant.only
 
 pub returns-in-Refused-clause-only : goal.returns-in-Refused-clause-only
-returns-in-Refused-clause-only g c = c.lines.invariant.only
+returns-in-Refused-clause-only g c = c.passing.invariant.only
 
 pub returns-in_err-pass_next-in-Full-clause-only : goal.returns-in_err-pass_next-in-Full-clause-only
-returns-in_err-pass_next-in-Full-clause-only g c = passes_twice c.lines.invariant.only c.pass_next.ensures.only
+returns-in_err-pass_next-in-Full-clause-only g c = passes_twice c.passing.invariant.only c.pass_next.ensures.only
 
 pub returns-in_err-pass_next-in-End-clause-only : goal.returns-in_err-pass_next-in-End-clause-only
-returns-in_err-pass_next-in-End-clause-only g c = passes_twice c.lines.invariant.only c.pass_next-in-End.ensures.only
+returns-in_err-pass_next-in-End-clause-only g c = passes_twice c.passing.invariant.only c.pass_next-in-End.ensures.only
 
 pub returns-in-End-clause-only : goal.returns-in-End-clause-only
-returns-in-End-clause-only g c = passes_twice c.lines.invariant.only c.pass_next-in-End.ensures.only
+returns-in-End-clause-only g c = passes_twice c.passing.invariant.only c.pass_next-in-End.ensures.only

@@ -8,8 +8,8 @@ use Rattle.mold_loop.proofs.local_feed.LocalFeed.pass_lines.Given as goal
 
 -- the unsent messages fit a datagram, the data so far are passed and nothing else changed, the limit is the same, and
 -- no device failed
-abbrev pub invariant-lines : goal.invariant-lines
-invariant-lines g l = record {
+abbrev pub invariant-passing : goal.invariant-passing
+invariant-passing g l = record {
   room : HasRoom l.publisher;
   few : l.number ≤ l.publisher.sent;
   received :
@@ -24,5 +24,5 @@ invariant-lines g l = record {
   sink : g.K.Sink.failed l.sink ≡ g.K.Sink.failed l.fn.sink;
 }
 
-abbrev pub decreases-lines : goal.decreases-lines
-decreases-lines g l = work_left (g.S.Source.bound l.source) l.lines.rest
+abbrev pub decreases-passing : goal.decreases-passing
+decreases-passing g l = work_left (g.S.Source.bound l.source) l.lines.rest

@@ -8,7 +8,7 @@ use Rattle.mold_ports.specs.Ports.{Port}
 use Rattle.mold_session.specs.Publisher.{PublisherState}
 use Rattle.mold_turns.proofs.FaultLemmas.{counts_behind}
 use Rattle.mold_loop.proofs.LocalFeedLemmas.{passed_from, rounds_from, same_twice}
-use Rattle.mold_loop.proofs.LoopEndLemmas.{journal_left, loop_done, loop_stopped, loop_unended, loop_unheard, loop_unrepaired}
+use Rattle.mold_loop.proofs.LoopEndLemmas.{journal_left, loop_done, loop_stopped, loop_unended, loop_unreceived, loop_unrepaired}
 use Rattle.mold_loop.proofs.LoopEndLemmas.{rests_from}
 use Rattle.mold_turns.proofs.RunLemmas.{on_ok}
 use Rattle.mold_loop.proofs.local_feed.LocalFeed.run.Goals as goal
@@ -23,7 +23,7 @@ returns-in_err-refused-clause-run g c modeled =
     let port = g.D.Datagrams.port in
     let feed = c.args.self.now in
     let peers = feed.options.now.peers in
-    loop_unheard feed.options.now.reporting feed.options.now.drops peers.a peers.b peers.server feed.options.now.turns c.args.publisher.now
+    loop_unreceived feed.options.now.reporting feed.options.now.drops peers.a peers.b peers.server feed.options.now.turns c.args.publisher.now
     c.pass_lines.new.publisher c.args.server.now (lines port feed) (rounds port c.args.server.now feed) _
     c.pass_lines.result c.from_residual.result _ _ (lines port c.pass_lines.new.self)
     (rounds port c.args.server.now c.pass_lines.new.self) c.from_residual.ensures.0

@@ -4,7 +4,7 @@ use Rattle.mold_listen.specs.Listening.{asking, receive_responses}
 use Rattle.mold_loop.specs.LocalFeed.{asking_state}
 use Rattle.mold_listen.proofs.ListenLemmas.{asking_is, stepped}
 use Rattle.mold_loop.proofs.LocalFeedLemmas.{repairs_at_first, repairs_twice}
-use Rattle.mold_loop.proofs.RepairLemmas.{all_heard, one_heard}
+use Rattle.mold_loop.proofs.RepairLemmas.{all_received, one_received}
 use Rattle.mold_loop.proofs.local_feed.LocalFeed.take_answers.Goals as goal
 
 pub loop-answer-init : goal.loop-answer-init
@@ -25,7 +25,7 @@ loop-answer-preserved g c = record {
       c.receive_once.new.listener.printer.outgoing in
       let is : after ≡ stepped before =
       asking_is _ _ _ (stepped before) (c.receive_once.ensures.port t) (c.in_ok-receive_once.ensures.received t) in
-      one_heard (c.args.count - c.loop-answer._answer) (c.args.count - (c.loop-answer._answer + 1)) before after _
+      one_received (c.args.count - c.loop-answer._answer) (c.args.count - (c.loop-answer._answer + 1)) before after _
       (omega (arith, c.loop-answer-test.true)) is (c.loop-answer.invariant.received t);
   sent = λ t. ap (λ (p : Port _). p.sent) (c.receive_once.ensures.port t) ∙ c.loop-answer.invariant.sent t;
   server = c.loop-answer.invariant.server;
@@ -55,7 +55,7 @@ pub returns : goal.returns
 returns g c = record {
   sent = c.loop-answer.invariant.sent;
   received = λ t.
-      all_heard (c.args.count - c.loop-answer._answer) _ _
+      all_received (c.args.count - c.loop-answer._answer) _ _
       (omega (arith, c.loop-answer-test.false)) (c.loop-answer.invariant.received t);
   server = c.loop-answer.invariant.server;
   only = c.loop-answer.invariant.only;

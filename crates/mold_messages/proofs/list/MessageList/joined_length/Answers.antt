@@ -1,6 +1,6 @@
 use Rattle.std.proofs.Common.{◌≡◌, ℕ, ◌-◌, List, length, take, drop, ap, subst, ◌∙◌, arith}
 use Rattle.mold_messages.specs.Listed.{Listed, byte_count}
-use Rattle.mold_messages.specs.Offsets.{place}
+use Rattle.mold_messages.specs.Offsets.{start_at}
 use Rattle.mold_messages.proofs.PlaceLemmas.{length-pieces, joined_between, place_ordered}
 use Rattle.mold_messages.proofs.list.MessageList.joined_length.Goals as goal
 
@@ -17,8 +17,8 @@ offset_of-requires-2 c =
 pub overflow_sub-result : goal.overflow_sub-result
 overflow_sub-result c =
     let f = c.self.inside in
-    let stops = c.offset_of.ensures ∙ ap (λ (t : List ℕ). place 0 t c.args.to) c.deref.ensures.value in
-    let begins = c.offset_of-2.ensures ∙ ap (λ (t : List ℕ). place 0 t c.args.from) c.deref-2.ensures.value in
+    let stops = c.offset_of.ensures ∙ ap (λ (t : List ℕ). start_at 0 t c.args.to) c.deref.ensures.value in
+    let begins = c.offset_of-2.ensures ∙ ap (λ (t : List ℕ). start_at 0 t c.args.from) c.deref-2.ensures.value in
     omega (
       arith,
       begins,
@@ -35,8 +35,8 @@ overflow_sub-result c =
 pub returns : goal.returns
 returns c =
     let f = c.self.inside in
-    let stops = c.offset_of.ensures ∙ ap (λ (t : List ℕ). place 0 t c.args.to) c.deref.ensures.value in
-    let begins = c.offset_of-2.ensures ∙ ap (λ (t : List ℕ). place 0 t c.args.from) c.deref-2.ensures.value in
+    let stops = c.offset_of.ensures ∙ ap (λ (t : List ℕ). start_at 0 t c.args.to) c.deref.ensures.value in
+    let begins = c.offset_of-2.ensures ∙ ap (λ (t : List ℕ). start_at 0 t c.args.from) c.deref-2.ensures.value in
     let sum = joined_between 0 f.ends.items f.bytes.items c.args.from c.args.to c.self.invariant (omega arith)
     (omega (arith, length-pieces 0 f.ends.items f.bytes.items, ap (λ (l : Listed). length l.messages) c.self.view_is))
     in

@@ -1,7 +1,7 @@
 use Rattle.std.proofs.Common.{ℕ, List, length, sym, ap, ◌∙◌, arith, rules}
 use Rattle.std.proofs.lemmas.List.{take_all}
 use Rattle.mold_messages.specs.Listed.{Listed}
-use Rattle.mold_messages.specs.Offsets.{place}
+use Rattle.mold_messages.specs.Offsets.{start_at}
 use Rattle.mold_messages.proofs.PlaceLemmas.{length-pieces, cut}
 use Rattle.mold_messages.proofs.list.MessageList.truncate.Goals as goal
 
@@ -10,7 +10,7 @@ invariant_of-self c =
     let f = c.self.inside in
     (cut f.ends.items f.bytes.items c.args.keep c.offset_of-end.result c.truncate.new.self.items
     c.truncate-then-keep-len.new.self.items c.self.invariant
-    (c.offset_of-end.ensures ∙ ap (λ (t : List ℕ). place 0 t c.args.keep) c.deref.ensures.value)
+    (c.offset_of-end.ensures ∙ ap (λ (t : List ℕ). start_at 0 t c.args.keep) c.deref.ensures.value)
     c.truncate.ensures.items c.truncate-then-keep-len.ensures.items).rising
 
 pub returns-then-keep-len : goal.returns-then-keep-len
@@ -18,7 +18,7 @@ returns-then-keep-len c =
     let f = c.self.inside in
     let fewer = (cut f.ends.items f.bytes.items c.args.keep c.offset_of-end.result c.truncate.new.self.items
     c.truncate-then-keep-len.new.self.items c.self.invariant
-    (c.offset_of-end.ensures ∙ ap (λ (t : List ℕ). place 0 t c.args.keep) c.deref.ensures.value)
+    (c.offset_of-end.ensures ∙ ap (λ (t : List ℕ). start_at 0 t c.args.keep) c.deref.ensures.value)
     c.truncate.ensures.items c.truncate-then-keep-len.ensures.items).messages
     in
     rw (← c.self.view_is) (search (rules, fewer))

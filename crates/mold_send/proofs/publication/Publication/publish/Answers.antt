@@ -13,7 +13,7 @@ send_lines-requires-clause-room g c =
 
 pub returns-in_err-why-clause-run : goal.returns-in_err-why-clause-run
 returns-in_err-why-clause-run g c modeled =
-    run_unread c.args.self.now.lines.a.now c.args.self.now.lines.b.now c.args.closing.beats c.args.closing.ends
+    run_unread c.args.self.now.two_lines.a.now c.args.self.now.two_lines.b.now c.args.closing.beats c.args.closing.ends
     c.args.self.now.publisher.now _ _ _ c.from_residual.result _ _ _ _ _ _ _
     c.requires.quiet
     (none_sent c.args.self.now.publisher.now c.publisher_holds.ensures.published c.requires.empty)
@@ -22,7 +22,7 @@ returns-in_err-why-clause-run g c modeled =
 
 pub returns-in_err-print_line_refused-clause-run : goal.returns-in_err-print_line_refused-clause-run
 returns-in_err-print_line_refused-clause-run g c modeled =
-    run_unread c.args.self.now.lines.a.now c.args.self.now.lines.b.now c.args.closing.beats c.args.closing.ends
+    run_unread c.args.self.now.two_lines.a.now c.args.self.now.two_lines.b.now c.args.closing.beats c.args.closing.ends
     c.args.self.now.publisher.now _ _ _
     c.from_residual-in_err-print_line_refused.result _ _ _ _ _ _ _
     c.requires.quiet
@@ -32,7 +32,7 @@ returns-in_err-print_line_refused-clause-run g c modeled =
 
 pub returns-in_err-send-clause-run : goal.returns-in_err-send-clause-run
 returns-in_err-send-clause-run g c modeled =
-    run_refused c.args.self.now.lines.a.now c.args.self.now.lines.b.now c.args.closing.beats c.args.closing.ends
+    run_refused c.args.self.now.two_lines.a.now c.args.self.now.two_lines.b.now c.args.closing.beats c.args.closing.ends
     c.args.self.now.publisher.now c.send_lines.new.self.publisher.now _
     c.in-Some.why c.from_residual-in_err-send.result _ _ _ c.print_line_refused.new.outgoing _ _ _ _ _ c.next-number.result
     c.requires.quiet
@@ -46,7 +46,7 @@ returns-in_err-send-clause-run g c modeled =
 
 pub returns-in-Some-clause-run : goal.returns-in-Some-clause-run
 returns-in-Some-clause-run g c modeled =
-    run_refused c.args.self.now.lines.a.now c.args.self.now.lines.b.now c.args.closing.beats c.args.closing.ends
+    run_refused c.args.self.now.two_lines.a.now c.args.self.now.two_lines.b.now c.args.closing.beats c.args.closing.ends
     c.args.self.now.publisher.now c.send_lines.new.self.publisher.now _
     c.in-Some.why _ _ _ _ c.print_line_refused.new.outgoing _ _ _ _ _ c.next-number.result
     c.requires.quiet
@@ -60,16 +60,16 @@ returns-in-Some-clause-run g c modeled =
 
 pub returns-in_err-save_journal-clause-run : goal.returns-in_err-save_journal-clause-run
 returns-in_err-save_journal-clause-run g c modeled =
-    run_unsaved c.args.self.now.lines.a.now c.args.self.now.lines.b.now c.args.closing.beats c.args.closing.ends
+    run_unsaved c.args.self.now.two_lines.a.now c.args.self.now.two_lines.b.now c.args.closing.beats c.args.closing.ends
     c.args.self.now.publisher.now c.send_lines.new.self.publisher.now _
-    c.from_residual-in_err-save_journal.result _ _ _ c.send_close.new.self.lines.outgoing.now c.send_lines.new.self.datagrams _ _ _ _ _
+    c.from_residual-in_err-save_journal.result _ _ _ c.send_close.new.self.two_lines.outgoing.now c.send_lines.new.self.datagrams _ _ _ _ _
     c.journal-2.result.now
     c.requires.quiet
     (none_sent c.args.self.now.publisher.now c.publisher_holds.ensures.published c.requires.empty)
     c.requires.unclosed
     (rw c.in_default.is at (c.in_ok-why.ensures.sends modeled))
-    (λ unclosed. sends_same g.D.Datagrams.port _ c.args.self.now.lines c.send_lines.new.self.lines
-    c.send_close.new.self.lines c.in_ok-why.ensures.same.lines
+    (λ unclosed. sends_same g.D.Datagrams.port _ c.args.self.now.two_lines c.send_lines.new.self.two_lines
+    c.send_close.new.self.two_lines c.in_ok-why.ensures.same.two_lines
     (c.send_close.ensures.sends modeled unclosed))
     (c.journal-2.ensures ∙ ap (λ (p : PublisherState). p.journal) c.send_close.ensures.closed)
     c.from_residual-in_err-save_journal.ensures.0
@@ -77,16 +77,16 @@ returns-in_err-save_journal-clause-run g c modeled =
 
 pub returns-in_err-push_published-clause-run : goal.returns-in_err-push_published-clause-run
 returns-in_err-push_published-clause-run g c modeled =
-    run_unsaved c.args.self.now.lines.a.now c.args.self.now.lines.b.now c.args.closing.beats c.args.closing.ends
+    run_unsaved c.args.self.now.two_lines.a.now c.args.self.now.two_lines.b.now c.args.closing.beats c.args.closing.ends
     c.args.self.now.publisher.now c.send_lines.new.self.publisher.now _
-    c.from_residual-in_err-push_published.result _ _ _ c.send_close.new.self.lines.outgoing.now c.send_lines.new.self.datagrams _ _ _ _ _
+    c.from_residual-in_err-push_published.result _ _ _ c.send_close.new.self.two_lines.outgoing.now c.send_lines.new.self.datagrams _ _ _ _ _
     c.journal-2.result.now
     c.requires.quiet
     (none_sent c.args.self.now.publisher.now c.publisher_holds.ensures.published c.requires.empty)
     c.requires.unclosed
     (rw c.in_default.is at (c.in_ok-why.ensures.sends modeled))
-    (λ unclosed. sends_same g.D.Datagrams.port _ c.args.self.now.lines c.send_lines.new.self.lines
-    c.send_close.new.self.lines c.in_ok-why.ensures.same.lines
+    (λ unclosed. sends_same g.D.Datagrams.port _ c.args.self.now.two_lines c.send_lines.new.self.two_lines
+    c.send_close.new.self.two_lines c.in_ok-why.ensures.same.two_lines
     (c.send_close.ensures.sends modeled unclosed))
     (c.journal-2.ensures ∙ ap (λ (p : PublisherState). p.journal) c.send_close.ensures.closed)
     c.from_residual-in_err-push_published.ensures.0
@@ -96,16 +96,16 @@ pub returns-in_err-send-2-clause-run : goal.returns-in_err-send-2-clause-run
 returns-in_err-send-2-clause-run g c modeled =
     let closed = ap (λ (p : PublisherState). p.journal) c.send_close.ensures.closed in
     let failed = c.from_residual-in_err-send-2.ensures.0 in
-    run_printed c.args.self.now.lines.a.now c.args.self.now.lines.b.now c.args.closing.beats c.args.closing.ends
+    run_printed c.args.self.now.two_lines.a.now c.args.self.now.two_lines.b.now c.args.closing.beats c.args.closing.ends
     c.args.self.now.publisher.now c.send_lines.new.self.publisher.now _
-    c.from_residual-in_err-send-2.result _ _ _ c.send_close.new.self.lines.outgoing.now c.push_published.new.outgoing
+    c.from_residual-in_err-send-2.result _ _ _ c.send_close.new.self.two_lines.outgoing.now c.push_published.new.outgoing
     c.send_lines.new.self.datagrams (c.next-messages.result - 1) _ _ _ _ _ _ c.journal-2.result.now
     c.requires.quiet
     (none_sent c.args.self.now.publisher.now c.publisher_holds.ensures.published c.requires.empty)
     c.requires.unclosed
     (rw c.in_default.is at (c.in_ok-why.ensures.sends modeled))
-    (λ unclosed. sends_same g.D.Datagrams.port _ c.args.self.now.lines c.send_lines.new.self.lines
-    c.send_close.new.self.lines c.in_ok-why.ensures.same.lines
+    (λ unclosed. sends_same g.D.Datagrams.port _ c.args.self.now.two_lines c.send_lines.new.self.two_lines
+    c.send_close.new.self.two_lines c.in_ok-why.ensures.same.two_lines
     (c.send_close.ensures.sends modeled unclosed))
     (c.journal-2.ensures ∙ closed)
     (many_messages _ _ _ c.next-messages.ensures.value (c.journal-3.ensures ∙ closed))
@@ -118,16 +118,16 @@ returns-in_err-send-2-clause-run g c modeled =
 pub returns-clause-run : goal.returns-clause-run
 returns-clause-run g c modeled =
     let closed = ap (λ (p : PublisherState). p.journal) c.send_close.ensures.closed in
-    run_printed c.args.self.now.lines.a.now c.args.self.now.lines.b.now c.args.closing.beats c.args.closing.ends
+    run_printed c.args.self.now.two_lines.a.now c.args.self.now.two_lines.b.now c.args.closing.beats c.args.closing.ends
     c.args.self.now.publisher.now c.send_lines.new.self.publisher.now _
-    _ _ _ _ c.send_close.new.self.lines.outgoing.now c.push_published.new.outgoing c.send_lines.new.self.datagrams (c.next-messages.result - 1)
+    _ _ _ _ c.send_close.new.self.two_lines.outgoing.now c.push_published.new.outgoing c.send_lines.new.self.datagrams (c.next-messages.result - 1)
     _ _ _ _ _ _ c.journal-2.result.now
     c.requires.quiet
     (none_sent c.args.self.now.publisher.now c.publisher_holds.ensures.published c.requires.empty)
     c.requires.unclosed
     (rw c.in_default.is at (c.in_ok-why.ensures.sends modeled))
-    (λ unclosed. sends_same g.D.Datagrams.port _ c.args.self.now.lines c.send_lines.new.self.lines
-    c.send_close.new.self.lines c.in_ok-why.ensures.same.lines
+    (λ unclosed. sends_same g.D.Datagrams.port _ c.args.self.now.two_lines c.send_lines.new.self.two_lines
+    c.send_close.new.self.two_lines c.in_ok-why.ensures.same.two_lines
     (c.send_close.ensures.sends modeled unclosed))
     (c.journal-2.ensures ∙ closed)
     (many_messages _ _ _ c.next-messages.ensures.value (c.journal-3.ensures ∙ closed))
@@ -139,11 +139,11 @@ returns-clause-run g c modeled =
 
 pub returns-in-Some-clause-journal : goal.returns-in-Some-clause-journal
 returns-in-Some-clause-journal g c modeled =
-    left_behind c.args.self.now.lines.a.now c.args.self.now.lines.b.now c.args.self.now.publisher.now c.send_lines.new.self.publisher.now _ _ _ _ _ _
+    left_behind c.args.self.now.two_lines.a.now c.args.self.now.two_lines.b.now c.args.self.now.publisher.now c.send_lines.new.self.publisher.now _ _ _ _ _ _
     (rw c.in-Some.is at (c.in_ok-why.ensures.sends modeled)) refl
 
 pub returns-clause-journal : goal.returns-clause-journal
 returns-clause-journal g c modeled =
-    left_behind c.args.self.now.lines.a.now c.args.self.now.lines.b.now c.args.self.now.publisher.now c.send_lines.new.self.publisher.now _ _ _ _ _ _
+    left_behind c.args.self.now.two_lines.a.now c.args.self.now.two_lines.b.now c.args.self.now.publisher.now c.send_lines.new.self.publisher.now _ _ _ _ _ _
     (rw c.in_default.is at (c.in_ok-why.ensures.sends modeled))
     (ap (λ (p : PublisherState). p.journal) c.send_close.ensures.closed)

@@ -15,11 +15,11 @@ returns-clause-sends g c modeled unclosed =
     sends_behind g.D.Datagrams.port
     (replicate c.args.beats (spelling_of (beat_packet c.args.self.now.publisher.now.journal)))
     (replicate c.args.ends (spelling_of (end_packet c.args.self.now.publisher.now.journal)))
-    c.args.self.now.lines c.send_beats.new.self.lines c.send_ends.new.self.lines c.send_beats.ensures.same.lines
+    c.args.self.now.two_lines c.send_beats.new.self.two_lines c.send_ends.new.self.two_lines c.send_beats.ensures.same.two_lines
     (c.send_beats.ensures.sends modeled unclosed)
     (subst
     (λ (p : PublisherState).
     SendsBoth g.D.Datagrams.port (replicate c.args.ends (spelling_of (end_packet p.journal)))
-    c.send_beats.new.self.lines c.send_ends.new.self.lines)
+    c.send_beats.new.self.two_lines c.send_ends.new.self.two_lines)
     (shut ∙ ap (λ (p : PublisherState). closed p) kept)
     (c.send_ends.ensures.sends modeled))

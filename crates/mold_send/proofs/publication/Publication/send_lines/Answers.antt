@@ -17,54 +17,54 @@ laws g c = record {
   first = c.packing_law.ensures.first;
 }
 
-pub lines-init : goal.lines-init
-lines-init g c = record {
+pub publishing-init : goal.publishing-init
+publishing-init g c = record {
   room = c.requires.room;
   few = omega (arith, c.requires.none);
   sends = λ modeled.
-      sent_begun c.args.self.now.lines.a.now c.args.self.now.lines.b.now c.args.self.now.publisher.now
+      sent_begun c.args.self.now.two_lines.a.now c.args.self.now.two_lines.b.now c.args.self.now.publisher.now
       (g.S.Source.left c.args.source.now) c.in_ok-lines.lines.rest _ _ c.in_ok-lines.ensures c.requires.none;
   same = same_at_first c.args.self.now;
   source = refl;
 }
 
-pub lines-preserved : goal.lines-preserved
-lines-preserved g c =
+pub publishing-preserved : goal.publishing-preserved
+publishing-preserved g c =
     let filled = rw c.in-Full.is at c.in_ok-fill.ensures.filled in
-    let known = laws g (goal.at.lines-preserved g c).After-packing_law in
-    let went = full_went known c.lines.self.publisher.now c.fill.new.publisher c.send_next.new.self.publisher.now
-    c.lines.self.datagrams _ filled.room filled.sent c.lines.invariant.few c.send_next.ensures.sent
+    let known = laws g (goal.at.publishing-preserved g c).After-packing_law in
+    let went = full_went known c.publishing.self.publisher.now c.fill.new.publisher c.send_next.new.self.publisher.now
+    c.publishing.self.datagrams _ filled.room filled.sent c.publishing.invariant.few c.send_next.ensures.sent
     c.send_next.ensures.counted in
     record {
       room = went.0;
       few = went.1;
       sends = λ modeled.
-          sent_full known c.args.self.now.lines.a.now c.args.self.now.lines.b.now c.args.self.now.publisher.now
-          c.lines.self.publisher.now c.fill.new.publisher _ _ _ _ _ _ _
-          c.lines.self.datagrams _ (c.lines.invariant.sends modeled) filled c.send_next.ensures.sent
-          (sends_same g.D.Datagrams.port _ c.args.self.now.lines c.lines.self.lines c.send_next.new.self.lines
-          c.lines.invariant.same.lines (c.send_next.ensures.sends modeled))
+          sent_full known c.args.self.now.two_lines.a.now c.args.self.now.two_lines.b.now c.args.self.now.publisher.now
+          c.publishing.self.publisher.now c.fill.new.publisher _ _ _ _ _ _ _
+          c.publishing.self.datagrams _ (c.publishing.invariant.sends modeled) filled c.send_next.ensures.sent
+          (sends_same g.D.Datagrams.port _ c.args.self.now.two_lines c.publishing.self.two_lines c.send_next.new.self.two_lines
+          c.publishing.invariant.same.two_lines (c.send_next.ensures.sends modeled))
           c.send_next.ensures.counted;
       same = record {
-        publisher = c.send_next.ensures.same.publisher ∙ c.lines.invariant.same.publisher;
-        lines = lines_twice c.lines.invariant.same.lines c.send_next.ensures.same.lines;
+        publisher = c.send_next.ensures.same.publisher ∙ c.publishing.invariant.same.publisher;
+        two_lines = lines_twice c.publishing.invariant.same.two_lines c.send_next.ensures.same.two_lines;
       };
-      source = c.in_ok-fill.ensures.failures ∙ c.lines.invariant.source;
+      source = c.in_ok-fill.ensures.failures ∙ c.publishing.invariant.source;
     }
 
 pub returns-in_err-lines-clause-sends : goal.returns-in_err-lines-clause-sends
 returns-in_err-lines-clause-sends g c modeled =
-    sent_not c.args.self.now.lines.a.now c.args.self.now.lines.b.now c.args.self.now.publisher.now _ _ c.from_residual.result _ _
+    sent_not c.args.self.now.two_lines.a.now c.args.self.now.two_lines.b.now c.args.self.now.publisher.now _ _ c.from_residual.result _ _
     c.from_residual.ensures.0
 
 pub returns-in-End-clause-sends : goal.returns-in-End-clause-sends
 returns-in-End-clause-sends g c modeled =
-    sent_end (laws g (goal.at.returns-in-End-clause-sends g c).After-packing_law) c.args.self.now.lines.a.now
-    c.args.self.now.lines.b.now c.args.self.now.publisher.now c.lines.self.publisher.now c.fill.new.publisher
-    _ _ _ _ _ _ _ c.lines.self.datagrams _
-    (c.lines.invariant.sends modeled) (rw c.in-End.is at c.in_ok-fill.ensures.filled) c.send_next-in-End.ensures.sent
-    (sends_same g.D.Datagrams.port _ c.args.self.now.lines c.lines.self.lines c.send_next-in-End.new.self.lines
-    c.lines.invariant.same.lines (c.send_next-in-End.ensures.sends modeled))
+    sent_end (laws g (goal.at.returns-in-End-clause-sends g c).After-packing_law) c.args.self.now.two_lines.a.now
+    c.args.self.now.two_lines.b.now c.args.self.now.publisher.now c.publishing.self.publisher.now c.fill.new.publisher
+    _ _ _ _ _ _ _ c.publishing.self.datagrams _
+    (c.publishing.invariant.sends modeled) (rw c.in-End.is at c.in_ok-fill.ensures.filled) c.send_next-in-End.ensures.sent
+    (sends_same g.D.Datagrams.port _ c.args.self.now.two_lines c.publishing.self.two_lines c.send_next-in-End.new.self.two_lines
+    c.publishing.invariant.same.two_lines (c.send_next-in-End.ensures.sends modeled))
     c.send_next-in-End.ensures.counted
 
 pub returns-in-End-clause-all : goal.returns-in-End-clause-all
@@ -75,17 +75,17 @@ returns-in-End-clause-all g c none =
 
 pub returns-in-End-clause-same : goal.returns-in-End-clause-same
 returns-in-End-clause-same g c = record {
-  publisher = c.send_next-in-End.ensures.same.publisher ∙ c.lines.invariant.same.publisher;
-  lines = lines_twice c.lines.invariant.same.lines c.send_next-in-End.ensures.same.lines;
+  publisher = c.send_next-in-End.ensures.same.publisher ∙ c.publishing.invariant.same.publisher;
+  two_lines = lines_twice c.publishing.invariant.same.two_lines c.send_next-in-End.ensures.same.two_lines;
 }
 
 pub returns-in-Refused-clause-sends : goal.returns-in-Refused-clause-sends
 returns-in-Refused-clause-sends g c modeled =
-    sent_refused (laws g (goal.at.returns-in-Refused-clause-sends g c).After-packing_law) c.args.self.now.lines.a.now
-    c.args.self.now.lines.b.now c.args.self.now.publisher.now c.lines.self.publisher.now c.fill.new.publisher
-    _ _ _ c.in-Refused.why _ _ c.lines.self.datagrams
-    (c.lines.invariant.sends modeled) (rw c.in-Refused.is at c.in_ok-fill.ensures.filled)
+    sent_refused (laws g (goal.at.returns-in-Refused-clause-sends g c).After-packing_law) c.args.self.now.two_lines.a.now
+    c.args.self.now.two_lines.b.now c.args.self.now.publisher.now c.publishing.self.publisher.now c.fill.new.publisher
+    _ _ _ c.in-Refused.why _ _ c.publishing.self.datagrams
+    (c.publishing.invariant.sends modeled) (rw c.in-Refused.is at c.in_ok-fill.ensures.filled)
 
 pub returns-in-Refused-clause-same : goal.returns-in-Refused-clause-same
 returns-in-Refused-clause-same g c =
-    record { publisher = c.lines.invariant.same.publisher; lines = c.lines.invariant.same.lines }
+    record { publisher = c.publishing.invariant.same.publisher; two_lines = c.publishing.invariant.same.two_lines }

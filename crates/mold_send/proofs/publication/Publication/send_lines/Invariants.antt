@@ -7,19 +7,19 @@ use Rattle.mold_send.proofs.SendingLemmas.{SentSoFar}
 use Rattle.mold_send.proofs.publication.Publication.send_lines.Given as goal
 
 -- the data so far were offered, and no device failed
-abbrev pub invariant-lines : goal.invariant-lines
-invariant-lines g l = record {
+abbrev pub invariant-publishing : goal.invariant-publishing
+invariant-publishing g l = record {
   room : HasRoom l.self.publisher.now;
   few : l.self.datagrams ≤ l.self.publisher.now.sent;
   sends :
       g.D.Datagrams.modeled ≡ true →
-      SentSoFar l.fn.self.lines.a.now l.fn.self.lines.b.now l.fn.self.publisher.now l.self.publisher.now
+      SentSoFar l.fn.self.two_lines.a.now l.fn.self.two_lines.b.now l.fn.self.publisher.now l.self.publisher.now
       (g.S.Source.left l.fn.source) (prepend_known l.lines.rest (g.S.Source.left l.source))
-      (lines_state g.D.Datagrams.port l.fn.self.lines) (lines_state g.D.Datagrams.port l.self.lines)
+      (lines_state g.D.Datagrams.port l.fn.self.two_lines) (lines_state g.D.Datagrams.port l.self.two_lines)
       l.self.datagrams;
   same : IsSame l.fn.self l.self;
   source : g.S.Source.failed l.source ≡ g.S.Source.failed l.fn.source;
 }
 
-abbrev pub decreases-lines : goal.decreases-lines
-decreases-lines g l = work_left (g.S.Source.bound l.source) l.lines.rest
+abbrev pub decreases-publishing : goal.decreases-publishing
+decreases-publishing g l = work_left (g.S.Source.bound l.source) l.lines.rest

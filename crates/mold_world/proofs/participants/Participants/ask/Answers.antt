@@ -18,7 +18,7 @@ pub returns-in-Some-wanted-clause-applied : goal.returns-in-Some-wanted-clause-a
 returns-in-Some-wanted-clause-applied c =
     let w : WorldState = world_of c.args.self.now in
     let items : c.deref.result.now ≡ c.args.self.now.subscribers.items = c.deref.ensures.value in
-    let here = slice_get_read c.args.self.now.subscribers.items _ c.args.r c.in-Some.place.now refl
+    let here = slice_get_read c.args.self.now.subscribers.items _ c.args.r c.in-Some.subscriber.now refl
     (rw items at c.in-Some.ensures.lookup.3.0) (rw items at c.in-Some.ensures.lookup.1)
     in
     let want = c.in-Some-wanted.ensures.wanted ∙ ap (λ (t : View). wanted t) c.receiver.ensures in
@@ -31,18 +31,18 @@ returns-in-Some-wanted-clause-applied c =
       asks = c.wanted_law.ensures.asks;
       gap = c.wanted_law.ensures.gap;
     } in
-    ask_applied w (world_of c.request.new.self) c.args.r c.in-Some.place.now c.in-Some-wanted.request c.encode.result
+    ask_applied w (world_of c.request.new.self) c.args.r c.in-Some.subscriber.now c.in-Some-wanted.request c.encode.result
     c.request.result here want
     (c.answered_law.ensures.asked w.publisher.journal c.in-Some-wanted.request c.encode.result c.encode.ensures
-    (wanted_answerable answers w.publisher.journal w.sent c.in-Some.place.now c.in-Some-wanted.request
-    (c.requires.world.subscribers c.args.r c.in-Some.place.now here) (sym want)))
+    (wanted_answerable answers w.publisher.journal w.sent c.in-Some.subscriber.now c.in-Some-wanted.request
+    (c.requires.world.subscribers c.args.r c.in-Some.subscriber.now here) (sym want)))
     c.request.ensures.applied
 
 pub returns-in-None-clause-applied : goal.returns-in-None-clause-applied
 returns-in-None-clause-applied c =
     let items : c.deref.result.now ≡ c.args.self.now.subscribers.items = c.deref.ensures.value in
-    let here = slice_get_read c.args.self.now.subscribers.items _ c.args.r c.in-Some.place.now refl
+    let here = slice_get_read c.args.self.now.subscribers.items _ c.args.r c.in-Some.subscriber.now refl
     (rw items at c.in-Some.ensures.lookup.3.0) (rw items at c.in-Some.ensures.lookup.1)
     in
-    ask_nothing (world_of c.args.self.now) c.args.r c.in-Some.place.now here
+    ask_nothing (world_of c.args.self.now) c.args.r c.in-Some.subscriber.now here
     (c.in-None.ensures.wanted ∙ ap (λ (t : View). wanted t) c.receiver.ensures)

@@ -10,9 +10,9 @@ use Rattle.mold_world.proofs.participants.Participants.noise.Goals.{In-Some}
 use Rattle.mold_world.proofs.participants.Participants.noise.Goals as goal
 
 -- The receiver that was found.
-found_here : (c : In-Some) → slice_get c.args.self.now.subscribers.items c.args.r ≡ Some c.in-Some.place.now
+found_here : (c : In-Some) → slice_get c.args.self.now.subscribers.items c.args.r ≡ Some c.in-Some.subscriber.now
 found_here c =
-    slice_get_read c.args.self.now.subscribers.items _ c.args.r c.in-Some.place.now c.args.self.now.subscribers.ok.0
+    slice_get_read c.args.self.now.subscribers.items _ c.args.r c.in-Some.subscriber.now c.args.self.now.subscribers.ok.0
     (c.in-Some.ensures.variant.0 refl) c.in-Some.ensures.value
 
 pub returns-in_default-clause-applied : goal.returns-in_default-clause-applied
@@ -26,19 +26,19 @@ pub returns-then-is_own-clause-applied : goal.returns-then-is_own-clause-applied
 returns-then-is_own-clause-applied c =
     let here = found_here (goal.at.returns-then-is_own-clause-applied c).In-Some in
     let named = c.session.ensures ∙ ap (λ t. t.session) c.journal.ensures in
-    noise_own (world_of c.args.self.now) c.args.r c.args.way c.args.bytes.now c.in-Some.place.now _ here
+    noise_own (world_of c.args.self.now) c.args.r c.args.way c.args.bytes.now c.in-Some.subscriber.now _ here
     (c.if-is_own.ensures ∙ ap (λ (t : Session). is_own t (reading c.args.bytes.now)) named) refl
 
 pub give-requires : goal.give-requires
 give-requires c =
     let here = found_here (goal.at.give-requires c).In-Some in
-    (c.requires.world.subscribers c.args.r c.in-Some.place.now here).follows
+    (c.requires.world.subscribers c.args.r c.in-Some.subscriber.now here).follows
 
 pub returns-in_err-give-clause-applied : goal.returns-in_err-give-clause-applied
 returns-in_err-give-clause-applied c =
     let here = found_here (goal.at.returns-in_err-give-clause-applied c).In-Some in
     let named = c.session.ensures ∙ ap (λ t. t.session) c.journal.ensures in
-    absurd (noise_never_wants (world_of c.args.self.now) c.args.r c.args.bytes.now c.in-Some.place.now
+    absurd (noise_never_wants (world_of c.args.self.now) c.args.r c.args.bytes.now c.in-Some.subscriber.now
     c.requires.world here
     (c.if-is_own.ensures ∙ ap (λ (t : Session). is_own t (reading c.args.bytes.now)) named)
     c.in_err-give.ensures.copied)
@@ -47,7 +47,7 @@ pub returns-clause-applied : goal.returns-clause-applied
 returns-clause-applied c =
     let here = found_here (goal.at.returns-clause-applied c).In-Some in
     let named = c.session.ensures ∙ ap (λ t. t.session) c.journal.ensures in
-    noise_done (world_of c.args.self.now) c.args.r c.args.way c.args.bytes.now c.in-Some.place.now
+    noise_done (world_of c.args.self.now) c.args.r c.args.way c.args.bytes.now c.in-Some.subscriber.now
     c.give.new.self _ here
     (c.if-is_own.ensures ∙ ap (λ (t : Session). is_own t (reading c.args.bytes.now)) named)
     c.in_ok-give.ensures.told c.in_ok-give.ensures.given

@@ -6,10 +6,10 @@ use Rattle.mold_world.proofs.participants.Participants.restart.Goals as goal
 
 pub returns-in-Some-clause-applied : goal.returns-in-Some-clause-applied
 returns-in-Some-clause-applied c =
-    let here = slice_get_read c.args.self.now.subscribers.items _ c.args.r c.in-Some.place.now c.args.self.now.subscribers.ok.0
+    let here = slice_get_read c.args.self.now.subscribers.items _ c.args.r c.in-Some.subscriber.now c.args.self.now.subscribers.ok.0
     (c.in-Some.ensures.variant.0 refl) c.in-Some.ensures.value
     in
-    restart_applied (world_of c.args.self.now) c.args.r c.args.next c.in-Some.place.now c.restart.new.self
+    restart_applied (world_of c.args.self.now) c.args.r c.args.next c.in-Some.subscriber.now c.restart.new.self
     c.restart.result here c.restart.ensures
 
 pub returns-in-None-clause-applied : goal.returns-in-None-clause-applied

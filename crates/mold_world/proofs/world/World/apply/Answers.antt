@@ -1,5 +1,5 @@
 use Rattle.std.proofs.Common.{arith}
-use Rattle.mold_world.proofs.ApplyLemmas.{applied_done, applied_heard, applied_kept, applied_refused, applied_same, applied_steps}
+use Rattle.mold_world.proofs.ApplyLemmas.{applied_done, applied_received, applied_kept, applied_refused, applied_same, applied_steps}
 use Rattle.mold_world.specs.Inside.{world_of}
 use Rattle.mold_world.specs.Event.{seen}
 use Rattle.mold_world.proofs.world.World.apply.Goals as goal
@@ -34,10 +34,10 @@ returns-clause-same c =
     (applied_same (world_of c.self.inside.parts) (world_of c.change.new.self) (seen c.args.event.now) c.change.result
     c.change.ensures.applied)
 
-pub returns-clause-heard : goal.returns-clause-heard
-returns-clause-heard c =
+pub returns-clause-received : goal.returns-clause-received
+returns-clause-received c =
     rw (← c.self.view_is)
-    (applied_heard c.delivery_law.ensures.heard (world_of c.self.inside.parts) (world_of c.change.new.self)
+    (applied_received c.delivery_law.ensures.received (world_of c.self.inside.parts) (world_of c.change.new.self)
     (seen c.args.event.now) c.change.result c.self.invariant.world c.change.ensures.applied)
 
 pub returns-clause-step : goal.returns-clause-step

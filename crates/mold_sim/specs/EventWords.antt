@@ -1,10 +1,10 @@
 -- The words of a line as a type of the code.
 use Rattle.std.specs.Prelude.{ℕ, List, [], ◌∷◌}
-use Rattle.mold_sim.specs.declared.words.Words.{Words}
-use Rattle.mold_sim.specs.declared.words.Words.TheVariants.{One, Two, Three, Four}
+use Rattle.mold_sim.specs.declared.event_words.EventWords.{EventWords}
+use Rattle.mold_sim.specs.declared.event_words.EventWords.TheVariants.{One, Two, Three, Four}
 
 -- The words as a list.
-abbrev pub words_in : Words → List (List ℕ)
+abbrev pub words_in : EventWords → List (List ℕ)
 words_in (One first) = first.now ∷ []
 words_in (Two first second) = first.now ∷ second.now ∷ []
 words_in (Three first second third) = first.now ∷ second.now ∷ third.now ∷ []

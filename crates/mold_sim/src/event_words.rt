@@ -2,13 +2,13 @@
 
 ghost use Rattle.std.specs.Prelude.{◌≡◌, ◌<◌, [], ◌∷◌, length, MatchOption};
 ghost use Rattle.mold_sim.specs.Script.{words_of};
-ghost use Rattle.mold_sim.specs.Words.{words_in};
+ghost use Rattle.mold_sim.specs.EventWords.{words_in};
 
 use memchr::memchr;
 
 /// The words of a line. An event has one to four words.
 #[derive(Drop)]
-pub enum Words<'a> {
+pub enum EventWords<'a> {
     /// The only word.
     One(&'a [u8]),
     /// Both words, in order.
@@ -31,21 +31,21 @@ fn split_word(line: &[u8]) -> Option<(&[u8], &[u8])>
 }
 
 /// Returns the words of the line, or `None` if there are more than four.
-pub fn cut(line: &[u8]) -> Option<Words<'_>>
+pub fn cut(line: &[u8]) -> Option<EventWords<'_>>
     ensures { MatchOption result (4 < length (words_of line.now))
         (λ words. words_of line.now ≡ words_in words) }
 {
     let Some((first, rest)) = split_word(line) else {
-        return Some(Words::One(line));
+        return Some(EventWords::One(line));
     };
     let Some((second, rest)) = split_word(rest) else {
-        return Some(Words::Two(first, rest));
+        return Some(EventWords::Two(first, rest));
     };
     let Some((third, rest)) = split_word(rest) else {
-        return Some(Words::Three(first, second, rest));
+        return Some(EventWords::Three(first, second, rest));
     };
     match split_word(rest) {
         Some(_) => None,
-        None => Some(Words::Four(first, second, third, rest)),
+        None => Some(EventWords::Four(first, second, third, rest)),
     }
 }
