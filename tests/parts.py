@@ -8,7 +8,7 @@ from dataclasses import dataclass
 
 TOP = os.path.dirname(os.path.dirname(os.path.realpath(__file__)))
 # The documents whose command lines are run.
-DOCUMENTS = ("README.md", "docs/USING.md", "docs/TROUBLESHOOTING.md", "docs/LIBRARY.md")
+DOCUMENTS = ("README.md", "docs/HEADLINE.md", "docs/USING.md", "docs/TROUBLESHOOTING.md", "docs/LIBRARY.md")
 # The crates at the top of the program and of the library.
 PROGRAM, LIBRARY = "mold_cmd", "mold_ffi"
 COMPILERS = ("cc", "gcc", "clang")
@@ -56,6 +56,9 @@ EDITS = Part("tests/edits --proved")
 WITHOUT_PROGRAM = (
     Part("tests/changed-test", ("tests/run",)),
     Part("tests/links", ("*.md",)),
+    Part("tests/prose", ("*.md", "docs/mold.1", "library/mold.h*", "crates/*/specs/*", "tests/prose-allowed")),
+    Part("tests/contracts --check", ("docs/CONTRACTS.md", "crates.txt", "crates/*/src/*", "crates/*/specs/*",
+                                     "crates/*/wrong/*", "crates/*/must-fail/*")),
     Part("tests/edits-test", ("tests/edits",)),
 )
 # Lanes of parts that run side by side; the parts of a lane run one after the other. The first lane has fixed ports and
