@@ -90,14 +90,14 @@ const BURST: OptionRow = OptionRow {
 const LIVE: OptionRow = OptionRow {
     name: "live",
     kind: Kind::Flag,
-    help: "Write at the end of each turn what it printed, and do not gather it",
+    help: "Write output at the end of each turn instead of buffering it",
 };
 
 const REPORT: OptionRow = OptionRow {
     name: "report",
     kind: Kind::Flag,
-    help: "Print before the last line what came on each line,\n\
-        and how far it is behind",
+    help: "Report the datagrams, refusals and lag of lines A and B\n\
+        before the last line of output",
 };
 
 /// The commands, in the order in which help lists them.
@@ -155,12 +155,12 @@ pub static COMMANDS: [CommandRow; 10] = [
             OptionRow {
                 name: "a",
                 kind: Kind::Required,
-                help: "Where line A goes to, as 127.0.0.1:9000",
+                help: "The address that line A is sent to, such as 127.0.0.1:9000",
             },
             OptionRow {
                 name: "b",
                 kind: Kind::Required,
-                help: "Where line B goes to",
+                help: "The address that line B is sent to",
             },
             OptionRow {
                 name: "journal",
@@ -170,12 +170,12 @@ pub static COMMANDS: [CommandRow; 10] = [
             OptionRow {
                 name: "beats",
                 kind: Kind::Optional,
-                help: "How many heartbeats follow the messages, 0 to 1000 [default: 1]",
+                help: "The number of heartbeats after the messages, 0 to 1000 [default: 1]",
             },
             OptionRow {
                 name: "ends",
                 kind: Kind::Optional,
-                help: "How many end packets follow those, 0 to 1000 [default: 1]",
+                help: "The number of end packets after the heartbeats, 0 to 1000 [default: 1]",
             },
         ],
         example: "Example:\n  mold publish --session SESSION001 --a 127.0.0.1:9001 --b 127.0.0.1:9002 \\\
@@ -188,20 +188,20 @@ pub static COMMANDS: [CommandRow; 10] = [
             OptionRow {
                 name: "journal",
                 kind: Kind::Required,
-                help: "The file of the journal",
+                help: "The journal file",
             },
             LIMIT,
             BURST,
             OptionRow {
                 name: "bind",
                 kind: Kind::Required,
-                help: "The address that requests come to, as 127.0.0.1:9000",
+                help: "The address to receive requests on, such as 127.0.0.1:9000",
             },
             OptionRow {
                 name: "turns",
                 kind: Kind::Optional,
-                help: "How many turns are made, 1 to 1000000 [default: 1000]\n\
-                    A turn is one receive, which waits 100 ms at most",
+                help: "The number of turns, 1 to 1000000 [default: 1000]\n\
+                    A turn is one receive, which waits at most 100 ms",
             },
             LIVE,
         ],
@@ -215,31 +215,31 @@ pub static COMMANDS: [CommandRow; 10] = [
             OptionRow {
                 name: "next",
                 kind: Kind::Optional,
-                help: "The number of the first message, 1 to 9223372036854775807 [default: 1]",
+                help: "The sequence number to start at, 1 to 9223372036854775807 [default: 1]",
             },
             WINDOW,
             OptionRow {
                 name: "a",
                 kind: Kind::Required,
-                help: "The address that line A comes to, as 127.0.0.1:9000",
+                help: "The address to receive line A on, such as 127.0.0.1:9000",
             },
             OptionRow {
                 name: "b",
                 kind: Kind::Required,
-                help: "The address that line B comes to",
+                help: "The address to receive line B on",
             },
             OptionRow {
                 name: "server",
                 kind: Kind::Required,
-                help: "The address that requests go to",
+                help: "The address that requests are sent to",
             },
             BURST,
             OptionRow {
                 name: "turns",
                 kind: Kind::Optional,
-                help: "The most turns that are made, 1 to 1000000 [default: 1000]\n\
-                    A turn is a receive on A, one on B, and one request where something\n\
-                    is missing; a receive waits 100 ms at most",
+                help: "The maximum number of turns, 1 to 1000000 [default: 1000]\n\
+                    A turn makes one receive on A and one on B, and sends one request if\n\
+                    messages are missing; each receive waits at most 100 ms",
             },
             LIVE,
             REPORT,
@@ -259,19 +259,19 @@ pub static COMMANDS: [CommandRow; 10] = [
             OptionRow {
                 name: "drop-a",
                 kind: Kind::Optional,
-                help: "Leave out every COUNT-th data packet on line A, 0 to 1000 [default: 0]\n\
-                    0 leaves out none",
+                help: "Drop every COUNT-th data packet on line A, 0 to 1000 [default: 0]\n\
+                    0 drops none",
             },
             OptionRow {
                 name: "drop-b",
                 kind: Kind::Optional,
-                help: "Leave out every COUNT-th data packet on line B, 0 to 1000 [default: 0]\n\
-                    0 leaves out none",
+                help: "Drop every COUNT-th data packet on line B, 0 to 1000 [default: 0]\n\
+                    0 drops none",
             },
             OptionRow {
                 name: "turns",
                 kind: Kind::Optional,
-                help: "The most rounds of requests, 1 to 1000000 [default: 1000]",
+                help: "The maximum number of rounds of requests, 1 to 1000000 [default: 1000]",
             },
             REPORT,
         ],
