@@ -1,7 +1,7 @@
-# Completion of the words of the program mold, for bash. A shell reads it by `. completions/mold.bash`, or by
-# itself where install.sh put it. tests/manual compares it with the program's help.
+# Completion for the program mold in bash. Run `. completions/mold.bash`. A shell loads it without that if install.sh
+# installed it. tests/manual compares it with the program's help.
 
-# The options of a command, with those that every command has.
+# The options of a command, with --help, which every command has.
 _mold_options() {
     case $1 in
     show) printf '%s ' --request ;;
@@ -19,7 +19,7 @@ _mold_options() {
 
 _mold_commands='show pack sim check publish serve listen loop upgrade dump help'
 
-# Completes a word of files, or of folders alone with -d.
+# Completes a file name with -f, or the name of a folder with -d.
 _mold_files() {
     compopt -o filenames 2>/dev/null
     mapfile -t COMPREPLY < <(compgen "$1" -- "$2")
@@ -36,7 +36,7 @@ _mold() {
         _mold_words "$_mold_commands --help --version" "$word"
         return
     fi
-    # In `127.0.0.1:9000` the colon is a word of its own, and in `--to=FILE` the =.
+    # Bash splits `127.0.0.1:9000` at the colon and `--to=FILE` at the =. Each is a separate word.
     if [ "$word" = : ] || [ "$before" = : ]; then
         return
     elif [ "$word" = = ]; then
