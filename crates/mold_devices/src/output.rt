@@ -19,6 +19,7 @@ pub fn send<K: Sink>(sink: &mut K, text: &mut Vec<u8>) -> Result<(), CommandFaul
     ensures front { AppendsPrefix (K.held sink.old) (K.held sink.new) text.old.items }
     ensures fault { IfErr result (λ fault. fault ≡ CommandFault.Write) }
     ensures failures { Counts (K.failed sink.old) (K.failed sink.new) result }
+    ensures live { K.live sink.new ≡ K.live sink.old }
 {
     let Ok(()) = write_all(sink, text.as_slice()) else {
         return Err(CommandFault::Write);

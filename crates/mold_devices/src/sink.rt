@@ -23,7 +23,8 @@ pub trait Sink {
         ensures count { WritesAtMost result bytes.now }
         ensures some { IfOk result (λ n. 0 < length bytes.now → 0 < n) }
         ensures bytes { WriteAppends (held self.old) (held self.new) result bytes.now }
-        ensures failures { Counts (failed self.old) (failed self.new) result };
+        ensures failures { Counts (failed self.old) (failed self.new) result }
+        ensures live { live self.new ≡ live self.old };
 
     /// Returns the number of failures. It stays at `u64::MAX` once it is there.
     fn failures(&self) -> u64
@@ -40,6 +41,7 @@ pub fn write_all<S: Sink>(sink: &mut S, bytes: &[u8]) -> Result<(), DeviceFault>
     ensures whole { OnOk result (Appends (S.held sink.old) (S.held sink.new) bytes.now) }
     ensures front { AppendsPrefix (S.held sink.old) (S.held sink.new) bytes.now }
     ensures failures { Counts (S.failed sink.old) (S.failed sink.new) result }
+    ensures live { S.live sink.new ≡ S.live sink.old }
     ensures nothing { length bytes.now ≡ 0 → IsOk result × (sink.new ≡ sink.old) }
 {
     let mut rest = bytes;

@@ -28,5 +28,6 @@ loop-rest-preserved g c =
       parts = moved c.args.bytes.now so_far.done rest count so_far.parts;
       taken = Appends-trans _ _ _ so_far.done (take count rest) so_far.taken c.in_ok-count.ensures.bytes;
       counted = c.in_ok-count.ensures.failures ∙ so_far.counted;
+      live = c.in_ok-count.ensures.live ∙ so_far.live;
       untouched = λ none. absurd (omega (arith, there, none));
     }
