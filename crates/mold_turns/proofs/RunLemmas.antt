@@ -7,7 +7,7 @@ use Rattle.std.specs.Prelude.{IsErr, IfOk, OnOk, if◌then◌else◌}
 use Rattle.std.specs.Io.KnownBytes.{Appends}
 use Rattle.std.proofs.KnownBytes.{Appends-nil, Appends-trans}
 use Rattle.mold_devices.specs.Devices.{AppendsPrefix}
-use Rattle.mold_turns.specs.Runs.{Loop, run, Begins, Moves, Rests, RestsOfTwo, Ran}
+use Rattle.mold_turns.specs.Runs.{Loop, run, Begins, Moves, Rests, RestsOfTwo, Ran, TurnRests}
 
 -- ---- prefixes
 
@@ -257,6 +257,139 @@ module _ {C S M : Type 0} {loop : Loop C S M} {behind : List ℕ → S → S} (i
             (subst (λ (l : List M). Begins (loop.sent after) l)
             (sym (ap loop.sent (is.turn going.written choice now) ∙ is.sent going.written (loop.turn choice now)))
             sent)
+            (grows_from loop loop.sent is.sends choice fill here));
+      }
+
+  -- ---- one turn and the write after it
+
+  -- the turn was made, and some of the text was written
+  pub turn_sent : {T E : Type 0} (result : Result T E) {start : S} {old new : Option (List ℕ)} {left : List ℕ}
+      (choice : C) (after now : S) → after ≡ loop.turn choice start → (moves : Moves old new (loop.text after) left) →
+      after ≡ behind moves.front now → TurnRests loop behind start result old new now
+  turn_sent result {start} {old} {new} {left} choice after now made moves same = record {
+    choice = choice;
+    written = moves.front;
+    appended = moves.appended;
+    whole = on_ok result (sym made ∙ same);
+    front =
+        subst (λ (s : S). Begins moves.front (loop.text s)) made (record { rest = left; parts = moves.parts });
+    sent =
+        subst (λ (l : List M). Begins (loop.sent now) l)
+        (sym (is.sent moves.front now) ∙ sym (ap loop.sent same) ∙ ap loop.sent made) (begins_whole (loop.sent now));
+  }
+
+  -- the turn failed: it sent a prefix of what it was to send, and a prefix of the former text was written
+  pub turn_failed : {T E : Type 0} (result : Result T E) {start : S} {old new : Option (List ℕ)} (choice : C)
+      (now : S) → AppendsPrefix old new (loop.text start) → Begins (loop.sent now) (loop.sent (loop.turn choice start)) →
+      IsErr result → TurnRests loop behind start result old new now
+  turn_failed result {start} {old} {new} choice now cut sent failed = record {
+    choice = choice;
+    written = cut.front;
+    appended = cut.appended;
+    whole = none_ok result _ failed;
+    front = begins_trans (record { rest = cut.rest; parts = cut.parts }) (is.prints choice start);
+    sent = sent;
+  }
+
+  -- the turn was made, and the write failed
+  pub turn_cut : {T E : Type 0} (result : Result T E) {start : S} {old new : Option (List ℕ)} (choice : C)
+      (after now : S) → after ≡ loop.turn choice start → AppendsPrefix old new (loop.text after) →
+      loop.sent now ≡ loop.sent after → IsErr result → TurnRests loop behind start result old new now
+  turn_cut result {start} {old} {new} choice after now made cut same failed = record {
+    choice = choice;
+    written = cut.front;
+    appended = cut.appended;
+    whole = none_ok result _ failed;
+    front = subst (λ (s : S). Begins cut.front (loop.text s)) made (record { rest = cut.rest; parts = cut.parts });
+    sent =
+        subst (λ (l : List M). Begins (loop.sent now) l) (same ∙ ap loop.sent made) (begins_whole (loop.sent now));
+  }
+
+  -- a turn was made and some text written, and the loop goes on
+  pub going_turned : {T E : Type 0} {value : T} {start now : S} {old mid new : Option (List ℕ)} {count : ℕ}
+      (after : S) → Going loop behind start old mid count now →
+      TurnRests {T = T} {E = E} loop behind now (Ok value) mid new after → loop.over after ≡ false →
+      Going loop behind start old new (count + 1) after
+  going_turned {T} {E} {value} {start} {now} {old} {mid} {new} {count} after going turned on =
+      let made : loop.turn turned.choice (behind going.written now) ≡ behind (going.written ++ turned.written) after =
+      is.turn going.written turned.choice now ∙ ap (behind going.written) turned.whole
+      ∙ is.twice going.written turned.written after in
+      record {
+        choices = going.choices ++ turned.choice ∷ [];
+        counted = omega (arith, length-append going.choices (turned.choice ∷ []), going.counted);
+        written = going.written ++ turned.written;
+        appended = Appends-trans old mid new going.written turned.written going.appended turned.appended;
+        goes_on = λ more.
+            ap (λ (l : List C). run loop l start) (append_assoc going.choices (turned.choice ∷ []) more)
+            ∙ going.goes_on (turned.choice ∷ more)
+            ∙ run_on loop turned.choice more (behind going.written now)
+            (ap loop.over made ∙ is.over (going.written ++ turned.written) after ∙ on)
+            ∙ ap (run loop more) made;
+      }
+
+  -- the loop ended after a turn, whose text was written if it was large
+  pub rests_turned : {T E U F : Type 0} (result : Result T E) {value : U} {start now : S}
+      {old mid new : Option (List ℕ)} {count : ℕ} (turns : ℕ) (after : S) → Going loop behind start old mid count now →
+      count < turns → TurnRests {T = U} {E = F} loop behind now (Ok value) mid new after → loop.over after ≡ true →
+      Rests loop behind turns start result old new after
+  unfolding filled
+  rests_turned result {value} {start} {now} {old} {mid} {new} {count} turns after going few turned over =
+      let choice : C = turned.choice in
+      let fill : List C = replicate (turns - (count + 1)) choice in
+      let written : List ℕ = going.written ++ turned.written in
+      let made : loop.turn choice (behind going.written now) ≡ behind written after =
+      is.turn going.written choice now ∙ ap (behind going.written) turned.whole
+      ∙ is.twice going.written turned.written after in
+      let end : run loop (filled going.choices choice count turns) start ≡ behind written after =
+      going.goes_on (choice ∷ fill)
+      ∙ run_over loop choice fill (behind going.written now) (ap loop.over made ∙ is.over written after ∙ over)
+      ∙ made in
+      record {
+        choices = filled going.choices choice count turns;
+        counted = filled_length going.choices choice count turns going.counted few;
+        written = written;
+        appended = Appends-trans old mid new going.written turned.written going.appended turned.appended;
+        whole = on_ok result end;
+        front =
+            subst (λ (t : List ℕ). Begins written t)
+            (sym (ap loop.text end ∙ is.text written after)) (begins_more written (loop.text after));
+        sent =
+            subst (λ (t : List M). Begins (loop.sent after) t)
+            (sym (ap loop.sent end ∙ is.sent written after)) (begins_whole (loop.sent after));
+      }
+
+  -- a turn, or the write after it, ended in a fault
+  pub rests_broken : {T E U F : Type 0} (result : Result T E) (inner : Result U F) {start now : S}
+      {old mid new : Option (List ℕ)} {count : ℕ} (turns : ℕ) (after : S) → Going loop behind start old mid count now →
+      count < turns → TurnRests loop behind now inner mid new after → IsErr result →
+      Rests loop behind turns start result old new after
+  unfolding filled
+  rests_broken result inner {start} {now} {old} {mid} {new} {count} turns after going few turned failed =
+      let choice : C = turned.choice in
+      let fill : List C = replicate (turns - (count + 1)) choice in
+      let here : S = behind going.written now in
+      let end : run loop (filled going.choices choice count turns) start ≡ run loop (choice ∷ fill) here =
+      going.goes_on (choice ∷ fill) in
+      let made : loop.turn choice here ≡ behind going.written (loop.turn choice now) =
+      is.turn going.written choice now in
+      record {
+        choices = filled going.choices choice count turns;
+        counted = filled_length going.choices choice count turns going.counted few;
+        written = going.written ++ turned.written;
+        appended = Appends-trans old mid new going.written turned.written going.appended turned.appended;
+        whole = none_ok result _ failed;
+        front =
+            subst (λ (s : S). Begins (going.written ++ turned.written) (loop.text s)) (sym end)
+            (begins_trans
+            (subst (λ (t : List ℕ). Begins (going.written ++ turned.written) t)
+            (sym (ap loop.text made ∙ is.text going.written (loop.turn choice now)))
+            (begins_behind going.written turned.front))
+            (grows_from loop loop.text is.prints choice fill here));
+        sent =
+            subst (λ (s : S). Begins (loop.sent after) (loop.sent s)) (sym end)
+            (begins_trans
+            (subst (λ (l : List M). Begins (loop.sent after) l)
+            (sym (ap loop.sent made ∙ is.sent going.written (loop.turn choice now))) turned.sent)
             (grows_from loop loop.sent is.sends choice fill here));
       }
 

@@ -1,6 +1,7 @@
 -- The text that a loop still has to write, and its count of failed sends and receives.
-use Rattle.std.specs.Prelude.{ℕ, ◌+◌, ◌-◌, ◌^◌, min, List, [], ◌++◌}
+use Rattle.std.specs.Prelude.{◌≡◌, ◌<◌, ℕ, ◌+◌, ◌-◌, ◌^◌, min, Bool, true, List, [], ◌++◌, length}
 use Rattle.mold_devices.specs.Devices.{one_more}
+use Rattle.mold_devices.specs.declared.output.TheConstants.{LARGE}
 
 -- The text that is not written yet, and the count of failed sends and receives.
 pub record OutgoingState : Type 0 where
@@ -31,3 +32,7 @@ failed_once outgoing = record { text = outgoing.text; failures = one_more outgoi
 abbrev pub failed_often : ℕ → OutgoingState → OutgoingState
 failed_often count outgoing =
     record { text = outgoing.text; failures = min (outgoing.failures + count) (2 ^ 64 - 1) }
+
+-- Text that a loop may keep unwritten between turns: none for a live sink, and less than 65,536 bytes for any other.
+abbrev pub IsBounded : Bool → List ℕ → Type 0
+IsBounded live text = (live ≡ true → text ≡ []) × (length text < LARGE)

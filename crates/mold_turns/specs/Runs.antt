@@ -35,6 +35,22 @@ pub record Moves (old new : Option (List ℕ)) (text left : List ℕ) : Type 0 w
   pub parts : text ≡ front ++ left
   pub appended : Appends old new front
 
+-- What one turn that starts at `start` leaves, together with the write after it. `now` is the state that the loop holds
+-- then, whose text is not written yet. `behind front s` is the state `s` with `front` put before its text.
+pub record TurnRests {C S M T E : Type 0} (loop : Loop C S M) (behind : List ℕ → S → S) (start : S)
+    (result : Result T E) (old new : Option (List ℕ)) (now : S) : Type 0 where
+  -- the choice of the turn
+  pub choice : C
+  -- the text that was written after the turn
+  pub written : List ℕ
+  pub appended : Appends old new written
+  -- after a success, the turn ends in `now`, with the written text put before its text
+  pub whole : OnOk result (loop.turn choice start ≡ behind written now)
+  -- the written text is a prefix of the text after the turn
+  pub front : Begins written (loop.text (loop.turn choice start))
+  -- what was sent is a prefix of what the turn sends
+  pub sent : Begins (loop.sent now) (loop.sent (loop.turn choice start))
+
 -- What a loop of at most `turns` turns that starts at `start` leaves before it prints its last line. `now` is the
 -- state that it holds, whose text is not written yet. `behind front s` is the state `s` with `front` put before its
 -- text. There is one choice for each turn.

@@ -5,7 +5,7 @@ ghost use Rattle.std.specs.Prelude.{◌≡◌, ◌<◌, ◌≤◌, [], false, tr
 ghost use Rattle.std.specs.Prelude.{OnOk};
 ghost use Rattle.std.specs.Io.KnownBytes.{Appends};
 ghost use Rattle.mold_devices.specs.Devices.{AppendsPrefix, Counts};
-ghost use Rattle.mold_turns.specs.Outgoing.{failed_often, failed_once, nothing_out, with_more};
+ghost use Rattle.mold_turns.specs.Outgoing.{IsBounded, failed_often, failed_once, nothing_out, with_more};
 ghost use Rattle.mold_turns.specs.Runs.{Moves};
 ghost use Rattle.mold_text.specs.Line.{line_of, word_text};
 
@@ -78,7 +78,8 @@ impl Outgoing {
         ensures moved { OnOk result (Moves (K.held sink.old) (K.held sink.new) self.old.text self.new.text) }
         ensures large { OnOk result (LARGE ≤ length self.old.text → self.new.text ≡ []) }
         ensures small { K.live sink.old ≡ false → length self.old.text < LARGE → IsOk result × (self.new ≡ self.old) }
-        ensures live { K.live sink.old ≡ true → OnOk result (self.new.text ≡ []) }
+        ensures bounded { OnOk result (IsBounded (K.live sink.old) self.new.text) }
+        ensures live { K.live sink.new ≡ K.live sink.old }
         ensures same { OnErr result (self.new ≡ self.old) }
         ensures failures { self.new.failures ≡ self.old.failures }
         ensures front { AppendsPrefix (K.held sink.old) (K.held sink.new) self.old.text }
@@ -91,10 +92,26 @@ impl Outgoing {
         self.send(sink)
     }
 
+    /// Drops the text after its first `len` bytes, and writes these bytes. If the turn that was to append more text
+    /// fails, this writes the text of the turns before it. After a fault of the sink, a prefix of the bytes is written.
+    pub fn send_kept<K: Sink>(&mut self, len: usize, sink: &mut K) -> Result<(), CommandFault>
+        ensures whole { OnOk result (Appends (K.held sink.old) (K.held sink.new) (take len self.old.text)) }
+        ensures empty { OnOk result (self.new.text ≡ []) }
+        ensures front { AppendsPrefix (K.held sink.old) (K.held sink.new) (take len self.old.text) }
+        ensures failures { self.new.failures ≡ self.old.failures }
+        ensures live { K.live sink.new ≡ K.live sink.old }
+        ensures fault { IfErr result (λ fault. fault ≡ CommandFault.Write) }
+        ensures sink { Counts (K.failed sink.old) (K.failed sink.new) result }
+    {
+        self.text.truncate(len);
+        self.send(sink)
+    }
+
     /// Writes the text. After a fault, a prefix of it is written, and the text is unchanged.
     pub fn send<K: Sink>(&mut self, sink: &mut K) -> Result<(), CommandFault>
         ensures whole { OnOk result (Appends (K.held sink.old) (K.held sink.new) self.old.text) }
         ensures empty { OnOk result (self.new.text ≡ []) }
+        ensures live { K.live sink.new ≡ K.live sink.old }
         ensures same { OnErr result (self.new ≡ self.old) }
         ensures failures { self.new.failures ≡ self.old.failures }
         ensures front { AppendsPrefix (K.held sink.old) (K.held sink.new) self.old.text }
