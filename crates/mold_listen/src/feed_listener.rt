@@ -4,7 +4,8 @@ ghost use Rattle.std.specs.Prelude.{◌≡◌, true, length, OnOk};
 ghost use Rattle.mold_devices.specs.Faults.{CountsSink};
 ghost use Rattle.mold_listen.specs.Listening.{Agrees, HasAsked, HasTurned, IsSame, asking_state, receive_responses};
 ghost use Rattle.mold_listen.specs.Listening.{listened_lines, listening, put_before, receives, state, status};
-ghost use Rattle.mold_turns.specs.Runs.{Ran, Rests};
+ghost use Rattle.mold_turns.specs.Outgoing.{IsBounded};
+ghost use Rattle.mold_turns.specs.Runs.{Ran, Rests, TurnRests};
 ghost use Rattle.mold_receiver.specs.Wanted.{wanted};
 ghost use Rattle.mold_wire.specs.declared.limits.TheConstants.{MAX_LIMIT};
 
@@ -102,6 +103,28 @@ impl<'a, D: Datagrams> FeedListener<'a, D> {
         self.ask(server, burst, buffer)
     }
 
+    // Makes one turn. Then writes the text if it has at least 65,536 bytes or the sink is live.
+    fn write_turn<K: Sink>(
+        &mut self,
+        server: D::Peer,
+        burst: u16,
+        buffer: &mut [u8],
+        sink: &mut K,
+    ) -> Result<(), CommandFault>
+        requires { length buffer.old ≡ MAX_LIMIT }
+        ensures run { D.modeled ≡ true →
+            TurnRests (listening server burst) put_before (state D.port self.old)
+            result (K.held sink.old) (K.held sink.new) (state D.port self.new) }
+        ensures bounded { OnOk result (IsBounded (K.live sink.old) self.new.printer.now.outgoing.text) }
+        ensures live { K.live sink.new ≡ K.live sink.old }
+        ensures same { IsSame self.old self.new }
+        ensures sink { CountsSink (K.failed sink.old) (K.failed sink.new) result }
+    {
+        self.take_turn(server, burst, buffer)?;
+        self.printer.outgoing.send_large(sink)?;
+        Ok(())
+    }
+
     // Makes at most `options.turns` turns. Stops after the first turn after which the receiver is finished. Text that
     // is too short for a large write is kept for a later write.
     fn take_turns<K: Sink>(
@@ -114,15 +137,17 @@ impl<'a, D: Datagrams> FeedListener<'a, D> {
         ensures run { D.modeled ≡ true →
             Rests (listening options.server options.burst) put_before options.turns (state D.port self.old)
             result (K.held sink.old) (K.held sink.new) (state D.port self.new) }
+        ensures bounded { OnOk result (IsBounded (K.live sink.old) self.old.printer.now.outgoing.text →
+            IsBounded (K.live sink.old) self.new.printer.now.outgoing.text) }
+        ensures live { K.live sink.new ≡ K.live sink.old }
         ensures same { IsSame self.old self.new }
         ensures sink { CountsSink (K.failed sink.old) (K.failed sink.new) result }
     {
         for _turn in 0..options.turns {
-            self.take_turn(options.server, options.burst, buffer)?;
+            self.write_turn(options.server, options.burst, buffer, sink)?;
             if self.arbiter.receiver().finished() {
                 return Ok(());
             }
-            self.printer.outgoing.send_large(sink)?;
         }
         Ok(())
     }
