@@ -1,9 +1,10 @@
 //! The server at work: the requests that it receives on a port, and the responses that it sends.
 
-ghost use Rattle.std.specs.Prelude.{◌≡◌, ◌+◌, ◌≤◌, ◌<◌, true, List, Bool, length, IfOk, MatchResult};
+ghost use Rattle.std.specs.Prelude.{◌≡◌, ◌+◌, ◌≤◌, ◌<◌, true, List, Bool, length, IfOk, MatchResult, OnOk};
 ghost use Rattle.mold_devices.specs.Faults.{CountsSink};
 ghost use Rattle.mold_serve.specs.Answering.{OffersNext, OffersOne, Reaches, left_of};
-ghost use Rattle.mold_turns.specs.Runs.{Ran, Rests};
+ghost use Rattle.mold_turns.specs.Outgoing.{IsBounded};
+ghost use Rattle.mold_turns.specs.Runs.{Ran, Rests, TurnRests};
 ghost use Rattle.mold_serve.specs.Serving.{IsSame, MayAnswer, behind, offer_all, replied, reply, serve_turn, service};
 ghost use Rattle.mold_serve.specs.Serving.{served_by, serving, state};
 ghost use Rattle.mold_serve.specs.Tally.{served_line};
@@ -112,7 +113,23 @@ impl<'a, D: Datagrams> Responder<'a, D> {
         }
     }
 
-    // Makes the turns, and writes the text when much of it has accumulated.
+    // Makes one turn. Then writes the text if it has at least 65,536 bytes or the sink is live.
+    fn write_turn<K: Sink>(&mut self, buffer: &mut [u8], sink: &mut K) -> Result<(), CommandFault>
+        requires longest { MayAnswer self.old }
+        requires buffer { length buffer.old ≡ MAX_LIMIT }
+        ensures rests { D.modeled ≡ true → TurnRests (serving (service self.old)) behind (state D.port self.old)
+            result (K.held sink.old) (K.held sink.new) (state D.port self.new) }
+        ensures bounded { OnOk result (IsBounded (K.live sink.old) self.new.tally.now.outgoing.text) }
+        ensures live { K.live sink.new ≡ K.live sink.old }
+        ensures same { IsSame self.old self.new }
+        ensures sink { CountsSink (K.failed sink.old) (K.failed sink.new) result }
+    {
+        self.take_turn(buffer)?;
+        self.tally.outgoing.send_large(sink)?;
+        Ok(())
+    }
+
+    // Makes the turns. Text that is too short for a large write is kept for a later write.
     fn take_turns<K: Sink>(
         &mut self,
         turns: u64,
@@ -123,12 +140,14 @@ impl<'a, D: Datagrams> Responder<'a, D> {
         requires buffer { length buffer.old ≡ MAX_LIMIT }
         ensures rests { D.modeled ≡ true → Rests (serving (service self.old)) behind turns (state D.port self.old)
             result (K.held sink.old) (K.held sink.new) (state D.port self.new) }
+        ensures bounded { OnOk result (IsBounded (K.live sink.old) self.old.tally.now.outgoing.text →
+            IsBounded (K.live sink.old) self.new.tally.now.outgoing.text) }
+        ensures live { K.live sink.new ≡ K.live sink.old }
         ensures same { IsSame self.old self.new }
         ensures sink { CountsSink (K.failed sink.old) (K.failed sink.new) result }
     {
         for _turn in 0..turns {
-            self.take_turn(buffer)?;
-            self.tally.outgoing.send_large(sink)?;
+            self.write_turn(buffer, sink)?;
         }
         Ok(())
     }

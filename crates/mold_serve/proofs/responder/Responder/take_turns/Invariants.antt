@@ -1,10 +1,11 @@
 use Rattle.std.proofs.Common.{◌≡◌, true, length}
 use Rattle.mold_serve.specs.Serving.{IsSame, behind, service, serving, state}
 use Rattle.mold_turns.proofs.RunLemmas.{Going}
+use Rattle.mold_turns.specs.Outgoing.{IsBounded}
 use Rattle.mold_serve.proofs.responder.Responder.take_turns.Given as goal
 use Rattle.mold_wire.specs.declared.limits.TheConstants.{MAX_LIMIT}
 
--- some turns were made, and the run continues from here
+-- some turns were made, and the run continues from here; the text is bounded
 abbrev pub invariant-loop-turn : goal.invariant-loop-turn
 invariant-loop-turn g l = record {
   going :
@@ -15,6 +16,10 @@ invariant-loop-turn g l = record {
       (g.K.Sink.held l.sink)
       l._turn
       (state g.D.Datagrams.port l.self);
+  bounded :
+      IsBounded (g.K.Sink.live l.fn.sink) l.fn.self.tally.now.outgoing.text →
+      IsBounded (g.K.Sink.live l.fn.sink) l.self.tally.now.outgoing.text;
+  live : g.K.Sink.live l.sink ≡ g.K.Sink.live l.fn.sink;
   same : IsSame l.fn.self l.self;
   buffer : length l.buffer ≡ MAX_LIMIT;
   sink : g.K.Sink.failed l.sink ≡ g.K.Sink.failed l.fn.sink;
