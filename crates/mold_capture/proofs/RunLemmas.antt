@@ -1,19 +1,18 @@
 -- Runs, and the messages that they represent.
-use Rattle.std.proofs.Common.{◌≡◌, ℕ, zero, suc, ◌+◌, ◌-◌, ◌<◌, ◌≤◌, Bool, true, false, cond, eqb, ltb, List, [], ◌∷◌, length}
+use Rattle.std.proofs.Common.{◌≡◌, ℕ, zero, suc, ◌+◌, ◌-◌, ◌<◌, ◌≤◌, Bool, true, false, cond, eqb, List, [], ◌∷◌, length}
 use Rattle.std.proofs.Common.{take, drop, get_or, refl, sym, ap, subst, ◌∙◌, inl, inr, arith}
 use Rattle.std.specs.Prelude.{Option, None, Some, IfSome, is_some, slice_get}
-use Rattle.std.specs.BTreeMap as tree
 use Rattle.std.specs.BTreeMap.{is_at}
 use Rattle.std.specs.Cmp.{nat_cmp_is, nat_cmp_total, unsigned_tied}
 use Rattle.std.specs.FinMap as finite
-use Rattle.std.specs.List.{All, filter}
+use Rattle.std.specs.List.{All}
 use Rattle.std.specs.Map.{lookup}
 use Rattle.std.specs.Option.{option_or}
 use Rattle.std.specs.Ordering.{nat_cmp, is_gt}
 use Rattle.std.specs.declared.cmp.Ordering.TheVariants.{Less, Equal}
-use Rattle.std.proofs.lemmas.Bool.{true≢false, cases_order, cases_Bool, cases_eq, cond-true, cond-false, eq-eqb, ne_eqb, ltb-true, lt-ltb}
+use Rattle.std.proofs.lemmas.Bool.{true≢false, cases_order, cases_eq, cond-true, cond-false, eq-eqb, ne_eqb}
 use Rattle.std.proofs.lemmas.List.{length-take}
-use Rattle.std.proofs.lemmas.List.Elements.{All-nil, All-cons, All-head, All-tail}
+use Rattle.std.proofs.lemmas.List.Elements.{All-head, All-tail}
 use Rattle.std.proofs.lemmas.Map.Views.{All-found}
 use Rattle.std.proofs.lemmas.Option.{none-some, same_Some, slice_get-get_or}
 use Rattle.mold_wire.specs.Truth.{message_at}
@@ -161,53 +160,6 @@ lookup_all P q run (e ∷ es) all is =
           lookup_all P q run es (All-tail P e es all)
           (sym (cond-false (eqb q e.0) (Some e.1) (lookup (eqb q) es) (ne_eqb q e.0 other)) ∙ is)
     ]
-
-filtered : (p : ℕ × Run → Bool) (Q : ℕ × Run → Type 0) (es : List (ℕ × Run)) → All Q es →
-    All (λ (e : ℕ × Run). Q e × (p e ≡ true)) (filter p es)
-filtered p Q [] all = All-nil (λ (e : ℕ × Run). Q e × (p e ≡ true))
-filtered p Q (e ∷ es) all =
-    let P = λ (e : ℕ × Run). Q e × (p e ≡ true) in
-    let rest = filtered p Q es (All-tail Q e es all) in
-    elim (cases_Bool (p e)) [
-      | inl t ↦
-          subst (All P) (sym (cond-true (p e) (e ∷ filter p es) (filter p es) t))
-          (All-cons P e (filter p es) (All-head Q e es all, t) rest)
-      | inr f ↦ subst (All P) (sym (cond-false (p e) (e ∷ filter p es) (filter p es) f)) rest
-    ]
-
-unfiltered : (p : ℕ × Run → Bool) (Q : ℕ × Run → Type 0) (es : List (ℕ × Run)) → All Q (filter p es) →
-    All (λ (e : ℕ × Run). p e ≡ true → Q e) es
-unfiltered p Q [] all = All-nil (λ (e : ℕ × Run). p e ≡ true → Q e)
-unfiltered p Q (e ∷ es) all =
-    let P = λ (e : ℕ × Run). p e ≡ true → Q e in
-    elim (cases_Bool (p e)) [
-      | inl t ↦
-          let kept = subst (All Q) (cond-true (p e) (e ∷ filter p es) (filter p es) t) all in
-          All-cons P e es (λ _. All-head Q e (filter p es) kept) (unfiltered p Q es (All-tail Q e (filter p es) kept))
-      | inr f ↦
-          All-cons P e es (λ t. absurd (true≢false (sym t ∙ f)))
-          (unfiltered p Q es (subst (All Q) (cond-false (p e) (e ∷ filter p es) (filter p es) f) all))
-    ]
-
--- Whether a run starts below index `index`.
-abbrev pub is_before : ℕ → ℕ × Run → Bool
-is_before index e = ltb e.1.start index
-
-pub retained_out : (old new : Runs) (index : ℕ) → tree.IsOrdered nat_cmp old → new.entries ≡ filter (is_before index) old.entries
-    → (f : ℕ) (run : Run) → HasRun new f run → HasRun old f run × (run.start < index)
-retained_out old new index ordered is f run has =
-    let P = λ (e : ℕ × Run). HasRun old e.0 e.1 × (is_before index e ≡ true) in
-    let all = filtered (is_before index) (λ e. HasRun old e.0 e.1) old.entries (All-found nat_cmp_total old ordered) in
-    let found = lookup_all P f run new.entries (subst (All P) (sym is) all) (sym (lookup_at f new.entries) ∙ has) in
-    (found.0, ltb-true run.start index found.1)
-
-pub retained_stays : (old new : Runs) (index : ℕ) → tree.IsOrdered nat_cmp new → new.entries ≡ filter (is_before index) old.entries
-    → (f : ℕ) (run : Run) → HasRun old f run → run.start < index → HasRun new f run
-retained_stays old new index ordered is f run has low =
-    let Q = λ (e : ℕ × Run). HasRun new e.0 e.1 in
-    let all = unfiltered (is_before index) Q old.entries (subst (All Q) is (All-found nat_cmp_total new ordered)) in
-    lookup_all (λ e. is_before index e ≡ true → Q e) f run old.entries all (sym (lookup_at f old.entries) ∙ has)
-    (lt-ltb run.start index low)
 
 -- Each number of a run has a carried message.
 pub covered_pairs : (runs : Runs) (kept : List (List ℕ)) → AreRuns runs (length kept) → (q f : ℕ) (run : Run) →

@@ -82,3 +82,8 @@ pub record IsGrown (runs : Runs) (kept number count first : ℕ) (run : Run) : T
 pub record IsSince (before now : Runs) (index : ℕ) : Type 0 where
   pub kept : (f : ℕ) (run : Run) → HasRun before f run → HasRun now f run
   pub others : (f : ℕ) (run : Run) → HasRun now f run → run.start < index → HasRun before f run
+
+-- Each run that starts at index `index` or later begins with a number from `first` up to, but not including, `top`.
+abbrev pub BeginWithin : Runs → ℕ → ℕ → ℕ → Type 0
+BeginWithin runs index first top =
+    (f : ℕ) (run : Run) → HasRun runs f run → index ≤ run.start → (first ≤ f) × (f < top)

@@ -1,7 +1,7 @@
 //! Adds new messages to those of the accepted datagrams.
 
-ghost use Rattle.std.specs.Prelude.{◌≡◌, ◌+◌, ◌<◌, ◌≤◌, ◌^◌, ◌++◌, ◌∷◌, [], length, take, IfErr, OnOk, OnErr};
-ghost use Rattle.mold_capture.specs.Runs.{AreFree, AreRuns, IsSince, Runs, carried};
+ghost use Rattle.std.specs.Prelude.{◌≡◌, ◌+◌, ◌<◌, ◌≤◌, ◌^◌, ◌++◌, ◌∷◌, ℕ, [], length, take, IfErr, OnOk, OnErr};
+ghost use Rattle.mold_capture.specs.Runs.{AreFree, AreRuns, BeginWithin, IsSince, Runs, carried};
 ghost use Rattle.mold_capture.specs.Seen.{pairs_with};
 ghost use Rattle.mold_rule.specs.declared.refusal.Refusal.TheVariants.{Memory};
 
@@ -79,6 +79,8 @@ fn add_message(
     ensures err { OnErr result (carried runs.new kept.new ≡ carried runs.old kept.old) }
     ensures since { (before : Runs) → AreRuns before since → IsSince before runs.old since →
         IsSince before runs.new since }
+    ensures within { (low : ℕ) → low ≤ number → BeginWithin runs.old since low number →
+        BeginWithin runs.new since low (number + 1) }
     ensures front { take since kept.new.messages ≡ take since kept.old.messages }
     ensures more { since ≤ length kept.new.messages }
 {
@@ -113,6 +115,8 @@ fn add_new(
     ensures err { OnErr result (carried runs.new kept.new ≡ carried runs.old kept.old) }
     ensures since { (before : Runs) → AreRuns before since → IsSince before runs.old since →
         IsSince before runs.new since }
+    ensures within { (low : ℕ) → low ≤ number → BeginWithin runs.old since low number →
+        BeginWithin runs.new since low (number + 1) }
     ensures front { take since kept.new.messages ≡ take since kept.old.messages }
     ensures more { since ≤ length kept.new.messages }
 {
@@ -123,7 +127,7 @@ fn add_new(
 }
 
 /// Adds those messages of a packet whose numbers no run has. It returns an error if an allocation fails, and
-/// then it removes what it added.
+/// then it removes what it added. The time to remove it depends on the packet's messages, not on the runs.
 pub(crate) fn add_each(
     runs: &mut BTreeMap<u64, Run>,
     kept: &mut MessageList,
@@ -141,7 +145,7 @@ pub(crate) fn add_each(
     let mut number = first;
     for message in blocks.iter() {
         if let Err(_) = add_new(runs, kept, since, number, message) {
-            take_back(runs, since);
+            take_back(runs, since, first, number + 1);
             kept.truncate(since);
             return Err(Refusal::Memory);
         }

@@ -1,9 +1,9 @@
 //! Runs of messages with consecutive sequence numbers.
 
-ghost use Rattle.std.specs.Prelude.{◌≡◌, ◌+◌, ◌^◌, ◌<◌, ◌≤◌, ◌↔◌, IsTrue, ℕ, IfSome, IfNone, OnOk, OnErr};
+ghost use Rattle.std.specs.Prelude.{◌≡◌, ◌+◌, ◌^◌, ◌<◌, ◌≤◌, ◌↔◌, false, IsTrue, ℕ, IfSome, IfNone, OnOk, OnErr};
 ghost use Rattle.std.specs.BTreeMap as tree;
 ghost use Rattle.std.specs.Ordering.{nat_cmp};
-ghost use Rattle.mold_capture.specs.Runs.{AreApart, AreFree, AreRuns, Covers, HasRun, IsGrown, IsPut};
+ghost use Rattle.mold_capture.specs.Runs.{AreApart, AreFree, AreRuns, BeginWithin, Covers, HasRun, IsGrown, IsPut};
 ghost use Rattle.mold_capture.specs.declared.run.Run.{Run};
 
 use std::alloc::AllocError;
@@ -130,11 +130,40 @@ pub(crate) fn put_run(runs: &mut BTreeMap<u64, Run>, first: u64, run: Run) -> Re
     }
 }
 
-/// Removes the runs that start at index `index` or later.
-pub(crate) fn take_back(runs: &mut BTreeMap<u64, Run>, index: usize)
+/// Removes the runs that start at index `index` or later. They must begin with numbers from `first` up to, but not
+/// including, `top`: only these numbers are looked up, so the time does not depend on the number of runs.
+pub(crate) fn take_back(runs: &mut BTreeMap<u64, Run>, index: usize, first: u64, top: u64)
+    requires ordered { tree.IsOrdered nat_cmp runs.old }
+    requires within { BeginWithin runs.old index first top }
     ensures ordered { tree.IsOrdered nat_cmp runs.new }
     ensures out { (f : ℕ) (run : Run) → HasRun runs.new f run → HasRun runs.old f run × (run.start < index) }
     ensures stays { (f : ℕ) (run : Run) → HasRun runs.old f run → run.start < index → HasRun runs.new f run }
 {
-    runs.retain(|_, run| run.start < index);
+    for number in first..top {
+        take_one_back(runs, index, number);
+    }
+}
+
+// Whether a run begins with this number and starts at index `index` or later.
+fn is_added(runs: &BTreeMap<u64, Run>, index: usize, number: u64) -> bool
+    ensures added { IsTrue result → (run : Run) × (HasRun runs.now number run × (index ≤ run.start)) }
+    ensures other { result ≡ false → (run : Run) → HasRun runs.now number run → run.start < index }
+{
+    match runs.get(&number) {
+        Some(run) => index <= run.start,
+        None => false,
+    }
+}
+
+// Removes the run that begins with this number, if it starts at index `index` or later.
+fn take_one_back(runs: &mut BTreeMap<u64, Run>, index: usize, number: u64)
+    requires ordered { tree.IsOrdered nat_cmp runs.old }
+    ensures ordered { tree.IsOrdered nat_cmp runs.new }
+    ensures out { (f : ℕ) (run : Run) → HasRun runs.new f run → HasRun runs.old f run }
+    ensures gone { (run : Run) → HasRun runs.new number run → run.start < index }
+    ensures stays { (f : ℕ) (run : Run) → HasRun runs.old f run → run.start < index → HasRun runs.new f run }
+{
+    if is_added(runs, index, number) {
+        let _ = runs.remove(&number);
+    }
 }

@@ -16,6 +16,10 @@ returns-in-Err-clause-err c =
     same_carried c.args.runs.now c.take_back.new.runs c.args.kept.now.messages c.truncate.new.self.messages entries
     (ap (λ (l : Listed). l.messages) c.truncate.ensures ∙ c.add_new.ensures.front ∙ c.loop-message.invariant.front)
 
+pub take_back-requires-clause-within : goal.take_back-requires-clause-within
+take_back-requires-clause-within c =
+    c.add_new.ensures.within c.args.first c.loop-message.invariant.from c.loop-message.invariant.within
+
 pub loop-message-preserved : goal.loop-message-preserved
 loop-message-preserved c =
     let old = c.loop-message.invariant in
@@ -31,6 +35,8 @@ loop-message-preserved c =
           ∙ ap (pairs_with (carried c.loop-message.runs c.loop-message.kept) c.loop-message.number) (sym steps)
           ∙ old.same;
       since = c.add_new.ensures.since c.args.runs.now before old.since;
+      from = omega (arith, old.from);
+      within = c.add_new.ensures.within c.args.first old.from old.within;
       front = c.add_new.ensures.front ∙ old.front;
       more = c.add_new.ensures.more;
     }

@@ -1,5 +1,5 @@
 use Rattle.std.proofs.Common.{◌≡◌, ◌+◌, ◌≤◌, length, take}
-use Rattle.mold_capture.specs.Runs.{AreRuns, IsSince, carried}
+use Rattle.mold_capture.specs.Runs.{AreRuns, BeginWithin, IsSince, carried}
 use Rattle.mold_capture.specs.Seen.{pairs_with}
 use Rattle.mold_capture.proofs.keep.add_each.Given as goal
 
@@ -11,6 +11,8 @@ invariant-loop-message l = record {
       pairs_with (carried l.runs l.kept) l.number l.message-iterator
       ≡ pairs_with (carried l.fn.runs l.fn.kept) l.first l.blocks;
   since : IsSince l.fn.runs l.runs l.since;
+  from : l.first ≤ l.number;
+  within : BeginWithin l.runs l.since l.first l.number;
   front : take l.since l.kept.messages ≡ l.fn.kept.messages;
   more : l.since ≤ length l.kept.messages;
 }
