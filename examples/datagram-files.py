@@ -1,10 +1,10 @@
 #!/usr/bin/env python3
-"""Makes files of datagrams, as `mold check` reads them: each line of standard input, in hexadecimal digits, becomes a
-file of its bytes. The files are FOLDER/PREFIX00000001.pkt and so on, in the order of the lines.
+"""Makes files of datagrams that `mold check` reads. Each line of standard input is one datagram in hexadecimal digits.
+The files are FOLDER/PREFIX00000001.pkt and so on, in the order of the lines.
 
     python3 examples/datagram-files.py FOLDER [PREFIX]
 
-The folder is made where it isn't there. Files of these names are replaced. Empty lines are skipped.
+The folder is made if it does not exist. Existing files with these names are replaced. Empty lines are skipped.
 """
 import os
 import sys

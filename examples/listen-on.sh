@@ -1,13 +1,13 @@
 #!/bin/sh
-# Hears a session for longer than the turns of one listener: one listens after the other, each from the number on
-# that the one before would have printed next. It prints what one listener would that had turns enough, and goes on
-# until the end of the session comes.
+# Receives a session for longer than the turns of one listener. It starts one listener after the other, each at the
+# sequence number that the one before it expected next. It prints what a single listener with enough turns would print,
+# and runs until the session ends.
 #
-#     sh examples/listen-on.sh NEXT WORD..
+#     sh examples/listen-on.sh NEXT ARGUMENT..
 #
-# NEXT is the number of the first message, and the words are those of `mold listen` but for --next. Run it at the top
-# of the repository. What comes while no one listens is requested from the server. With --report each of them tells at
-# its end what came on its lines.
+# NEXT is the sequence number of the first message. The arguments are those of `mold listen`, except --next. Run it at
+# the top of the repository. Messages that arrive between two listeners are requested from the server. With --report
+# each listener reports its lines when it ends.
 set -u
 next=$1
 shift

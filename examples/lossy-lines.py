@@ -1,7 +1,7 @@
 #!/usr/bin/env python3
-"""Lines over UDP on this machine that lose datagrams: what comes at a port IN goes on to the port OUT, but half of
-it, the same half each time. It ends once nothing came for two seconds, or nothing at all for thirty, and tells
-what each line lost.
+"""Lines over UDP on this machine that lose datagrams. Each datagram that arrives at a port IN is forwarded to its port
+OUT or dropped, at random with a fixed seed. About half are dropped. It ends after two seconds without a datagram, or
+after thirty if none arrives at all. Then it prints how many datagrams each line lost.
 
     python3 examples/lossy-lines.py IN OUT [IN OUT]...
 """
@@ -17,26 +17,26 @@ class Line:
         self.socket.bind(("127.0.0.1", port))
         self.out = ("127.0.0.1", out)
         self.chance = random.Random(port)
-        self.came = self.lost = 0
+        self.received = self.lost = 0
 
     def fileno(self):
         return self.socket.fileno()
 
-    def pass_on(self):
+    def forward(self):
         datagram = self.socket.recv(65535)
-        self.came += 1
+        self.received += 1
         if self.chance.random() < 0.5:
             self.lost += 1
         else:
             self.socket.sendto(datagram, self.out)
 
 
-ports = [int(word) for word in sys.argv[1:]]
+ports = [int(argument) for argument in sys.argv[1:]]
 lines = [Line(port, out) for port, out in zip(ports[::2], ports[1::2])]
 wait = 30
 while ready := select.select(lines, [], [], wait)[0]:
     wait = 2
     for line in ready:
-        line.pass_on()
+        line.forward()
 for line in lines:
-    print(f"line to port {line.out[1]} lost {line.lost} of {line.came}")
+    print(f"line to port {line.out[1]} lost {line.lost} of {line.received}")

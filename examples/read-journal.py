@@ -1,25 +1,25 @@
 #!/usr/bin/env python3
-"""Prints the messages of a journal's file as `mold listen` prints them, a line each: the number and the bytes in
-hexadecimal digits, or - for a message without bytes. It reads files of both versions.
+"""Prints the messages of a journal file as `mold listen` does. Each line has a sequence number and the message in
+hexadecimal digits, or - for an empty message. It reads files of both versions.
 
     python3 examples/read-journal.py FILE
 
-It trusts the file; `mold upgrade --journal FILE --to /dev/null` says whether it is in order.
+It does not check the file. `mold upgrade --journal FILE --to /dev/null` reports whether the file is valid.
 """
 import signal
 import sys
 
-# A reader that goes before the end, as head does, ends it without a word.
+# If the reader of the output closes the pipe early, as head does, end without a message.
 signal.signal(signal.SIGPIPE, signal.SIG_DFL)
-# Where the message blocks begin, by the first eight bytes of the file.
-BEGINNINGS = {b"MOLDJNL1": 18, b"MOLDJNL2": 27}
+# The offset of the first message block, by the first eight bytes of the file.
+OFFSETS = {b"MOLDJNL1": 18, b"MOLDJNL2": 27}
 
 with open(sys.argv[1], "rb") as file:
     journal = file.read()
-place = BEGINNINGS[journal[:8]]
+offset = OFFSETS[journal[:8]]
 number = 1
-while place < len(journal):
-    length = int.from_bytes(journal[place:place + 2], "big")
-    print(number, journal[place + 2:place + 2 + length].hex() or "-")
-    place += 2 + length
+while offset < len(journal):
+    length = int.from_bytes(journal[offset:offset + 2], "big")
+    print(number, journal[offset + 2:offset + 2 + length].hex() or "-")
+    offset += 2 + length
     number += 1

@@ -1,11 +1,11 @@
 #!/usr/bin/env python3
-"""Sends datagrams to an address, or to a multicast group: each line of standard input is one, in hexadecimal digits,
-as `mold pack` prints them.
+"""Sends datagrams to an address or to a multicast group. Each line of standard input is one datagram in hexadecimal
+digits, as `mold pack` prints them.
 
     python3 examples/send.py [--pause SECONDS] [--interface ADDRESS] ADDRESS
 
-It waits so many seconds after each, a thousandth where it is told no number. A group's datagrams leave by the network
-interface of the address that is given.
+It waits SECONDS after each datagram; the default is 0.001. The datagrams of a group leave by the network interface that
+has the address given with --interface.
 """
 import argparse
 import socket

@@ -1,10 +1,10 @@
-# Checks that are counted, for the scripts beside this file. They read it with `.`, with `scratch` set to a folder that
-# they may fill.
+# Runs and counts checks, for the scripts in this folder. They read this file with `.`, after setting `scratch` to a
+# folder for temporary files.
 
 passed=0
 failed=0
 
-# Runs a check, a function that succeeds, or prints why not and fails. It gets no input.
+# Runs a check: a function that succeeds, or prints the reason and fails. Its input is empty.
 check() {
     name=$1
     shift
@@ -18,9 +18,9 @@ check() {
     fi
 }
 
-# Runs the checks of a script, in their order: its functions whose names begin with `test_`. The title of a check is the
-# rest of the name, in words, after a prefix that all of them have. With names, only the checks with one of them in
-# their own names run.
+# Runs the checks of a script in their order. A check is a function whose name begins with `test_`. Its title is a
+# common prefix and the rest of its name, with spaces. If names are given, only the checks whose names contain one of
+# them run.
 check_each() {
     check_script=$1 check_prefix=$2
     shift 2
@@ -32,7 +32,7 @@ check_each() {
     done <"$scratch/checks"
 }
 
-# Whether the file GOT is the same as the file WANTED. WHAT names it.
+# Succeeds if the files GOT and WANTED have the same content. WHAT names the file in the message.
 is_same() {
     what=$1 got=$2 wanted=$3
     [ "$(sha256sum <"$got")" = "$(sha256sum <"$wanted")" ] && return
@@ -44,7 +44,7 @@ is_same() {
     return 1
 }
 
-# Whether a status is the expected one.
+# Succeeds if a status is the expected one.
 is_status() {
     [ "$1" -eq "$2" ] && return
     printf 'the status is %s, and should be %s\n' "$1" "$2"
