@@ -1,8 +1,8 @@
-"""Plans what a change needs: the proofs, tests, edits and parts of the gate that it affects.
+"""Plans the proofs, tests, edits and parts of the gate that a change affects.
 
-A commit is compared with the files as they are now, committed or not. A crate is changed if one of its files or its
-line in crates.txt is. It is affected if it or a crate below it is changed. `tests/run --since COMMIT` runs the plan,
-and with --plan it prints it.
+A commit is compared with the current files, committed or not. A crate is changed if one of its files or its line in
+crates.txt differs. A crate is affected if it is changed or uses an affected crate. `tests/run --since COMMIT` runs the
+plan; with --plan it only prints the plan.
 """
 import dataclasses
 import glob
@@ -12,42 +12,42 @@ import subprocess
 
 import parts
 
-# The folders of a crate with its edits.
+# The folders of a crate that contain its edits.
 WRONG, MUST_FAIL = "wrong/", "must-fail/"
 
 
-def git(*words):
-    return subprocess.run(["git", *words], cwd=parts.TOP, stdout=subprocess.PIPE, text=True, check=True).stdout
+def git(*arguments):
+    return subprocess.run(["git", *arguments], cwd=parts.TOP, stdout=subprocess.PIPE, text=True, check=True).stdout
 
 
 def is_commit(name):
-    words = ["git", "rev-parse", "--quiet", "--verify", f"{name}^{{commit}}"]
-    return subprocess.run(words, cwd=parts.TOP, stdout=subprocess.DEVNULL).returncode == 0
+    command = ["git", "rev-parse", "--quiet", "--verify", f"{name}^{{commit}}"]
+    return subprocess.run(command, cwd=parts.TOP, stdout=subprocess.DEVNULL).returncode == 0
 
 
 def crates_in(text):
-    """Each crate of a crates.txt with what it uses, in its order."""
+    """Each crate of a crates.txt with the crates that it uses, in the order of the file."""
     lines = (line.split("#")[0].strip() for line in text.split("\n"))
     named = (line.partition(":") for line in lines if ":" in line)
     return {name.split()[0]: uses.split() for name, _, uses in named}
 
 
 def changed_files(commit):
-    """The paths that differ from the commit, committed or not, and the files that git does not track yet."""
+    """The files that differ from the commit, whether the change is committed or not, and untracked files."""
     changed = git("diff", "--name-only", "--no-renames", "-z", commit)
     new = git("ls-files", "--others", "--exclude-standard", "-z")
     return sorted(set(filter(None, (changed + new).split("\0"))))
 
 
 def changed_lines(commit, crates):
-    """The crates whose lines in crates.txt differ from the commit."""
+    """The crates whose line in crates.txt differs from the commit."""
     listed = git("ls-tree", "--name-only", commit, "crates.txt")
     before = crates_in(git("show", f"{commit}:crates.txt")) if listed else {}
     return {name for name, uses in crates.items() if before.get(name) != uses}
 
 
 def crate_of(path):
-    """The crate that a file lies in, if any, and the file's path there."""
+    """The crate that contains a file, or the empty string, and the path of the file in the crate."""
     found = re.match(r"crates/([^/]+)/(.*)", path)
     return (found[1], found[2]) if found else ("", path)
 
@@ -57,7 +57,7 @@ def in_order(crates, names):
 
 
 def affected(crates, changed):
-    """The changed crates and those above them, in the order of crates.txt."""
+    """The changed crates and all crates that use them, in the order of crates.txt."""
     found = set(changed)
     for name, uses in crates.items():
         if found & set(uses):
@@ -78,7 +78,7 @@ def has_tests(crate):
 
 
 def proofs(names, checked):
-    """The proofs of some crates, and the tests of the affected ones. `rt test` proves a crate of tests too."""
+    """The proofs of the crates `checked`, and the tests of those in `names`. `rt test` also proves a test crate."""
     for name in checked:
         is_of_tests = name.startswith("test_")
         if not is_of_tests:
@@ -88,7 +88,7 @@ def proofs(names, checked):
 
 
 def edits(with_must_fail, with_wrong):
-    """The edits of some crates in `must-fail`, each of which costs a check, and of others in `wrong`."""
+    """The edits in `must-fail` of some crates, each of which costs a check, and the edits in `wrong` of others."""
     names = [name for name in with_must_fail if has_files(name, "must-fail/*.edit")]
     if names:
         yield parts.Part(f"rt must-fail {' '.join(names)}")
@@ -98,7 +98,7 @@ def edits(with_must_fail, with_wrong):
 
 
 def narrowed(part, names):
-    """The part, with only the tests of affected crates: the programs of the others need not be built."""
+    """The part, limited to the tests of affected crates, since the test programs of the others may not be built."""
     if part.script() != "tests/out-of-memory":
         return part
     tests = ",".join(name for name in names if name.startswith("test_")) or "none"
@@ -107,7 +107,7 @@ def narrowed(part, names):
 
 @dataclasses.dataclass
 class Plan:
-    """The parts to be run, in this order, and the changed files that none of them reads."""
+    """The parts to run, in this order, and the changed files that no part reads."""
 
     proofs: list
     build: list
@@ -120,10 +120,10 @@ class Plan:
         return any(part.runs_program for lane in self.lanes for part in lane)
 
     def lines(self):
-        """A line for each part, and one for each file that none of them reads."""
+        """A line for each part, and one for each file that no part reads."""
         single = [*self.proofs, *self.build, *self.edits, *self.without_program]
         lines = [described(part) for part in (*single, *(part for lane in self.lanes for part in lane))]
-        return ["To be run:", *lines, *(f"  nothing here reads {path}" for path in self.unread)]
+        return ["To run:", *lines, *(f"  no part reads {path}" for path in self.unread)]
 
 
 def described(part):
@@ -132,11 +132,11 @@ def described(part):
 
 
 def count_of_edits(part):
-    return sum(len(glob.glob(f"{parts.TOP}/crates/{name}/wrong/*.edit")) for name in part.words())
+    return sum(len(glob.glob(f"{parts.TOP}/crates/{name}/wrong/*.edit")) for name in part.arguments())
 
 
 def plan(crates, paths, lines):
-    """What changed files need. `lines` are the crates whose lines in crates.txt changed."""
+    """The plan for changed files. `lines` are the crates whose line in crates.txt changed."""
     inside = [(name, path) for name, path in map(crate_of, paths) if name in crates]
     code = lines | {name for name, path in inside if not path.startswith((WRONG, MUST_FAIL))}
     names = affected(crates, code)
@@ -162,7 +162,7 @@ def is_unread(crates, path):
 
 
 def plan_since(commit):
-    """What the changes since a commit need."""
+    """The plan for the changes since a commit."""
     with open(f"{parts.TOP}/crates.txt", encoding="utf-8") as file:
         crates = crates_in(file.read())
     return plan(crates, changed_files(commit), changed_lines(commit, crates))

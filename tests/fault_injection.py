@@ -1,4 +1,4 @@
-"""Small calls of the program, and the library that makes calls of the system fail in them, for tests/out-of-memory and
+"""Small calls of the program, and the library that makes their system calls fail, for tests/out-of-memory and
 tests/io-errors."""
 import os
 import shutil
@@ -16,37 +16,37 @@ HEX = S.hex().encode()
 OLD = model.old_journal_file(S, [b"AB", b""])
 MESSAGES = b"4142\n\n43\n"
 LINES = b"".join(b"%02d" % it * 20 + b"\n" for it in range(1, 6))
-# The status of a program that reports a fault.
+# The exit status of a program that reports a fault.
 FAULT = 3
-# How often a call over sockets is tried before it counts as failed: a busy system may delay datagrams.
+# How often a call over sockets is tried before it counts as failed, because a busy system may delay datagrams.
 TRIES = 3
-# Calls with the same ports run one after the other. Their sockets stay open: otherwise a program that has just been
-# started could bind one of them.
-TURNS, BOUND = {}, {}
+# A lock for each set of ports, because calls with the same ports run one after the other, and the sockets of those
+# ports. The sockets stay open; otherwise a program that has just started could bind one of the ports.
+LOCKS, BOUND = {}, {}
 
 
 @dataclass
 class Call:
-    """A call of the program. An argument @name is a file in the call's own folder."""
+    """A call of the program. An argument @NAME is a file in the folder of the call."""
 
     name: str
     arguments: list
     given: bytes = b""
-    # The files that exist before the call, and those that it makes.
+    # The files that exist before the call, and the names of those that the call makes.
     files: dict = field(default_factory=dict)
     made: tuple = ()
-    # What runs beside it, and the ports that this binds. It returns the datagrams that arrived there.
-    beside: object = None
+    # A function that runs in parallel with the call, and its ports. It returns the datagrams that arrive there.
+    peer: object = None
     ports: tuple = ()
-    # The status if nothing fails.
+    # The exit status if no system call fails.
     status: int = 0
-    # The kinds of system calls that it certainly makes.
+    # The kinds of system calls that the call makes in any case.
     devices: tuple = ("read", "write")
 
 
 @dataclass
 class Room:
-    """What a run with faults needs: the library, the kind of call that fails, a folder and the file of counts."""
+    """What a run with faults needs: the library, the kind of call that fails, a folder and a file for counts."""
 
     library: str
     kind: str
@@ -61,7 +61,7 @@ class Room:
         return os.environ | added | ({"FAULT_SINGLE_BYTES": "1"} if is_single else {})
 
     def counts(self):
-        """Of the last run: how many calls of the kind it made, how many failed, how many of these are the program's."""
+        """The counts of the last run: calls of the kind, failed calls, and failed calls made by the program itself."""
         return struct.unpack("QQQ", processes.content_of(self.counts_file()))
 
     def clear(self):
@@ -73,7 +73,7 @@ def data(first, *messages):
 
 
 def has_ended(process):
-    """Waits for at most a millisecond, and returns whether a program has ended."""
+    """Waits for at most a millisecond, and returns whether the program has ended."""
     try:
         return process.wait(0.001) is not None
     except subprocess.TimeoutExpired:
@@ -92,7 +92,7 @@ def receive_lines(process, own):
 
 
 def request_messages(process, own):
-    """Requests two messages from a server again and again, and returns its responses."""
+    """Requests two messages from a server repeatedly, and returns the responses."""
     request = model.Request(S, 1, 2).spelling()
     while not has_ended(process):
         own[0].sendto(request, (udp_peers.own_host(), udp_peers.SERVER))
@@ -100,7 +100,7 @@ def request_messages(process, own):
 
 
 def feed(process, own):
-    """Sends message 3 on line A, the end of session on line B, and messages 1 and 2 in response to requests."""
+    """Sends message 3 on line A, the end of session on line B, and messages 1 and 2 in response to each request."""
     host = udp_peers.own_host()
     while not has_ended(process):
         own[0].sendto(data(3, b"C"), (host, udp_peers.LINE_A))
@@ -122,7 +122,7 @@ def calls_of_files():
         Call("check", ["check", "@"], files=folder, status=1),
         Call("check, refused", ["check", "@"], files=conflict, status=2),
         Call("upgrade", upgrade, files={"old": OLD}, made=("new",)),
-        Call("upgrade over a file", upgrade, files={"old": OLD, "new": b"what was there"}, made=("new",)),
+        Call("upgrade over a file", upgrade, files={"old": OLD, "new": b"old content"}, made=("new",)),
         Call("upgrade, refused", upgrade, files={"old": OLD[:-1]}, made=("new",), status=2),
         Call("dump", ["dump", "--journal", "@old"], files={"old": OLD}),
         Call("dump, refused", ["dump", "--journal", "@old"], files={"old": OLD[:-1]}, status=2),
@@ -139,15 +139,15 @@ def calls_over_ports():
     serve = ["serve", "--journal", "@old", *limits, "--bind", address(udp_peers.SERVER), "--turns", "2"]
     listen = ["listen", "--session", "SESSION001", "--window", "4", "--turns", "1000"]
     listen += ["--a", address(udp_peers.LINE_A), "--b", address(udp_peers.LINE_B), "--server", address(udp_peers.OWN)]
-    sends, answers = ("read", "write", "send"), ("read", "write", "receive", "send")
-    hears, former = ("write", "receive", "send", "wait"), {"new": b"what was there"}
+    sends, responds = ("read", "write", "send"), ("read", "write", "receive", "send")
+    receives, existing = ("write", "receive", "send", "wait"), {"new": b"old content"}
     return [
-        Call("loop", loop, LINES, devices=answers),
+        Call("loop", loop, LINES, devices=responds),
         Call("publish", publish, MESSAGES, {}, ("new",), receive_lines, published, 0, sends),
-        Call("publish over a file", publish, MESSAGES, former, ("new",), receive_lines, published, 0, sends),
-        Call("serve", serve, b"", {"old": OLD}, (), request_messages, (udp_peers.ASKING,), 0, answers),
+        Call("publish over a file", publish, MESSAGES, existing, ("new",), receive_lines, published, 0, sends),
+        Call("serve", serve, b"", {"old": OLD}, (), request_messages, (udp_peers.REQUESTING,), 0, responds),
         Call("serve, refused", serve, b"", {"old": OLD[:-1]}, status=2),
-        Call("listen", listen, b"", {}, (), feed, (udp_peers.FEEDING, udp_peers.OWN), 0, hears),
+        Call("listen", listen, b"", {}, (), feed, (udp_peers.FEEDING, udp_peers.OWN), 0, receives),
     ]
 
 
@@ -174,13 +174,13 @@ def all_calls():
         Call("the version", ["--version"], devices=("write",)),
         Call("a usage fault", ["pack", "--session", "SESSION001", "--limit", "63"], status=FAULT, devices=()),
         Call("an address fault", ["serve", "--journal", "x", "--bind", "nowhere"], status=FAULT, devices=()),
-        Call("a fault of reading", ["check", "@none"], status=FAULT, devices=()),
+        Call("a read fault", ["check", "@none"], status=FAULT, devices=()),
     ]
 
 
 @dataclass
 class Trial:
-    """A call of the program that is run with faults, over sockets of its own, and its outcome if nothing fails."""
+    """A call of the program to run with faults, its sockets, and its outcome if no system call fails."""
 
     mold: str
     call: Call
@@ -189,7 +189,7 @@ class Trial:
     full: processes.Outcome = None
 
     def run(self, environment):
-        """The outcome of the call, with the files that it made and the datagrams that it sent."""
+        """The outcome of the call, including its files and the datagrams that it sent."""
         call, folder = self.call, self.room.folder
         shutil.rmtree(folder, ignore_errors=True)
         os.mkdir(folder)
@@ -200,19 +200,19 @@ class Trial:
         for socket in self.own:
             udp_peers.arrived(socket)
         with processes.running([self.mold, *arguments], call.given, environment) as process:
-            received = call.beside(process, self.own) if call.beside else []
+            received = call.peer(process, self.own) if call.peer else []
             outcome = processes.finish(process)
         outcome.made = {name: processes.content_of(os.path.join(folder, name)) for name in (*call.files, *call.made)}
         outcome.made |= {f"port {index}": datagrams for index, datagrams in enumerate(received)}
         return outcome
 
     def runs(self, environment):
-        """The outcomes of repeated runs, each with the number of runs that are left."""
-        for left in reversed(range(TRIES if self.call.beside else 1)):
-            yield left, self.run(environment)
+        """The outcomes of repeated runs, each with the number of remaining runs."""
+        for remaining in reversed(range(TRIES if self.call.peer else 1)):
+            yield remaining, self.run(environment)
 
     def is_prefix(self, name, got):
-        """Whether a file or a port's datagrams are as before the call, or a prefix of those with no fault."""
+        """Whether a file or a port's datagrams are as before the call, or a prefix of those of a run without faults."""
         if got == self.call.files.get(name):
             return True
         if name in self.call.files and name not in self.call.made or self.full.made[name] is None:
@@ -220,21 +220,21 @@ class Trial:
         return self.full.made[name][: len(got)] == got
 
 
-def in_turn(mold, call, room, try_all):
-    """What `try_all` reports of a call, once no other call has its ports."""
+def with_ports(mold, call, room, try_all):
+    """Runs `try_all` on a call while no other call uses its ports, and returns its result."""
     key = call.ports or call.name
-    with TURNS.setdefault(key, threading.Lock()):
+    with LOCKS.setdefault(key, threading.Lock()):
         if key not in BOUND:
             BOUND[key] = [udp_peers.bound(it) for it in call.ports]
         trial = Trial(mold, call, room, BOUND[key])
         trial.full = trial.run(room.environment(0))
         if trial.full.status != call.status:
-            return f"it ends with status {trial.full.status} and {trial.full.errors[:200]!r} if nothing fails", ""
+            return f"without faults it ends with status {trial.full.status} and {trial.full.errors[:200]!r}", ""
         return try_all(trial)
 
 
 def built_library(folder):
-    """The library that makes calls fail, or none if there is no C compiler."""
+    """Builds the library that makes system calls fail. Returns its path, or None if there is no C compiler."""
     compiler = next(filter(None, map(shutil.which, ("cc", "gcc", "clang"))), None)
     if not compiler:
         return None
@@ -244,9 +244,9 @@ def built_library(folder):
     return library
 
 
-def report(name, tried, lock):
+def report(name, try_check, lock):
     """Runs a check, prints a line for it, and returns whether it passed."""
-    why, said = tried()
+    why, summary = try_check()
     with lock:
-        print(f"FAILED  {name}: {why}" if why else f"passed  {name}: {said}", flush=True)
+        print(f"FAILED  {name}: {why}" if why else f"passed  {name}: {summary}", flush=True)
     return not why

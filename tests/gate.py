@@ -1,10 +1,11 @@
-"""Runs the gate, or what the changes since a commit need of it; tests/run calls it.
+"""Runs the gate, or the part of it that the changes since a commit affect. tests/run calls this script.
 
     sh tests/run [--since COMMIT [--plan]]
 
-Without options everything runs: `rt ci`, the edits, and the parts in tests/parts.py. With --since only what the changes
-since COMMIT affect runs, over kept proofs, as tests/changed.py plans it; that is not the gate. --plan prints the plan
-and runs nothing. The last line is 'N passed, M failed' over all parts, and the status is 0 if nothing failed.
+Without options everything runs: `rt ci`, the edits, and the parts in tests/parts.py. With --since only those parts run
+that the changes since COMMIT affect, with kept proofs. tests/changed.py makes that plan, which does not replace the
+gate. --plan prints the plan and runs nothing. The last line is 'N passed, M failed' over all parts, and the status is 0
+if nothing failed.
 """
 import argparse
 import os
@@ -21,14 +22,14 @@ import changed
 import parts
 
 COUNTS = re.compile(r"(\d+) passed, (\d+) failed")
-# What `rt` builds, and what the launcher `mold` runs.
+# The program that `rt` builds, and the one that the launcher `mold` runs.
 BUILT = os.path.join(parts.TOP, "crates", parts.PROGRAM, "out", parts.PROGRAM)
 PROGRAM = os.path.join(parts.TOP, "out", "mold")
 
 
 def counts_of(part, last_line, status):
-    """How many checks of a part passed and failed. A part that ends badly has one failure at least, and so has one that
-    counts nothing."""
+    """How many checks of a part passed and failed. A part that fails or counts no passed check has at least one
+    failure."""
     if not part.is_counted:
         return (1, 0) if status == 0 else (0, 1)
     found = COUNTS.fullmatch(last_line)
@@ -38,37 +39,37 @@ def counts_of(part, last_line, status):
 
 
 class Gate:
-    """A run of parts, with their counts."""
+    """Runs parts and adds up their counts."""
 
     def __init__(self):
         self.passed = self.failed = 0
         self.lock = threading.Lock()
-        # Files are compared with this time, as the file system has it.
+        # The time at which the run began, by the clock of the file system, for comparison with the times of files.
         with tempfile.NamedTemporaryFile() as mark:
             self.began = os.stat(mark.name).st_mtime_ns
 
-    def run(self, part, is_beside=False):
-        """Runs a part, and returns whether nothing failed. What a part beside others prints comes whole, at its end."""
+    def run(self, part, is_parallel=False):
+        """Runs a part, and returns whether nothing failed. The output of a parallel part is printed when it ends."""
         began, printed = time.monotonic(), []
         streams = {"stdin": subprocess.DEVNULL, "stdout": subprocess.PIPE, "stderr": subprocess.STDOUT}
         folder, title = os.path.join(parts.TOP, part.folder), f"== {part.described()}\n"
-        print("" if is_beside else title, end="", flush=True)
+        print("" if is_parallel else title, end="", flush=True)
         try:
-            process = subprocess.Popen(part.words(), cwd=folder, text=True, errors="replace", **streams)
+            process = subprocess.Popen(part.arguments(), cwd=folder, text=True, errors="replace", **streams)
         except OSError as why:
             self.fail(f"{part.described()}: {why}")
             return False
         for line in process.stdout:
             printed.append(line)
-            if not is_beside:
+            if not is_parallel:
                 print(line, end="", flush=True)
-        # The time of the part's own processes, which `wait` would not return.
+        # `wait4` also returns the processor time of the part, unlike `wait`.
         _, status, used = os.wait4(process.pid, 0)
         process.returncode = os.waitstatus_to_exitcode(status)
         passed, failed = counts_of(part, printed[-1].rstrip("\n") if printed else "", process.returncode)
         with self.lock:
             self.passed, self.failed = self.passed + passed, self.failed + failed
-            print("".join([title, *printed]) if is_beside else "", end="")
+            print("".join([title, *printed]) if is_parallel else "", end="")
             print(f"{'FAILED  ' if failed else ''}{part.described()}: {time.monotonic() - began:.0f} s, "
                   f"{used.ru_utime + used.ru_stime:.0f} processor seconds", flush=True)
         return failed == 0
@@ -78,16 +79,16 @@ class Gate:
             self.run(part)
 
     def run_lanes(self, lanes):
-        """Runs lanes side by side, each of them one part after the other."""
+        """Runs lanes in parallel, and the parts of each lane one after the other."""
         with ThreadPoolExecutor(len(lanes) or 1) as pool:
             list(pool.map(self.run_lane, lanes))
 
     def run_lane(self, lane):
         for part in lane:
             if part.is_possible():
-                self.run(part, is_beside=True)
+                self.run(part, is_parallel=True)
             else:
-                self.say(f"not run: {part.described()}, because there is no C compiler")
+                self.say(f"skipped: {part.described()}, because there is no C compiler")
 
     def fail(self, why):
         with self.lock:
@@ -99,7 +100,7 @@ class Gate:
             print(text, flush=True)
 
     def is_edited(self):
-        """Whether a source of the crates was edited since this run began."""
+        """Whether a source of a crate was edited since this run began."""
         files = [os.path.join(parts.TOP, "crates.txt")]
         for at, folders, names in os.walk(os.path.join(parts.TOP, "crates")):
             folders[:] = [it for it in folders if it != "out"]
@@ -107,8 +108,8 @@ class Gate:
         return any(os.stat(it).st_mtime_ns > self.began for it in files)
 
     def keep_program(self):
-        """Makes the program that `rt` has built the launcher's, unless a source was edited meanwhile. So nothing is
-        proved twice. The copy gets the time at which this run began."""
+        """Copies the program that `rt` has built to the path that the launcher runs, so that nothing is proved twice.
+        Does nothing if a source was edited meanwhile. The copy gets the time at which this run began."""
         if not self.is_edited():
             os.makedirs(os.path.dirname(PROGRAM), exist_ok=True)
             shutil.copy(BUILT, f"{PROGRAM}.new")
@@ -116,11 +117,11 @@ class Gate:
             os.replace(f"{PROGRAM}.new", PROGRAM)
 
     def has_program(self):
-        """Whether the launcher runs the program. It builds the program first if that is not current."""
-        words = [os.path.join(parts.TOP, "mold"), "--help"]
-        if subprocess.run(words, stdin=subprocess.DEVNULL, stdout=subprocess.DEVNULL).returncode == 0:
+        """Whether the launcher runs the program. The launcher builds the program first if it is out of date."""
+        command = [os.path.join(parts.TOP, "mold"), "--help"]
+        if subprocess.run(command, stdin=subprocess.DEVNULL, stdout=subprocess.DEVNULL).returncode == 0:
             return True
-        self.fail("the program is built")
+        self.fail("the program could not be built")
         return False
 
     def run_gate(self):
@@ -132,9 +133,9 @@ class Gate:
             self.run_lanes(parts.LANES)
 
     def run_plan(self, plan):
-        """Runs a plan of tests/changed.py, as far as proofs and tests pass."""
+        """Runs a plan of tests/changed.py. If a proof or a test fails, the rest is skipped."""
         if not all(self.run(part) for part in (*plan.proofs, *plan.build)):
-            self.say("not run: the rest of the plan, because a proof or a test failed")
+            self.say("skipped: the rest of the plan, because a proof or a test failed")
             return
         if plan.build:
             self.keep_program()
@@ -163,10 +164,10 @@ def main():
     else:
         gate.run_gate()
     used = os.times()
-    print(f"all of it: {time.monotonic() - began:.0f} s, "
+    print(f"total: {time.monotonic() - began:.0f} s, "
           f"{used.children_user + used.children_system:.0f} processor seconds")
     if order.since:
-        print("This is not the gate, which is `sh tests/run`.")
+        print("This is not the whole gate. Run `sh tests/run` for that.")
     print(f"{gate.passed} passed, {gate.failed} failed")
     return 0 if gate.failed == 0 else 1
 

@@ -1,8 +1,8 @@
-/* A library for LD_PRELOAD that makes calls of the system fail. FAULT names the kind of call: allocation, read, write,
- * receive, send or wait. The call with the number FAULT_AT fails, counted from 1; with FAULT_ALL every later call of
- * that kind fails too. With FAULT_SINGLE_BYTES each read or write moves one byte. The counts are written to the file
- * FAULT_COUNTS, of sizeof(struct counts) bytes, however the program ends. tests/out-of-memory and tests/io-errors use
- * it. */
+/* A library for LD_PRELOAD that makes allocations and system calls fail. FAULT names the kind of call: allocation, read,
+ * write, receive, send or wait. The call number FAULT_AT of that kind fails, counted from 1. With FAULT_ALL all later
+ * calls of that kind fail too. With FAULT_SINGLE_BYTES each read or write transfers one byte. The counts are mapped to
+ * the file FAULT_COUNTS, of sizeof(struct counts) bytes, so they are kept however the program ends.
+ * tests/out-of-memory and tests/io-errors use this library. */
 #define _GNU_SOURCE
 #include <dirent.h>
 #include <dlfcn.h>
@@ -17,14 +17,14 @@
 #include <sys/socket.h>
 #include <unistd.h>
 
-/* `own` counts the failed calls that the program made itself, and not a library for it. */
+/* `own` counts the failed calls that the program made itself, not through a library. */
 static struct counts { uint64_t calls, failed, own; } no_counts, *counts;
 static const char *kind;
 static uint64_t at;
 static int all, single_bytes;
 static uintptr_t code_begin, code_end;
 
-/* The loader lists the program itself first. */
+/* The loader lists the program first. */
 static int note_program(struct dl_phdr_info *info, size_t size, void *unused) {
     for (int i = 0; i < info->dlpi_phnum; i++)
         if (info->dlpi_phdr[i].p_type == PT_LOAD && info->dlpi_phdr[i].p_flags & PF_X) {
@@ -84,7 +84,7 @@ ssize_t getdents64(int folder, void *buffer, size_t size) {
     NEXT(getdents64);
     return FAILS("read") ? -1 : next(folder, buffer, size);
 }
-/* Standard error never fails: the program reports the fault there. */
+/* Writes to standard error never fail, because the program reports the fault there. */
 ssize_t write(int file, const void *bytes, size_t size) {
     NEXT(write);
     return file != STDERR_FILENO && FAILS("write") ? -1 : next(file, bytes, moved(size));

@@ -1,4 +1,4 @@
-"""The parts of the gate, each named once, for tests/gate.py and tests/changed.py."""
+"""The list of the parts of the gate, for tests/gate.py and tests/changed.py."""
 import fnmatch
 import os
 import re
@@ -7,30 +7,30 @@ import shutil
 from dataclasses import dataclass
 
 TOP = os.path.dirname(os.path.dirname(os.path.realpath(__file__)))
-# The documents whose command lines are run.
+# The documents whose command lines tests/documents runs.
 DOCUMENTS = ("README.md", "docs/HEADLINE.md", "docs/USING.md", "docs/TROUBLESHOOTING.md", "docs/LIBRARY.md")
-# The crates at the top of the program and of the library.
+# The root crates of the program and of the library.
 PROGRAM, LIBRARY = "mold_cmd", "mold_ffi"
 COMPILERS = ("cc", "gcc", "clang")
 
 
 @dataclass(frozen=True)
 class Part:
-    """A command of the gate, which runs at the top of the repository or in a folder of it."""
+    """A command of the gate, which runs at the top of the repository or in one of its folders."""
 
     command: str
-    # Patterns of the files that it reads, beside its script in tests/ and the modules there.
+    # Patterns of the files that it reads, in addition to its script in tests/ and the modules that the script imports.
     reads: tuple = ()
-    # The crate at the top of what it runs: it is run if that crate or one below it changed.
+    # The root crate of what it runs. The part is affected if that crate or one that it uses is changed.
     crate: str = ""
-    # Whether it runs the program out/mold, which has to be built before.
+    # Whether it runs the program out/mold, which has to be built first.
     runs_program: bool = False
     needs_compiler: bool = False
     folder: str = "."
-    # Whether its last line is 'N passed, M failed'. Otherwise its status counts.
+    # Whether its last line is 'N passed, M failed'. Otherwise the part counts as one check, by its status.
     is_counted: bool = True
 
-    def words(self):
+    def arguments(self):
         return shlex.split(self.command)
 
     def described(self):
@@ -38,7 +38,7 @@ class Part:
 
     def script(self):
         """The script in tests/ that it runs, if any."""
-        return next((word for word in self.words() if word.startswith("tests/")), "")
+        return next((it for it in self.arguments() if it.startswith("tests/")), "")
 
     def is_possible(self):
         return not self.needs_compiler or any(map(shutil.which, COMPILERS))
@@ -49,10 +49,10 @@ def over_program(command, *reads, crate=PROGRAM, needs_compiler=False):
 
 
 RT_CI = Part("rt ci")
-# Builds the program over kept proofs, and runs it on an empty input.
+# Builds the program with the kept proofs, and runs it on empty input.
 BUILD = Part("rt run -- show", folder=f"crates/{PROGRAM}", is_counted=False)
 EDITS = Part("tests/edits --proved")
-# Parts that need no program. They run one after the other.
+# Parts that do not need the program. They run one after the other.
 WITHOUT_PROGRAM = (
     Part("tests/changed-test", ("tests/run",)),
     Part("tests/links", ("*.md",)),
@@ -61,8 +61,8 @@ WITHOUT_PROGRAM = (
                                      "crates/*/wrong/*", "crates/*/must-fail/*")),
     Part("tests/edits-test", ("tests/edits",)),
 )
-# Lanes of parts that run side by side; the parts of a lane run one after the other. The first lane has fixed ports and
-# makes the library, and its parts mostly wait. Each process of the second lane has a loopback address of its own.
+# Lanes run in parallel; the parts of a lane run one after the other. The parts of the first lane use fixed ports, build
+# the library and mostly wait. In the second lane each process has a separate loopback address.
 LANES = (
     (
         over_program("tests/program-checks", "try", "mold", "examples/*", "tests/checks.sh", "tests/table*",
@@ -75,7 +75,7 @@ LANES = (
         over_program("tests/out-of-memory", "examples/*", "tests/inject_faults.c"),
         over_program("tests/io-errors", "examples/*", "tests/inject_faults.c", needs_compiler=True),
         over_program("tests/mutations", "examples/packets.*", "tests/table*"),
-        # A longer run, with other seeds, is no part of the gate.
+        # Longer runs with other seeds are not part of the gate.
         over_program("tests/long-run gate 200"),
     ),
     (
@@ -88,12 +88,12 @@ LANES = (
 
 
 def parts():
-    """All parts but the proofs and the edits, in their order."""
+    """All parts except the proofs and the edits, in their order."""
     return [*WITHOUT_PROGRAM, *(part for lane in LANES for part in lane)]
 
 
 def files_read(script):
-    """A script of tests/, the modules that it imports, and those that they import."""
+    """A script of tests/, and all modules that it imports, directly or indirectly."""
     found, new = set(), {script}
     while new:
         found |= new
@@ -102,7 +102,7 @@ def files_read(script):
 
 
 def imported(path):
-    """The modules of tests/ that a script imports; none if it is no file."""
+    """The modules of tests/ that a script imports. The list is empty if the script is not a file."""
     if not os.path.isfile(f"{TOP}/{path}"):
         return []
     with open(f"{TOP}/{path}", encoding="utf-8") as file:
@@ -111,6 +111,6 @@ def imported(path):
 
 
 def is_reader(part, paths):
-    """Whether a part reads one of these files, by its patterns or its script."""
+    """Whether a part reads one of these files: by its patterns, or as its script or an imported module."""
     own = files_read(part.script()) if part.script() else set()
     return any(path in own or any(fnmatch.fnmatch(path, it) for it in part.reads) for path in paths)

@@ -1,4 +1,4 @@
-"""Runs a program, for the scripts beside this file. Its streams are files, so no pipe can fill up."""
+"""Runs a program, for the scripts in this folder. Its standard streams are files, so no pipe can fill up."""
 import os
 import shutil
 import subprocess
@@ -8,26 +8,27 @@ from contextlib import contextmanager
 from dataclasses import dataclass, field
 
 TOP = os.path.dirname(os.path.dirname(os.path.realpath(__file__)))
-# What the launcher `mold` has built. It isn't called itself, as each of its calls looks at all sources.
+# The program that the launcher `mold` has built. The launcher itself is slower, because it examines all sources.
 PROGRAM = os.path.join(TOP, "out", "mold")
-# Seconds after which a program is killed that doesn't end.
+# The time limit of a program, in seconds. Then it is killed.
 PATIENCE = 60
 OWN = threading.local()
 
 
 @dataclass
 class Outcome:
-    """What came of a call: a status, which is 128 and more where a signal ended it, and two texts."""
+    """The outcome of a call: status, standard output and standard error. After a signal the status is 128 plus its
+    number."""
 
     status: int
     text: bytes
     errors: bytes
-    # What else there is to be compared, as files that were made, by its name.
+    # Other results to compare by name, such as files that the call made.
     made: dict = field(default_factory=dict)
 
 
 def streams():
-    """Three files of this thread."""
+    """The three files that serve this thread as standard streams."""
     if not hasattr(OWN, "streams"):
         OWN.streams = [tempfile.TemporaryFile() for _ in range(3)]
     return OWN.streams
@@ -42,13 +43,13 @@ def filled(file, some_bytes):
 
 
 @contextmanager
-def running(words, some_bytes=b"", environment=None):
-    """A program over the files of this thread, which has one at a time. It outlives neither what is done with it nor
-    the patience with it."""
-    given, told, complained = streams()
+def running(command, some_bytes=b"", environment=None):
+    """Runs a program with the files of this thread as its streams. A thread runs one program at a time. The program is
+    killed when the context ends, or after PATIENCE seconds."""
+    standard_input, output, errors = streams()
     for file, content in zip(streams(), (some_bytes, b"", b"")):
         filled(file, content)
-    process = subprocess.Popen(words, stdin=given, stdout=told, stderr=complained, env=environment)
+    process = subprocess.Popen(command, stdin=standard_input, stdout=output, stderr=errors, env=environment)
     watch = threading.Timer(PATIENCE, process.kill)
     watch.start()
     try:
@@ -60,7 +61,7 @@ def running(words, some_bytes=b"", environment=None):
 
 
 def finish(process):
-    """The outcome of the program that this thread has started, once it has ended."""
+    """Waits for the program that this thread has started, and returns its outcome."""
     status = process.wait()
     return Outcome(status if status >= 0 else 128 - status, *[read_all(it) for it in streams()[1:]])
 
@@ -70,13 +71,13 @@ def read_all(file):
     return file.read()
 
 
-def call(words, some_bytes=b"", environment=None):
-    with running(words, some_bytes, environment) as process:
+def call(command, some_bytes=b"", environment=None):
+    with running(command, some_bytes, environment) as process:
         return finish(process)
 
 
 def content_of(path):
-    """The bytes of a file, or none where there isn't one."""
+    """The bytes of a file, or None if it does not exist."""
     try:
         with open(path, "rb") as file:
             return file.read()
@@ -85,7 +86,7 @@ def content_of(path):
 
 
 def put(path, some_bytes):
-    """Makes the file, or takes it away where it is to have no bytes at all, none."""
+    """Writes a file, or removes it if the bytes are None."""
     if some_bytes is not None:
         with open(path, "wb") as file:
             file.write(some_bytes)
@@ -94,7 +95,7 @@ def put(path, some_bytes):
 
 
 def put_folder(path, entries):
-    """Makes a folder anew, of names and bytes; a folder where these are none."""
+    """Replaces a folder. The entries are names with bytes, or with None for a subfolder."""
     shutil.rmtree(path, ignore_errors=True)
     os.mkdir(path)
     for name, some_bytes in entries:
@@ -105,7 +106,7 @@ def put_folder(path, entries):
 
 
 def parsed(parser):
-    """The words of a script, whose option --mold names a program that is there."""
+    """Parses the arguments of a script. Its option --mold has to name an executable program."""
     parser.add_argument("--mold", default=PROGRAM, metavar="PROGRAM")
     order = parser.parse_args()
     if not os.access(order.mold, os.X_OK):
