@@ -69,7 +69,7 @@ class Room:
 
 
 def data(first, *messages):
-    return model.spelling(model.Packet("data", S, first, messages))
+    return model.encoding(model.Packet("data", S, first, messages))
 
 
 def has_ended(process):
@@ -93,7 +93,7 @@ def receive_lines(process, own):
 
 def request_messages(process, own):
     """Requests two messages from a server repeatedly, and returns the responses."""
-    request = model.Request(S, 1, 2).spelling()
+    request = model.Request(S, 1, 2).encoding()
     while not has_ended(process):
         own[0].sendto(request, (udp_peers.own_host(), udp_peers.SERVER))
     return [[it for it, _ in udp_peers.arrived(own[0])]]
@@ -104,7 +104,7 @@ def feed(process, own):
     host = udp_peers.own_host()
     while not has_ended(process):
         own[0].sendto(data(3, b"C"), (host, udp_peers.LINE_A))
-        own[0].sendto(model.spelling(model.Packet("end", S, 4)), (host, udp_peers.LINE_B))
+        own[0].sendto(model.encoding(model.Packet("end", S, 4)), (host, udp_peers.LINE_B))
         for _, sender in udp_peers.arrived(own[1]):
             own[1].sendto(data(1, b"AB", b""), sender)
     return []
@@ -116,7 +116,7 @@ def address(port):
 
 def calls_of_files():
     upgrade = ["upgrade", "--journal", "@old", "--to", "@new", "--close"]
-    folder = {"b.pkt": data(1, b"AB", b""), "a.pkt": model.spelling(model.Packet("end", S, 5)), "c.txt": b""}
+    folder = {"b.pkt": data(1, b"AB", b""), "a.pkt": model.encoding(model.Packet("end", S, 5)), "c.txt": b""}
     conflict = {"b.pkt": data(2, b"X"), "a.pkt": data(2, b"Y")}
     return [
         Call("check", ["check", "@"], files=folder, status=1),

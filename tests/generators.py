@@ -1,5 +1,5 @@
 """Generators of random inputs for `mold`, by a seed, for tests/long-run: numbers at the edges of their ranges,
-truncated and changed packets and files, scripts whose events mostly make sense."""
+truncated and changed packets and files, and scripts whose events are mostly valid."""
 from dataclasses import dataclass
 
 import model
@@ -11,23 +11,23 @@ LIMITS = [64, 65, 66, 85, 100, 1400, 65507]
 WINDOWS = [1, 2, 3, 4, 5, 8, 64, 1024, 65535, 65536]
 BURSTS = [1, 2, 3, 63, 64]
 NAME = "SESSION001"
-# How many numbers a listener is brought over to its end.
+# How many sequence numbers above `next` may be filled to bring a listener to its end.
 FARTHEST = 70000
 FAR = [1023, 1024, 65533, 65534, 65535, 65536, 65537]
-# Lines of a script that are no event, or one that is refused.
-NO_EVENTS = [b"", b"publish", b"publish 4", b"publish  ", b"publish", b"request 0g", b"restart 0 +1", b"\xc3\xa9"]
-NO_EVENTS += [b"ask -1", b"ask 18446744073709551615", b"ask 18446744073709551616", b"deliver 0 c 0", b"deliver 0 A 0"]
-# Texts that are values of an option, or nearly.
+# Lines of a script that are not events, or events that are refused.
+BAD_EVENTS = [b"", b"publish", b"publish 4", b"publish  ", b"publish", b"request 0g", b"restart 0 +1", b"\xc3\xa9"]
+BAD_EVENTS += [b"ask -1", b"ask 18446744073709551615", b"ask 18446744073709551616", b"deliver 0 c 0", b"deliver 0 A 0"]
+# Valid and almost valid texts of option values.
 SESSIONS = [NAME, "A", " ", "~", "a=b", "-x", "--to", "ten bytes.", "", "SESSION0012", "é", "a\x1fb", "a\x7f", "a\tb"]
-# The first is of no machine, so that nobody binds it.
+# The first address belongs to no machine, so that no program can bind it.
 ADDRESSES = ["192.0.2.1:9", "127.0.0.1:9", "0.0.0.0:0", "255.255.255.255:65535", "1.2.3.4:5", "", "127.0.0.1", ":9"]
 ADDRESSES += ["127.0.0.1:", "nowhere:9", "127.0.0.1:09", "127.0.0.01:9", "127.0.01.1:9", "127.00.0.1:9", "0127.0.0.1:9"]
 ADDRESSES += ["256.0.0.1:9", "127.0.0.1:65536", "127.0.0.1:4294967305", "127.0.1:9", "1.2.3.4.5:6", "127..0.1:9"]
 ADDRESSES += ["127.0.0.1:9 ", " 127.0.0.1:9", "127.0.0.1:+9", "127.0.0.1:-1", "-1.0.0.1:9", "127.0.0.1:9:9", "[::1]:9"]
 ADDRESSES += ["127,0,0,1:9", "2130706433:9", "127.0.0.\uff11:9"]
-NO_NUMBERS = ["", "+64", "-1", " 64", "64 ", "0x40", "1e3", "64.0", "\uff16\uff14", "64\u0664", str((1 << 64) + 64)]
-NO_NUMBERS += [str(1 << 64)]
-NO_NUMBERS += ["9" * 20, "0" * 19 + "64", "sixty-four"]
+BAD_NUMBERS = ["", "+64", "-1", " 64", "64 ", "0x40", "1e3", "64.0", "\uff16\uff14", "64\u0664", str((1 << 64) + 64)]
+BAD_NUMBERS += [str(1 << 64)]
+BAD_NUMBERS += ["9" * 20, "0" * 19 + "64", "sixty-four"]
 
 
 @dataclass
@@ -36,11 +36,11 @@ class Case:
 
     options: dict
     items: list
-    # The words of the options.
-    words: list
+    # The options as command-line arguments.
+    arguments: list
 
     def lines(self):
-        """The input of lines, which may end without 0A."""
+        """The input as lines. The last one may lack its newline."""
         return b"\n".join(it[-1] for it in self.items) + (b"\n" if self.options.get("is_ended", True) else b"")
 
 
@@ -76,7 +76,7 @@ def digits(chance, some_bytes):
 
 
 def damaged(chance, some_bytes):
-    """The bytes cut, with others behind, or with one or two changed."""
+    """The bytes, truncated, extended, or with one or two bytes changed."""
     way = chance.randrange(4)
     if way == 0:
         return some_bytes[: chance.randint(0, len(some_bytes))]
@@ -96,38 +96,38 @@ def packet(chance, session, sequence):
 
 
 def great_datagram(chance):
-    """One of those that no network carries."""
+    """A datagram that is too large for UDP."""
     messages = chance.choice([65534 * [b""], [bytes(65535)], 3 * [bytes(65534), b"A"], 65533 * [b""]])
-    return model.spelling(model.Packet("data", NAME.encode(), number(chance), tuple(messages)))
+    return model.encoding(model.Packet("data", NAME.encode(), number(chance), tuple(messages)))
 
 
 def datagram(chance):
     if has(chance, 0.002):
         return great_datagram(chance)
-    drawn = model.spelling(packet(chance, some_session(chance), number(chance)))
+    drawn = model.encoding(packet(chance, some_session(chance), number(chance)))
     if has(chance, 0.2):
         drawn = drawn[:18] + chance.choice(COUNTS).to_bytes(2, "big") + drawn[20:]
     return damaged(chance, drawn) if has(chance, 0.4) else drawn
 
 
-def request(chance, session, behind):
-    """The bytes of a request to a journal whose next message has the number `behind`."""
-    sequence = chance.choice([0, 1, behind - 1, behind, number(chance), chance.randint(1, behind)])
-    asked = model.Request(session, max(sequence, 0), chance.choice(COUNTS + [1, 2, 3, 4, 5])).spelling()
-    return damaged(chance, asked) if has(chance, 0.15) else asked
+def request(chance, session, top):
+    """The bytes of a request to a journal whose last message has the number `top - 1`."""
+    sequence = chance.choice([0, 1, top - 1, top, number(chance), chance.randint(1, top)])
+    drawn = model.Request(session, max(sequence, 0), chance.choice(COUNTS + [1, 2, 3, 4, 5])).encoding()
+    return damaged(chance, drawn) if has(chance, 0.15) else drawn
 
 
 def spoiled_line(chance, line):
-    """The line with what no line of digits has, and no 0A."""
-    strange = bytes([chance.choice([it for it in range(256) if it != 10])])
+    """The line, changed so that it is not hexadecimal. It contains no newline."""
+    foreign = bytes([chance.choice([it for it in range(256) if it != 10])])
     at = chance.randint(0, len(line))
-    within = line[:at] + strange + line[at:]
+    within = line[:at] + foreign + line[at:]
     return chance.choice([line + b"0", line[1:], within, line + b"\r", b" " + line, b"-", b"\xff", b"0x" + line])
 
 
-def option_words(chance, options):
-    """Words that say the options, in any order, joined or not; one that has its default value may be left out."""
-    words = []
+def option_arguments(chance, options):
+    """The options as arguments, in any order, with = or without it. Options with their default may be left out."""
+    arguments = []
     for name in chance.sample(sorted(options), len(options)):
         value = options[name]
         if value == model.DEFAULTS.get(name) and has(chance, 0.5):
@@ -136,13 +136,13 @@ def option_words(chance, options):
         if isinstance(value, int) and has(chance, 0.2):
             text = text.zfill(chance.randint(1, 20))
         joined = text.startswith("-") or has(chance, 0.3)
-        words += [f"--{name}={text}"] if joined else [f"--{name}", text]
-    return words
+        arguments += [f"--{name}={text}"] if joined else [f"--{name}", text]
+    return arguments
 
 
 def case_of(chance, options, items, **others):
     others |= {"is_ended": has(chance, 0.8)}
-    return Case(options | others, items, option_words(chance, options))
+    return Case(options | others, items, option_arguments(chance, options))
 
 
 def show(chance):
@@ -154,12 +154,12 @@ def show(chance):
         line = digits(chance, drawn)
         items.append((spoiled_line(chance, line) if has(chance, 0.1) else b"" if has(chance, 0.03) else line,))
     case = case_of(chance, {}, items, is_request=is_request)
-    case.words = ["--request"] if is_request else []
+    case.arguments = ["--request"] if is_request else []
     return case
 
 
 def some_lines(chance, limit, most):
-    """Lines of messages, of which one may be refused."""
+    """Lines of messages. One of them may be invalid."""
     longest = min(limit - 22, 1378 if has(chance, 0.99) else 65485)
     lines = [digits(chance, message(chance, longest)) for _ in range(chance.randint(0, most))]
     if lines and has(chance, 0.25):
@@ -172,7 +172,7 @@ def some_lines(chance, limit, most):
 def pack(chance):
     options = {"session": session_text(chance), "limit": chance.choice(LIMITS + [chance.randint(64, 300)])}
     if has(chance, 0.003):
-        # About as many messages as fit the greatest packet.
+        # About as many messages as fit in the largest packet.
         options["limit"], items = 65507, [(b"",)] * chance.randint(32741, 32746)
     else:
         items = some_lines(chance, options["limit"], chance.choice([3, 12, 60]))
@@ -196,11 +196,11 @@ def loop(chance):
 
 
 def numbered(chance, value):
-    """A number as a script may have it."""
+    """A number as it may appear in a script."""
     return str(value).zfill(chance.choice([1, 1, 1, 2, 20])).encode()
 
 
-def bytes_word(chance, some_bytes):
+def bytes_text(chance, some_bytes):
     return digits(chance, some_bytes) or b"-"
 
 
@@ -209,7 +209,7 @@ def way(chance):
 
 
 def script_line(chance, world):
-    """An event's line, which mostly is one that the world can run."""
+    """The line of an event. Mostly the world can run it."""
     r = numbered(chance, number(chance) if has(chance, 0.02) else chance.randrange(len(world.views)))
     name = chance.choice(
         ["publish"] * 5 + ["datagram"] * 3 + ["deliver"] * 9 + ["ask", "ask", "request", "heartbeat", "end", "noise"]
@@ -217,22 +217,22 @@ def script_line(chance, world):
     )
     if name == "publish":
         longest = world.limit - 22 + (1 if has(chance, 0.03) else 0)
-        words = [bytes_word(chance, message(chance, longest))]
+        fields = [bytes_text(chance, message(chance, longest))]
     elif name == "ask":
-        words = [r]
+        fields = [r]
     elif name == "request":
-        words = [bytes_word(chance, request(chance, world.session, len(world.messages) + 1))]
+        fields = [bytes_text(chance, request(chance, world.session, len(world.messages) + 1))]
     elif name == "deliver":
-        place = chance.randrange(len(world.sent) + (1 if has(chance, 0.05) else 0) or 1)
-        words = [r, way(chance), numbered(chance, number(chance) if has(chance, 0.03) else place)]
+        index = chance.randrange(len(world.sent) + (1 if has(chance, 0.05) else 0) or 1)
+        fields = [r, way(chance), numbered(chance, number(chance) if has(chance, 0.03) else index)]
     elif name == "noise":
-        words = [r, way(chance), bytes_word(chance, noise(chance, world))]
+        fields = [r, way(chance), bytes_text(chance, noise(chance, world))]
     elif name == "restart":
         first = chance.randint(0, len(world.messages) + 1)
-        words = [r, numbered(chance, number(chance) if has(chance, 0.2) else first)]
+        fields = [r, numbered(chance, number(chance) if has(chance, 0.2) else first)]
     else:
-        words = []
-    return b" ".join([name.encode(), *words])
+        fields = []
+    return b" ".join([name.encode(), *fields])
 
 
 def noise(chance, world):
@@ -242,14 +242,14 @@ def noise(chance, world):
 
 
 def other_line(chance, line):
-    """What is no event, or hardly one."""
+    """A line that is mostly not a valid event."""
     changed = [line + b" ", b" " + line, line + b"\r", line + b" 0", line[:-1], line.upper()]
     changed += [line.replace(b" ", b"  ", 1), line.replace(b" ", b"\t", 1), line.replace(b"0", b"0" * 21, 1)]
-    return chance.choice(changed + NO_EVENTS)
+    return chance.choice(changed + BAD_EVENTS)
 
 
 def great_script(chance):
-    """So many messages that a receiver can't ask for all of them at once, and that it does."""
+    """A script with about as many messages as one request can ask for."""
     events = ["publish -"] * chance.randint(65533, 65537) + ["datagram"] * 3 + ["heartbeat", "deliver 0 a 3", "ask 0"]
     events += ["deliver 0 answer 6", "ask 0", "deliver 0 answer 4", "ask 0", "deliver 0 b 1", "deliver 0 b 2"]
     return [(it.encode(),) for it in events]
@@ -281,21 +281,21 @@ def sim(chance):
 
 
 def captured(chance, session, messages):
-    """A datagram of a session of these messages, or one that it can't have."""
-    behind = len(messages) + 1
-    first = chance.randint(1, behind)
+    """A datagram of a session with these messages, or one that does not belong to it."""
+    top = len(messages) + 1
+    first = chance.randint(1, top)
     carried = messages[first - 1 : first - 1 + chance.choice([1, 2, 5, 99])]
     if has(chance, 0.15):
-        sequence = chance.choice([first, behind, number(chance), model.GREATEST - chance.randrange(3)])
-        drawn = model.spelling(packet(chance, session, sequence))
+        sequence = chance.choice([first, top, number(chance), model.GREATEST - chance.randrange(3)])
+        drawn = model.encoding(packet(chance, session, sequence))
         return damaged(chance, drawn) if has(chance, 0.3) else drawn
     if has(chance, 0.02):
         return datagram(chance)
     if has(chance, 0.08):
         carried = [chance.choice([it, b"another"]) for it in carried]
     if carried and has(chance, 0.8):
-        return model.spelling(model.Packet("data", session, first, tuple(carried)))
-    return model.spelling(model.Packet("heartbeat", session, first))
+        return model.encoding(model.Packet("data", session, first, tuple(carried)))
+    return model.encoding(model.Packet("heartbeat", session, first))
 
 
 def entry_name(chance):
@@ -304,14 +304,14 @@ def entry_name(chance):
 
 
 def capture(chance):
-    """Some datagrams that may come from one session."""
+    """Datagrams that mostly belong to one session."""
     session = chance.choice([NAME.encode(), chance.randbytes(10)])
     messages = [message(chance) for _ in range(chance.choice([0, 1, 3, 12]))]
     datagrams = [captured(chance, session, messages) for _ in range(chance.choice([0, 1, 3, 8]))]
     if has(chance, 0.6):
-        datagrams.append(model.spelling(model.Packet("end", session, len(messages) + 1)))
+        datagrams.append(model.encoding(model.Packet("end", session, len(messages) + 1)))
     if messages and has(chance, 0.5):
-        datagrams += [model.spelling(it) for it in model.packing(chance.choice([64, 100, 1400]), session, 1, messages)]
+        datagrams += [model.encoding(it) for it in model.packing(chance.choice([64, 100, 1400]), session, 1, messages)]
     return datagrams
 
 
@@ -328,7 +328,7 @@ def check_lines(chance):
 
 
 def file(chance):
-    """A journal's file, mostly whole."""
+    """A journal file, often valid."""
     longest = chance.choice([42, 42, 43, 60])
     messages = [message(chance, longest) for _ in range(chance.choice([0, 1, 2, 9, 9, 400]))]
     if has(chance, 0.02):
@@ -355,20 +355,20 @@ def dump(chance):
     drawn = {"from": first, "count": count}
     options = {name: value for name, value in drawn.items() if has(chance, 0.6)}
     given = {name: options.get(name, model.DEFAULTS[name]) for name in drawn}
-    return Case(given, [(file(chance),)], option_words(chance, options))
+    return Case(given, [(file(chance),)], option_arguments(chance, options))
 
 
 def maybe_live(chance, case):
-    """The case, in which what is printed may be written at once: its text is the same."""
+    """The case, perhaps with --live, which does not change the text."""
     if has(chance, 0.3):
-        case.words.append("--live")
+        case.arguments.append("--live")
     return case
 
 
 def maybe_reporting(chance, case):
-    """The case, in which the lines may be reported."""
+    """The case, perhaps with --report."""
     if has(chance, 0.5):
-        case.words.append("--report")
+        case.arguments.append("--report")
     return case
 
 
@@ -377,25 +377,25 @@ def serve(chance):
     drawn = file(chance)
     while len(drawn) > 3000:
         drawn = file(chance)
-    sessions, behind = [drawn[8:18]] * 9 + [NAME.encode()], chance.choice([1, 2, 3, 10])
-    requests = [(request(chance, chance.choice(sessions), behind),) for _ in range(chance.randint(1, 8))]
+    sessions, top = [drawn[8:18]] * 9 + [NAME.encode()], chance.choice([1, 2, 3, 10])
+    requests = [(request(chance, chance.choice(sessions), top),) for _ in range(chance.randint(1, 8))]
     return maybe_live(chance, case_of(chance, options, requests, file=drawn))
 
 
-def told(view, way, datagram):
-    """The view of a listener that is told a datagram; none where it isn't: behind its end, an answer where it doesn't
-    ask, or one of numbers so far off that it couldn't be brought to its end."""
-    now = model.hear(view, datagram, [])
-    is_heard = not view.is_finished() and (way != b"answer" or view.wanted())
-    return now if is_heard and now.known <= now.next + FARTHEST else None
+def view_after(view, way, datagram):
+    """The view of a listener after a datagram, or None if the datagram is not sent to it. That is so if the listener
+    has finished, if it did not request a response, or if its end would then be too far away to reach."""
+    now = model.take(view, datagram, [])
+    is_taken = not view.is_finished() and (way != b"answer" or view.wanted())
+    return now if is_taken and now.known <= now.next + FARTHEST else None
 
 
 def text_of_value(chance, name):
-    """A text for an option's value, which mostly is one."""
+    """A text for the value of an option, mostly valid."""
     kind = model.VALUES[name]
     if kind == model.NAME:
         return chance.choice(["none", "nothing", "not there"])
-    texts = {"session": SESSIONS, model.ADDRESS: ADDRESSES}.get(kind, NO_NUMBERS)
+    texts = {"session": SESSIONS, model.ADDRESS: ADDRESSES}.get(kind, BAD_NUMBERS)
     if has(chance, 0.1):
         return chance.choice(texts)
     if not isinstance(kind, tuple):
@@ -407,7 +407,7 @@ def text_of_value(chance, name):
 
 
 def words(chance):
-    """Words of a command's options. One that has to be there may be left out, and one of another command be there."""
+    """Arguments for the options of a command. A required option may be missing, and a foreign option may be present."""
     command = chance.choice(sorted(model.COMMANDS))
     names = [it for it in model.COMMANDS[command].split() if it not in model.DEFAULTS or has(chance, 0.6)]
     if has(chance, 0.05):
@@ -425,7 +425,7 @@ def words(chance):
 
 
 def listen(chance):
-    """Datagrams on two lines and as answers, some of which no publisher sends."""
+    """Datagrams of two lines and of responses. Some of them no publisher sends."""
     options = {"session": session_text(chance), "next": chance.choice([1, 1, 1, 2, 65534, (1 << 63) - 1])}
     options |= {"window": chance.choice(WINDOWS), "burst": chance.choice(BURSTS)}
     session = model.padded(options["session"])
@@ -435,8 +435,8 @@ def listen(chance):
         sequence += chance.choice(FAR) if has(chance, 0.01) else chance.choice([-2, -1, 0, 0, 0, 1, 2, 3, 60])
         if has(chance, 0.05) or not 0 <= sequence <= model.GREATEST:
             sequence = chance.choice([0, model.GREATEST])
-        drawn = model.spelling(packet(chance, session if has(chance, 0.95) else some_session(chance), sequence))
+        drawn = model.encoding(packet(chance, session if has(chance, 0.95) else some_session(chance), sequence))
         drawn = damaged(chance, drawn) if has(chance, 0.1) else drawn
         items.append((chance.choice([b"a", b"a", b"b", b"b", b"answer"]), drawn))
-        view = told(view, *items[-1]) or view
+        view = view_after(view, *items[-1]) or view
     return maybe_reporting(chance, maybe_live(chance, case_of(chance, options, items)))

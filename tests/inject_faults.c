@@ -1,7 +1,7 @@
-/* A library for LD_PRELOAD that makes allocations and system calls fail. FAULT names the kind of call: allocation, read,
- * write, receive, send or wait. The call number FAULT_AT of that kind fails, counted from 1. With FAULT_ALL all later
- * calls of that kind fail too. With FAULT_SINGLE_BYTES each read or write transfers one byte. The counts are mapped to
- * the file FAULT_COUNTS, of sizeof(struct counts) bytes, so they are kept however the program ends.
+/* A library for LD_PRELOAD that makes allocations and system calls fail. FAULT names the kind of call: allocation,
+ * read, write, receive, send or wait. The call number FAULT_AT of that kind fails, counted from 1. With FAULT_ALL all
+ * later calls of that kind fail too. With FAULT_SINGLE_BYTES each read or write transfers one byte. The counts are
+ * mapped to the file FAULT_COUNTS, of sizeof(struct counts) bytes, so they are kept however the program ends.
  * tests/out-of-memory and tests/io-errors use this library. */
 #define _GNU_SOURCE
 #include <dirent.h>

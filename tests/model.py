@@ -1,8 +1,8 @@
-"""An independent model of what `mold` prints. It was written from docs/PROTOCOL.md and docs/FORMATS.md alone, over
-whole lists of messages and datagrams. `tests/mutations` and `tests/long-run` compare the program with it.
+"""An independent model of the output of `mold`. It was written only from docs/PROTOCOL.md and docs/FORMATS.md, and
+works on whole lists of messages and datagrams. `tests/mutations` and `tests/long-run` compare the program with it.
 
-Each command is a function of its options and its whole input. It returns the text and the status, and after them what
-else the command makes, as a file or datagrams. A refusal inside is raised as the text that is printed for it.
+Each command is a function of its options and its whole input. It returns the text, the status, and then other results,
+such as a file or datagrams. Internally a refusal is an exception with the text to print.
 """
 import binascii
 import re
@@ -13,11 +13,11 @@ from itertools import accumulate
 GREATEST = (1 << 64) - 1
 HEADER = 20
 COUNT_OF_AN_END = 65535
-MOST_ASKED = 65534
+LARGEST_REQUEST = 65534
 
 
 class Refused(Exception):
-    """Why something is refused, as it is printed."""
+    """A refusal, with the text to print."""
 
 
 # Packets and requests.
@@ -25,7 +25,7 @@ class Refused(Exception):
 
 @dataclass(frozen=True)
 class Packet:
-    """A heartbeat, some data or the end of a session."""
+    """A packet of the kind heartbeat, data or end."""
 
     kind: str
     session: bytes
@@ -55,21 +55,21 @@ def header(session, sequence, count):
     return session + sequence.to_bytes(8, "big") + count.to_bytes(2, "big")
 
 
-def spelling(packet):
-    """The datagram of a packet."""
+def encoding(packet):
+    """The datagram that encodes a packet."""
     count = COUNT_OF_AN_END if packet.kind == "end" else len(packet.messages)
     return header(packet.session, packet.sequence, count) + blocks(packet.messages)
 
 
 def whole_blocks(some_bytes, most=GREATEST):
-    """The messages of the whole blocks that bytes begin with, at most so many, and how many bytes these take."""
+    """The messages of the complete blocks at the start of the bytes, at most `most`, and the size of these blocks."""
     messages, at = [], 0
     while len(messages) < most and len(some_bytes) - at >= 2:
-        behind = at + 2 + number_in(some_bytes[at : at + 2])
-        if behind > len(some_bytes):
+        end = at + 2 + number_in(some_bytes[at : at + 2])
+        if end > len(some_bytes):
             break
-        messages.append(some_bytes[at + 2 : behind])
-        at = behind
+        messages.append(some_bytes[at + 2 : end])
+        at = end
     return messages, at
 
 
@@ -93,7 +93,7 @@ class Request:
     sequence: int
     count: int
 
-    def spelling(self):
+    def encoding(self):
         return header(self.session, self.sequence, self.count)
 
 
@@ -112,7 +112,7 @@ def lines_of(some_bytes):
 
 
 def bytes_of(digits):
-    """The bytes that hexadecimal digits stand for."""
+    """The bytes that hexadecimal digits denote."""
     try:
         return binascii.unhexlify(digits)
     except ValueError:
@@ -128,21 +128,21 @@ def printed_message(message):
 
 
 def padded(session):
-    """The session of an option's text."""
+    """The session for the text of an option, padded with spaces."""
     return session.encode().ljust(10)
 
 
-# Words.
+# Command-line arguments.
 
 LIMIT, NAME, ADDRESS = (64, 65507), "name", "address"
-# Each option's range, or what its value is.
+# The range of each option's value, or the kind of the value.
 VALUES = {"session": "session", "limit": LIMIT, "server-limit": LIMIT, "window": (1, 65536), "receivers": (1, 8)}
 VALUES |= {"next": (1, (1 << 63) - 1), "turns": (1, 1000000), "beats": (0, 1000), "ends": (0, 1000), "burst": (1, 64)}
 VALUES |= {"drop-a": (0, 1000), "drop-b": (0, 1000), "a": ADDRESS, "b": ADDRESS, "server": ADDRESS, "bind": ADDRESS}
 VALUES |= {"journal": NAME, "to": NAME, "from": (1, (1 << 64) - 1), "count": (0, (1 << 64) - 1)}
 DEFAULTS = {"limit": 1400, "server-limit": 1400, "window": 1024, "receivers": 2, "burst": 1, "next": 1, "turns": 1000}
 DEFAULTS |= {"beats": 1, "ends": 1, "drop-a": 0, "drop-b": 0, "from": 1, "count": (1 << 64) - 1}
-# The options of each command that has values; those without a default have to be there.
+# The options with values of each command. Options without a default are required.
 COMMANDS = {
     "pack": "session limit",
     "sim": "session limit server-limit window receivers burst",
@@ -156,14 +156,14 @@ COMMANDS = {
 
 
 def is_address(text):
-    """Whether a text is four numbers up to 255 and a port, without zeros before them."""
+    """Whether a text is four numbers up to 255 and a port, without leading zeros."""
     number = "(0|[1-9][0-9]*)"
     found = re.fullmatch(rf"{number}\.{number}\.{number}\.{number}:{number}", text)
     return found is not None and all(int(it) <= 255 for it in found.groups()[:4]) and int(found[5]) <= 65535
 
 
 def is_value(name, text):
-    """Whether a text is a value of an option."""
+    """Whether a text is a valid value of an option."""
     kind = VALUES[name]
     if kind == "session":
         return re.fullmatch(r"[\x20-\x7e]{1,10}", text) is not None
@@ -172,9 +172,9 @@ def is_value(name, text):
     return kind == NAME or is_address(text)
 
 
-def word_of_fault(command, values):
-    """The word behind `fault` where the texts of options are no order, else none. They are told by their names, and a
-    name that the command doesn't have is a usage fault."""
+def name_of_fault(command, values):
+    """The name that follows `fault` if the values of the options are invalid, otherwise None. The values are given by
+    option name. An option that the command does not have is a usage fault."""
     names = COMMANDS[command].split()
     if set(values) - set(names) or set(names) - set(values) - set(DEFAULTS):
         return "Usage"
@@ -191,10 +191,10 @@ def word_of_fault(command, values):
 
 
 def lines_of_packet(packet):
-    words = f"{packet.kind} {packet.session.hex()} {packet.sequence}"
+    head = f"{packet.kind} {packet.session.hex()} {packet.sequence}"
     if packet.kind != "data":
-        return [words]
-    return [f"{words} {len(packet.messages)}"] + [
+        return [head]
+    return [f"{head} {len(packet.messages)}"] + [
         f"  {number} {len(message)} {printed_message(message)}" for number, message in packet.carried().items()
     ]
 
@@ -204,32 +204,32 @@ def lines_of_request(request):
 
 
 def show(some_bytes, is_request=False):
-    said, status = [], 0
+    output, status = [], 0
     for line in filter(None, lines_of(some_bytes)):
         try:
             datagram = bytes_of(line)
-            said += lines_of_request(request_of(datagram)) if is_request else lines_of_packet(packet_of(datagram))
+            output += lines_of_request(request_of(datagram)) if is_request else lines_of_packet(packet_of(datagram))
         except Refused as why:
-            said.append(f"refused {why}")
+            output.append(f"refused {why}")
             status = 2
-    return text_of(said), status
+    return text_of(output), status
 
 
 # Publishing.
 
 
-def front(limit, messages):
-    """The longest front of messages that fits a packet."""
+def longest_prefix(limit, messages):
+    """The longest prefix of messages that fits in a packet."""
     sizes = accumulate((2 + len(it) for it in messages), initial=HEADER)
     return messages[: bisect_right(list(sizes), limit) - 1]
 
 
 def packing(limit, session, first, messages, most=GREATEST):
-    """The first so many packets of messages, each the longest front that fits of what is left."""
+    """The first packets of messages, at most `most`. Each holds as many of the remaining messages as fit."""
     packets, at = [], 0
     while at < len(messages) and len(packets) < most:
-        # No packet of 65,507 bytes has more.
-        fitting = front(limit, messages[at : at + 32743])
+        # A packet of 65,507 bytes holds at most 32,743 messages.
+        fitting = longest_prefix(limit, messages[at : at + 32743])
         if not fitting:
             break
         packets.append(Packet("data", session, first + at, tuple(fitting)))
@@ -238,7 +238,7 @@ def packing(limit, session, first, messages, most=GREATEST):
 
 
 def messages_of(limit, lines):
-    """The messages of lines up to the first that is refused, and what is printed of that one, if any."""
+    """The messages of the lines before the first refused line, and the text printed for that line, or None."""
     messages = []
     for number, line in enumerate(lines, 1):
         try:
@@ -255,24 +255,24 @@ def pack(session, limit, some_bytes):
     messages, refusal = messages_of(limit, lines_of(some_bytes))
     packets = packing(limit, session, 1, messages)
     if refusal:
-        return text_of([spelling(it).hex() for it in packets[:-1]] + [refusal]), 2
+        return text_of([encoding(it).hex() for it in packets[:-1]] + [refusal]), 2
     packets.append(Packet("end", session, len(messages) + 1))
-    return text_of(spelling(it).hex() for it in packets), 0
+    return text_of(encoding(it).hex() for it in packets), 0
 
 
 def publish(session, limit, beats, ends, some_bytes):
-    """Also what is sent on each line, and the journal's file, if there is one."""
+    """Also returns the datagrams sent on each line, and the journal file, or None."""
     messages, refusal = messages_of(limit, lines_of(some_bytes))
     packets = packing(limit, session, 1, messages)
     if refusal:
-        return text_of([refusal]), 2, [spelling(it) for it in packets[:-1]], None
-    behind = len(messages) + 1
-    sent = packets + beats * [Packet("heartbeat", session, behind)] + ends * [Packet("end", session, behind)]
+        return text_of([refusal]), 2, [encoding(it) for it in packets[:-1]], None
+    top = len(messages) + 1
+    sent = packets + beats * [Packet("heartbeat", session, top)] + ends * [Packet("end", session, top)]
     text = f"published {len(messages)} datagrams {len(packets)} failed 0"
-    return text_of([text]), 0, [spelling(it) for it in sent], journal_file(session, messages, True)
+    return text_of([text]), 0, [encoding(it) for it in sent], journal_file(session, messages, True)
 
 
-# The journal's file.
+# The journal file.
 
 
 @dataclass(frozen=True)
@@ -283,18 +283,18 @@ class Journal:
 
 
 def journal_file(session, messages, is_closed):
-    """The file of version 2."""
+    """A journal file of version 2."""
     flag = b"\1" if is_closed else b"\0"
     return b"MOLDJNL2" + session + flag + len(messages).to_bytes(8, "big") + blocks(messages)
 
 
 def old_journal_file(session, messages):
-    """The file of version 1."""
+    """A journal file of version 1."""
     return b"MOLDJNL1" + session + blocks(messages)
 
 
 def messages_of_file(some_bytes, longest):
-    """The messages of the blocks that end a file."""
+    """The messages of the blocks in the rest of a file."""
     messages, size = whole_blocks(some_bytes)
     for message in messages:
         if len(message) > longest:
@@ -308,7 +308,7 @@ def messages_of_file(some_bytes, longest):
 
 
 def journal_of(some_bytes, longest=65535):
-    """The journal of a file whose messages are to be so long at most."""
+    """The journal in a file. Messages may have at most `longest` bytes."""
     if len(some_bytes) < 18:
         raise Refused(f"Short {len(some_bytes)}")
     if some_bytes[:8] not in (b"MOLDJNL1", b"MOLDJNL2"):
@@ -328,7 +328,7 @@ def journal_of(some_bytes, longest=65535):
 
 
 def upgrade(close, some_bytes):
-    """Also the new file, if there is one."""
+    """Also returns the new file, or None."""
     try:
         journal = journal_of(some_bytes)
     except Refused as why:
@@ -339,7 +339,7 @@ def upgrade(close, some_bytes):
 
 
 def messages_before(some_bytes):
-    """The messages of the whole blocks behind a head that is itself in order."""
+    """The messages of the complete blocks after a valid file header."""
     size = {b"MOLDJNL1": 18, b"MOLDJNL2": 27}.get(some_bytes[:8])
     if size is None or len(some_bytes) < size or (size == 27 and some_bytes[18] > 1):
         return []
@@ -358,9 +358,9 @@ def dump(first, count, some_bytes):
 # The server.
 
 
-def answer(session, messages, limit, burst, asked):
-    """The packets that answer the bytes of a request."""
-    request = request_of(asked)
+def response(session, messages, limit, burst, datagram):
+    """The packets of the response to the datagram of a request."""
+    request = request_of(datagram)
     if request.session != session:
         raise Refused("WrongSession")
     if request.sequence == 0:
@@ -374,30 +374,30 @@ def answer(session, messages, limit, burst, asked):
 
 
 def serve(limit, burst, file, requests, quiet=0):
-    """Also the list of answers, each of them a list of datagrams. So many turns bring nothing."""
+    """Also returns the responses, each a list of datagrams. `quiet` is the number of turns without a request."""
     try:
         journal = journal_of(file, limit - 22)
     except Refused as why:
         return text_of([f"refused {why}"]), 2, []
-    said, answers, refused = [], [], 0
-    for asked in requests:
+    output, responses, refused = [], [], 0
+    for request in requests:
         try:
-            packets = answer(journal.session, journal.messages, limit, burst, asked)
-            said += [f"answered {it.sequence} {len(it.messages)}" for it in packets]
-            answers.append([spelling(it) for it in packets])
+            packets = response(journal.session, journal.messages, limit, burst, request)
+            output += [f"answered {it.sequence} {len(it.messages)}" for it in packets]
+            responses.append([encoding(it) for it in packets])
         except Refused as why:
-            said.append(f"refused {why}")
+            output.append(f"refused {why}")
             refused += 1
-    said.append(f"answered {sum(map(len, answers))} refused {refused} quiet {quiet} failed 0")
-    return text_of(said), 0, answers
+    output.append(f"answered {sum(map(len, responses))} refused {refused} quiet {quiet} failed 0")
+    return text_of(output), 0, responses
 
 
-# The receiving rule.
+# The rule of a receiver.
 
 
 @dataclass(frozen=True)
 class View:
-    """What a receiver knows: `end` is none until an end packet told it, `store` has messages by their numbers."""
+    """The state of a receiver. `end` is None before an end packet. `store` maps sequence numbers to messages."""
 
     session: bytes
     next: int
@@ -410,7 +410,7 @@ class View:
         if self.next == self.known:
             return None
         distance = min(self.store, default=self.known) - self.next
-        return Request(self.session, self.next, min(MOST_ASKED, distance))
+        return Request(self.session, self.next, min(LARGEST_REQUEST, distance))
 
     def is_finished(self):
         return self.end == self.next
@@ -420,8 +420,8 @@ def fresh(session, first, window):
     return View(session, first, first, window)
 
 
-def need_taken(view, packet):
-    """Refuses a packet by the first reason that applies."""
+def check_packet(view, packet):
+    """Refuses a packet for the first reason that applies."""
     if packet.session != view.session:
         raise Refused("WrongSession")
     if packet.sequence == 0:
@@ -448,21 +448,21 @@ def malformed(datagram):
 
 
 def receive(view, datagram):
-    """The view afterwards, the messages handed on with their numbers, and the three counts."""
+    """The view afterwards, the delivered messages with their numbers, and the three counts."""
     packet = malformed(datagram)
-    need_taken(view, packet)
+    check_packet(view, packet)
     carried = packet.carried()
-    at_hand = view.store | {k: message for k, message in carried.items() if k >= view.next}
+    available = view.store | {k: message for k, message in carried.items() if k >= view.next}
     after = view.next
-    while after in at_hand:
+    while after in available:
         after += 1
-    store = {k: message for k, message in at_hand.items() if after < k < after + view.window}
-    handed = [(k, at_hand[k]) for k in range(view.next, after)]
+    store = {k: message for k, message in available.items() if after < k < after + view.window}
+    delivered = [(k, available[k]) for k in range(view.next, after)]
     kept = sum(k in store and k not in view.store for k in carried)
     beyond = sum(k >= after + view.window for k in carried)
     end = packet.sequence if packet.kind == "end" else view.end
     now = View(view.session, after, max(view.known, packet.top()), view.window, end, store)
-    return now, handed, (len(handed), kept, beyond)
+    return now, delivered, (len(delivered), kept, beyond)
 
 
 def last_line(view, failed=0):
@@ -471,57 +471,57 @@ def last_line(view, failed=0):
     return f"open next {view.next} known {view.known} failed {failed}", 1
 
 
-def hear(view, datagram, said):
-    """The view after a datagram of a listener, whose text is added."""
+def take(view, datagram, output):
+    """The view of a listener after a datagram. The printed lines are appended to `output`."""
     try:
-        view, handed, _ = receive(view, datagram)
-        said += [f"{number} {printed_message(message)}" for number, message in handed]
+        view, delivered, _ = receive(view, datagram)
+        output += [f"{number} {printed_message(message)}" for number, message in delivered]
     except Refused as why:
-        said.append(f"refused {why}")
+        output.append(f"refused {why}")
     return view
 
 
 def reported(report, view, datagram):
-    """A line's report after a datagram that came on it."""
-    datagrams, refused, front = report
+    """The report of a line after a datagram on it. `top` is the greatest top of its packets."""
+    datagrams, refused, top = report
     try:
         receive(view, datagram)
-        return datagrams + 1, refused, max(front, packet_of(datagram).top())
+        return datagrams + 1, refused, max(top, packet_of(datagram).top())
     except Refused:
-        return datagrams, refused + 1, front
+        return datagrams, refused + 1, top
 
 
 class Listener:
-    """What listens on lines `a` and `b`, and asks for what it lacks."""
+    """A listener on lines `a` and `b`, which requests missing messages."""
 
     def __init__(self, view):
-        self.view, self.said = view, []
-        # How many datagrams were taken on each line and how many refused, and how far it goes.
+        self.view, self.output = view, []
+        # For each line the number of accepted and of refused datagrams, and the greatest top.
         self.reports = {b"a": (0, 0, view.known), b"b": (0, 0, view.known)}
 
-    def hear(self, way, datagram):
-        """Takes a datagram that came on a line, or as an answer."""
+    def take(self, way, datagram):
+        """Takes a datagram of a line, or of a response."""
         if way in self.reports:
             self.reports[way] = reported(self.reports[way], self.view, datagram)
-        self.view = hear(self.view, datagram, self.said)
+        self.view = take(self.view, datagram, self.output)
 
     def report_lines(self):
         return [
-            f"line {way.decode()} datagrams {datagrams} refused {refused} front {front} lag {self.view.known - front}"
-            for way, (datagrams, refused, front) in self.reports.items()
+            f"line {way.decode()} datagrams {datagrams} refused {refused} front {top} lag {self.view.known - top}"
+            for way, (datagrams, refused, top) in self.reports.items()
         ]
 
     def text(self, is_reported):
-        """All that is printed, and the status."""
+        """The whole text, and the status."""
         line, status = last_line(self.view)
-        return text_of([*self.said, *(self.report_lines() if is_reported else []), line]), status
+        return text_of([*self.output, *(self.report_lines() if is_reported else []), line]), status
 
 
-def listen(view, heard, is_reported):
-    """What is printed of datagrams with the ways on which they came, in the order in which they are taken."""
+def listen(view, datagrams, is_reported):
+    """The text and the status for datagrams in the order in which they are taken, each with its way: a, b or answer."""
     listener = Listener(view)
-    for way, datagram in heard:
-        listener.hear(way, datagram)
+    for way, datagram in datagrams:
+        listener.take(way, datagram)
     return listener.text(is_reported)
 
 
@@ -529,12 +529,12 @@ def listen(view, heard, is_reported):
 
 
 def is_sent(drop, number):
-    """Whether a line that drops each so many-th packet has the packet of this number, from 1."""
+    """Whether packet `number`, counted from 1, is sent on a line that drops every `drop`-th packet."""
     return drop == 0 or number % drop != 0
 
 
 def loop(session, limits, window, burst, drops, turns, is_reported, some_bytes):
-    """Over ports that lose nothing. The limits are of publisher and server, the drops of A and B."""
+    """Models ports that lose nothing. The limits are those of publisher and server, the drops those of A and B."""
     limit, server_limit = limits
     messages, refusal = messages_of(limit, lines_of(some_bytes))
     packets = packing(limit, session, 1, messages)
@@ -542,17 +542,17 @@ def loop(session, limits, window, burst, drops, turns, is_reported, some_bytes):
     for number, packet in enumerate(packets[:-1] if refusal else packets, 1):
         for way, drop in zip(listener.reports, drops):
             if is_sent(drop, number):
-                listener.hear(way, spelling(packet))
+                listener.take(way, encoding(packet))
     if refusal:
-        return text_of([*listener.said, refusal]), 2
+        return text_of([*listener.output, refusal]), 2
     for way in listener.reports:
-        listener.hear(way, spelling(Packet("end", session, len(messages) + 1)))
+        listener.take(way, encoding(Packet("end", session, len(messages) + 1)))
     for _ in range(turns):
         wanted = listener.view.wanted()
         if wanted is None:
             break
-        for packet in answer(session, messages, server_limit, burst, wanted.spelling()):
-            listener.hear(b"answer", spelling(packet))
+        for packet in response(session, messages, server_limit, burst, wanted.encoding()):
+            listener.take(b"answer", encoding(packet))
     return listener.text(is_reported)
 
 
@@ -570,13 +570,13 @@ class World:
     books: list
     messages: list = field(default_factory=list)
     is_closed: bool = False
-    # How many messages were put in a datagram.
+    # How many messages were sent in datagrams.
     sent_messages: int = 0
     sent: list = field(default_factory=list)
 
     def send(self, packets):
         first = len(self.sent)
-        self.sent += [spelling(it) for it in packets]
+        self.sent += [encoding(it) for it in packets]
         return f"sent {first}" + (f" to {len(self.sent) - 1}" if len(packets) > 1 else "")
 
     def view(self, r):
@@ -616,19 +616,19 @@ class World:
             return "nothing"
         return self.send([Packet("end", self.session, len(self.messages) + 1)])
 
-    def request(self, asked):
-        return self.send(answer(self.session, self.messages, self.server_limit, self.burst, asked))
+    def request(self, datagram):
+        return self.send(response(self.session, self.messages, self.server_limit, self.burst, datagram))
 
     def ask(self, r):
         wanted = self.view(r).wanted()
-        return "nothing" if wanted is None else self.request(wanted.spelling())
+        return "nothing" if wanted is None else self.request(wanted.encoding())
 
-    def deliver(self, r, _, place):
+    def deliver(self, r, _, index):
         view = self.view(r)
-        if place >= len(self.sent):
+        if index >= len(self.sent):
             raise Refused("NoSuchDatagram")
-        self.views[r], handed, counts = receive(view, self.sent[place])
-        self.books[r] += [message for _, message in handed]
+        self.views[r], delivered, counts = receive(view, self.sent[index])
+        self.books[r] += [message for _, message in delivered]
         return "delivered {} {} {}".format(*counts)
 
     def noise(self, r, _, some_bytes):
@@ -690,7 +690,7 @@ EVENTS = {
 
 
 def run_line(world, line):
-    """What is printed of a line of a script, which is run."""
+    """Runs a line of a script, and returns the text printed for it."""
     name, *words = line.split(b" ")
     call, *readers = EVENTS.get(name, (None,))
     if call is None or len(words) != len(readers):
@@ -704,17 +704,17 @@ def line_of_receiver(r, view, book):
 
 
 def sim(session, limits, window, receivers, burst, some_bytes):
-    """The limits are of publisher and server."""
+    """The limits are those of publisher and server."""
     world = make_world(session, limits, window, receivers, burst)
-    said, status = [], 0
+    output, status = [], 0
     for line in filter(None, lines_of(some_bytes)):
         try:
-            said.append(run_line(world, line))
+            output.append(run_line(world, line))
         except Refused as why:
-            said.append(f"refused {why}")
+            output.append(f"refused {why}")
             status = 2
-    said += [line_of_receiver(r, *them) for r, them in enumerate(zip(world.views, world.books))]
-    return text_of(said), status
+    output += [line_of_receiver(r, *them) for r, them in enumerate(zip(world.views, world.books))]
+    return text_of(output), status
 
 
 # check
@@ -722,7 +722,7 @@ def sim(session, limits, window, receivers, burst, some_bytes):
 
 @dataclass
 class Capture:
-    """What accepted datagrams tell of their session."""
+    """The state of a session as the accepted datagrams show it."""
 
     session: bytes = None
     known: int = 1
@@ -731,43 +731,44 @@ class Capture:
 
     def add(self, datagram):
         packet = malformed(datagram)
-        # The reasons are a receiver's, and each number carried before is as one that is stored above `next`.
+        # The reasons are those of a receiver that stores each message carried before.
         session = packet.session if self.session is None else self.session
-        need_taken(View(session, 1, self.known, 1, self.end, self.carried), packet)
+        check_packet(View(session, 1, self.known, 1, self.end, self.carried), packet)
         self.session = session
         self.known = max(self.known, packet.top())
         self.end = packet.sequence if packet.kind == "end" else self.end
         self.carried |= packet.carried()
 
     def missing(self):
-        """The longest ranges of numbers below the greatest top that nothing carries."""
+        """The maximal ranges of numbers below the greatest top that no packet carries."""
         marks = [0, *sorted(self.carried), self.known]
         return [(a + 1, b - 1) for a, b in zip(marks, marks[1:]) if a + 1 < b]
 
 
-def check_named(said, captured):
-    """What is said, and then of datagrams with their names, each of which a function answers or refuses."""
+def check_named(first_line, captured):
+    """The text, which begins with a given line, and the status for named datagrams. A function returns or refuses each
+    datagram."""
     capture = Capture()
     for name, datagram in captured:
         try:
             capture.add(datagram())
         except Refused as why:
-            return text_of([said, f"refused {name} {why}"]), 2
+            return text_of([first_line, f"refused {name} {why}"]), 2
     missing = capture.missing()
     if capture.end is not None and not missing:
-        return text_of([said, f"whole {capture.end - 1}"]), 0
+        return text_of([first_line, f"whole {capture.end - 1}"]), 0
     incomplete = f"incomplete end {'none' if capture.end is None else capture.end}"
-    return text_of([said, incomplete] + [f"missing {first} {last}" for first, last in missing]), 1
+    return text_of([first_line, incomplete] + [f"missing {first} {last}" for first, last in missing]), 1
 
 
 def check(entries):
-    """The entries of a folder: names and bytes, none of these where an entry is no file that is read."""
+    """The entries of a folder are names with bytes, or with None for an entry that is not read."""
     captured = sorted((name.encode(), some_bytes) for name, some_bytes in entries if name.endswith(".pkt"))
-    said = f"files {len(captured)} skipped {len(entries) - len(captured)}"
-    return check_named(said, [(name.decode(), lambda it=it: it) for name, it in captured])
+    first_line = f"files {len(captured)} skipped {len(entries) - len(captured)}"
+    return check_named(first_line, [(name.decode(), lambda it=it: it) for name, it in captured])
 
 
 def check_lines(some_bytes):
     lines = [(number, line) for number, line in enumerate(lines_of(some_bytes), 1) if line]
-    said = f"datagrams {len(lines)}"
-    return check_named(said, [(f"line {number}", lambda it=it: bytes_of(it)) for number, it in lines])
+    first_line = f"datagrams {len(lines)}"
+    return check_named(first_line, [(f"line {number}", lambda it=it: bytes_of(it)) for number, it in lines])

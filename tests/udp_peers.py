@@ -1,5 +1,6 @@
 """Peers of the program over UDP on this machine, for tests/long-run and fault_injection.py. Each process has its own
-loopback address, so the ports of other processes don't matter. /proc/net/udp shows what the program has received."""
+loopback address, so the ports of other processes do not matter. /proc/net/udp shows which datagrams the program has not
+received yet."""
 import os
 import socket
 import time
@@ -9,18 +10,18 @@ import model
 import processes
 
 LINE_A, LINE_B, SERVER, OWN = 9001, 9002, 9003, 9004
-ASKING, FEEDING, PUBLISHED_A, PUBLISHED_B = 9005, 9006, 9007, 9008
-# Seconds between two looks, and those that a datagram may lie before the program is woken.
+REQUESTING, FEEDING, PUBLISHED_A, PUBLISHED_B = 9005, 9006, 9007, 9008
+# Seconds between two polls, and seconds that a datagram may wait before the program is woken.
 PAUSE = 0.0002
-LIES = 0.002
-# Seconds that something may take.
+MOST_WAIT = 0.002
+# The time limit of each step, in seconds.
 PATIENCE = 20
-# How many messages of a byte fit a datagram.
-MOST_TOLD = 21000
+# How many messages of one byte fit in a datagram.
+MOST_MESSAGES = 21000
 
 
 def own_host():
-    """An address of this machine that no other process takes for its own: one of its number's bytes."""
+    """A loopback address that no other process uses: its last three bytes are the process id."""
     return "127.{}.{}.{}".format(*os.getpid().to_bytes(3, "big"))
 
 
@@ -33,28 +34,28 @@ def bound(port):
 
 
 def arrived(own):
-    """What came at a socket meanwhile, with the senders."""
-    came = []
+    """The datagrams that have arrived at a socket, with their senders."""
+    received = []
     while True:
         try:
-            came.append(own.recvfrom(65535))
+            received.append(own.recvfrom(65535))
         except BlockingIOError:
-            return came
+            return received
 
 
 def waiting(host, port):
-    """How many bytes lie at a port, or none where it isn't open."""
+    """How many bytes wait at a port, or None if it is not open."""
     wanted = f"{int.from_bytes(socket.inet_aton(host), 'little'):08X}:{port:04X}"
     with open("/proc/net/udp") as table:
         for line in table.readlines()[1:]:
-            words = line.split()
-            if words[1] == wanted:
-                return int(words[4].split(":")[1], 16)
+            columns = line.split()
+            if columns[1] == wanted:
+                return int(columns[4].split(":")[1], 16)
     return None
 
 
 def await_ports(process, ports):
-    """Whether a program has opened these ports; it may have ended instead."""
+    """Waits until a program has opened these ports, and returns whether it has. It may have ended instead."""
     until = time.monotonic() + PATIENCE
     while time.monotonic() < until and process.poll() is None:
         if all(waiting(own_host(), port) is not None for port in ports):
@@ -64,139 +65,141 @@ def await_ports(process, ports):
 
 
 class Feed:
-    """What a worker sends to a program, one datagram after the other, each once the one before it was taken."""
+    """Sends datagrams to a program one by one, each after the program has received the previous one."""
 
     def __init__(self, process, own):
         self.process = process
         self.own = own
-        self.came = []
+        self.received = []
 
     def collect(self):
-        """What came in answer since the last call."""
-        self.came += arrived(self.own)
-        came, self.came = self.came, []
-        return came
+        """The datagrams that the program has sent back since the last call."""
+        self.received += arrived(self.own)
+        received, self.received = self.received, []
+        return received
 
     def send(self, some_bytes, port, wake=None, bound_to=None):
-        """Sends a datagram and waits until it was taken, or the program has ended. Where it lies too long, `wake` is
-        called."""
+        """Sends a datagram, and waits until the program has received it or has ended. If the datagram waits too long,
+        `wake` is called."""
         self.own.sendto(some_bytes, (own_host(), port))
         since = time.monotonic()
         until = since + PATIENCE
         while self.process.poll() is None and waiting(bound_to or own_host(), port) and time.monotonic() < until:
-            self.came += arrived(self.own)
-            if wake and time.monotonic() > since + LIES:
+            self.received += arrived(self.own)
+            if wake and time.monotonic() > since + MOST_WAIT:
                 wake()
                 since = time.monotonic()
             time.sleep(PAUSE)
 
 
-def publish_to(words, some_bytes, own):
-    """The outcome of `publish` and what came on both lines, which are sockets of this worker."""
+def publish_to(command, some_bytes, own):
+    """The outcome of `publish`, and the datagrams of both lines, which are sockets of this worker."""
     addresses = [f"{own_host()}:{it.getsockname()[1]}" for it in own]
     for it in own:
         arrived(it)
-    came = [[], []]
-    with processes.running([*words, "--a", addresses[0], "--b", addresses[1]], some_bytes) as process:
+    received = [[], []]
+    with processes.running([*command, "--a", addresses[0], "--b", addresses[1]], some_bytes) as process:
         while process.poll() is None:
-            for it, heard in zip(own, came):
-                heard += arrived(it)
+            for it, datagrams in zip(own, received):
+                datagrams += arrived(it)
             time.sleep(PAUSE)
         outcome = processes.finish(process)
-    return outcome, [heard + arrived(it) for it, heard in zip(own, came)]
+    return outcome, [datagrams + arrived(it) for it, datagrams in zip(own, received)]
 
 
-def ask_server(words, requests, own):
-    """The outcome of `serve` with so many turns, and what it sent."""
+def request_from_server(command, requests, own):
+    """The outcome of `serve` with one turn for each request, and the datagrams that it sent."""
     arrived(own)
-    with processes.running([*words, "--bind", f"{own_host()}:{SERVER}", "--turns", str(len(requests))]) as process:
-        feed, came = Feed(process, own), []
+    arguments = ["--bind", f"{own_host()}:{SERVER}", "--turns", str(len(requests))]
+    with processes.running([*command, *arguments]) as process:
+        feed, received = Feed(process, own), []
         if await_ports(process, [SERVER]):
             for it in requests:
                 feed.send(it, SERVER)
-                came += feed.collect()
+                received += feed.collect()
         outcome = processes.finish(process)
-    return outcome, [it for it, _ in came + feed.collect()]
+    return outcome, [it for it, _ in received + feed.collect()]
 
 
 class Listening:
-    """A listener that is told datagrams one by one, and brought to its end."""
+    """A listener that is fed datagrams one by one, and then brought to its end."""
 
     def __init__(self, process, own, view):
         self.feed = Feed(process, own)
         self.view = view
-        # The view at the last look.
+        # The view at the last call of `check_requests`.
         self.before = view
-        # With the ways on which they came.
-        self.heard = []
-        # How many heartbeats were sent on line A.
+        # The datagrams that it was fed, with their ways.
+        self.sent = []
+        # How many heartbeats were sent on line A to wake it.
         self.beats = 0
-        self.asking = None
-        # What was asked that nobody wanted then.
+        # The port that its requests come from.
+        self.requester = None
+        # Its requests that the model does not expect.
         self.unwanted = []
 
-    def hear(self, way, datagram):
-        self.heard.append((way, datagram))
-        self.view = model.hear(self.view, datagram, [])
+    def record(self, way, datagram):
+        self.sent.append((way, datagram))
+        self.view = model.take(self.view, datagram, [])
 
-    def look(self):
-        """Takes the requests that came. Each is one that is wanted now, or was before the last datagram."""
-        wanted = [it.wanted().spelling() for it in (self.before, self.view) if it.wanted()]
+    def check_requests(self):
+        """Receives requests. Each has to be the expected one now or before the last datagram."""
+        wanted = [it.wanted().encoding() for it in (self.before, self.view) if it.wanted()]
         self.before = self.view
-        for asked, sender in self.feed.collect():
-            self.asking = sender[1]
-            if asked not in wanted:
-                self.unwanted.append(asked)
+        for request, sender in self.feed.collect():
+            self.requester = sender[1]
+            if request not in wanted:
+                self.unwanted.append(request)
 
     def wake(self):
-        """A heartbeat of number 1 changes nothing and prints nothing, and ends the wait of both lines."""
+        """Sends a heartbeat with number 1. It changes and prints nothing, but ends the wait for both lines."""
         self.beats += 1
         self.feed.own.sendto(self.beat(), (own_host(), LINE_A))
 
     def beat(self):
-        return model.spelling(model.Packet("heartbeat", self.view.session, 1))
+        return model.encoding(model.Packet("heartbeat", self.view.session, 1))
 
-    def tell(self, way, datagram):
-        """Tells a datagram."""
+    def send(self, way, datagram):
+        """Sends a datagram on a line or as a response."""
         if way != b"answer":
-            self.hear(way, datagram)
+            self.record(way, datagram)
             self.feed.send(datagram, LINE_A if way == b"a" else LINE_B)
-        elif self.is_asked():
-            self.hear(way, datagram)
-            self.feed.send(datagram, self.asking, self.wake, "0.0.0.0")
-            # What woke it is taken before the next datagram is sent.
+        elif self.has_requested():
+            self.record(way, datagram)
+            self.feed.send(datagram, self.requester, self.wake, "0.0.0.0")
+            # Wait until the listener has received this heartbeat and those that woke it.
             self.beats += 1
             self.feed.send(self.beat(), LINE_A)
-        self.look()
+        self.check_requests()
 
-    def is_asked(self):
-        """Whether the listener asks; it does in each turn where it wants something."""
+    def has_requested(self):
+        """Waits for a request, and returns whether there was one. A listener with a gap sends one in each turn."""
         until = time.monotonic() + PATIENCE
-        while self.asking is None and self.feed.process.poll() is None and time.monotonic() < until:
-            self.look()
+        while self.requester is None and self.feed.process.poll() is None and time.monotonic() < until:
+            self.check_requests()
             time.sleep(PAUSE)
-        return self.asking is not None
+        return self.requester is not None
 
     def bring_to_end(self):
-        """Tells what is missing, and the end."""
+        """Sends the missing messages and the end of session."""
         while self.view.wanted():
-            first, count = self.view.next, min(self.view.wanted().count, MOST_TOLD)
+            first, count = self.view.next, min(self.view.wanted().count, MOST_MESSAGES)
             messages = tuple(b"%d" % (it % 10) for it in range(first, first + count))
-            self.tell(b"a", model.spelling(model.Packet("data", self.view.session, first, messages)))
+            self.send(b"a", model.encoding(model.Packet("data", self.view.session, first, messages)))
         if not self.view.is_finished():
-            self.tell(b"b", model.spelling(model.Packet("end", self.view.session, self.view.known)))
+            self.send(b"b", model.encoding(model.Packet("end", self.view.session, self.view.known)))
 
 
-def tell_listener(words, view, items, own):
-    """The outcome of `listen`, which begins with such a view, and what it was told."""
+def feed_listener(command, view, items, own):
+    """The outcome of `listen`, which starts with this view, and the `Listening` with what it was sent."""
     arrived(own)
     ports = {"a": LINE_A, "b": LINE_B, "server": OWN}
     addresses = [f"--{name}={own_host()}:{port}" for name, port in ports.items()]
-    with processes.running([*words, *addresses, "--turns", "1000000"]) as process:
+    with processes.running([*command, *addresses, "--turns", "1000000"]) as process:
         listening = Listening(process, own, view)
         if await_ports(process, [LINE_A, LINE_B]):
             for way, datagram in items:
-                if generators.told(listening.view, way, datagram):
-                    listening.tell(way, datagram)
+                if generators.view_after(listening.view, way, datagram):
+                    listening.send(way, datagram)
             listening.bring_to_end()
         return processes.finish(process), listening
