@@ -11,7 +11,7 @@ seq 1001 1060 >"$work/messages" # 60 messages of two bytes
 # The listener starts first, because datagrams that are sent before it listens are lost. Its server is port 41005.
 python3 examples/lossy-lines.py 41001 41003 41002 41004 >"$work/lost" &
 ./mold listen --session DEMO --a 127.0.0.1:41003 --b 127.0.0.1:41004 --server 127.0.0.1:41005 --turns 100 \
-    >"$work/heard" &
+    >"$work/received" &
 listener=$!
 sleep 3
 
@@ -23,5 +23,5 @@ wait "$listener"
 wait
 
 cat "$work/lost"
-sed -n '/^[0-9]/s/^[0-9]* //p' "$work/heard" | cmp - "$work/messages" && echo 'heard all messages, in order'
-tail -n 1 "$work/heard"
+sed -n '/^[0-9]/s/^[0-9]* //p' "$work/received" | cmp - "$work/messages" && echo 'received all messages, in order'
+tail -n 1 "$work/received"
