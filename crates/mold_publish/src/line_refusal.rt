@@ -13,7 +13,7 @@ use thiserror::Error;
 #[derive(Clone, Copy, Debug, PartialEq, Eq, Error)]
 pub enum LineRefusal {
     /// The line is not an even number of hexadecimal digits.
-    #[error("the line is no pairs of hexadecimal digits")]
+    #[error("the line is not an even number of hexadecimal digits")]
     NotHex,
     /// The journal refuses the message that the digits encode.
     #[error("{0}")]

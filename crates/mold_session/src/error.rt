@@ -34,7 +34,7 @@ pub enum PublisherError {
 
 /// Why a publisher is not closed: some messages were not put into a datagram yet.
 #[derive(Clone, Copy, Debug, PartialEq, Eq, Hash, Error)]
-#[error("{count} messages were not yet put in a datagram")]
+#[error("{count} messages have not been sent yet")]
 pub struct Unsent {
     /// The number of those messages, at least 1.
     pub count: u64,
@@ -45,10 +45,10 @@ pub struct Unsent {
 pub enum ServerError {
     /// The limit is outside the range `MIN_LIMIT` to `MAX_LIMIT`, or it is less than `max_message` plus
     /// `MESSAGE_OVERHEAD`.
-    #[error("a datagram's limit is 64 to 65,507 bytes, and 22 more than a message has")]
+    #[error("a datagram's limit is 64 to 65,507 bytes, and at least 22 more than the longest message")]
     Limit,
     /// The burst is outside the range 1 to `MAX_BURST` datagrams.
-    #[error("a request is answered by at most 1 to 64 datagrams")]
+    #[error("the greatest number of datagrams for one request is 1 to 64")]
     Burst,
     /// The allocation of the datagram's buffer failed.
     #[error("out of memory")]
@@ -65,14 +65,14 @@ pub enum AnswerError {
     #[error("a request of another session")]
     WrongSession,
     /// The requested sequence number is 0. The first message has number 1.
-    #[error("a request from number 0 on")]
+    #[error("a request that begins at number 0")]
     SequenceZero,
     /// The request's message count is 0.
-    #[error("a request for no message")]
+    #[error("a request for no messages")]
     EmptyRequest,
     /// The requested sequence number is greater than that of the journal's last message. `next` is the number
     /// that the journal's next message gets.
-    #[error("a request for a message behind the last one, below {next}")]
+    #[error("a request for a message after the last one, which is below {next}")]
     Ahead { next: u64 },
 }
 
@@ -99,14 +99,14 @@ pub enum FileError {
     #[error("{len} bytes are too short for a journal")]
     Short { len: usize },
     /// The first eight bytes are the magic bytes of neither version.
-    #[error("no journal of version 1 or 2")]
+    #[error("not a journal of version 1 or 2")]
     BadMagic,
     /// The byte at offset 18 of a file of version 2, which states whether the session is closed, is neither 0
     /// nor 1.
-    #[error("the byte {byte} says neither open nor closed")]
+    #[error("the byte {byte} means neither open nor closed")]
     BadFlag { byte: u8 },
     /// Bytes follow message `MAX_MESSAGES`, the last one that can have a sequence number.
-    #[error("the journal goes on behind the last number")]
+    #[error("the journal has messages after the greatest number")]
     Full,
     /// A message is longer than the journal's `max_message`. `len` is its length in bytes.
     #[error("a message of {len} bytes is too long")]
@@ -115,7 +115,7 @@ pub enum FileError {
     #[error("the file ends within message {number}")]
     BlockCut { number: u64 },
     /// A file of version 2 ends after a whole block, but it has `found` messages and states `count`.
-    #[error("{count} messages are stated, and {found} are there")]
+    #[error("the file states {count} messages and has {found}")]
     CountDiffers { count: u64, found: u64 },
     /// The source failed.
     #[error("the journal can't be read")]

@@ -11,7 +11,7 @@ pub enum DecodeError {
     Short { len: usize },
     /// The message count states more blocks than there are whole blocks. `index` is the index of the first
     /// block that is not whole, counted from 0.
-    #[error("message block {index} is cut")]
+    #[error("message block {index} is truncated")]
     BlockCut { index: u16 },
     /// Bytes follow the header and the stated blocks. `at` is the offset of the first of these bytes.
     #[error("the packet ends at byte {at}, and more bytes follow")]

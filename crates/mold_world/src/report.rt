@@ -31,10 +31,10 @@ pub enum Report {
 #[derive(Clone, Copy, Debug, PartialEq, Eq, Error)]
 pub enum WorldError {
     /// No receiver has this number.
-    #[error("there is no receiver of this number")]
+    #[error("there is no receiver with this number")]
     NoReceiver,
     /// No datagram that was sent has this number.
-    #[error("no datagram was sent at this place")]
+    #[error("no datagram with this index was sent")]
     NoSuchDatagram,
     /// The bytes of a noise event encode a packet of the session.
     #[error("the bytes are a packet of the session")]
@@ -49,12 +49,12 @@ pub enum WorldError {
     #[error("out of memory")]
     Memory,
     /// A datagram limit is not `MIN_LIMIT` to `MAX_LIMIT`, or the server's limit is below the publisher's.
-    #[error("a datagram's limit is 64 to 65,507 bytes, and the server's no less than the publisher's")]
+    #[error("a datagram's limit is 64 to 65,507 bytes, and the server's is at least the publisher's")]
     BadLimit,
     /// A window is not 1 to `MAX_WINDOW` messages. `r` is the first receiver with such a window.
     #[error("the window of receiver {r} is not 1 to 65,536 messages")]
     BadWindow { r: usize },
     /// The burst is not 1 to `MAX_BURST` datagrams.
-    #[error("a request is answered by at most 1 to 64 datagrams")]
+    #[error("the greatest number of datagrams for one request is 1 to 64")]
     BadBurst,
 }
