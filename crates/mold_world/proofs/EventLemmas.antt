@@ -80,7 +80,7 @@ world_with_publisher :
     new.journal.session ≡ w.publisher.journal.session → new.journal.max_message ≡ w.publisher.journal.max_message →
     ((packet : Packet) → IsTruePacket packet w.publisher.journal.messages w.publisher.journal.closed →
     IsTruePacket packet new.journal.messages new.journal.closed) →
-    ((subscriber : SubscriberState) → IsSubscriberKept w.publisher.journal w.sent place → IsSubscriberKept new.journal w.sent place) →
+    ((subscriber : SubscriberState) → IsSubscriberKept w.publisher.journal w.sent subscriber → IsSubscriberKept new.journal w.sent subscriber) →
     IsWorld (record w { publisher = new })
 world_with_publisher w new is publisher named longest still kept = record {
   publisher = publisher;
@@ -128,13 +128,13 @@ world_closed :
 world_closed laws receivers w is all =
     world_with_publisher w (closed w.publisher) is (laws.closed w.publisher is.publisher all) refl refl
     (λ packet so. true_once_closed laws packet w.publisher.journal.messages w.publisher.journal.closed so)
-    (λ place kept. place_closed receivers w.publisher.journal w.sent place kept)
+    (λ subscriber kept. place_closed receivers w.publisher.journal w.sent subscriber kept)
 
 -- True datagrams are sent by a publisher with the same journal.
 world_sent :
     (w : WorldState) (publisher : PublisherState) (more : List (List ℕ)) → IsWorld w → IsPublisher publisher →
     publisher.journal ≡ w.publisher.journal →
-    ((place : ℕ) (bytes : List ℕ) → slice_get more subscriber ≡ Some bytes → IsTrueDatagram w.publisher.journal bytes) →
+    ((place : ℕ) (bytes : List ℕ) → slice_get more place ≡ Some bytes → IsTrueDatagram w.publisher.journal bytes) →
     IsWorld (record w { publisher = publisher; sent = w.sent ++ more })
 world_sent w publisher more is still same true_all =
     let back = sym same in
@@ -218,8 +218,8 @@ deliver_kept receivers w receiver at way None datagram done is here sent same = 
 deliver_kept receivers w receiver at way (Some subscriber) None done is here sent same = err_world _ done same
 deliver_kept receivers w receiver at way (Some subscriber) (Some bytes) done is here sent same =
     ok_world _ done (world_with_place w receiver (given subscriber way bytes) is
-    (given_kept receivers w.publisher.journal w.sent place way bytes (is.subscribers receiver subscriber here)
-    (record { subscriber = at; found = sent; told = is.said at bytes sent }))) same
+    (given_kept receivers w.publisher.journal w.sent subscriber way bytes (is.subscribers receiver subscriber here)
+    (record { place = at; found = sent; told = is.said at bytes sent }))) same
 
 -- Bytes that are not a packet of the session are refused.
 pub not_own :
@@ -252,7 +252,7 @@ noise_given w receiver way bytes (Some subscriber) false done is here mine same 
     let kept = is.subscribers receiver subscriber here in
     let refused = not_own subscriber.arbitration.view w.publisher.journal.session (reading bytes) kept.session mine in
     ok_world _ done (world_with_place w receiver (given subscriber way bytes) is
-    (noise_kept w.publisher.journal w.sent place way bytes refused.0 refused.1 kept)) same
+    (noise_kept w.publisher.journal w.sent subscriber way bytes refused.0 refused.1 kept)) same
 
 restart_given :
     (receivers : ReceiverLaws) (w : WorldState) (receiver next : ℕ) (subscriber : SubscriberState) (reached : Bool)
@@ -264,7 +264,7 @@ restart_given receivers w receiver next subscriber false done is here reached sa
 restart_given receivers w receiver next subscriber true done is here reached same =
     let both = and_parts (leb 1 next) (leb next subscriber.arbitration.view.next) reached in
     ok_world _ done (world_with_place w receiver (restarted_at subscriber next) is
-    (renewed_kept receivers w.publisher.journal w.sent place next is.publisher.journaled.few (leb-true 1 next both.0)
+    (renewed_kept receivers w.publisher.journal w.sent subscriber next is.publisher.journaled.few (leb-true 1 next both.0)
     (leb-true next subscriber.arbitration.view.next both.1) (is.subscribers receiver subscriber here))) same
 
 restart_kept :
@@ -341,8 +341,8 @@ request_kept answers w bytes (Err refusal) done is asked_now same = err_world _ 
 -- The journal has what a receiver of the world wants.
 pub wanted_answerable :
     (answers : AnswerLaws) (journal : JournalState) (sent : List (List ℕ)) (subscriber : SubscriberState) (request : Asked) →
-    IsSubscriberKept journal sent place → wanted subscriber.arbitration.view ≡ Some request → IsAnswerable journal request
-wanted_answerable answers journal sent place request kept want =
+    IsSubscriberKept journal sent subscriber → wanted subscriber.arbitration.view ≡ Some request → IsAnswerable journal request
+wanted_answerable answers journal sent subscriber request kept want =
     let view : View = subscriber.arbitration.view in
     let asks = answers.asks view request want in
     let gap = answers.gap view request kept.honest.well_formed want in
@@ -355,11 +355,11 @@ wanted_answerable answers journal sent place request kept want =
 
 ask_wanted :
     (answers : AnswerLaws) (w : WorldState) (subscriber : SubscriberState) (want : Option Asked) (done : Report × WorldState) →
-    IsWorld w → IsSubscriberKept w.publisher.journal w.sent place → wanted subscriber.arbitration.view ≡ want →
+    IsWorld w → IsSubscriberKept w.publisher.journal w.sent subscriber → wanted subscriber.arbitration.view ≡ want →
     asked_for w want ≡ Ok done → IsWorld done.1
 ask_wanted answers w subscriber None done is kept want same = ok_world _ done is same
 ask_wanted answers w subscriber (Some request) done is kept want same =
-    answer_kept answers w request done is (wanted_answerable answers w.publisher.journal w.sent place request kept want)
+    answer_kept answers w request done is (wanted_answerable answers w.publisher.journal w.sent subscriber request kept want)
     same
 
 ask_kept :

@@ -135,12 +135,12 @@ request_steps laws w bytes (Err refusal) done is asked_now same = err_so (IsSent
 
 want_steps :
     (laws : AllLaws) (w : WorldState) (subscriber : SubscriberState) (want : Option Asked) (done : Report × WorldState) →
-    IsWorld w → IsSubscriberKept w.publisher.journal w.sent place → wanted subscriber.arbitration.view ≡ want →
+    IsWorld w → IsSubscriberKept w.publisher.journal w.sent subscriber → wanted subscriber.arbitration.view ≡ want →
     asked_for w want ≡ Ok done → DidSend w.burst w done.1
 want_steps laws w subscriber None done is kept want same = ok_so (IsSent w.burst w) _ done same (none w.burst w)
 want_steps laws w subscriber (Some request) done is kept want same =
     answer_steps laws w request done is
-    (wanted_answerable laws.answers w.publisher.journal w.sent place request kept want) same
+    (wanted_answerable laws.answers w.publisher.journal w.sent subscriber request kept want) same
 
 pub ask_steps :
     (laws : AllLaws) (w : WorldState) (receiver : ℕ) (subscriber : Option SubscriberState) (done : Report × WorldState) →

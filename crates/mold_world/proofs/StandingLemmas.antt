@@ -66,9 +66,9 @@ stands_same w receiver subscriber here other =
 
 -- The length of a book.
 pub book_length :
-    (journal : JournalState) (sent : List (List ℕ)) (subscriber : SubscriberState) → IsSubscriberKept journal sent place →
+    (journal : JournalState) (sent : List (List ℕ)) (subscriber : SubscriberState) → IsSubscriberKept journal sent subscriber →
     length subscriber.book.messages + 1 ≡ subscriber.arbitration.view.next
-book_length journal sent place kept =
+book_length journal sent subscriber kept =
     omega (
       arith,
       ap (λ (t : List (List ℕ)). length t) kept.book,

@@ -143,8 +143,8 @@ taken_hands laws law w receiver at way subscriber bytes r is here found received
     record {
       here = here;
       kept = kept;
-      still = given_kept laws.receivers w.publisher.journal w.sent place way bytes kept
-          (record { subscriber = at; found = found; told = told });
+      still = given_kept laws.receivers w.publisher.journal w.sent subscriber way bytes kept
+          (record { place = at; found = found; told = told });
       book = ap (λ (t : Result Reception Refusal). (book_after subscriber.book view.next t).messages) received
           ∙ followed_messages subscriber.book view.next r.handed;
       each = λ i message at_i.
@@ -152,7 +152,7 @@ taken_hands laws law w receiver at way subscriber bytes r is here found received
           (sym (ap (λ (t : Reception). slice_get t.handed i) took.taken) ∙ at_i)) [
             | inl stored ↦ kept.stored (view.next + i) message stored
             | inr carried ↦ record {
-              subscriber = at;
+              place = at;
               bytes = bytes;
               packet = packet;
               found = found;
@@ -255,7 +255,7 @@ restart_at_steps w receiver next subscriber true done is here reached same =
           omega (
             arith,
             leb-true next subscriber.arbitration.view.next both.1,
-            book_length w.publisher.journal w.sent place kept,
+            book_length w.publisher.journal w.sent subscriber kept,
             ap (λ (t : List (List ℕ)). length t) book,
           ),
         ),

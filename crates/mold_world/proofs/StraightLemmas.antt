@@ -98,7 +98,7 @@ still_beyond :
 still_beyond w new receiver up as_far =
     let reached = as_far.reached up.subscriber up.here in
     record {
-      place = reached.place;
+      subscriber = reached.subscriber;
       here = reached.here;
       beyond = omega (arith, as_far.sent, up.beyond, reached.far);
     }

@@ -81,7 +81,7 @@ end_longer sent more session number is = record {
 }
 
 pub place_sent :
-    (journal : JournalState) (sent more : List (List ℕ)) (subscriber : SubscriberState) → IsSubscriberKept journal sent place →
+    (journal : JournalState) (sent more : List (List ℕ)) (subscriber : SubscriberState) → IsSubscriberKept journal sent subscriber →
     IsSubscriberKept journal (sent ++ more) subscriber
 place_sent journal sent more subscriber kept = record {
   session = kept.session;
@@ -94,14 +94,14 @@ place_sent journal sent more subscriber kept = record {
 
 -- A receiver's next number is at most the next number to publish.
 next_within :
-    (journal : JournalState) (sent : List (List ℕ)) (subscriber : SubscriberState) → IsSubscriberKept journal sent place →
+    (journal : JournalState) (sent : List (List ℕ)) (subscriber : SubscriberState) → IsSubscriberKept journal sent subscriber →
     subscriber.arbitration.view.next - 1 ≤ length journal.messages
-next_within journal sent place kept =
+next_within journal sent subscriber kept =
     omega (arith, kept.honest.well_formed.ahead, kept.honest.known, kept.honest.well_formed.first)
 
 pub place_published :
     (laws : ReceiverLaws) (journal : JournalState) (sent : List (List ℕ)) (message : List ℕ) (subscriber : SubscriberState) →
-    journal.closed ≡ false → IsSubscriberKept journal sent place → IsSubscriberKept (appended journal message) sent place
+    journal.closed ≡ false → IsSubscriberKept journal sent subscriber → IsSubscriberKept (appended journal message) sent subscriber
 place_published laws journal sent message subscriber unclosed kept =
     let view : View = subscriber.arbitration.view in
     record {
@@ -110,7 +110,7 @@ place_published laws journal sent message subscriber unclosed kept =
           (laws.published view journal.messages message
           (subst (λ (t : Bool). IsHonest view journal.messages t) unclosed kept.honest));
       book = kept.book
-          ∙ sym (take-append-le (view.next - 1) journal.messages (message ∷ []) (next_within journal sent place kept));
+          ∙ sym (take-append-le (view.next - 1) journal.messages (message ∷ []) (next_within journal sent subscriber kept));
       follows = kept.follows;
       stored = kept.stored;
       ends = kept.ends;
@@ -124,8 +124,8 @@ honest_once_closed laws view messages false is = laws.closed view messages is
 
 pub place_closed :
     (laws : ReceiverLaws) (journal : JournalState) (sent : List (List ℕ)) (subscriber : SubscriberState) →
-    IsSubscriberKept journal sent place → IsSubscriberKept (record journal { closed = true }) sent place
-place_closed laws journal sent place kept = record {
+    IsSubscriberKept journal sent subscriber → IsSubscriberKept (record journal { closed = true }) sent subscriber
+place_closed laws journal sent subscriber kept = record {
   session = kept.session;
   honest = honest_once_closed laws subscriber.arbitration.view journal.messages journal.closed kept.honest;
   book = kept.book;
@@ -216,12 +216,12 @@ is_end_packet packet session end named body number =
 -- The receiver accepted a packet that was sent.
 taken_kept :
     (laws : ReceiverLaws) (journal : JournalState) (sent : List (List ℕ)) (subscriber : SubscriberState) (way : Way)
-    (bytes : List ℕ) (r : Reception) → IsSubscriberKept journal sent place → IsSentTruly journal sent bytes →
+    (bytes : List ℕ) (r : Reception) → IsSubscriberKept journal sent subscriber → IsSentTruly journal sent bytes →
     receive subscriber.arbitration.view bytes ≡ Ok r → IsHonest r.view journal.messages journal.closed →
     ((i : ℕ) (message : List ℕ) → slice_get r.handed i ≡ Some message →
     published_at journal.messages (subscriber.arbitration.view.next + i) ≡ Some message) →
     IsSubscriberKept journal sent (given_by subscriber way bytes (Ok r))
-taken_kept laws journal sent place way bytes r kept truly received honest handed =
+taken_kept laws journal sent subscriber way bytes r kept truly received honest handed =
     let v : View = subscriber.arbitration.view in
     let is = laws.taken v bytes r received in
     let packet : Packet = is.packet in
@@ -277,9 +277,9 @@ taken_kept laws journal sent place way bytes r kept truly received honest handed
 -- So a receiver stays valid when it receives what was sent.
 pub given_kept :
     (laws : ReceiverLaws) (journal : JournalState) (sent : List (List ℕ)) (subscriber : SubscriberState) (way : Way)
-    (bytes : List ℕ) → IsSubscriberKept journal sent place → IsSentTruly journal sent bytes →
+    (bytes : List ℕ) → IsSubscriberKept journal sent subscriber → IsSentTruly journal sent bytes →
     IsSubscriberKept journal sent (given subscriber way bytes)
-given_kept laws journal sent place way bytes kept truly =
+given_kept laws journal sent subscriber way bytes kept truly =
     let v : View = subscriber.arbitration.view in
     let told = truly.told in
     let took = laws.take v told.packet bytes journal.messages journal.closed kept.honest told.spelled
@@ -287,14 +287,14 @@ given_kept laws journal sent place way bytes kept truly =
     in
     subst (λ (t : Result Reception Refusal). IsSubscriberKept journal sent (given_by subscriber way bytes t))
     (sym took.received)
-    (taken_kept laws journal sent place way bytes took.reception kept truly took.received took.honest took.handed)
+    (taken_kept laws journal sent subscriber way bytes took.reception kept truly took.received took.honest took.handed)
 
 -- It stays valid when it refuses bytes, since only a report changes.
 refused_kept :
     (journal : JournalState) (sent : List (List ℕ)) (subscriber : SubscriberState) (way : Way) (bytes : List ℕ)
-    (refused : Refusal) → IsSubscriberKept journal sent place →
+    (refused : Refusal) → IsSubscriberKept journal sent subscriber →
     IsSubscriberKept journal sent (given_by subscriber way bytes (Err refused))
-refused_kept journal sent place way bytes refused kept =
+refused_kept journal sent subscriber way bytes refused kept =
     let now = view_refused way bytes subscriber.arbitration refused in
     subst (λ (t : View). IsSubscriberKept journal sent (record {
       arbitration = record { view = t; reports = (arbitrated (line_of way) bytes subscriber.arbitration (Err refused)).reports };
@@ -311,11 +311,11 @@ refused_kept journal sent place way bytes refused kept =
 
 pub noise_kept :
     (journal : JournalState) (sent : List (List ℕ)) (subscriber : SubscriberState) (way : Way) (bytes : List ℕ)
-    (refused : Refusal) → receive subscriber.arbitration.view bytes ≡ Err refused → IsSubscriberKept journal sent place →
+    (refused : Refusal) → receive subscriber.arbitration.view bytes ≡ Err refused → IsSubscriberKept journal sent subscriber →
     IsSubscriberKept journal sent (given subscriber way bytes)
-noise_kept journal sent place way bytes refused is kept =
+noise_kept journal sent subscriber way bytes refused is kept =
     subst (λ (t : Result Reception Refusal). IsSubscriberKept journal sent (given_by subscriber way bytes t)) (sym is)
-    (refused_kept journal sent place way bytes refused kept)
+    (refused_kept journal sent subscriber way bytes refused kept)
 
 -- Messages that are cut to their first ones.
 cut_from :
@@ -349,10 +349,10 @@ take_twice {X = X} (suc few) (suc many) (x ∷ xs) less =
 pub renewed_kept :
     (laws : ReceiverLaws) (journal : JournalState) (sent : List (List ℕ)) (subscriber : SubscriberState) (next : ℕ) →
     length journal.messages < 18446744073709551615 → 1 ≤ next → next ≤ subscriber.arbitration.view.next →
-    IsSubscriberKept journal sent place → IsSubscriberKept journal sent (restarted_at subscriber next)
-renewed_kept laws journal sent place next few first reached kept =
+    IsSubscriberKept journal sent subscriber → IsSubscriberKept journal sent (restarted_at subscriber next)
+renewed_kept laws journal sent subscriber next few first reached kept =
     let v : View = subscriber.arbitration.view in
-    let within = next_within journal sent place kept in
+    let within = next_within journal sent subscriber kept in
     let whole : length subscriber.book.messages ≡ v.next - 1 =
     omega (arith, ap (λ (t : List (List ℕ)). length t) kept.book, length-take (v.next - 1) journal.messages, within)
     in

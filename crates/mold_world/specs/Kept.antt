@@ -33,4 +33,4 @@ pub record IsWorld (w : WorldState) : Type 0 where
   pub said : (place : ℕ) (bytes : List ℕ) → slice_get w.sent place ≡ Some bytes →
       IsTrueDatagram w.publisher.journal bytes
   pub subscribers : (receiver : ℕ) (subscriber : SubscriberState) → slice_get w.subscribers receiver ≡ Some subscriber →
-      IsSubscriberKept w.publisher.journal w.sent place
+      IsSubscriberKept w.publisher.journal w.sent subscriber
