@@ -1,51 +1,110 @@
-//! Words that are no order, and those that ask for the version.
+//! Arguments that give a fault, and those that ask for the version.
 
-use crate::reading::{read, same_text};
-use mold_words::UsageFault;
-use std::alloc::Global;
-use std::process::Abort;
-use std::test::Fail;
+use crate::reading::{FaultLine, expect_errors, expect_faults};
 
-// The text of a usage fault.
-fn usage_text(alloc: Global, line: &str) -> Result<String, Fail> {
-    let Err(UsageFault::Usage { text }) = read(alloc, line) else {
-        return Err(Fail::from("no usage fault"));
-    };
-    Ok(text)
-}
+const NO_SESSION: &str =
+    "error: invalid value for '--session <NAME>': not 1 to 10 characters from space to ~\n";
 
-// The words are a usage fault with this text.
-fn expect_usage(rt: &(impl Abort + AllocGlobal), line: &str, wanted: &str) -> Result<(), Fail> {
-    let text = usage_text(rt.alloc(), line)?;
-    same_text(rt, text.as_str(), wanted, line);
-    Ok(())
-}
+const NO_LIMIT: &str =
+    "error: invalid value for '--limit <BYTES>': not a number from 64 to 65507\n";
+
+const NO_ADDRESS: &str =
+    "error: invalid value for '--bind <ADDRESS>': not an address such as 127.0.0.1:9000\n";
+
+const INVALID_VALUES: [FaultLine; 11] = [
+    ("pack --session=", "usage", NO_SESSION),
+    ("pack --session SESSION0012", "usage", NO_SESSION),
+    ("pack --session Börse", "usage", NO_SESSION),
+    ("pack --session A\u{7f}", "usage", NO_SESSION),
+    ("pack --session A --limit 63", "usage", NO_LIMIT),
+    ("pack --session A --limit 65508", "usage", NO_LIMIT),
+    ("pack --session A --limit +64", "usage", NO_LIMIT),
+    ("pack --session A --limit=", "usage", NO_LIMIT),
+    ("pack --session A --limit=-64", "usage", NO_LIMIT),
+    (
+        "pack --session A --limit 000000000000000000064",
+        "usage",
+        NO_LIMIT,
+    ),
+    (
+        "pack --session A --limit 18446744073709551680",
+        "usage",
+        NO_LIMIT,
+    ),
+];
 
 #[test]
-fn texts_that_are_no_values(rt: HostRuntime) -> Result<(), Fail> {
-    let wanted =
-        "error: invalid value for '--session <NAME>': not 1 to 10 characters from space to ~\n";
-    for line in [
-        "pack --session=",
-        "pack --session SESSION0012",
-        "pack --session Börse",
-        "pack --session A\u{7f}",
-    ] {
-        expect_usage(&rt, line, wanted)?;
-    }
-    let wanted = "error: invalid value for '--limit <BYTES>': not a number from 64 to 65507\n";
-    for line in [
-        "pack --session A --limit 63",
-        "pack --session A --limit 65508",
-        "pack --session A --limit +64",
-        "pack --session A --limit=",
-        "pack --session A --limit=-64",
-        "pack --session A --limit 000000000000000000064",
-        "pack --session A --limit 18446744073709551680",
-    ] {
-        expect_usage(&rt, line, wanted)?;
-    }
-    Ok(())
+fn invalid_values(rt: HostRuntime) {
+    expect_faults(&rt, &INVALID_VALUES);
+}
+
+// The limit is out of range too: an invalid address is reported before any other invalid value.
+const INVALID_ADDRESSES: [FaultLine; 12] = [
+    (
+        "serve --journal J --limit 63 --bind 127.0.0.1",
+        "address",
+        NO_ADDRESS,
+    ),
+    (
+        "serve --journal J --limit 63 --bind 127.0.0.1:",
+        "address",
+        NO_ADDRESS,
+    ),
+    (
+        "serve --journal J --limit 63 --bind :9000",
+        "address",
+        NO_ADDRESS,
+    ),
+    (
+        "serve --journal J --limit 63 --bind 127.0.0:9000",
+        "address",
+        NO_ADDRESS,
+    ),
+    (
+        "serve --journal J --limit 63 --bind 127.0.0.1.1:9000",
+        "address",
+        NO_ADDRESS,
+    ),
+    (
+        "serve --journal J --limit 63 --bind 127.0.0.256:9000",
+        "address",
+        NO_ADDRESS,
+    ),
+    (
+        "serve --journal J --limit 63 --bind 127.0.0.01:9000",
+        "address",
+        NO_ADDRESS,
+    ),
+    (
+        "serve --journal J --limit 63 --bind 127.0.0.1:09000",
+        "address",
+        NO_ADDRESS,
+    ),
+    (
+        "serve --journal J --limit 63 --bind 127.0.0.1:65536",
+        "address",
+        NO_ADDRESS,
+    ),
+    (
+        "serve --journal J --limit 63 --bind 127.0.0.1:+9000",
+        "address",
+        NO_ADDRESS,
+    ),
+    (
+        "serve --journal J --limit 63 --bind 127.0.0.1:9000:1",
+        "address",
+        NO_ADDRESS,
+    ),
+    (
+        "serve --journal J --limit 63 --bind localhost:9000",
+        "address",
+        NO_ADDRESS,
+    ),
+];
+
+#[test]
+fn invalid_addresses(rt: HostRuntime) {
+    expect_faults(&rt, &INVALID_ADDRESSES);
 }
 
 const NO_COMMANDS: &[&str] = &[
@@ -95,46 +154,17 @@ const NO_COMMANDS: &[&str] = &[
     "dump --journal J --count 18446744073709551616",
 ];
 
-// The text is of an error, in whole lines.
-fn is_error(rt: &impl Abort, text: &str, line: &str) {
-    assert!(rt; text.starts_with("error: "), "{line}: {text}");
-    assert!(rt; text.ends_with('\n'), "{line}: {text}");
+#[test]
+fn arguments_that_are_not_a_command(rt: HostRuntime) {
+    expect_errors(&rt, NO_COMMANDS);
 }
 
-// The words are a usage fault.
-fn expect_error(rt: &(impl Abort + AllocGlobal), line: &str) -> Result<(), Fail> {
-    let text = usage_text(rt.alloc(), line)?;
-    is_error(rt, text.as_str(), line);
-    Ok(())
-}
+const VERSION: [FaultLine; 2] = [
+    ("--version", "version", "mold 0.1.0\n"),
+    ("-V", "version", "mold 0.1.0\n"),
+];
 
 #[test]
-fn words_that_are_no_command(rt: HostRuntime) -> Result<(), Fail> {
-    for line in NO_COMMANDS {
-        expect_error(&rt, line)?;
-    }
-    Ok(())
-}
-
-// The text of the version.
-fn version_text(alloc: Global, line: &str) -> Result<String, Fail> {
-    let Err(UsageFault::Version { text }) = read(alloc, line) else {
-        return Err(Fail::from("no version"));
-    };
-    Ok(text)
-}
-
-// The words ask for the version.
-fn expect_version(rt: &(impl Abort + AllocGlobal), line: &str) -> Result<(), Fail> {
-    let text = version_text(rt.alloc(), line)?;
-    same_text(rt, text.as_str(), "mold 0.1.0\n", line);
-    Ok(())
-}
-
-#[test]
-fn words_that_ask_for_the_version(rt: HostRuntime) -> Result<(), Fail> {
-    for line in ["--version", "-V"] {
-        expect_version(&rt, line)?;
-    }
-    Ok(())
+fn words_that_ask_for_the_version(rt: HostRuntime) {
+    expect_faults(&rt, &VERSION);
 }

@@ -1,10 +1,6 @@
-//! Words that ask for help.
+//! The texts of help.
 
-use crate::reading::{read, same_text};
-use mold_words::UsageFault;
-use std::alloc::Global;
-use std::process::Abort;
-use std::test::Fail;
+use crate::reading::{FaultLine, expect_faults};
 
 const TOP_HELP: &str = "MoldUDP64 packets, shown as lines of text
 
@@ -117,35 +113,19 @@ Example:
     --a 127.0.0.1:9001 --b 127.0.0.1:9002 --journal new.journal
 ";
 
-// The text of help.
-fn help_text(alloc: Global, line: &str) -> Result<String, Fail> {
-    let Err(UsageFault::Help { text }) = read(alloc, line) else {
-        return Err(Fail::from("no help"));
-    };
-    Ok(text)
-}
-
-// The words ask for help, and this is the text.
-fn expect_help(rt: &(impl Abort + AllocGlobal), line: &str, wanted: &str) -> Result<(), Fail> {
-    let text = help_text(rt.alloc(), line)?;
-    same_text(rt, text.as_str(), wanted, line);
-    Ok(())
-}
+const HELP: [FaultLine; 9] = [
+    ("--help", "help", TOP_HELP),
+    ("help", "help", TOP_HELP),
+    ("show --help", "help", SHOW_HELP),
+    ("help show", "help", SHOW_HELP),
+    ("pack --help", "help", PACK_HELP),
+    ("sim --help", "help", SIM_HELP),
+    ("check --help", "help", CHECK_HELP),
+    ("upgrade --help", "help", UPGRADE_HELP),
+    ("dump --help", "help", DUMP_HELP),
+];
 
 #[test]
-fn words_that_ask_for_help(rt: HostRuntime) -> Result<(), Fail> {
-    for (line, wanted) in [
-        ("--help", TOP_HELP),
-        ("help", TOP_HELP),
-        ("show --help", SHOW_HELP),
-        ("help show", SHOW_HELP),
-        ("pack --help", PACK_HELP),
-        ("sim --help", SIM_HELP),
-        ("check --help", CHECK_HELP),
-        ("upgrade --help", UPGRADE_HELP),
-        ("dump --help", DUMP_HELP),
-    ] {
-        expect_help(&rt, line, wanted)?;
-    }
-    Ok(())
+fn arguments_that_ask_for_help(rt: HostRuntime) {
+    expect_faults(&rt, &HELP);
 }

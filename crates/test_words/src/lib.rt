@@ -1,4 +1,4 @@
-//! Tests of `mold_words`.
+//! Tests of `mold_words`: the orders of arguments, and their faults.
 #![tactic(auto)]
 
 #[cfg(test)]

@@ -1,45 +1,294 @@
-//! What the words of a line come to. Each kind of comparison is made in one place, and tells the line of the words.
+//! Reads the arguments of a line, and compares the order or the fault. Each kind of comparison is in one function,
+//! and each of the two results is owned by one function: the proof of a test grows with both.
 
-use mold_words::{Address, Order, UsageFault, read_words};
+use mold_words::{
+    Address, ListenOrder, LoopOrder, Order, PublishOrder, ServeOrder, SimOrder, UsageFault,
+    read_words,
+};
 use std::alloc::{AllocError, Global};
 use std::process::Abort;
 
-/// The words of a line.
-pub fn words_of(alloc: Global, line: &str) -> Result<Vec<String>, AllocError> {
-    let mut words = Vec::new(alloc);
-    for word in line.split_whitespace() {
-        words.push(String::from_str(alloc, word)?)?;
+/// The values of an order: its command, and its fields by their types, in the order of the type's fields. A flag is
+/// a number, 0 or 1. A name of a session or a list is empty if the order has no such field.
+#[derive(Clone, Copy)]
+pub struct Values<'a> {
+    pub command: &'a str,
+    pub session: &'a [u8],
+    pub numbers: &'a [u64],
+    pub addresses: &'a [Address],
+    pub texts: &'a [&'a str],
+}
+
+/// A line of arguments, and the values of its order.
+pub type OrderLine = (&'static str, Values<'static>);
+
+/// A line of arguments, and the kind and the text of its fault.
+pub type FaultLine = (&'static str, &'static str, &'static str);
+
+// The arguments of a line.
+fn arguments_of(alloc: Global, line: &str) -> Result<Vec<String>, AllocError> {
+    let mut arguments = Vec::new(alloc);
+    for argument in line.split_whitespace() {
+        arguments.push(String::from_str(alloc, argument)?)?;
     }
-    Ok(words)
+    Ok(arguments)
 }
 
-/// What the words of a line come to.
-pub fn read(alloc: Global, line: &str) -> Result<Order, UsageFault> {
-    let words = words_of(alloc, line)?;
-    read_words(alloc, words.as_slice())
+// The order of a line, or its fault.
+fn read(alloc: Global, line: &str) -> Result<Order, UsageFault> {
+    let arguments = arguments_of(alloc, line)?;
+    read_words(alloc, arguments.as_slice())
 }
 
-/// The text is this.
+/// Fails if two texts differ.
 pub fn same_text(rt: &impl Abort, found: &str, wanted: &str, line: &str) {
     assert!(rt; found == wanted, "{line}: {found}");
 }
 
-/// The session's name is this.
-pub fn same_session(rt: &impl Abort, found: [u8; 10], wanted: [u8; 10], line: &str) {
+fn same_session(rt: &impl Abort, found: &[u8], wanted: &[u8], line: &str) {
+    assert!(rt; found == wanted, "{line}: another session");
+}
+
+fn same_numbers(rt: &impl Abort, found: &[u64], wanted: &[u64], line: &str) {
     assert_eq!(rt; found, wanted, "{line}");
 }
 
-/// The numbers are these, in this order.
-pub fn same_numbers(rt: &impl Abort, found: &[u64], wanted: &[u64], line: &str) {
-    assert_eq!(rt; found, wanted, "{line}");
+fn same_addresses(rt: &impl Abort, found: &[Address], wanted: &[Address], line: &str) {
+    assert!(rt; found == wanted, "{line}: another address");
 }
 
-/// The address has this host and this port.
-pub fn same_address(rt: &impl Abort, found: Address, host: [u8; 4], port: u16, line: &str) {
-    assert_eq!(rt; found, Address { host, port }, "{line}");
+fn same_texts(rt: &impl Abort, found: &[&str], wanted: &[&str], line: &str) {
+    assert!(rt; found == wanted, "{line}: another text");
 }
 
-/// The answer is this.
-pub fn same_answer(rt: &impl Abort, found: bool, wanted: bool, line: &str) {
-    assert_eq!(rt; found, wanted, "{line}");
+fn same_values(rt: &impl Abort, found: &Values<'_>, wanted: &Values<'_>, line: &str) {
+    same_text(rt, found.command, wanted.command, line);
+    same_session(rt, found.session, wanted.session, line);
+    same_numbers(rt, found.numbers, wanted.numbers, line);
+    same_addresses(rt, found.addresses, wanted.addresses, line);
+    same_texts(rt, found.texts, wanted.texts, line);
+}
+
+fn expect_sim(rt: &impl Abort, order: &SimOrder, wanted: &Values<'_>, line: &str) {
+    let numbers = [
+        order.limits.limit as u64,
+        order.limits.server_limit as u64,
+        u64::from(order.window),
+        order.receivers as u64,
+        u64::from(order.burst),
+    ];
+    let found = Values {
+        command: "sim",
+        session: &order.session,
+        numbers: &numbers,
+        addresses: &[],
+        texts: &[],
+    };
+    same_values(rt, &found, wanted, line);
+}
+
+fn expect_publish(rt: &impl Abort, order: &PublishOrder, wanted: &Values<'_>, line: &str) {
+    let numbers = [
+        order.limit as u64,
+        u64::from(order.beats),
+        u64::from(order.ends),
+    ];
+    let found = Values {
+        command: "publish",
+        session: &order.session,
+        numbers: &numbers,
+        addresses: &[order.a, order.b],
+        texts: &[order.journal.as_str()],
+    };
+    same_values(rt, &found, wanted, line);
+}
+
+fn expect_serve(rt: &impl Abort, order: &ServeOrder, wanted: &Values<'_>, line: &str) {
+    let numbers = [
+        order.limit as u64,
+        u64::from(order.burst),
+        u64::from(order.turns),
+        u64::from(order.live),
+    ];
+    let found = Values {
+        command: "serve",
+        session: b"",
+        numbers: &numbers,
+        addresses: &[order.bind],
+        texts: &[order.journal.as_str()],
+    };
+    same_values(rt, &found, wanted, line);
+}
+
+fn expect_listen(rt: &impl Abort, order: &ListenOrder, wanted: &Values<'_>, line: &str) {
+    let numbers = [
+        order.next,
+        u64::from(order.window),
+        u64::from(order.burst),
+        u64::from(order.turns),
+        u64::from(order.live),
+        u64::from(order.report),
+    ];
+    let found = Values {
+        command: "listen",
+        session: &order.session,
+        numbers: &numbers,
+        addresses: &[order.a, order.b, order.server],
+        texts: &[],
+    };
+    same_values(rt, &found, wanted, line);
+}
+
+fn expect_loop(rt: &impl Abort, order: &LoopOrder, wanted: &Values<'_>, line: &str) {
+    let numbers = [
+        order.limits.limit as u64,
+        order.limits.server_limit as u64,
+        u64::from(order.window),
+        u64::from(order.burst),
+        u64::from(order.drop_a),
+        u64::from(order.drop_b),
+        u64::from(order.turns),
+        u64::from(order.report),
+    ];
+    let found = Values {
+        command: "loop",
+        session: &order.session,
+        numbers: &numbers,
+        addresses: &[],
+        texts: &[],
+    };
+    same_values(rt, &found, wanted, line);
+}
+
+// The values of an order without addresses, of one of the commands with few fields.
+fn expect_small(
+    rt: &impl Abort,
+    command: &str,
+    session: &[u8],
+    numbers: &[u64],
+    texts: &[&str],
+    wanted: &Values<'_>,
+    line: &str,
+) {
+    let found = Values {
+        command,
+        session,
+        numbers,
+        addresses: &[],
+        texts,
+    };
+    same_values(rt, &found, wanted, line);
+}
+
+fn expect_order(rt: &impl Abort, order: &Order, wanted: &Values<'_>, line: &str) {
+    match order {
+        Order::Show { request } => {
+            expect_small(rt, "show", b"", &[u64::from(*request)], &[], wanted, line);
+        }
+        Order::Pack(order) => {
+            let numbers = [order.limit as u64];
+            expect_small(rt, "pack", &order.session, &numbers, &[], wanted, line);
+        }
+        Order::Sim(order) => expect_sim(rt, order, wanted, line),
+        Order::Check { folder } => {
+            expect_small(rt, "check", b"", &[], &[folder.as_str()], wanted, line);
+        }
+        Order::CheckLines => expect_small(rt, "check -", b"", &[], &[], wanted, line),
+        Order::Publish(order) => expect_publish(rt, order, wanted, line),
+        Order::Serve(order) => expect_serve(rt, order, wanted, line),
+        Order::Listen(order) => expect_listen(rt, order, wanted, line),
+        Order::Loop(order) => expect_loop(rt, order, wanted, line),
+        Order::Upgrade(order) => {
+            let texts = [order.journal.as_str(), order.to.as_str()];
+            let numbers = [u64::from(order.close)];
+            expect_small(rt, "upgrade", b"", &numbers, &texts, wanted, line);
+        }
+        Order::Dump(order) => {
+            let numbers = [order.from, order.count];
+            let texts = [order.journal.as_str()];
+            expect_small(rt, "dump", b"", &numbers, &texts, wanted, line);
+        }
+    }
+}
+
+// The kind of a fault, and its text.
+fn parts_of(fault: &UsageFault) -> (&str, &str) {
+    match fault {
+        UsageFault::Help { text } => ("help", text.as_str()),
+        UsageFault::Version { text } => ("version", text.as_str()),
+        UsageFault::Usage { text } => ("usage", text.as_str()),
+        UsageFault::Address { text } => ("address", text.as_str()),
+        UsageFault::Memory => ("memory", ""),
+    }
+}
+
+// What a test wants of a line of arguments.
+#[derive(Clone, Copy)]
+enum Wanted<'a> {
+    // An order with these values.
+    Order(&'a Values<'a>),
+    // A fault of this kind with this text.
+    Fault(&'a str, &'a str),
+    // A usage fault whose text is an error in whole lines.
+    Error,
+}
+
+fn expect_fault(rt: &impl Abort, fault: &UsageFault, wanted: &Wanted<'_>, line: &str) {
+    let (kind, text) = parts_of(fault);
+    match wanted {
+        Wanted::Order(_) => same_text(rt, kind, "order", line),
+        Wanted::Fault(wanted_kind, wanted_text) => {
+            same_text(rt, kind, wanted_kind, line);
+            same_text(rt, text, wanted_text, line);
+        }
+        Wanted::Error => {
+            same_text(rt, kind, "usage", line);
+            is_error(rt, text, line);
+        }
+    }
+}
+
+fn is_error(rt: &impl Abort, text: &str, line: &str) {
+    assert!(rt; text.starts_with("error: "), "{line}: {text}");
+    assert!(rt; text.ends_with('\n'), "{line}: {text}");
+}
+
+fn expect_result(
+    rt: &impl Abort,
+    found: &Result<Order, UsageFault>,
+    wanted: &Wanted<'_>,
+    line: &str,
+) {
+    match (found, wanted) {
+        (Ok(order), Wanted::Order(values)) => expect_order(rt, order, values, line),
+        (Ok(_), _) => same_text(rt, "order", "fault", line),
+        (Err(fault), _) => expect_fault(rt, fault, wanted, line),
+    }
+}
+
+// Reads a line, and compares its result.
+fn expect(rt: &(impl Abort + AllocGlobal), line: &str, wanted: &Wanted<'_>) {
+    let found = read(rt.alloc(), line);
+    expect_result(rt, &found, wanted, line);
+}
+
+/// Each line is an order with its values.
+pub fn expect_orders(rt: &(impl Abort + AllocGlobal), lines: &[OrderLine]) {
+    for (line, values) in lines {
+        expect(rt, line, &Wanted::Order(values));
+    }
+}
+
+/// Each line is a fault of its kind with its text.
+pub fn expect_faults(rt: &(impl Abort + AllocGlobal), lines: &[FaultLine]) {
+    for (line, kind, text) in lines {
+        expect(rt, line, &Wanted::Fault(kind, text));
+    }
+}
+
+/// Each line is a usage fault, whose text is an error in whole lines.
+pub fn expect_errors(rt: &(impl Abort + AllocGlobal), lines: &[&str]) {
+    for line in lines {
+        expect(rt, line, &Wanted::Error);
+    }
 }
