@@ -11,7 +11,7 @@ const NO_LIMIT: &str =
 const NO_ADDRESS: &str =
     "error: invalid value for '--bind <ADDRESS>': not an address such as 127.0.0.1:9000\n";
 
-const INVALID_VALUES: [FaultLine; 11] = [
+const INVALID_VALUES: &[FaultLine] = &[
     ("pack --session=", "usage", NO_SESSION),
     ("pack --session SESSION0012", "usage", NO_SESSION),
     ("pack --session Börse", "usage", NO_SESSION),
@@ -35,11 +35,11 @@ const INVALID_VALUES: [FaultLine; 11] = [
 
 #[test]
 fn invalid_values(rt: HostRuntime) {
-    expect_faults(&rt, &INVALID_VALUES);
+    expect_faults(&rt, INVALID_VALUES);
 }
 
 // The limit is out of range too: an invalid address is reported before any other invalid value.
-const INVALID_ADDRESSES: [FaultLine; 12] = [
+const INVALID_ADDRESSES: &[FaultLine] = &[
     (
         "serve --journal J --limit 63 --bind 127.0.0.1",
         "address",
@@ -104,7 +104,7 @@ const INVALID_ADDRESSES: [FaultLine; 12] = [
 
 #[test]
 fn invalid_addresses(rt: HostRuntime) {
-    expect_faults(&rt, &INVALID_ADDRESSES);
+    expect_faults(&rt, INVALID_ADDRESSES);
 }
 
 const NO_COMMANDS: &[&str] = &[
@@ -159,12 +159,12 @@ fn arguments_that_are_not_a_command(rt: HostRuntime) {
     expect_errors(&rt, NO_COMMANDS);
 }
 
-const VERSION: [FaultLine; 2] = [
+const VERSION: &[FaultLine] = &[
     ("--version", "version", "mold 0.1.0\n"),
     ("-V", "version", "mold 0.1.0\n"),
 ];
 
 #[test]
 fn words_that_ask_for_the_version(rt: HostRuntime) {
-    expect_faults(&rt, &VERSION);
+    expect_faults(&rt, VERSION);
 }

@@ -113,7 +113,7 @@ Example:
     --a 127.0.0.1:9001 --b 127.0.0.1:9002 --journal new.journal
 ";
 
-const HELP: [FaultLine; 9] = [
+const HELP: &[FaultLine] = &[
     ("--help", "help", TOP_HELP),
     ("help", "help", TOP_HELP),
     ("show --help", "help", SHOW_HELP),
@@ -127,5 +127,5 @@ const HELP: [FaultLine; 9] = [
 
 #[test]
 fn arguments_that_ask_for_help(rt: HostRuntime) {
-    expect_faults(&rt, &HELP);
+    expect_faults(&rt, HELP);
 }

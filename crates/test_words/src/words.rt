@@ -3,7 +3,7 @@
 use crate::reading::{OrderLine, Values, expect_orders};
 use mold_words::Address;
 
-const SHOW: [OrderLine; 4] = [
+const SHOW: &[OrderLine] = &[
     (
         "",
         Values {
@@ -48,10 +48,10 @@ const SHOW: [OrderLine; 4] = [
 
 #[test]
 fn arguments_of_show(rt: HostRuntime) {
-    expect_orders(&rt, &SHOW);
+    expect_orders(&rt, SHOW);
 }
 
-const PACK: [OrderLine; 3] = [
+const PACK: &[OrderLine] = &[
     (
         "pack --session MKT",
         Values {
@@ -86,11 +86,11 @@ const PACK: [OrderLine; 3] = [
 
 #[test]
 fn arguments_of_pack(rt: HostRuntime) {
-    expect_orders(&rt, &PACK);
+    expect_orders(&rt, PACK);
 }
 
 // The limit, the server's limit, the window, the receivers and the burst.
-const SIM: [OrderLine; 2] = [
+const SIM: &[OrderLine] = &[
     (
         "sim --session MKT",
         Values {
@@ -116,10 +116,10 @@ const SIM: [OrderLine; 2] = [
 
 #[test]
 fn arguments_of_sim(rt: HostRuntime) {
-    expect_orders(&rt, &SIM);
+    expect_orders(&rt, SIM);
 }
 
-const CHECK: [OrderLine; 3] = [
+const CHECK: &[OrderLine] = &[
     (
         "check captures/today",
         Values {
@@ -154,11 +154,11 @@ const CHECK: [OrderLine; 3] = [
 
 #[test]
 fn arguments_of_check(rt: HostRuntime) {
-    expect_orders(&rt, &CHECK);
+    expect_orders(&rt, CHECK);
 }
 
 // The limit, the heartbeats and the end packets.
-const PUBLISH: [OrderLine; 1] = [(
+const PUBLISH: &[OrderLine] = &[(
     "publish --session MKT --limit 64 --a 127.0.0.1:9000 --b 10.20.30.255:65535 \
             --journal J --beats 0 --ends 1000",
     Values {
@@ -181,11 +181,11 @@ const PUBLISH: [OrderLine; 1] = [(
 
 #[test]
 fn arguments_of_publish(rt: HostRuntime) {
-    expect_orders(&rt, &PUBLISH);
+    expect_orders(&rt, PUBLISH);
 }
 
 // The limit, the burst, the turns and `--live`.
-const SERVE: [OrderLine; 1] = [(
+const SERVE: &[OrderLine] = &[(
     "serve --journal J --limit 65507 --burst 64 --bind 0.0.0.0:0 --turns 1000000",
     Values {
         command: "serve",
@@ -201,11 +201,11 @@ const SERVE: [OrderLine; 1] = [(
 
 #[test]
 fn arguments_of_serve(rt: HostRuntime) {
-    expect_orders(&rt, &SERVE);
+    expect_orders(&rt, SERVE);
 }
 
 // The first message, the window, the burst, the turns, `--live` and `--report`.
-const LISTEN: [OrderLine; 1] = [(
+const LISTEN: &[OrderLine] = &[(
     "listen --session MKT --next 9223372036854775807 --window 4 --a 127.0.0.1:1 --b \
             127.0.0.1:2 --server 127.0.0.1:3 --burst 2 --turns 5 --live --report",
     Values {
@@ -232,11 +232,11 @@ const LISTEN: [OrderLine; 1] = [(
 
 #[test]
 fn arguments_of_listen(rt: HostRuntime) {
-    expect_orders(&rt, &LISTEN);
+    expect_orders(&rt, LISTEN);
 }
 
 // Both limits, the window, the burst, the drops of line A and line B, the turns and `--report`.
-const LOOP: [OrderLine; 1] = [(
+const LOOP: &[OrderLine] = &[(
     "loop --session MKT --limit 64 --server-limit 65 --window 4 --burst 2 --drop-a \
             3 --drop-b 1000 --turns 5 --report",
     Values {
@@ -250,10 +250,10 @@ const LOOP: [OrderLine; 1] = [(
 
 #[test]
 fn arguments_of_loop(rt: HostRuntime) {
-    expect_orders(&rt, &LOOP);
+    expect_orders(&rt, LOOP);
 }
 
-const UPGRADE: [OrderLine; 2] = [
+const UPGRADE: &[OrderLine] = &[
     (
         "upgrade --journal old --to new",
         Values {
@@ -278,11 +278,11 @@ const UPGRADE: [OrderLine; 2] = [
 
 #[test]
 fn arguments_of_upgrade(rt: HostRuntime) {
-    expect_orders(&rt, &UPGRADE);
+    expect_orders(&rt, UPGRADE);
 }
 
 // The first message and the most messages.
-const DUMP: [OrderLine; 3] = [
+const DUMP: &[OrderLine] = &[
     (
         "dump --journal J",
         Values {
@@ -317,5 +317,5 @@ const DUMP: [OrderLine; 3] = [
 
 #[test]
 fn arguments_of_dump(rt: HostRuntime) {
-    expect_orders(&rt, &DUMP);
+    expect_orders(&rt, DUMP);
 }
