@@ -1,6 +1,6 @@
-//! Text that is written once enough of it came together.
+//! When text is written: gathered up to 65,536 bytes, or at once to a live sink.
 
-use crate::comparisons::same_size;
+use crate::comparisons::{holds, same_size};
 use mold_devices::{IntoWrite, MemorySink, Sink};
 use mold_text::Word;
 use mold_turns::Outgoing;
@@ -16,6 +16,11 @@ fn text_is_written_from_65536_bytes_on(rt: HostRuntime) -> Result<(), Fail> {
     Ok(())
 }
 
+fn expect_sent_large(rt: &impl Abort, outgoing: &mut Outgoing, sink: &mut MemorySink, len: usize) {
+    holds(rt, outgoing.send_large(sink).is_ok());
+    same_size(rt, sink.bytes().len(), len, len);
+}
+
 /// After 65,535 bytes nothing is written, after 65,536 all is.
 fn expect_written(
     rt: &impl Abort,
@@ -23,13 +28,11 @@ fn expect_written(
     sink: &mut MemorySink,
 ) -> Result<(), AllocError> {
     outgoing.push_line(&[Word::Text(&[b'x'; 65534])])?;
-    assert!(rt; outgoing.send_large(sink).is_ok());
-    same_size(rt, sink.bytes().len(), 0);
+    expect_sent_large(rt, outgoing, sink, 0);
     outgoing.push_line(&[])?;
-    assert!(rt; outgoing.send_large(sink).is_ok());
-    same_size(rt, sink.bytes().len(), 65536);
-    assert!(rt; outgoing.send(sink).is_ok());
-    same_size(rt, sink.bytes().len(), 65536);
+    expect_sent_large(rt, outgoing, sink, 65536);
+    holds(rt, outgoing.send(sink).is_ok());
+    same_size(rt, sink.bytes().len(), 65536, 0);
     Ok(())
 }
 
@@ -37,10 +40,10 @@ fn expect_written(
 fn text_is_written_at_once_to_a_live_sink(rt: HostRuntime) -> Result<(), Fail> {
     let mut sink = IntoWrite::live(Vec::new(rt.alloc()));
     let mut outgoing = Outgoing::new(rt.alloc());
-    assert!(rt; sink.is_live());
+    holds(&rt, sink.is_live());
     outgoing.push_line(&[Word::Text(b"x")])?;
-    assert!(rt; outgoing.send_large(&mut sink).is_ok());
+    holds(&rt, outgoing.send_large(&mut sink).is_ok());
     let written = sink.into_inner();
-    assert!(rt; written.as_slice() == b"x\n".as_slice());
+    holds(&rt, written.as_slice() == b"x\n".as_slice());
     Ok(())
 }

@@ -14,6 +14,8 @@ mod receive;
 #[cfg(test)]
 mod reports;
 #[cfg(test)]
+mod scripts;
+#[cfg(test)]
 mod serve;
 #[cfg(test)]
 mod session;

@@ -1,9 +1,10 @@
-//! What no clause says: the worked example over a port in memory, each send, read and write failing in turn,
-//! and growths that `tests/out-of-memory` refuses.
+//! `publish_loop` over a port in memory: the worked example, and each send, read and write that fails. A case is a
+//! constant, and one function runs each case.
 
 ghost use Rattle.std.specs.Prelude.{◌≡◌, [], false, IfOk};
 
-use crate::comparisons::{begins_with_at, same_bytes_at, same_number_at, same_outcome_at};
+use crate::comparisons::{begins_with, same_bytes, same_number, same_outcome, same_size};
+use crate::scripts::{Sent, expect_sent, expect_sent_prefix, silent};
 use mold_devices::{CommandFault, MemorySink, MemorySource, Sink};
 use mold_ports::{Datagrams, MemoryPort};
 use mold_send::publish_loop;
@@ -13,27 +14,37 @@ use std::alloc::Global;
 use std::process::Abort;
 use std::test::Fail;
 
-const LINES: &[u8] = b"4142\n\n";
-
 const DATA: &[u8] = b"SESSION001\0\0\0\0\0\0\0\x01\0\x02\0\x02AB\0\0";
 
 const BEAT: &[u8] = b"SESSION001\0\0\0\0\0\0\0\x03\0\0";
 
 const END: &[u8] = b"SESSION001\0\0\0\0\0\0\0\x03\xff\xff";
 
-const JOURNAL: &[u8] = b"MOLDJNL2SESSION001\x01\0\0\0\0\0\0\0\x02\0\x02AB\0\0";
-
-const PUBLISHED: &[u8] = b"published 2 datagrams 1 failed 0\n";
+/// The lines, the calls that fail, and the result. Reads and writes are of one byte. A call that fails is given by its
+/// number among the calls of its kind. If it is 0, no call of that kind fails.
+#[derive(Clone, Copy)]
+struct Case {
+    lines: &'static [u8],
+    send_fails: u64,
+    read_fails: u64,
+    /// A write of the journal.
+    save_fails: u64,
+    /// A write of the text.
+    write_fails: u64,
+    outcome: Result<u8, CommandFault>,
+    text: &'static [u8],
+    journal: &'static [u8],
+    sent: Sent,
+}
 
 // An open publisher without messages.
-fn empty(alloc: Global) -> Result<Publisher, Fail>
+fn new_publisher(alloc: Global) -> Result<Publisher, Fail>
     ensures { IfOk result (λ publisher.
         (publisher.journal.closed ≡ false) × (publisher.journal.messages ≡ [])) }
 {
     Ok(Publisher::new(alloc, Session(*b"SESSION001"), 64)?)
 }
 
-/// What publishing reads and writes, in memory.
 #[derive(Drop)]
 struct Devices<'a> {
     port: MemoryPort,
@@ -42,43 +53,28 @@ struct Devices<'a> {
     journal: MemorySink,
 }
 
-// Devices that don't fail, for these lines.
-fn devices_for(alloc: Global, lines: &[u8]) -> Devices<'_> {
+fn new_devices(alloc: Global, lines: &[u8]) -> Devices<'_> {
     Devices {
-        port: MemoryPort::new(alloc, Vec::new(alloc)),
+        port: silent(alloc),
         source: MemorySource::new(lines),
         sink: MemorySink::new(alloc),
         journal: MemorySink::new(alloc),
     }
 }
 
-/// What fails: nothing, or the send, the read, or the write of the journal or of the text of this number.
-#[derive(Clone, Copy)]
-enum Failure {
-    Nothing,
-    Send(u64),
-    Read(u64),
-    Save(u64),
-    Tell(u64),
-}
-
-// Lets a device fail. Reads and writes are of one byte.
-fn plan(devices: &mut Devices<'_>, failure: Failure) {
+fn plan(devices: &mut Devices<'_>, case: &Case) {
     devices.source.at_most(1);
     devices.journal.at_most(1);
     devices.sink.at_most(1);
-    match failure {
-        Failure::Nothing => {}
-        Failure::Send(k) => devices.port.fail_send(k),
-        Failure::Read(k) => devices.source.fail_at(k),
-        Failure::Save(k) => devices.journal.fail_at(k),
-        Failure::Tell(k) => devices.sink.fail_at(k),
-    }
+    devices.port.fail_send(case.send_fails);
+    devices.source.fail_at(case.read_fails);
+    devices.journal.fail_at(case.save_fails);
+    devices.sink.fail_at(case.write_fails);
 }
 
-// What publishing on lines 1 and 2 with one heartbeat and one end packet comes to.
+// Publishes on lines 1 and 2, with one heartbeat and one end packet on each.
 fn publish(alloc: Global, devices: &mut Devices<'_>) -> Result<Result<u8, CommandFault>, Fail> {
-    let mut publisher = empty(alloc)?;
+    let mut publisher = new_publisher(alloc)?;
     Ok(publish_loop(
         alloc,
         &mut devices.port,
@@ -93,51 +89,19 @@ fn publish(alloc: Global, devices: &mut Devices<'_>) -> Result<Result<u8, Comman
     ))
 }
 
-/// What publishing comes to: the outcome, what is told, the journal that is saved, and what is sent, each
-/// datagram with its peer.
-#[derive(Clone, Copy)]
-struct Wanted<'a> {
-    outcome: Result<u8, CommandFault>,
-    text: &'a [u8],
-    journal: &'a [u8],
-    letters: &'a [(u32, &'a [u8])],
+fn expect_devices(rt: &impl Abort, devices: &Devices<'_>, case: &Case, at: usize) {
+    same_bytes(rt, devices.sink.bytes(), case.text, at);
+    same_bytes(rt, devices.journal.bytes(), case.journal, at);
+    expect_sent(rt, &devices.port, case.sent, at);
 }
 
-// These were sent, each to its peer.
-pub fn expect_sent(rt: &impl Abort, port: &MemoryPort, letters: &[(u32, &[u8])], at: u64) {
-    same_number_at(rt, port.sent().len() as u64, letters.len() as u64, at);
-    for (sent, letter) in port.sent().iter().zip(letters) {
-        same_number_at(rt, u64::from(sent.0), u64::from(letter.0), at);
-        same_bytes_at(rt, sent.1.as_slice(), letter.1, at);
-    }
-}
-
-// This came of publishing with these devices.
-fn expect_devices(
-    rt: &impl Abort,
-    devices: &Devices<'_>,
-    outcome: Result<u8, CommandFault>,
-    wanted: &Wanted<'_>,
-    at: u64,
-) {
-    same_outcome_at(rt, outcome, wanted.outcome, at);
-    same_bytes_at(rt, devices.sink.bytes(), wanted.text, at);
-    same_bytes_at(rt, devices.journal.bytes(), wanted.journal, at);
-    expect_sent(rt, &devices.port, wanted.letters, at);
-}
-
-// Publishes the lines with a failure. `at` tells apart the cases of a test.
-fn expect_published(
-    rt: &(impl Abort + AllocGlobal),
-    lines: &[u8],
-    failure: Failure,
-    wanted: &Wanted<'_>,
-    at: u64,
-) -> Result<(), Fail> {
-    let mut devices = devices_for(rt.alloc(), lines);
-    plan(&mut devices, failure);
+// Publishes, and compares the outcome, the text, the journal and what was sent.
+fn expect(rt: &(impl Abort + AllocGlobal), case: &Case, at: usize) -> Result<(), Fail> {
+    let mut devices = new_devices(rt.alloc(), case.lines);
+    plan(&mut devices, case);
     let outcome = publish(rt.alloc(), &mut devices)?;
-    expect_devices(rt, &devices, outcome, wanted, at);
+    same_outcome(rt, outcome, case.outcome, at);
+    expect_devices(rt, &devices, case, at);
     Ok(())
 }
 
@@ -150,96 +114,167 @@ const ALL: [(u32, &[u8]); 6] = [
     (2, END),
 ];
 
+const EXAMPLE: Case = Case {
+    lines: b"4142\n\n",
+    send_fails: 0,
+    read_fails: 0,
+    save_fails: 0,
+    write_fails: 0,
+    outcome: Ok(0),
+    text: b"published 2 datagrams 1 failed 0\n",
+    journal: b"MOLDJNL2SESSION001\x01\0\0\0\0\0\0\0\x02\0\x02AB\0\0",
+    sent: &ALL,
+};
+
 #[test]
 fn two_lines_are_published_on_both(rt: HostRuntime) -> Result<(), Fail> {
-    let wanted = Wanted {
-        outcome: Ok(0),
-        text: PUBLISHED,
-        journal: JOURNAL,
-        letters: &ALL,
-    };
-    expect_published(&rt, LINES, Failure::Nothing, &wanted, 0)
+    expect(&rt, &EXAMPLE, 0)
 }
 
-/// For each send all but the one that fails.
-const ALL_BUT: [(u64, &[(u32, &[u8])]); 6] = [
-    (1, &[(2, DATA), (1, BEAT), (2, BEAT), (1, END), (2, END)]),
-    (2, &[(1, DATA), (1, BEAT), (2, BEAT), (1, END), (2, END)]),
-    (3, &[(1, DATA), (2, DATA), (2, BEAT), (1, END), (2, END)]),
-    (4, &[(1, DATA), (2, DATA), (1, BEAT), (1, END), (2, END)]),
-    (5, &[(1, DATA), (2, DATA), (1, BEAT), (2, BEAT), (2, END)]),
-    (6, &[(1, DATA), (2, DATA), (1, BEAT), (2, BEAT), (1, END)]),
+const A_SEND_FAILED: &[u8] = b"published 2 datagrams 1 failed 1\n";
+
+const ONE_SEND_FAILS: Case = Case {
+    text: A_SEND_FAILED,
+    ..EXAMPLE
+};
+
+// For each send that fails, all datagrams but its own.
+const FAILED_SENDS: &[Case] = &[
+    Case {
+        send_fails: 1,
+        sent: &[(2, DATA), (1, BEAT), (2, BEAT), (1, END), (2, END)],
+        ..ONE_SEND_FAILS
+    },
+    Case {
+        send_fails: 2,
+        sent: &[(1, DATA), (1, BEAT), (2, BEAT), (1, END), (2, END)],
+        ..ONE_SEND_FAILS
+    },
+    Case {
+        send_fails: 3,
+        sent: &[(1, DATA), (2, DATA), (2, BEAT), (1, END), (2, END)],
+        ..ONE_SEND_FAILS
+    },
+    Case {
+        send_fails: 4,
+        sent: &[(1, DATA), (2, DATA), (1, BEAT), (1, END), (2, END)],
+        ..ONE_SEND_FAILS
+    },
+    Case {
+        send_fails: 5,
+        sent: &[(1, DATA), (2, DATA), (1, BEAT), (2, BEAT), (2, END)],
+        ..ONE_SEND_FAILS
+    },
+    Case {
+        send_fails: 6,
+        sent: &[(1, DATA), (2, DATA), (1, BEAT), (2, BEAT), (1, END)],
+        ..ONE_SEND_FAILS
+    },
 ];
 
 #[test]
-fn each_send_fails_in_turn(rt: HostRuntime) -> Result<(), Fail> {
-    for (k, letters) in ALL_BUT {
-        let wanted = Wanted {
-            outcome: Ok(0),
-            text: b"published 2 datagrams 1 failed 1\n",
-            journal: JOURNAL,
-            letters,
-        };
-        expect_published(&rt, LINES, Failure::Send(k), &wanted, k)?;
+fn failure_at_each_send(rt: HostRuntime) -> Result<(), Fail> {
+    for (at, case) in FAILED_SENDS.iter().enumerate() {
+        expect(&rt, case, at)?;
     }
     Ok(())
 }
 
+const REFUSED: Case = Case {
+    lines: b"4142\nx\n",
+    outcome: Ok(2),
+    text: b"refused line 2 NotHex\n",
+    journal: b"",
+    sent: &[],
+    ..EXAMPLE
+};
+
 #[test]
-fn a_refused_line_ends_it(rt: HostRuntime) -> Result<(), Fail> {
-    let wanted = Wanted {
-        outcome: Ok(2),
-        text: b"refused line 2 NotHex\n",
-        journal: b"",
-        letters: &[],
-    };
-    expect_published(&rt, b"4142\nx\n", Failure::Nothing, &wanted, 0)
+fn a_refused_line_ends_the_loop(rt: HostRuntime) -> Result<(), Fail> {
+    expect(&rt, &REFUSED, 0)
 }
 
-// Publishes the lines with a failure of a read or a write.
-fn expect_fault(
+const FAILED_READ: Case = Case {
+    outcome: Err(CommandFault::Read),
+    text: b"",
+    journal: b"",
+    sent: &[],
+    ..EXAMPLE
+};
+
+fn expect_failed_read(
     rt: &(impl Abort + AllocGlobal),
-    failure: Failure,
-    fault: CommandFault,
-    text: &[u8],
-    journal: &[u8],
-    letters: &[(u32, &[u8])],
-    at: usize,
+    case: &Case,
+    call: usize,
 ) -> Result<(), Fail> {
-    let wanted = Wanted {
-        outcome: Err(fault),
-        text,
-        journal,
-        letters,
-    };
-    expect_published(rt, LINES, failure, &wanted, at as u64)
+    let mut failing = *case;
+    failing.read_fails = call as u64;
+    expect(rt, &failing, call)
 }
 
 // Each of the six bytes is a read, and so is the end.
 #[test]
-fn each_read_fails_in_turn(rt: HostRuntime) -> Result<(), Fail> {
-    for k in 1..=LINES.len() + 1 {
-        let failure = Failure::Read(k as u64);
-        expect_fault(&rt, failure, CommandFault::Read, b"", b"", &[], k)?;
+fn failure_at_each_read(rt: HostRuntime) -> Result<(), Fail> {
+    for call in 1..=7usize {
+        expect_failed_read(&rt, &FAILED_READ, call)?;
     }
     Ok(())
+}
+
+const FAILED_SAVE: Case = Case {
+    outcome: Err(CommandFault::Write),
+    text: b"",
+    ..EXAMPLE
+};
+
+fn expect_failed_save(
+    rt: &(impl Abort + AllocGlobal),
+    case: &Case,
+    call: usize,
+) -> Result<(), Fail> {
+    let mut failing = *case;
+    failing.save_fails = call as u64;
+    failing.journal = case
+        .journal
+        .get(..call.saturating_sub(1))
+        .unwrap_or(case.journal);
+    expect(rt, &failing, call)
 }
 
 #[test]
-fn each_write_fails_in_turn(rt: HostRuntime) -> Result<(), Fail> {
-    for k in 1..=JOURNAL.len() {
-        let (failure, saved) = (Failure::Save(k as u64), &JOURNAL[..k - 1]);
-        expect_fault(&rt, failure, CommandFault::Write, b"", saved, &ALL, k)?;
-    }
-    for k in 1..=PUBLISHED.len() {
-        let (failure, told) = (Failure::Tell(k as u64), &PUBLISHED[..k - 1]);
-        expect_fault(&rt, failure, CommandFault::Write, told, JOURNAL, &ALL, k)?;
+fn failure_at_each_write_of_the_journal(rt: HostRuntime) -> Result<(), Fail> {
+    for call in 1..=FAILED_SAVE.journal.len() {
+        expect_failed_save(&rt, &FAILED_SAVE, call)?;
     }
     Ok(())
 }
 
-// The fault that a refused growth is: of a sink, where one failed.
-fn want_of_memory(devices: &Devices<'_>) -> CommandFault {
+const FAILED_WRITE: Case = Case {
+    outcome: Err(CommandFault::Write),
+    ..EXAMPLE
+};
+
+fn expect_failed_write(
+    rt: &(impl Abort + AllocGlobal),
+    case: &Case,
+    call: usize,
+) -> Result<(), Fail> {
+    let mut failing = *case;
+    failing.write_fails = call as u64;
+    failing.text = case.text.get(..call.saturating_sub(1)).unwrap_or(case.text);
+    expect(rt, &failing, call)
+}
+
+#[test]
+fn failure_at_each_write_of_the_text(rt: HostRuntime) -> Result<(), Fail> {
+    for call in 1..=FAILED_WRITE.text.len() {
+        expect_failed_write(&rt, &FAILED_WRITE, call)?;
+    }
+    Ok(())
+}
+
+// The fault of a failed allocation: `Write` if it was a sink's.
+fn fault_of(devices: &Devices<'_>) -> CommandFault {
     if devices.sink.failures() > 0 || devices.journal.failures() > 0 {
         CommandFault::Write
     } else {
@@ -247,59 +282,68 @@ fn want_of_memory(devices: &Devices<'_>) -> CommandFault {
     }
 }
 
-// What was sent where no send failed: a beginning of all.
-fn expect_sent_first(rt: &impl Abort, port: &MemoryPort) {
-    match ALL.get(..port.sent().len()) {
-        Some(letters) => expect_sent(rt, port, letters, 0),
-        None => assert!(rt; false, "too many are sent"),
-    }
-}
-
-fn is_letter(letter: Option<&(u32, Vec<u8>)>, to: u32, bytes: &[u8]) -> bool {
+fn is_sent(letter: Option<&(u32, Vec<u8>)>, to: u32, bytes: &[u8]) -> bool {
     match letter {
         Some(letter) => letter.0 == to && letter.1.as_slice() == bytes,
         None => false,
     }
 }
 
-// What was sent where sends failed: all in order, but for what is lacking.
-fn expect_sent_but(rt: &impl Abort, port: &MemoryPort) {
+// What was sent is these datagrams in order, without some of them.
+fn expect_sent_in_order(rt: &impl Abort, port: &MemoryPort, letters: &[(u32, &[u8])]) {
     let mut found = 0usize;
-    for (to, bytes) in ALL {
-        if is_letter(port.sent().get(found), to, bytes) {
+    for (to, bytes) in letters {
+        if is_sent(port.sent().get(found), *to, bytes) {
             found = found.saturating_add(1);
         }
     }
-    same_number_at(rt, port.sent().len() as u64, found as u64, 0);
+    same_size(rt, port.sent().len(), found, 0);
 }
 
-// All came of publishing, or beginnings, with a growth refused. A letter that the port has no memory for is a failed
-// send.
-fn expect_beginnings(rt: &impl Abort, devices: &Devices<'_>, outcome: Result<u8, CommandFault>) {
-    let text = if devices.port.failures() > 0 {
-        expect_sent_but(rt, &devices.port);
-        b"published 2 datagrams 1 failed 1\n".as_slice()
-    } else {
-        expect_sent_first(rt, &devices.port);
-        PUBLISHED
-    };
-    begins_with_at(rt, text, devices.sink.bytes(), 0);
-    begins_with_at(rt, JOURNAL, devices.journal.bytes(), 0);
+// If an allocation of the port fails, a send does. Returns the text.
+fn expect_port(rt: &impl Abort, port: &MemoryPort, case: &Case) -> &'static [u8] {
+    if port.failures() > 0 {
+        expect_sent_in_order(rt, port, case.sent);
+        return A_SEND_FAILED;
+    }
+    expect_sent_prefix(rt, port, case.sent);
+    case.text
+}
+
+fn expect_whole(rt: &impl Abort, devices: &Devices<'_>, case: &Case, text: &[u8]) {
+    same_size(rt, devices.sink.bytes().len(), text.len(), 0);
+    same_size(rt, devices.journal.bytes().len(), case.journal.len(), 0);
+    let sent = 6u64.saturating_sub(devices.port.failures());
+    same_number(rt, devices.port.sent().len() as u64, sent, 0);
+}
+
+// Prefixes of the text and of the journal were written: the whole ones if the loop returned a status.
+fn expect_prefixes(
+    rt: &impl Abort,
+    devices: &Devices<'_>,
+    outcome: Result<u8, CommandFault>,
+    case: &Case,
+) {
+    let text = expect_port(rt, &devices.port, case);
+    begins_with(rt, text, devices.sink.bytes(), 0);
+    begins_with(rt, case.journal, devices.journal.bytes(), 0);
     if outcome.is_ok() {
-        same_outcome_at(rt, outcome, Ok(0), 0);
-        same_bytes_at(rt, devices.sink.bytes(), text, 0);
-        same_bytes_at(rt, devices.journal.bytes(), JOURNAL, 0);
-        let sent = 6u64.saturating_sub(devices.port.failures());
-        same_number_at(rt, devices.port.sent().len() as u64, sent, 0);
+        same_outcome(rt, outcome, case.outcome, 0);
+        expect_whole(rt, devices, case, text);
     } else {
-        same_outcome_at(rt, outcome, Err(want_of_memory(devices)), 0);
+        same_outcome(rt, outcome, Err(fault_of(devices)), 0);
     }
 }
 
+fn expect_with_allocations(rt: &(impl Abort + AllocGlobal), case: &Case) -> Result<(), Fail> {
+    let mut devices = new_devices(rt.alloc(), case.lines);
+    let outcome = publish(rt.alloc(), &mut devices)?;
+    expect_prefixes(rt, &devices, outcome, case);
+    Ok(())
+}
+
+/// `tests/out-of-memory` makes each allocation fail in turn.
 #[test]
 fn a_refused_growth_publishes_beginnings(rt: HostRuntime) -> Result<(), Fail> {
-    let mut devices = devices_for(rt.alloc(), LINES);
-    let outcome = publish(rt.alloc(), &mut devices)?;
-    expect_beginnings(&rt, &devices, outcome);
-    Ok(())
+    expect_with_allocations(&rt, &EXAMPLE)
 }

@@ -1,80 +1,131 @@
-//! Single receives on ports in memory: what is taken as a line's datagram, and what as an answer.
+//! Single receives on ports in memory: of a line's datagram, and of a response.
 
 ghost use Rattle.std.specs.Prelude.{◌≡◌, length};
 ghost use Rattle.mold_wire.specs.declared.limits.TheConstants.{MAX_LIMIT};
 
-use crate::comparisons::{same_bytes, same_number};
-use crate::listen::{DATA_1, DATA_2, QUIET, SESSION, port};
+use crate::comparisons::{holds, same_bytes, same_number};
+use crate::listen::{DATA_1, DATA_2, new_arbiter};
+use crate::scripts::{Given, give, silent};
 use mold_devices::MemorySink;
 use mold_listen::{Printer, push_last, receive_on};
 use mold_ports::MemoryPort;
-use mold_receiver::{Arbiter, Line, Origin, Receiver};
+use mold_receiver::{Arbiter, Line, Origin};
 use mold_wire::MAX_LIMIT;
 use std::alloc::{AllocError, Global};
 use std::process::Abort;
 use std::test::Fail;
 
-/// One line's port and the port of answers, with what listens to them and what it prints.
+/// The port of line B and the port of the requests.
 #[derive(Drop)]
-struct Receiving {
+struct Ports {
     line: MemoryPort,
-    answers: MemoryPort,
-    arbiter: Arbiter,
-    printer: Printer,
-    sink: MemorySink,
+    requests: MemoryPort,
 }
 
-impl Receiving {
-    fn new(alloc: Global) -> Result<Self, Fail> {
-        let receiver = Receiver::new(alloc, SESSION, 1, 4)?;
-        Ok(Receiving {
-            line: MemoryPort::new(alloc, Vec::new(alloc)),
-            answers: MemoryPort::new(alloc, Vec::new(alloc)),
-            arbiter: Arbiter::new(receiver),
-            printer: Printer::new(alloc),
-            sink: MemorySink::new(alloc),
-        })
-    }
+fn give_ports(alloc: Global, ports: &mut Ports) -> Result<(), AllocError> {
+    give(
+        alloc,
+        &mut ports.line,
+        &[DATA_2, Given::Fail, Given::Quiet],
+        None,
+    )?;
+    give(alloc, &mut ports.requests, &[DATA_1], None)
+}
 
-    /// Message 2, a failure and nothing come on line B, and message 1 as an answer.
-    fn give(&mut self, alloc: Global) -> Result<(), AllocError> {
-        self.line = port(alloc, &[DATA_2, QUIET], Some(1))?;
-        self.answers = port(alloc, &[DATA_1], None)?;
-        Ok(())
-    }
+// Receives once on the port of this origin, and compares whether a datagram came.
+fn expect_received(
+    rt: &impl Abort,
+    port: &mut MemoryPort,
+    origin: Origin,
+    buffer: &mut [u8],
+    arbiter: &mut Arbiter,
+    printer: &mut Printer,
+    came: bool,
+)
+    requires { length buffer.old ≡ MAX_LIMIT }
+{
+    let received = receive_on(port, origin, buffer, arbiter, printer);
+    holds(rt, received == Ok(came));
+}
 
-    /// Receives once on the port of this origin: whether a datagram came.
-    fn expect_received(&mut self, rt: &impl Abort, origin: Origin, buffer: &mut [u8], came: bool)
-        requires { length buffer.old ≡ MAX_LIMIT }
-    {
-        let (arbiter, printer) = (&mut self.arbiter, &mut self.printer);
-        let received = match origin {
-            Origin::Line(_) => receive_on(&mut self.line, origin, buffer, arbiter, printer),
-            Origin::Response => receive_on(&mut self.answers, origin, buffer, arbiter, printer),
-        };
-        assert!(rt; received == Ok(came));
-    }
+// Message 2 and a failure on line B, then message 1 as a response.
+fn expect_receives(
+    rt: &impl Abort,
+    ports: &mut Ports,
+    buffer: &mut [u8],
+    arbiter: &mut Arbiter,
+    printer: &mut Printer,
+)
+    requires { length buffer.old ≡ MAX_LIMIT }
+{
+    let (line, requests) = (&mut ports.line, &mut ports.requests);
+    let on_b = Origin::Line(Line::B);
+    expect_received(rt, line, on_b, buffer, arbiter, printer, true);
+    expect_received(rt, line, on_b, buffer, arbiter, printer, false);
+    expect_received(
+        rt,
+        requests,
+        Origin::Response,
+        buffer,
+        arbiter,
+        printer,
+        true,
+    );
+    same_number(rt, arbiter.report(Line::B).datagrams, 1, 0);
+    printer.outgoing.count_failure();
+}
 
-    /// Prints the last line after the text.
-    fn expect_printed(&mut self, rt: &impl Abort, text: &[u8]) {
-        assert!(rt; self.printer.outgoing.send_large(&mut self.sink).is_ok());
-        assert!(rt; push_last(&self.arbiter, &mut self.printer.outgoing) == Ok(1));
-        assert!(rt; self.printer.outgoing.send(&mut self.sink).is_ok());
-        same_bytes(rt, self.sink.bytes(), text);
-    }
+// Prints the last line after the text.
+fn expect_printed(
+    rt: &(impl Abort + AllocGlobal),
+    arbiter: &Arbiter,
+    printer: &mut Printer,
+    text: &[u8],
+) {
+    let mut sink = MemorySink::new(rt.alloc());
+    holds(rt, printer.outgoing.send_large(&mut sink).is_ok());
+    holds(rt, push_last(arbiter, &mut printer.outgoing) == Ok(1));
+    holds(rt, printer.outgoing.send(&mut sink).is_ok());
+    same_bytes(rt, sink.bytes(), text, 0);
+}
+
+fn expect_listened(
+    rt: &(impl Abort + AllocGlobal),
+    ports: &mut Ports,
+    buffer: &mut [u8],
+    arbiter: &mut Arbiter,
+)
+    requires { length buffer.old ≡ MAX_LIMIT }
+{
+    let mut printer = Printer::new(rt.alloc());
+    expect_receives(rt, ports, buffer, arbiter, &mut printer);
+    let text = b"1 41\n2 42\nopen next 3 known 3 failed 2\n";
+    expect_printed(rt, arbiter, &mut printer, text);
+}
+
+fn expect_listener(
+    rt: &(impl Abort + AllocGlobal),
+    ports: &mut Ports,
+    buffer: &mut [u8],
+) -> Result<(), Fail>
+    requires { length buffer.old ≡ MAX_LIMIT }
+{
+    let mut arbiter = new_arbiter(rt.alloc())?;
+    expect_listened(rt, ports, buffer, &mut arbiter);
+    Ok(())
+}
+
+fn expect_with_buffer(rt: &(impl Abort + AllocGlobal), ports: &mut Ports) -> Result<(), Fail> {
+    let mut buffer = vec![in rt.alloc(); 0; MAX_LIMIT]?;
+    expect_listener(rt, ports, buffer.as_mut_slice())
 }
 
 #[test]
 fn ports_are_received_on_one_by_one(rt: HostRuntime) -> Result<(), Fail> {
-    let mut buffer = vec![in rt.alloc(); 0; MAX_LIMIT]?;
-    let mut receiving = Receiving::new(rt.alloc())?;
-    receiving.give(rt.alloc())?;
-    let buffer = buffer.as_mut_slice();
-    receiving.expect_received(&rt, Origin::Line(Line::B), buffer, true);
-    receiving.expect_received(&rt, Origin::Line(Line::B), buffer, false);
-    receiving.expect_received(&rt, Origin::Response, buffer, true);
-    same_number(&rt, receiving.arbiter.report(Line::B).datagrams, 1);
-    receiving.printer.outgoing.count_failure();
-    receiving.expect_printed(&rt, b"1 41\n2 42\nopen next 3 known 3 failed 2\n");
-    Ok(())
+    let mut ports = Ports {
+        line: silent(rt.alloc()),
+        requests: silent(rt.alloc()),
+    };
+    give_ports(rt.alloc(), &mut ports)?;
+    expect_with_buffer(&rt, &mut ports)
 }

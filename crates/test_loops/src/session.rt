@@ -1,12 +1,12 @@
-//! A publisher, its server and a listener over ports in memory: which datagrams go where, what is left out, and
-//! sends that fail. What a port gives is its script's: nothing that is sent comes anywhere.
+//! `session_loop` over ports in memory: the datagrams that each port sends, dropped packets, and sends that fail. A
+//! port receives the datagrams of its script, and none that another port sends. A case is a constant, and one function
+//! runs each case.
 
 ghost use Rattle.std.specs.Prelude.{◌≡◌, ◌≤◌, IfOk};
 ghost use Rattle.mold_publish.specs.Publishing.{HasRoom};
 
 use crate::comparisons::{same_bytes, same_outcome, same_size};
-use crate::listen::port;
-use crate::publish::expect_sent;
+use crate::scripts::{Given, PEER, Sent, expect_sent, give, silent};
 use mold_devices::{CommandFault, MemorySink, MemorySource};
 use mold_listen::Printer;
 use mold_loop::{Drops, Listener, LoopOptions, LoopParts, LoopPeers, LoopPorts, session_loop};
@@ -21,17 +21,17 @@ use std::test::Fail;
 
 const SESSION: Session = Session(*b"SESSION001");
 
-/// Where the lines and the server receive. Scripts give datagrams from peer 7.
+/// The peers of line A, of line B and of the server.
 const PEERS: LoopPeers<u32> = LoopPeers {
     a: 1,
     b: 2,
     server: 3,
 };
 
-/// Each second packet is left out of both lines.
+/// Every second packet of both lines is dropped.
 const DROPS: Drops = Drops { a: 2, b: 2 };
 
-/// Five messages, the k-th of which is twenty bytes of the value k: packets of 1 and 2, of 3 and 4, and of 5.
+/// Five messages, the k-th of which is twenty bytes of the value k. Packets have messages 1 and 2, 3 and 4, and 5.
 const LINES: &[u8] = b"0101010101010101010101010101010101010101\n\
     0202020202020202020202020202020202020202\n\
     0303030303030303030303030303030303030303\n\
@@ -51,10 +51,17 @@ const FIVE: &[u8] = b"SESSION001\0\0\0\0\0\0\0\x05\0\x01\
 
 const END: &[u8] = b"SESSION001\0\0\0\0\0\0\0\x06\xff\xff";
 
+/// What is sent on line B if no send fails.
+const ON_LINE_B: [Given; 3] = [
+    Given::Bytes(ONE_AND_TWO),
+    Given::Bytes(FIVE),
+    Given::Bytes(END),
+];
+
 /// The request for messages 3 and 4.
 const REQUEST: &[u8] = b"SESSION001\0\0\0\0\0\0\0\x03\0\x02";
 
-// A publisher without messages, whose packets have at most 64 bytes.
+// A publisher without messages. Its packets have at most 64 bytes.
 fn new_publisher(alloc: Global) -> Result<Publisher, Fail>
     ensures room { IfOk result (λ publisher. HasRoom publisher) }
     ensures longest { IfOk result (λ publisher. publisher.journal.max_message ≡ 42) }
@@ -63,14 +70,14 @@ fn new_publisher(alloc: Global) -> Result<Publisher, Fail>
     Ok(Publisher::new(alloc, SESSION, 64)?)
 }
 
-// Its server, which answers a request by one packet of at most 64 bytes.
+// The publisher's server. Its responses are one packet of at most 64 bytes.
 fn new_server(alloc: Global) -> Result<Server, Fail>
     ensures { IfOk result (λ server. server.max_message ≡ 42) }
 {
     Ok(Server::new(alloc, 64, 42, 1)?)
 }
 
-// Both, and what listens from the first message on.
+// Publisher, server, and a listener that begins at message 1.
 fn new_parts(alloc: Global) -> Result<LoopParts, Fail>
     ensures room { IfOk result (λ parts. HasRoom parts.publisher) }
     ensures longest { IfOk result (λ parts. parts.publisher.journal.max_message ≤ parts.server.max_message) }
@@ -86,16 +93,27 @@ fn new_parts(alloc: Global) -> Result<LoopParts, Fail>
     })
 }
 
-/// The ports, and where the listener prints.
-#[derive(Drop)]
-struct Fixture {
-    ports: LoopPorts<MemoryPort>,
-    sink: MemorySink,
-}
-
-// A port at which nothing comes.
-fn silent(alloc: Global) -> MemoryPort {
-    MemoryPort::new(alloc, Vec::new(alloc))
+/// What the ports receive, the options of the loop, and its result.
+#[derive(Clone, Copy)]
+struct Case {
+    /// What the port of line A gives. That of line B gives `ON_LINE_B`, the server's two requests for messages 3 and 4,
+    /// and that of the requests the response.
+    a: &'static [Given],
+    /// The number of the send that fails, of the publisher, of the requests and of the server. If it is 0, no send
+    /// fails.
+    sends_fail: [u64; 3],
+    drops: Drops,
+    turns: u32,
+    reporting: bool,
+    lines: &'static [u8],
+    status: u8,
+    text: &'static [u8],
+    /// What the publisher, the port of the requests and the server send.
+    published: Sent,
+    requested: Sent,
+    responded: Sent,
+    /// How many steps of line A, of the server and of the requests are left.
+    left: [usize; 3],
 }
 
 fn silent_ports(alloc: Global) -> LoopPorts<MemoryPort> {
@@ -108,65 +126,82 @@ fn silent_ports(alloc: Global) -> LoopPorts<MemoryPort> {
     }
 }
 
-// Line A gives these datagrams, line B all that is sent there, and the server and the answers what a request
-// of messages 3 and 4 brings.
-fn give(alloc: Global, ports: &mut LoopPorts<MemoryPort>, a: &[&[u8]]) -> Result<(), AllocError> {
-    ports.server = port(alloc, &[REQUEST, REQUEST], None)?;
-    ports.a = port(alloc, a, None)?;
-    ports.b = port(alloc, &[ONE_AND_TWO, FIVE, END], None)?;
-    ports.requests = port(alloc, &[THREE_AND_FOUR], None)?;
+fn give_ports(
+    alloc: Global,
+    ports: &mut LoopPorts<MemoryPort>,
+    case: &Case,
+) -> Result<(), AllocError> {
+    give(alloc, &mut ports.server, &[Given::Bytes(REQUEST); 2], None)?;
+    give(alloc, &mut ports.a, case.a, None)?;
+    give(alloc, &mut ports.b, &ON_LINE_B, None)?;
+    give(
+        alloc,
+        &mut ports.requests,
+        &[Given::Bytes(THREE_AND_FOUR)],
+        None,
+    )?;
+    ports.publisher.fail_send(case.sends_fail[0]);
+    ports.requests.fail_send(case.sends_fail[1]);
+    ports.server.fail_send(case.sends_fail[2]);
     Ok(())
 }
 
-fn silent_fixture(alloc: Global) -> Fixture {
-    Fixture {
-        ports: silent_ports(alloc),
-        sink: MemorySink::new(alloc),
-    }
-}
-
-fn make_fixture(alloc: Global, a: &[&[u8]]) -> Result<Fixture, Fail> {
-    let mut fixture = silent_fixture(alloc);
-    give(alloc, &mut fixture.ports, a)?;
-    Ok(fixture)
-}
-
-// Publishes the lines with these drops, asks in at most so many rounds, and reports the lines or not.
+// Publishes the lines of the case.
 fn run(
     alloc: Global,
-    fixture: &mut Fixture,
-    drops: Drops,
-    turns: u32,
-    reporting: bool,
-    lines: &[u8],
+    ports: &mut LoopPorts<MemoryPort>,
+    case: &Case,
+    sink: &mut MemorySink,
 ) -> Result<Result<u8, CommandFault>, Fail> {
     let options = LoopOptions {
         peers: PEERS,
-        drops,
-        turns,
-        reporting,
+        drops: case.drops,
+        turns: case.turns,
+        reporting: case.reporting,
     };
     let mut parts = new_parts(alloc)?;
-    let mut source = MemorySource::new(lines);
-    let (ports, sink) = (&mut fixture.ports, &mut fixture.sink);
+    let mut source = MemorySource::new(case.lines);
     Ok(session_loop(ports, &options, &mut parts, &mut source, sink))
 }
 
-// The five messages with these drops end so, and print this text.
-fn expect(
+fn expect_ports(rt: &impl Abort, ports: &LoopPorts<MemoryPort>, case: &Case, at: usize) {
+    same_size(rt, ports.a.left(), case.left[0], at);
+    same_size(rt, ports.server.left(), case.left[1], at);
+    same_size(rt, ports.requests.left(), case.left[2], at);
+    expect_sent(rt, &ports.publisher, case.published, at);
+    expect_sent(rt, &ports.requests, case.requested, at);
+    expect_sent(rt, &ports.server, case.responded, at);
+}
+
+fn expect_run(
     rt: &(impl Abort + AllocGlobal),
-    fixture: &mut Fixture,
-    turns: u32,
-    status: u8,
-    text: &[u8],
+    ports: &mut LoopPorts<MemoryPort>,
+    case: &Case,
+    at: usize,
 ) -> Result<(), Fail> {
-    let outcome = run(rt.alloc(), fixture, DROPS, turns, false, LINES)?;
-    same_outcome(rt, outcome, Ok(status));
-    same_bytes(rt, fixture.sink.bytes(), text);
+    let mut sink = MemorySink::new(rt.alloc());
+    let outcome = run(rt.alloc(), ports, case, &mut sink)?;
+    same_outcome(rt, outcome, Ok(case.status), at);
+    same_bytes(rt, sink.bytes(), case.text, at);
+    expect_ports(rt, ports, case, at);
     Ok(())
 }
 
-/// What goes on both lines where each second packet is left out.
+// Runs the loop, and compares the outcome, the text and the ports.
+fn expect(rt: &(impl Abort + AllocGlobal), case: &Case, at: usize) -> Result<(), Fail> {
+    let mut ports = silent_ports(rt.alloc());
+    give_ports(rt.alloc(), &mut ports, case)?;
+    expect_run(rt, &mut ports, case, at)
+}
+
+fn expect_all(rt: &(impl Abort + AllocGlobal), cases: &[Case]) -> Result<(), Fail> {
+    for (at, case) in cases.iter().enumerate() {
+        expect(rt, case, at)?;
+    }
+    Ok(())
+}
+
+/// What the publisher sends if every second packet of both lines is dropped.
 const ON_BOTH: [(u32, &[u8]); 6] = [
     (1, ONE_AND_TWO),
     (2, ONE_AND_TWO),
@@ -176,7 +211,15 @@ const ON_BOTH: [(u32, &[u8]); 6] = [
     (2, END),
 ];
 
-/// Where each second packet is left out of line A, and each third of line B.
+/// The same without the first packet on line A.
+const ALL_BUT_ONE: [(u32, &[u8]); 5] = [(2, ONE_AND_TWO), (1, FIVE), (2, FIVE), (1, END), (2, END)];
+
+/// The request, to the server, and the response.
+const ASKED: (u32, &[u8]) = (3, REQUEST);
+
+const RESPONSE: (u32, &[u8]) = (PEER, THREE_AND_FOUR);
+
+/// What the publisher sends if every second packet of line A and every third of line B is dropped.
 const ON_THEIR_LINES: [(u32, &[u8]); 6] = [
     (1, ONE_AND_TWO),
     (2, ONE_AND_TWO),
@@ -200,7 +243,7 @@ const ALL_BUT_A_SEND: &[u8] = b"1 0101010101010101010101010101010101010101\n\
     5 0505050505050505050505050505050505050505\n\
     finished next 6 failed 1\n";
 
-/// Of line A nothing came behind messages 1 and 2. Messages 3 and 4 came on no line.
+/// Line A gives only messages 1 and 2. No line gives messages 3 and 4.
 const ALL_REPORTED: &[u8] = b"1 0101010101010101010101010101010101010101\n\
     2 0202020202020202020202020202020202020202\n\
     3 0303030303030303030303030303030303030303\n\
@@ -214,94 +257,137 @@ const TWO: &[u8] = b"1 0101010101010101010101010101010101010101\n\
     2 0202020202020202020202020202020202020202\n\
     open next 3 known 6 failed 1\n";
 
-#[test]
-fn what_both_lines_lost_is_requested(rt: HostRuntime) -> Result<(), Fail> {
-    let mut fixture = make_fixture(rt.alloc(), &[ONE_AND_TWO, FIVE, END])?;
-    expect(&rt, &mut fixture, 9, 0, ALL)?;
-    expect_sent(&rt, &fixture.ports.publisher, &ON_BOTH, 0);
-    expect_sent(&rt, &fixture.ports.requests, &[(3, REQUEST)], 1);
-    expect_sent(&rt, &fixture.ports.server, &[(7, THREE_AND_FOUR)], 2);
-    Ok(())
-}
+const EXAMPLE: Case = Case {
+    a: &ON_LINE_B,
+    sends_fail: [0; 3],
+    drops: DROPS,
+    turns: 9,
+    reporting: false,
+    lines: LINES,
+    status: 0,
+    text: ALL,
+    published: &ON_BOTH,
+    requested: &[ASKED],
+    responded: &[RESPONSE],
+    left: [0, 1, 0],
+};
 
 #[test]
-fn each_line_leaves_out_its_own_packets(rt: HostRuntime) -> Result<(), Fail> {
-    let mut fixture = make_fixture(rt.alloc(), &[ONE_AND_TWO, FIVE, END])?;
-    let drops = Drops { a: 2, b: 3 };
-    let outcome = run(rt.alloc(), &mut fixture, drops, 9, false, LINES)?;
-    same_outcome(&rt, outcome, Ok(0));
-    same_bytes(&rt, fixture.sink.bytes(), ALL);
-    expect_sent(&rt, &fixture.ports.publisher, &ON_THEIR_LINES, 0);
-    Ok(())
+fn what_both_lines_lost_is_requested(rt: HostRuntime) -> Result<(), Fail> {
+    expect(&rt, &EXAMPLE, 0)
 }
+
+const OTHER_DROPS: Case = Case {
+    drops: Drops { a: 2, b: 3 },
+    published: &ON_THEIR_LINES,
+    requested: &[ASKED],
+    responded: &[RESPONSE],
+    ..EXAMPLE
+};
+
+#[test]
+fn each_line_drops_its_own_packets(rt: HostRuntime) -> Result<(), Fail> {
+    expect(&rt, &OTHER_DROPS, 0)
+}
+
+const REPORTED: Case = Case {
+    a: &[Given::Bytes(ONE_AND_TWO)],
+    reporting: true,
+    text: ALL_REPORTED,
+    ..EXAMPLE
+};
 
 #[test]
 fn a_line_that_lost_is_reported(rt: HostRuntime) -> Result<(), Fail> {
-    let mut fixture = make_fixture(rt.alloc(), &[ONE_AND_TWO])?;
-    let outcome = run(rt.alloc(), &mut fixture, DROPS, 9, true, LINES)?;
-    same_outcome(&rt, outcome, Ok(0));
-    same_bytes(&rt, fixture.sink.bytes(), ALL_REPORTED);
-    Ok(())
+    expect(&rt, &REPORTED, 0)
 }
 
+// The first packet is not sent on line A.
+const NOT_ON_LINE_A: Case = Case {
+    a: &[Given::Bytes(FIVE), Given::Bytes(END)],
+    sends_fail: [1, 0, 0],
+    text: ALL_BUT_A_SEND,
+    published: &ALL_BUT_ONE,
+    requested: &[ASKED],
+    responded: &[RESPONSE],
+    ..EXAMPLE
+};
+
 #[test]
-fn after_a_failed_send_its_line_is_not_looked_at(rt: HostRuntime) -> Result<(), Fail> {
-    let mut fixture = make_fixture(rt.alloc(), &[FIVE, END])?;
-    fixture.ports.publisher.fail_send(1);
-    expect(&rt, &mut fixture, 9, 0, ALL_BUT_A_SEND)?;
-    same_size(&rt, fixture.ports.a.left(), 0);
-    expect_sent(&rt, &fixture.ports.publisher, &ON_BOTH[1..], 0);
-    Ok(())
+fn after_a_failed_send_its_line_does_not_receive(rt: HostRuntime) -> Result<(), Fail> {
+    expect(&rt, &NOT_ON_LINE_A, 0)
 }
+
+// The first request fails.
+const FAILED_REQUESTS: &[Case] = &[
+    Case {
+        sends_fail: [0, 1, 0],
+        turns: 1,
+        status: 1,
+        text: TWO,
+        published: &ON_BOTH,
+        requested: &[],
+        responded: &[],
+        left: [0, 2, 1],
+        ..EXAMPLE
+    },
+    Case {
+        sends_fail: [0, 1, 0],
+        turns: 2,
+        text: ALL_BUT_A_SEND,
+        ..EXAMPLE
+    },
+];
 
 #[test]
 fn a_request_that_fails_is_sent_again(rt: HostRuntime) -> Result<(), Fail> {
-    expect_request_again(&rt, 1, 1, TWO, 2)?;
-    expect_request_again(&rt, 2, 0, ALL_BUT_A_SEND, 1)
+    expect_all(&rt, FAILED_REQUESTS)
 }
 
-// The first request fails. So many are left at the server.
-fn expect_request_again(
-    rt: &(impl Abort + AllocGlobal),
-    turns: u32,
-    status: u8,
-    text: &[u8],
-    left: usize,
-) -> Result<(), Fail> {
-    let mut fixture = make_fixture(rt.alloc(), &[ONE_AND_TWO, FIVE, END])?;
-    fixture.ports.requests.fail_send(1);
-    expect(rt, &mut fixture, turns, status, text)?;
-    same_size(rt, fixture.ports.server.left(), left);
-    Ok(())
-}
+// The first response fails.
+const FAILED_RESPONSES: &[Case] = &[
+    Case {
+        sends_fail: [0, 0, 1],
+        turns: 1,
+        status: 1,
+        text: TWO,
+        published: &ON_BOTH,
+        requested: &[ASKED],
+        responded: &[],
+        left: [0, 1, 1],
+        ..EXAMPLE
+    },
+    Case {
+        sends_fail: [0, 0, 1],
+        turns: 2,
+        text: ALL_BUT_A_SEND,
+        published: &ON_BOTH,
+        requested: &[ASKED; 2],
+        responded: &[RESPONSE],
+        left: [0, 0, 0],
+        ..EXAMPLE
+    },
+];
 
 #[test]
-fn an_answer_that_fails_is_not_waited_for(rt: HostRuntime) -> Result<(), Fail> {
-    expect_no_wait(&rt, 1, 1, TWO, 1)?;
-    expect_no_wait(&rt, 2, 0, ALL_BUT_A_SEND, 0)
+fn a_response_that_fails_is_not_waited_for(rt: HostRuntime) -> Result<(), Fail> {
+    expect_all(&rt, FAILED_RESPONSES)
 }
 
-// The first answer fails. So many answers are left.
-fn expect_no_wait(
-    rt: &(impl Abort + AllocGlobal),
-    turns: u32,
-    status: u8,
-    text: &[u8],
-    left: usize,
-) -> Result<(), Fail> {
-    let mut fixture = make_fixture(rt.alloc(), &[ONE_AND_TWO, FIVE, END])?;
-    fixture.ports.server.fail_send(1);
-    expect(rt, &mut fixture, turns, status, text)?;
-    same_size(rt, fixture.ports.requests.left(), left);
-    Ok(())
-}
+const REFUSED_LINE: Case = Case {
+    a: &[],
+    reporting: true,
+    lines: b"4142\nx\n",
+    status: 2,
+    text: b"refused line 2 NotHex\n",
+    published: &[],
+    requested: &[],
+    responded: &[],
+    left: [0, 2, 1],
+    ..EXAMPLE
+};
 
 #[test]
 fn a_refused_line_ends_a_session(rt: HostRuntime) -> Result<(), Fail> {
-    let mut fixture = make_fixture(rt.alloc(), &[])?;
-    let outcome = run(rt.alloc(), &mut fixture, DROPS, 9, true, b"4142\nx\n")?;
-    same_outcome(&rt, outcome, Ok(2));
-    same_bytes(&rt, fixture.sink.bytes(), b"refused line 2 NotHex\n");
-    same_size(&rt, fixture.ports.publisher.sent().len(), 0);
-    Ok(())
+    expect(&rt, &REFUSED_LINE, 0)
 }
