@@ -1,4 +1,4 @@
-//! Tests of `mold_world`, `mold_check`, `mold_sim`.
+//! Tests of `mold_world`, `mold_check` and `mold_sim`.
 #![tactic(auto)]
 
 #[cfg(test)]

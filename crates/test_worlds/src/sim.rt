@@ -1,97 +1,132 @@
-//! What no clause says: the texts of whole scripts, lines of another form, and each read and write failing
-//! in turn.
-
-ghost use Rattle.std.specs.Prelude.{◌<◌, ◌≤◌};
+//! `run_lines` with a `Sim`: the texts of whole scripts, lines of another form, and each read and write that fails. A
+//! script is a constant, and one function runs each script.
 
 use mold_devices::{CommandFault, MemorySink, MemorySource, Sink, Source, run_lines};
 use mold_sim::Sim;
 use mold_wire::Session;
-use std::alloc::{AllocError, Global};
+use std::alloc::AllocError;
 use std::process::Abort;
 use std::test::Fail;
 
-// A session of datagrams of up to 64 bytes, and receivers with a window of four messages.
-fn sim(alloc: Global, burst: u16, receivers: usize) -> Result<Sim, AllocError>
-    requires some_burst { 1 ≤ burst }
-    requires burst { burst ≤ 64 }
-    requires some_receiver { 1 ≤ receivers }
-    requires receivers { receivers ≤ 8 }
-{
-    Sim::new(alloc, Session(*b"SESSION001"), 64, 64, burst, 4, receivers)
-}
-
-// Runs the script with so many bytes a call, and compares what is printed: a beginning of it, where memory is
-// wanting.
-fn expect_run(
-    rt: &(impl Abort + AllocGlobal),
-    sim: &mut Sim,
-    most: usize,
-    input: &[u8],
-    text: &[u8],
+/// A script, the most packets of a response and the number of receivers, and what the script prints and returns.
+#[derive(Clone, Copy)]
+struct Script {
+    burst: u16,
+    receivers: usize,
+    input: &'static [u8],
+    text: &'static [u8],
     status: u8,
-) -> Result<(), Fail>
-    requires { 0 < most }
-{
-    let mut source = MemorySource::new(input);
-    source.at_most(most);
-    let mut sink = MemorySink::new(rt.alloc());
-    sink.at_most(most);
-    let outcome = run_lines(rt.alloc(), sim, &mut source, &mut sink);
-    begins_with(rt, text, sink.bytes(), most as u64);
-    same_number(rt, u64::from(outcome?), u64::from(status));
-    same_number(rt, sink.bytes().len() as u64, text.len() as u64);
-    Ok(())
 }
 
-fn same_number(rt: &impl Abort, found: u64, wanted: u64) {
-    assert_eq!(rt; found, wanted);
+/// The most bytes of a read and of a write, and the number of the read and of the write that fails. If it is 0, no such
+/// call fails.
+#[derive(Clone, Copy)]
+struct Devices {
+    most: usize,
+    read_fails: u64,
+    write_fails: u64,
 }
 
-// The text begins with these bytes. `at` is the call that fails, or the most bytes of a call.
+// Datagrams have up to 64 bytes, and receivers have a window of four messages.
+fn new_sim(rt: &(impl Abort + AllocGlobal), script: &Script) -> Result<Sim, AllocError> {
+    let Script {
+        burst,
+        receivers,
+        ..
+    } = *script;
+    assert!(rt; burst >= 1 && burst <= 64);
+    assert!(rt; receivers >= 1 && receivers <= 8);
+    let session = Session(*b"SESSION001");
+    Sim::new(rt.alloc(), session, 64, 64, burst, 4, receivers)
+}
+
+fn same_number(rt: &impl Abort, found: u64, wanted: u64, at: u64) {
+    assert_eq!(rt; found, wanted, "at {at}");
+}
+
 fn begins_with(rt: &impl Abort, text: &[u8], found: &[u8], at: u64) {
     assert!(rt; text.starts_with(found), "at {at}");
 }
 
-fn same_fault(rt: &impl Abort, found: Result<u8, CommandFault>, wanted: CommandFault, at: u64) {
-    assert!(rt; found == Err(wanted), "another outcome at {at}");
+fn same_outcome(
+    rt: &impl Abort,
+    found: Result<u8, CommandFault>,
+    wanted: Result<u8, CommandFault>,
+    at: u64,
+) {
+    assert!(rt; found == wanted, "another outcome at {at}");
 }
 
-fn expect_script(
+// After a failed read a prefix of the text was written, after the failed write k the first k - 1 bytes, and otherwise
+// the whole text.
+fn expect_outcome(
+    rt: &impl Abort,
+    script: &Script,
+    devices: Devices,
+    outcome: Result<u8, CommandFault>,
+    written: &[u8],
+) {
+    let (read, write) = (devices.read_fails, devices.write_fails);
+    let len = written.len() as u64;
+    begins_with(rt, script.text, written, read.max(write));
+    if read > 0 {
+        same_outcome(rt, outcome, Err(CommandFault::Read), read);
+    } else if write > 0 {
+        same_outcome(rt, outcome, Err(CommandFault::Write), write);
+        same_number(rt, len.saturating_add(1), write, write);
+    } else {
+        same_outcome(rt, outcome, Ok(script.status), 0);
+        same_number(rt, len, script.text.len() as u64, 0);
+    }
+}
+
+fn expect_run(rt: &(impl Abort + AllocGlobal), sim: &mut Sim, script: &Script, devices: Devices) {
+    assert!(rt; devices.most > 0);
+    let mut source = MemorySource::new(script.input);
+    source.at_most(devices.most);
+    source.fail_at(devices.read_fails);
+    let mut sink = MemorySink::new(rt.alloc());
+    sink.at_most(devices.most);
+    sink.fail_at(devices.write_fails);
+    let outcome = run_lines(rt.alloc(), sim, &mut source, &mut sink);
+    expect_outcome(rt, script, devices, outcome, sink.bytes());
+    same_number(
+        rt,
+        source.failures(),
+        devices.read_fails.min(1),
+        devices.read_fails,
+    );
+}
+
+// Runs the script with these devices, and compares the outcome and the text.
+fn expect_with(
     rt: &(impl Abort + AllocGlobal),
-    burst: u16,
-    receivers: usize,
-    input: &[u8],
-    text: &[u8],
-    status: u8,
-) -> Result<(), Fail>
-    requires some_burst { 1 ≤ burst }
-    requires burst { burst ≤ 64 }
-    requires some_receiver { 1 ≤ receivers }
-    requires receivers { receivers ≤ 8 }
-{
-    let mut whole = sim(rt.alloc(), burst, receivers)?;
-    expect_run(rt, &mut whole, 65536, input, text, status)?;
-    expect_script_by_bytes(rt, burst, receivers, input, text, status)
+    script: &Script,
+    devices: Devices,
+) -> Result<(), Fail> {
+    let mut sim = new_sim(rt, script)?;
+    expect_run(rt, &mut sim, script, devices);
+    Ok(())
 }
 
-fn expect_script_by_bytes(
-    rt: &(impl Abort + AllocGlobal),
-    burst: u16,
-    receivers: usize,
-    input: &[u8],
-    text: &[u8],
-    status: u8,
-) -> Result<(), Fail>
-    requires some_burst { 1 ≤ burst }
-    requires burst { burst ≤ 64 }
-    requires some_receiver { 1 ≤ receivers }
-    requires receivers { receivers ≤ 8 }
-{
-    let mut single = sim(rt.alloc(), burst, receivers)?;
-    expect_run(rt, &mut single, 1, input, text, status)
+const IN_LARGE_PIECES: Devices = Devices {
+    most: 65536,
+    read_fails: 0,
+    write_fails: 0,
+};
+
+const BY_BYTES: Devices = Devices {
+    most: 1,
+    read_fails: 0,
+    write_fails: 0,
+};
+
+fn expect(rt: &(impl Abort + AllocGlobal), script: &Script) -> Result<(), Fail> {
+    expect_with(rt, script, IN_LARGE_PIECES)?;
+    expect_with(rt, script, BY_BYTES)
 }
 
-const ONE_RECEIVER: &[u8] = b"heartbeat
+const INPUT: &[u8] = b"heartbeat
 ask 0
 publish -
 publish 4
@@ -109,7 +144,7 @@ noise 0 b 53455353494f4e30303200000000000000010000
 restart 0 0
 ";
 
-const ONE_RECEIVER_TEXT: &[u8] = b"sent 0
+const TEXT: &[u8] = b"sent 0
 nothing
 published 1
 refused Syntax
@@ -128,16 +163,24 @@ refused NotReached 2
 receiver 0 next 2 known 2 book 1 open
 ";
 
-#[test]
-fn sim_one_receiver(rt: HostRuntime) -> Result<(), Fail> {
-    expect_script(&rt, 1, 1, ONE_RECEIVER, ONE_RECEIVER_TEXT, 2)
-}
+const ONE_RECEIVER: Script = Script {
+    burst: 1,
+    receivers: 1,
+    input: INPUT,
+    text: TEXT,
+    status: 2,
+};
 
 #[test]
-fn an_end_while_a_message_is_missing(rt: HostRuntime) -> Result<(), Fail> {
-    let input =
-        b"publish 41\ndatagram\npublish 42\ndatagram\nclose\nend\ndeliver 0 a 0\ndeliver 0 a 2";
-    let text = b"published 1
+fn sim_one_receiver(rt: HostRuntime) -> Result<(), Fail> {
+    expect(&rt, &ONE_RECEIVER)
+}
+
+const END_BEFORE_A_MESSAGE: Script = Script {
+    burst: 1,
+    receivers: 2,
+    input: b"publish 41\ndatagram\npublish 42\ndatagram\nclose\nend\ndeliver 0 a 0\ndeliver 0 a 2",
+    text: b"published 1
 sent 0
 published 2
 sent 1
@@ -147,13 +190,19 @@ delivered 1 0 0
 delivered 0 0 0
 receiver 0 next 2 known 3 book 1 open
 receiver 1 next 1 known 1 book 0 open
-";
-    expect_script(&rt, 1, 2, input, text, 0)
-}
+",
+    status: 0,
+};
 
 #[test]
-fn answers_in_bursts(rt: HostRuntime) -> Result<(), Fail> {
-    let input = b"publish 0101010101010101010101010101010101010101
+fn an_end_while_a_message_is_missing(rt: HostRuntime) -> Result<(), Fail> {
+    expect(&rt, &END_BEFORE_A_MESSAGE)
+}
+
+const BURSTS: Script = Script {
+    burst: 3,
+    receivers: 1,
+    input: b"publish 0101010101010101010101010101010101010101
 publish 0202020202020202020202020202020202020202
 publish 0303030303030303030303030303030303030303
 publish 0404040404040404040404040404040404040404
@@ -166,8 +215,8 @@ request 53455353494f4e30303100000000000000050001
 heartbeat
 deliver 0 b 6
 ask 0
-";
-    let text = b"published 1
+",
+    text: b"published 1
 published 2
 published 3
 published 4
@@ -181,135 +230,147 @@ sent 6
 delivered 0 0 0
 sent 7 to 9
 receiver 0 next 1 known 6 book 0 open
-";
-    expect_script(&rt, 3, 1, input, text, 0)
-}
+",
+    status: 0,
+};
 
 #[test]
-fn refusals_of_publisher_and_server(rt: HostRuntime) -> Result<(), Fail> {
-    // A message of 43 bytes.
-    let input = b"publish \
+fn answers_in_bursts(rt: HostRuntime) -> Result<(), Fail> {
+    expect(&rt, &BURSTS)
+}
+
+// A message of 43 bytes, and two requests that are refused.
+const REFUSALS: Script = Script {
+    input: b"publish \
 fFfFfFfFfFfFfFfFfFfFfFfFfFfFfFfFfFfFfFfFfFfFfFfFfFfFfFfFfFfFfFfFfFfFfFfFfFfFfFfFfFfFfF
 request 00
 request 53455353494f4e30303100000000000000020001
-";
-    let text = b"refused TooLong 43
+",
+    text: b"refused TooLong 43
 refused RequestLength 1
 refused Ahead 1
 receiver 0 next 1 known 1 book 0 open
-";
-    expect_script(&rt, 1, 1, input, text, 2)
-}
+",
+    ..ONE_RECEIVER
+};
 
 #[test]
-fn noise_is_no_refused_line(rt: HostRuntime) -> Result<(), Fail> {
-    let input = b"noise 0 answer -\n\nnoise 0 b 53455353494f4e3030320000000000000003ffff00\n";
-    let text = b"noise Malformed Short 0
+fn refusals_of_publisher_and_server(rt: HostRuntime) -> Result<(), Fail> {
+    expect(&rt, &REFUSALS)
+}
+
+const NOISE: Script = Script {
+    input: b"noise 0 answer -\n\nnoise 0 b 53455353494f4e3030320000000000000003ffff00\n",
+    text: b"noise Malformed Short 0
 noise Malformed Trailing 20
 receiver 0 next 1 known 1 book 0 open
-";
-    expect_script(&rt, 1, 1, input, text, 0)?;
-    expect_script(
-        &rt,
-        1,
-        1,
-        b"",
-        b"receiver 0 next 1 known 1 book 0 open\n",
-        0,
-    )
-}
+",
+    status: 0,
+    ..ONE_RECEIVER
+};
 
 #[test]
-fn numbers_of_twenty_digits(rt: HostRuntime) -> Result<(), Fail> {
-    let input = b"restart 00 00000000000000000001
+fn noise_is_not_a_refused_line(rt: HostRuntime) -> Result<(), Fail> {
+    expect(&rt, &NOISE)
+}
+
+const EMPTY: Script = Script {
+    input: b"",
+    text: b"receiver 0 next 1 known 1 book 0 open\n",
+    status: 0,
+    ..ONE_RECEIVER
+};
+
+#[test]
+fn an_empty_script_prints_its_receivers(rt: HostRuntime) -> Result<(), Fail> {
+    expect(&rt, &EMPTY)
+}
+
+const TWENTY_DIGITS: Script = Script {
+    input: b"restart 00 00000000000000000001
 ask 18446744073709551615
 deliver 00000000000000000000 a 18446744073709551615
 restart 0 18446744073709551615
-";
-    let text = b"restarted 1
+",
+    text: b"restarted 1
 refused NoReceiver
 refused NoSuchDatagram
 refused NotReached 1
 receiver 0 next 1 known 1 book 0 open
-";
-    expect_script(&rt, 1, 1, input, text, 2)
+",
+    ..ONE_RECEIVER
+};
+
+#[test]
+fn numbers_of_twenty_digits(rt: HostRuntime) -> Result<(), Fail> {
+    expect(&rt, &TWENTY_DIGITS)
 }
+
+// Each of these lines is refused.
+const OTHER_LINES: [&[u8]; 27] = [
+    b"publish  41",
+    b" publish 41",
+    b"publish 41 ",
+    b"publish 414",
+    b"publish 4g",
+    b"publish --",
+    b"publish ",
+    b"publish",
+    b"Publish 41",
+    b"publish 41\r",
+    b"datagram 0",
+    b"heartbeat\r",
+    b"\xff",
+    b" ",
+    b"ask",
+    b"ask ",
+    b"ask +1",
+    b"ask 1a",
+    b"ask 000000000000000000001",
+    b"ask 18446744073709551616",
+    b"restart 0",
+    b"restart 0 1 2",
+    b"deliver 0 A 0",
+    b"deliver 0 a",
+    b"deliver 0 a 0 0",
+    b"noise 0 c 00",
+    b"noise 0 a 0",
+];
 
 #[test]
 fn lines_of_another_form(rt: HostRuntime) -> Result<(), Fail> {
-    let lines = [
-        b"publish  41".as_slice(),
-        b" publish 41",
-        b"publish 41 ",
-        b"publish 414",
-        b"publish 4g",
-        b"publish --",
-        b"publish ",
-        b"publish",
-        b"Publish 41",
-        b"publish 41\r",
-        b"datagram 0",
-        b"heartbeat\r",
-        b"\xff",
-        b" ",
-        b"ask",
-        b"ask ",
-        b"ask +1",
-        b"ask 1a",
-        b"ask 000000000000000000001",
-        b"ask 18446744073709551616",
-        b"restart 0",
-        b"restart 0 1 2",
-        b"deliver 0 A 0",
-        b"deliver 0 a",
-        b"deliver 0 a 0 0",
-        b"noise 0 c 00",
-        b"noise 0 a 0",
-    ];
-    for line in lines {
-        let text = b"refused Syntax\nreceiver 0 next 1 known 1 book 0 open\n";
-        expect_script(&rt, 1, 1, line, text, 2)?;
+    for line in OTHER_LINES {
+        let script = Script {
+            input: line,
+            text: b"refused Syntax\nreceiver 0 next 1 known 1 book 0 open\n",
+            ..ONE_RECEIVER
+        };
+        expect(&rt, &script)?;
+    }
+    Ok(())
+}
+
+// Each byte is a read, and so is the end after them.
+#[test]
+fn each_read_that_fails_leaves_a_prefix(rt: HostRuntime) -> Result<(), Fail> {
+    for call in 1..=ONE_RECEIVER.input.len() as u64 + 1 {
+        let devices = Devices {
+            read_fails: call,
+            ..BY_BYTES
+        };
+        expect_with(&rt, &ONE_RECEIVER, devices)?;
     }
     Ok(())
 }
 
 #[test]
-fn each_read_that_fails_leaves_a_beginning(rt: HostRuntime) -> Result<(), Fail> {
-    // Each byte is a read, and so is the end after them.
-    for call in 1..=ONE_RECEIVER.len() as u64 + 1 {
-        let mut command = sim(rt.alloc(), 1, 1)?;
-        expect_failed_read(&rt, &mut command, call);
+fn each_write_that_fails_leaves_a_prefix(rt: HostRuntime) -> Result<(), Fail> {
+    for call in 1..=ONE_RECEIVER.text.len() as u64 {
+        let devices = Devices {
+            write_fails: call,
+            ..BY_BYTES
+        };
+        expect_with(&rt, &ONE_RECEIVER, devices)?;
     }
     Ok(())
-}
-
-fn expect_failed_read(rt: &(impl Abort + AllocGlobal), sim: &mut Sim, call: u64) {
-    let mut source = MemorySource::new(ONE_RECEIVER);
-    source.at_most(1);
-    source.fail_at(call);
-    let mut sink = MemorySink::new(rt.alloc());
-    let outcome = run_lines(rt.alloc(), sim, &mut source, &mut sink);
-    same_fault(rt, outcome, CommandFault::Read, call);
-    begins_with(rt, ONE_RECEIVER_TEXT, sink.bytes(), call);
-    same_number(rt, source.failures(), 1);
-}
-
-#[test]
-fn each_write_that_fails_leaves_a_beginning(rt: HostRuntime) -> Result<(), Fail> {
-    for call in 1..=ONE_RECEIVER_TEXT.len() as u64 {
-        let mut command = sim(rt.alloc(), 1, 1)?;
-        expect_failed_write(&rt, &mut command, call);
-    }
-    Ok(())
-}
-
-fn expect_failed_write(rt: &(impl Abort + AllocGlobal), sim: &mut Sim, call: u64) {
-    let mut source = MemorySource::new(ONE_RECEIVER);
-    let mut sink = MemorySink::new(rt.alloc());
-    sink.at_most(1);
-    sink.fail_at(call);
-    let outcome = run_lines(rt.alloc(), sim, &mut source, &mut sink);
-    same_fault(rt, outcome, CommandFault::Write, call);
-    begins_with(rt, ONE_RECEIVER_TEXT, sink.bytes(), call);
-    same_number(rt, (sink.bytes().len() as u64).saturating_add(1), call);
 }

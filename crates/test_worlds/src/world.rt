@@ -1,6 +1,6 @@
-//! The world: its examples, by `apply` and by `run`, and why it is not made. Where a growth is refused nothing
-//! changes, and a second call does what the first was to do: each test passes whichever growth is refused, and
-//! `tests/out-of-memory` refuses each.
+//! Examples of a world, by `apply` and by `run`, and the refusals of `World::new`. If an allocation fails, nothing
+//! changes, and a second call does the work. So each test passes whichever allocation fails, and `tests/out-of-memory`
+//! makes each of them fail.
 
 use crate::world_checks::{
     expect, expect_all, expect_end, expect_receiver, expect_report, expect_sent, expect_session,
@@ -19,6 +19,19 @@ use std::alloc::{AllocError, Global};
 use std::process::Abort;
 use std::test::Fail;
 
+/// What a test does with its world.
+#[derive(Clone, Copy)]
+enum Story {
+    TwoReceivers,
+    NotThere,
+    EventByEvent,
+    OneRun,
+    Burst,
+    Skipped,
+    CloseAndNoise,
+    RefusedClose,
+}
+
 fn expect_two_receivers(rt: &impl Abort, world: &mut World) -> Result<(), WorldError> {
     expect_all(rt, world, &TWO_RECEIVERS, &TWO_ANSWERS)?;
     expect_two_standings(rt, world);
@@ -26,15 +39,7 @@ fn expect_two_receivers(rt: &impl Abort, world: &mut World) -> Result<(), WorldE
     Ok(())
 }
 
-/// `sim-two-receivers`
-#[test]
-fn two_receivers(rt: HostRuntime) -> Result<(), Fail> {
-    let mut world = world(rt.alloc(), 1, &[4, 4])?;
-    expect_two_receivers(&rt, &mut world)?;
-    Ok(())
-}
-
-/// There is no receiver of number 1.
+/// The world has no receiver 1.
 fn expect_one_receiver(rt: &impl Abort, world: &World) {
     holds(rt, world.receiver(1).is_none());
     holds(rt, world.book(1).is_none());
@@ -42,7 +47,7 @@ fn expect_one_receiver(rt: &impl Abort, world: &World) {
     holds(rt, world.report(1, Line::A).is_none());
 }
 
-fn expect_lacking(rt: &impl Abort, world: &mut World) -> Result<(), WorldError> {
+fn expect_not_there(rt: &impl Abort, world: &mut World) -> Result<(), WorldError> {
     expect_all(rt, world, &LACKING, &LACKING_ANSWERS)?;
     same_bytes(rt, world.sent_at(0), Some(OWN));
     same_bytes(rt, world.sent_at(1), None);
@@ -50,15 +55,7 @@ fn expect_lacking(rt: &impl Abort, world: &mut World) -> Result<(), WorldError> 
     Ok(())
 }
 
-/// Refusals of events, and what is not there.
-#[test]
-fn what_is_not_there(rt: HostRuntime) -> Result<(), Fail> {
-    let mut world = world(rt.alloc(), 1, &[4])?;
-    expect_lacking(&rt, &mut world)?;
-    Ok(())
-}
-
-/// The session's deliveries, and how the receivers stand after each.
+/// Makes the session's deliveries, and compares the receiver's standing after each.
 fn expect_deliveries(rt: &impl Abort, world: &mut World) -> Result<(), WorldError> {
     let deliveries = &FIVE[SESSION_LENGTH..];
     for (event, (want, r, stands)) in deliveries.iter().zip(&DELIVERED) {
@@ -76,25 +73,9 @@ fn expect_event_by_event(rt: &impl Abort, world: &mut World) -> Result<(), World
     Ok(())
 }
 
-/// Five messages come to two receivers, one event at a time.
-#[test]
-fn five_messages_event_by_event(rt: HostRuntime) -> Result<(), Fail> {
-    let mut world = world(rt.alloc(), 1, &[4, 1])?;
-    expect_event_by_event(&rt, &mut world)?;
-    Ok(())
-}
-
 fn expect_run(rt: &(impl Abort + AllocGlobal), world: &mut World) -> Result<(), WorldError> {
     run_again(rt, world, &[4, 1], &FIVE, &SENT, &MESSAGES)?;
     expect_end(rt, world);
-    Ok(())
-}
-
-/// And by one run: books, views and reports are the same.
-#[test]
-fn five_messages_in_one_run(rt: HostRuntime) -> Result<(), Fail> {
-    let mut world = world(rt.alloc(), 1, &[4, 1])?;
-    expect_run(&rt, &mut world)?;
     Ok(())
 }
 
@@ -108,14 +89,6 @@ fn expect_burst(rt: &impl Abort, world: &mut World) -> Result<(), WorldError> {
     Ok(())
 }
 
-/// A burst of three has the two datagrams that there are.
-#[test]
-fn a_burst_is_sent_whole_or_not_at_all(rt: HostRuntime) -> Result<(), Fail> {
-    let mut world = world(rt.alloc(), 3, &[4])?;
-    expect_burst(&rt, &mut world)?;
-    Ok(())
-}
-
 fn expect_skipped(rt: &(impl Abort + AllocGlobal), world: &mut World) -> Result<(), WorldError> {
     run_again(rt, world, &[4, 4], &TWO_RECEIVERS, &TWO_SENT, &TWO_MESSAGES)?;
     same_size(rt, world.sent_len(), 4);
@@ -124,28 +97,13 @@ fn expect_skipped(rt: &(impl Abort + AllocGlobal), world: &mut World) -> Result<
     Ok(())
 }
 
-/// A run skips the events that are refused for another cause than want of memory.
-#[test]
-fn a_run_skips_what_is_refused(rt: HostRuntime) -> Result<(), Fail> {
-    let mut world = world(rt.alloc(), 1, &[4, 4])?;
-    expect_skipped(&rt, &mut world)?;
-    Ok(())
-}
-
-// A world of one receiver after these events.
-fn with_events(alloc: Global, events: &[Event<'_>]) -> Result<World, WorldError> {
-    let mut world = World::new(alloc, SESSION, 64, 64, 1, &[4])?;
-    run_whole(&mut world, events)?;
-    Ok(world)
-}
-
 fn expect_applied(rt: &impl Abort, world: &mut World, events: &[Event<'_>], answers: &[Answer]) {
     for (event, want) in events.iter().zip(answers) {
         same_answer(rt, world.apply(event), *want);
     }
 }
 
-/// What can be read of a world whose session of one message was sent and closed.
+/// Reads all values of a world whose session has one message, which was sent, and is closed.
 fn expect_read(rt: &impl Abort, world: &World) {
     holds(rt, world.is_closed());
     same_bytes(rt, world.published().get(1), Some(b"\x41"));
@@ -158,55 +116,163 @@ fn expect_read(rt: &impl Abort, world: &World) {
     expect_one_receiver(rt, world);
 }
 
-/// These events take no memory, nor does what is read of a world.
+fn expect_close_and_noise(rt: &impl Abort, world: &mut World) -> Result<(), WorldError> {
+    run_whole(world, &TWO_RECEIVERS[..2])?;
+    expect_applied(rt, world, &WITHOUT_MEMORY, &WITHOUT_MEMORY_ANSWERS);
+    expect_read(rt, world);
+    Ok(())
+}
+
+fn expect_refused_close(rt: &impl Abort, world: &mut World) -> Result<(), WorldError> {
+    run_whole(world, &TWO_RECEIVERS[..3])?;
+    let unsent = Err(WorldError::Layer(SessionError::Close(Unsent { count: 1 })));
+    expect_applied(rt, world, &[Event::Close], &[unsent]);
+    holds(rt, !world.is_closed());
+    Ok(())
+}
+
+fn expect_story(
+    rt: &(impl Abort + AllocGlobal),
+    world: &mut World,
+    story: Story,
+) -> Result<(), WorldError> {
+    match story {
+        Story::TwoReceivers => expect_two_receivers(rt, world),
+        Story::NotThere => expect_not_there(rt, world),
+        Story::EventByEvent => expect_event_by_event(rt, world),
+        Story::OneRun => expect_run(rt, world),
+        Story::Burst => expect_burst(rt, world),
+        Story::Skipped => expect_skipped(rt, world),
+        Story::CloseAndNoise => expect_close_and_noise(rt, world),
+        Story::RefusedClose => expect_refused_close(rt, world),
+    }
+}
+
+// Makes a world, once more if an allocation failed. Only this function and the next own one, since each costs its proof.
+fn tell(
+    rt: &(impl Abort + AllocGlobal),
+    burst: u16,
+    windows: &[u32],
+    story: Story,
+) -> Result<(), WorldError> {
+    let mut world = world(rt.alloc(), burst, windows)?;
+    expect_story(rt, &mut world, story)
+}
+
+// The same with one receiver. If an allocation of the world fails, the test ends.
+fn tell_once(rt: &(impl Abort + AllocGlobal), story: Story) -> Result<(), WorldError> {
+    let mut world = World::new(rt.alloc(), SESSION, 64, 64, 1, &[4])?;
+    expect_story(rt, &mut world, story)
+}
+
+/// `sim-two-receivers`
+#[test]
+fn two_receivers(rt: HostRuntime) -> Result<(), Fail> {
+    tell(&rt, 1, &[4, 4], Story::TwoReceivers)?;
+    Ok(())
+}
+
+/// Refused events, and values that a world does not have.
+#[test]
+fn what_is_not_there(rt: HostRuntime) -> Result<(), Fail> {
+    tell(&rt, 1, &[4], Story::NotThere)?;
+    Ok(())
+}
+
+/// Five messages are delivered to two receivers, one event at a time.
+#[test]
+fn five_messages_event_by_event(rt: HostRuntime) -> Result<(), Fail> {
+    tell(&rt, 1, &[4, 1], Story::EventByEvent)?;
+    Ok(())
+}
+
+/// The same by one run: books, standings and reports are the same.
+#[test]
+fn five_messages_in_one_run(rt: HostRuntime) -> Result<(), Fail> {
+    tell(&rt, 1, &[4, 1], Story::OneRun)?;
+    Ok(())
+}
+
+/// The response has two datagrams, which a burst of three allows.
+#[test]
+fn a_burst_is_sent_whole_or_not_at_all(rt: HostRuntime) -> Result<(), Fail> {
+    tell(&rt, 3, &[4], Story::Burst)?;
+    Ok(())
+}
+
+/// A run skips events that are refused, unless an allocation failed.
+#[test]
+fn a_run_skips_what_is_refused(rt: HostRuntime) -> Result<(), Fail> {
+    tell(&rt, 1, &[4, 4], Story::Skipped)?;
+    Ok(())
+}
+
+/// These events and all reads of a world allocate nothing.
 #[test]
 fn no_growth_of_close_and_noise(rt: HostRuntime) -> Result<(), Fail> {
-    let mut world = with_events(rt.alloc(), &TWO_RECEIVERS[..2])?;
-    expect_applied(&rt, &mut world, &WITHOUT_MEMORY, &WITHOUT_MEMORY_ANSWERS);
-    expect_read(&rt, &world);
+    tell_once(&rt, Story::CloseAndNoise)?;
     Ok(())
 }
 
-/// Nor does a close that is refused, as a message is in no datagram yet.
+/// Nor does a close that is refused because a message was not sent yet.
 #[test]
 fn no_growth_of_a_refused_close(rt: HostRuntime) -> Result<(), Fail> {
-    let mut world = with_events(rt.alloc(), &TWO_RECEIVERS[..3])?;
-    let unsent = Err(WorldError::Layer(SessionError::Close(Unsent { count: 1 })));
-    expect_applied(&rt, &mut world, &[Event::Close], &[unsent]);
-    holds(&rt, !world.is_closed());
+    tell_once(&rt, Story::RefusedClose)?;
     Ok(())
 }
 
-/// How many receivers there are with the greatest limits and burst and without a window.
-fn receivers_without_windows(alloc: Global) -> Result<usize, WorldError> {
-    Ok(World::new(alloc, SESSION, 65507, 65507, 64, &[])?.receivers())
+fn expect_refused(rt: &impl Abort, made: &Result<World, WorldError>, want: WorldError) {
+    match made {
+        Ok(_) => holds(rt, false),
+        Err(why) => same_refusal(rt, Some(*why), want),
+    }
 }
 
-/// Of several refusals the first is answered: a limit before the burst before the first bad window.
+// A world without windows has no receivers.
+fn expect_no_receivers(rt: &impl Abort, made: &Result<World, WorldError>) {
+    match made {
+        Ok(world) => same_size(rt, world.receivers(), 0),
+        Err(why) => same_refusal(rt, Some(*why), WorldError::Memory),
+    }
+}
+
+// Makes a world with these limits and windows, and compares the refusal. If there is none to compare, the world has no
+// receivers.
+fn expect_made(
+    rt: &(impl Abort + AllocGlobal),
+    limits: (usize, usize, u16),
+    windows: &[u32],
+    want: Option<WorldError>,
+) {
+    let (limit, server_limit, burst) = limits;
+    let made = World::new(rt.alloc(), SESSION, limit, server_limit, burst, windows);
+    match want {
+        Some(want) => expect_refused(rt, &made, want),
+        None => expect_no_receivers(rt, &made),
+    }
+}
+
+/// The first refusal is returned: of a limit before that of the burst, and that before the first invalid window.
 #[test]
 fn worlds_are_refused_in_order(rt: HostRuntime) {
     for (limit, server_limit, burst, window, want) in &REFUSED {
-        let windows = [1, *window, 0];
-        let made = World::new(rt.alloc(), SESSION, *limit, *server_limit, *burst, &windows);
-        same_refusal(&rt, made.err(), *want);
+        let limits = (*limit, *server_limit, *burst);
+        expect_made(&rt, limits, &[1, *window, 0], Some(*want));
     }
-    match receivers_without_windows(rt.alloc()) {
-        Ok(count) => same_size(&rt, count, 0),
-        Err(why) => same_refusal(&rt, Some(why), WorldError::Memory),
-    }
+    expect_made(&rt, (65507, 65507, 64), &[], None);
 }
 
 const RECEIVERS: usize = 1000;
 
-// How many datagrams come to each of them. With ten times as many the test is a load of a million deliveries.
+// The datagrams that are delivered to each. With ten times as many, the test is a load of a million deliveries.
 const DATAGRAMS: usize = 100;
 
-// Whether a receiver hears nothing of this datagram, one in twenty. The last one is never lost.
+// Whether a receiver loses this datagram, which is one in twenty. The last one is never lost.
 fn is_lost(r: usize, datagram: usize) -> bool {
     datagram.saturating_add(1) < DATAGRAMS && datagram.wrapping_add(r) % 20 == 5
 }
 
-// A datagram comes to a receiver, which asks for the one before where that was lost. `sent` counts the datagrams.
+// Delivers a datagram to a receiver, which requests the datagram before it if that was lost. `sent` counts datagrams.
 fn push_delivery(
     events: &mut Vec<Event<'static>>,
     r: usize,
@@ -234,7 +300,7 @@ fn push_delivery(
     Ok(())
 }
 
-// Datagrams of one message, each of which comes to all receivers.
+// Datagrams of one message, each of which is delivered to all receivers.
 fn events_for_all(alloc: Global) -> Result<Vec<Event<'static>>, AllocError> {
     let mut events = Vec::new(alloc);
     let mut sent = 0usize;
@@ -250,8 +316,8 @@ fn events_for_all(alloc: Global) -> Result<Vec<Event<'static>>, AllocError> {
     Ok(events)
 }
 
-// The receiver has all messages, and has not heard of an end.
-fn expect_all_heard(rt: &impl Abort, world: &World, r: usize) {
+// The receiver has all messages, and no end packet.
+fn expect_whole_book(rt: &impl Abort, world: &World, r: usize) {
     let next = (DATAGRAMS as u64).saturating_add(1);
     expect_receiver(rt, world, r, (next, next, 0, DATAGRAMS, false));
     for i in 0..DATAGRAMS {
@@ -259,15 +325,28 @@ fn expect_all_heard(rt: &impl Abort, world: &World, r: usize) {
     }
 }
 
-/// Deliveries to a thousand receivers by one run, after which each has all messages.
-#[test]
-fn a_thousand_receivers(rt: HostRuntime) -> Result<(), Fail> {
-    let windows = vec![in rt.alloc(); 4u32; RECEIVERS]?;
-    let events = events_for_all(rt.alloc())?;
-    let mut world = World::new(rt.alloc(), SESSION, 64, 64, 1, windows.as_slice())?;
-    run_whole(&mut world, events.as_slice())?;
+fn new_large_world(alloc: Global) -> Result<World, Fail> {
+    let windows = vec![in alloc; 4u32; RECEIVERS]?;
+    Ok(World::new(alloc, SESSION, 64, 64, 1, windows.as_slice())?)
+}
+
+fn run_for_all(alloc: Global, world: &mut World) -> Result<(), Fail> {
+    let events = events_for_all(alloc)?;
+    run_whole(world, events.as_slice())?;
+    Ok(())
+}
+
+fn expect_all_delivered(rt: &(impl Abort + AllocGlobal), world: &mut World) -> Result<(), Fail> {
+    run_for_all(rt.alloc(), world)?;
     for r in 0..RECEIVERS {
-        expect_all_heard(&rt, &world, r);
+        expect_whole_book(rt, world, r);
     }
     Ok(())
+}
+
+/// One run delivers to a thousand receivers, and each then has all messages.
+#[test]
+fn a_thousand_receivers(rt: HostRuntime) -> Result<(), Fail> {
+    let mut world = new_large_world(rt.alloc())?;
+    expect_all_delivered(&rt, &mut world)
 }

@@ -1,5 +1,5 @@
-//! What tests of a world compare. Where a growth is refused they see that nothing changed, and make the call once
-//! more.
+//! The comparisons of the tests of a world. If an allocation fails, they check that nothing changed, and make the call
+//! once more.
 
 use crate::world_events::{Answer, FIVE, MESSAGES, SESSION, SESSION_LENGTH, Standing};
 use mold_receiver::{Line, LineReport};
@@ -7,7 +7,7 @@ use mold_world::{Event, Stopped, World, WorldError};
 use std::alloc::Global;
 use std::process::Abort;
 
-/// A world, made once more where memory was refused.
+/// A world, made once more if an allocation failed.
 pub fn world(alloc: Global, burst: u16, windows: &[u32]) -> Result<World, WorldError> {
     match World::new(alloc, SESSION, 64, 64, burst, windows) {
         Err(WorldError::Memory) => World::new(alloc, SESSION, 64, 64, burst, windows),
@@ -15,7 +15,7 @@ pub fn world(alloc: Global, burst: u16, windows: &[u32]) -> Result<World, WorldE
     }
 }
 
-/// How a receiver stands, if there is one.
+/// The standing of a receiver, if the world has it.
 pub fn standing_of(world: &World, r: usize) -> Option<Standing> {
     let receiver = world.receiver(r)?;
     let book = world.book(r)?.len();
@@ -29,29 +29,29 @@ pub fn standing_of(world: &World, r: usize) -> Option<Standing> {
     ))
 }
 
-/// What came to it on either line.
+/// Its reports of line A and line B.
 pub fn reports_of(world: &World, r: usize) -> Option<(LineReport, LineReport)> {
     Some((world.report(r, Line::A)?, world.report(r, Line::B)?))
 }
 
-/// The same of a line, as counts and a front.
+/// The counts of a line's report, and its front.
 pub fn counts_of(world: &World, r: usize, line: Line) -> Option<(u64, u64, u64)> {
     let report = world.report(r, line)?;
     Some((report.datagrams, report.refused, report.front))
 }
 
-/// The number of the first message of its book.
+/// The sequence number of the first message of its book.
 pub fn first_of(world: &World, r: usize) -> Option<u64> {
     world.book(r)?.first()
 }
 
-/// A message of its book.
+/// A message of its book, by its index.
 pub fn message_of(world: &World, r: usize, i: usize) -> Option<&[u8]> {
     world.book(r)?.get(i)
 }
 
-/// What can be counted of a world of up to two receivers: what is published, whether it is closed, what was
-/// sent, what of the receivers and of their books, and what came to them.
+/// The counts of a world with up to two receivers: the publisher's next sequence number, whether the session is closed,
+/// the datagrams, and the standing and the reports of each receiver.
 #[derive(Clone, Copy, PartialEq)]
 pub struct Counts {
     pub published: u64,
@@ -64,7 +64,7 @@ pub struct Counts {
     ),
 }
 
-/// What can be counted of a world now.
+/// The counts of a world now.
 pub fn count(world: &World) -> Counts {
     Counts {
         published: world.published().next(),
@@ -75,37 +75,37 @@ pub fn count(world: &World) -> Counts {
     }
 }
 
-/// Fails where two counts differ.
+/// Fails if two counts differ.
 pub fn same_counts(rt: &impl Abort, found: Counts, wanted: Counts) {
     assert!(rt; found == wanted, "other counts");
 }
 
-/// Fails where a fact does not hold.
+/// Fails if a fact does not hold.
 pub fn holds(rt: &impl Abort, fact: bool) {
     assert!(rt; fact);
 }
 
-/// Fails where two sizes differ.
+/// Fails if two sizes differ.
 pub fn same_size(rt: &impl Abort, found: usize, wanted: usize) {
     assert_eq!(rt; found, wanted);
 }
 
-/// Fails where bytes differ.
+/// Fails if the bytes differ.
 pub fn same_bytes(rt: &impl Abort, found: Option<&[u8]>, wanted: Option<&[u8]>) {
     assert!(rt; found == wanted, "other bytes");
 }
 
-/// Fails where a refusal is another.
+/// Fails if there is no refusal, or another one.
 pub fn same_refusal(rt: &impl Abort, found: Option<WorldError>, wanted: WorldError) {
     assert!(rt; found == Some(wanted), "another refusal, or none");
 }
 
-/// Fails where an event's answer is another.
+/// Fails if the outcomes of an event differ.
 pub fn same_answer(rt: &impl Abort, found: Answer, wanted: Answer) {
     assert!(rt; found == wanted, "another answer");
 }
 
-/// An event, once more where memory was refused: the world was then as before.
+/// Applies an event, once more if an allocation failed. The failure changed no count.
 pub fn apply_again(
     rt: &impl Abort,
     world: &mut World,
@@ -123,7 +123,7 @@ pub fn apply_again(
     }
 }
 
-/// An event is answered so.
+/// Applies an event, and compares the outcome.
 pub fn expect(
     rt: &impl Abort,
     world: &mut World,
@@ -135,7 +135,7 @@ pub fn expect(
     Ok(())
 }
 
-/// Each of some events is.
+/// The same of each event.
 pub fn expect_all(
     rt: &impl Abort,
     world: &mut World,
@@ -148,7 +148,7 @@ pub fn expect_all(
     Ok(())
 }
 
-/// No event of the session of five messages is refused.
+/// Applies the events of the session of five messages, none of which is refused.
 pub fn expect_session(rt: &impl Abort, world: &mut World) -> Result<(), WorldError> {
     for event in &FIVE[..SESSION_LENGTH] {
         holds(rt, apply_again(rt, world, event)?.is_ok());
@@ -156,7 +156,7 @@ pub fn expect_session(rt: &impl Abort, world: &mut World) -> Result<(), WorldErr
     Ok(())
 }
 
-/// A run that stops is want of memory.
+/// Makes a run. It stops only if an allocation fails.
 pub fn run_whole(world: &mut World, events: &[Event<'_>]) -> Result<(), WorldError> {
     match world.run(events) {
         Ok(()) => Ok(()),
@@ -164,18 +164,23 @@ pub fn run_whole(world: &mut World, events: &[Event<'_>]) -> Result<(), WorldErr
     }
 }
 
-/// What can be counted of a world with bursts of one datagram after these events.
+// The counts of a world after a run.
+fn counts_of_run(world: &mut World, events: &[Event<'_>]) -> Result<Counts, WorldError> {
+    run_whole(world, events)?;
+    Ok(count(world))
+}
+
+/// The counts of a world with bursts of one datagram after these events.
 pub fn counts_after(
     alloc: Global,
     windows: &[u32],
     events: &[Event<'_>],
 ) -> Result<Counts, WorldError> {
     let mut twin = World::new(alloc, SESSION, 64, 64, 1, windows)?;
-    run_whole(&mut twin, events)?;
-    Ok(count(&twin))
+    counts_of_run(&mut twin, events)
 }
 
-/// What was sent are the first of these datagrams.
+/// What was sent is a prefix of these datagrams.
 pub fn expect_sent<'w, 'd>(rt: &impl Abort, world: &World, sent: &'w [&'d [u8]]) {
     let count = world.sent_len();
     holds(rt, count <= sent.len());
@@ -186,7 +191,7 @@ pub fn expect_sent<'w, 'd>(rt: &impl Abort, world: &World, sent: &'w [&'d [u8]])
     expect_same_sent(rt, world);
 }
 
-// What was sent is the same one after the other as by its places.
+// The iterator and the index return the same datagrams.
 fn expect_same_sent(rt: &impl Abort, world: &World) {
     let mut place = 0usize;
     for bytes in world.sent() {
@@ -196,7 +201,7 @@ fn expect_same_sent(rt: &impl Abort, world: &World) {
     same_size(rt, place, world.sent_len());
 }
 
-/// A book has the first of these messages.
+/// A book is a prefix of these messages.
 pub fn expect_front<'w, 'm>(rt: &impl Abort, world: &World, r: usize, messages: &'w [&'m [u8]]) {
     for (i, message) in messages.iter().enumerate() {
         if let Some(found) = message_of(world, r, i) {
@@ -206,7 +211,7 @@ pub fn expect_front<'w, 'm>(rt: &impl Abort, world: &World, r: usize, messages: 
     holds(rt, message_of(world, r, messages.len()).is_none());
 }
 
-/// What was published are the first of these messages.
+/// What was published is a prefix of these messages.
 pub fn expect_published<'w, 'm>(rt: &impl Abort, world: &World, messages: &'w [&'m [u8]]) {
     let mut number = 1u64;
     for message in messages {
@@ -218,7 +223,7 @@ pub fn expect_published<'w, 'm>(rt: &impl Abort, world: &World, messages: &'w [&
     holds(rt, world.published().get(number).is_none());
 }
 
-/// What was published, both books and what was sent are beginnings of these.
+/// The published messages, both books and what was sent are prefixes of these.
 pub fn expect_fronts<'w, 'd>(
     rt: &impl Abort,
     world: &World,
@@ -231,9 +236,9 @@ pub fn expect_fronts<'w, 'd>(
     expect_front(rt, world, 1, messages);
 }
 
-/// A run in a world with bursts of one datagram, which where memory was refused goes on from the event at
-/// which it stopped: the world was then as after the events before that one, by its counts, and by the bytes of
-/// its messages, books and datagrams, which are beginnings of all of them.
+/// A run in a world with bursts of one datagram. If an allocation fails, the run stops at an event, and the test goes
+/// on from there. Then the counts of the world are those after the events before it, and its messages, books and
+/// datagrams are prefixes of the whole ones.
 pub fn run_again<'w, 'd>(
     rt: &(impl Abort + AllocGlobal),
     world: &mut World,
@@ -252,17 +257,17 @@ pub fn run_again<'w, 'd>(
     Ok(())
 }
 
-/// The receiver stands so.
+/// The receiver has this standing.
 pub fn expect_receiver(rt: &impl Abort, world: &World, r: usize, want: Standing) {
     assert!(rt; standing_of(world, r) == Some(want), "receiver {r}");
 }
 
-/// How many datagrams were taken on a line, how many were refused, and its front.
+/// The datagrams of a line that were accepted and that were refused, and the line's front.
 pub fn expect_report(rt: &impl Abort, world: &World, r: usize, line: Line, want: (u64, u64, u64)) {
     assert!(rt; counts_of(world, r, line) == Some(want), "receiver {r}");
 }
 
-/// The book has the five messages from number 1 on.
+/// The book has the five messages, from sequence number 1 on.
 pub fn expect_five(rt: &impl Abort, world: &World, r: usize) {
     holds(rt, first_of(world, r) == Some(1));
     for (i, message) in MESSAGES.iter().enumerate() {
@@ -284,7 +289,7 @@ pub fn expect_end(rt: &impl Abort, world: &World) {
     }
 }
 
-/// How the receivers stand after the events of `sim-two-receivers`.
+/// The standings after the events of `sim-two-receivers`.
 pub fn expect_two_standings(rt: &impl Abort, world: &World) {
     expect_receiver(rt, world, 0, (3, 3, 0, 2, true));
     expect_receiver(rt, world, 1, (1, 1, 0, 0, false));

@@ -1,4 +1,4 @@
-//! Events of worlds, what they are answered, and what they publish and send.
+//! Events of worlds, their outcomes, and what they publish and send.
 
 use mold_receiver::{Line, Refusal, Taken};
 use mold_session::{AppendError, Unsent};
@@ -14,68 +14,68 @@ pub const A: Way = Way::Line(Line::A);
 /// On line B.
 pub const B: Way = Way::Line(Line::B);
 
-/// Asks for 65,535 messages from 2 on.
+/// A request for 65,535 messages from 2 on.
 pub const FROM_TWO: &[u8] = b"SESSION001\0\0\0\0\0\0\0\x02\xff\xff";
 
-/// The first datagram that answers it, of messages 2 and 3; the second is of messages 4 and 5.
+/// The first datagram of the response, with messages 2 and 3.
 pub const TWO_AND_THREE: &[u8] = b"SESSION001\0\0\0\0\0\0\0\x02\0\x02\
     \0\x14\x02\x02\x02\x02\x02\x02\x02\x02\x02\x02\x02\x02\x02\x02\x02\x02\x02\x02\x02\x02\
     \0\x14\x03\x03\x03\x03\x03\x03\x03\x03\x03\x03\x03\x03\x03\x03\x03\x03\x03\x03\x03\x03";
 
-/// The second of them.
+/// The second one, with messages 4 and 5.
 pub const FOUR_AND_FIVE: &[u8] = b"SESSION001\0\0\0\0\0\0\0\x04\0\x02\
     \0\x14\x04\x04\x04\x04\x04\x04\x04\x04\x04\x04\x04\x04\x04\x04\x04\x04\x04\x04\x04\x04\
     \0\x14\x05\x05\x05\x05\x05\x05\x05\x05\x05\x05\x05\x05\x05\x05\x05\x05\x05\x05\x05\x05";
 
-/// The heartbeat of a session without messages, as bytes that would be none of its packets.
+/// The heartbeat of a session without messages. As noise it is refused, since it is a packet of the session.
 pub const OWN: &[u8] = b"SESSION001\0\0\0\0\0\0\0\x01\0\0";
 
-/// What an event is answered.
+/// The outcome of an event.
 pub type Answer = Result<Report, WorldError>;
 
-/// A delivery of which no message is handed on, kept or beyond the window.
+/// A delivery with no message delivered, kept or beyond the window.
 pub const NONE_HANDED: Answer = Ok(Report::Delivered(Taken {
     handed: 0,
     kept: 0,
     beyond: 0,
 }));
 
-/// One message is handed on.
+/// One message is delivered.
 pub const ONE_HANDED: Answer = Ok(Report::Delivered(Taken {
     handed: 1,
     kept: 0,
     beyond: 0,
 }));
 
-/// Two are.
+/// Two messages are delivered.
 pub const TWO_HANDED: Answer = Ok(Report::Delivered(Taken {
     handed: 2,
     kept: 0,
     beyond: 0,
 }));
 
-/// Four are.
+/// Four messages are delivered.
 pub const FOUR_HANDED: Answer = Ok(Report::Delivered(Taken {
     handed: 4,
     kept: 0,
     beyond: 0,
 }));
 
-/// Two are kept.
+/// Two messages are kept.
 pub const TWO_KEPT: Answer = Ok(Report::Delivered(Taken {
     handed: 0,
     kept: 2,
     beyond: 0,
 }));
 
-/// One is beyond the window.
+/// One message is beyond the window.
 pub const ONE_BEYOND: Answer = Ok(Report::Delivered(Taken {
     handed: 0,
     kept: 0,
     beyond: 1,
 }));
 
-/// The events of `sim-two-receivers`.
+/// The events of the example `sim-two-receivers`.
 pub const TWO_RECEIVERS: [Event<'static>; 16] = [
     Event::Publish(b"\x41"),
     Event::Datagram,
@@ -115,7 +115,7 @@ pub const TWO_RECEIVERS: [Event<'static>; 16] = [
     },
 ];
 
-/// And what they are answered.
+/// Their outcomes.
 pub const TWO_ANSWERS: [Answer; 16] = [
     Ok(Report::Published { number: 1 }),
     Ok(Report::Sent { place: 0 }),
@@ -146,7 +146,7 @@ pub const TWO_SENT: [&[u8]; 4] = [
     b"SESSION001\0\0\0\0\0\0\0\x01\0\x02\0\x01\x41\0\x01\x42",
 ];
 
-/// Events of a world of one receiver without messages.
+/// Events of a world with one receiver and no messages.
 pub const LACKING: [Event<'static>; 8] = [
     Event::Deliver {
         r: 1,
@@ -170,7 +170,7 @@ pub const LACKING: [Event<'static>; 8] = [
     Event::Heartbeat,
 ];
 
-/// And what they are answered.
+/// Their outcomes.
 pub const LACKING_ANSWERS: [Answer; 8] = [
     Err(WorldError::NoReceiver),
     Err(WorldError::NoSuchDatagram),
@@ -182,11 +182,11 @@ pub const LACKING_ANSWERS: [Answer; 8] = [
     Ok(Report::Sent { place: 0 }),
 ];
 
-/// How many of the next events are the session.
+/// The number of the following events that publish and close the session.
 pub const SESSION_LENGTH: usize = 10;
 
-/// Five messages, the k-th of which is twenty bytes of the value k, in three datagrams, and the session's end;
-/// then their deliveries to two receivers.
+/// Five messages, the k-th of which is twenty bytes of the value k, in three datagrams, and the end packet. Then the
+/// deliveries to two receivers.
 pub const FIVE: [Event<'static>; 22] = [
     Event::Publish(&[1; 20]),
     Event::Publish(&[2; 20]),
@@ -276,7 +276,7 @@ pub const FIVE_ALONE: &[u8] = b"SESSION001\0\0\0\0\0\0\0\x05\0\x01\
 /// The end packet.
 pub const END_AFTER_FIVE: &[u8] = b"SESSION001\0\0\0\0\0\0\0\x06\xff\xff";
 
-/// The datagrams that those events send; the last answers the receiver that lacks messages 3 to 5.
+/// The datagrams that those events send. The last one is the response to the receiver that lacks messages 3 to 5.
 pub const SENT: [&[u8]; 5] = [
     ONE_AND_TWO,
     THREE_AND_FOUR,
@@ -285,10 +285,11 @@ pub const SENT: [&[u8]; 5] = [
     THREE_AND_FOUR,
 ];
 
-/// `next`, `known`, how many are stored, how many the book has, and whether the receiver is finished.
+/// A receiver's `next`, `known` and number of stored messages, the number of messages of its book, and whether it is
+/// finished.
 pub type Standing = (u64, u64, u32, usize, bool);
 
-/// What each delivery is answered, to which receiver it comes, and how that stands then.
+/// The outcome of each delivery, the receiver, and its standing after it.
 pub const DELIVERED: [(Answer, usize, Standing); 12] = [
     (NONE_HANDED, 0, (1, 6, 0, 0, false)),
     (ONE_BEYOND, 0, (1, 6, 0, 0, false)),
@@ -308,7 +309,7 @@ pub const DELIVERED: [(Answer, usize, Standing); 12] = [
     (ONE_HANDED, 1, (6, 6, 0, 5, true)),
 ];
 
-/// A limit, the server's, a burst, the window of receiver 1, and why there is no such world.
+/// A limit, the server's limit, a burst, the window of receiver 1, and the refusal of such a world.
 pub const REFUSED: [(usize, usize, u16, u32, WorldError); 8] = [
     (63, 64, 0, 0, WorldError::BadLimit),
     (65508, 65508, 1, 4, WorldError::BadLimit),
@@ -320,7 +321,7 @@ pub const REFUSED: [(usize, usize, u16, u32, WorldError); 8] = [
     (64, 64, 1, 65537, WorldError::BadWindow { r: 1 }),
 ];
 
-/// Events that take no memory.
+/// Events that allocate nothing.
 pub const WITHOUT_MEMORY: [Event<'static>; 6] = [
     Event::Noise {
         r: 0,
@@ -346,7 +347,7 @@ pub const WITHOUT_MEMORY: [Event<'static>; 6] = [
     Event::Close,
 ];
 
-/// And what they are answered.
+/// Their outcomes.
 pub const WITHOUT_MEMORY_ANSWERS: [Answer; 6] = [
     Ok(Report::NoiseRefused(Refusal::Malformed(DecodeError::Short { len: 1 }))),
     Ok(Report::NoiseRefused(Refusal::WrongSession)),
