@@ -1,189 +1,323 @@
 //! The command `dump`.
 
-ghost use Rattle.std.specs.Prelude.{◌<◌};
-
-use crate::comparisons::{same_bytes, same_outcome};
-use crate::running::expect_whole_or_prefix;
+use crate::running::{Case, Run, expect_result, expect_whole_or_prefix, sink_of, source_of, whole};
 use mold_commands::dump_file;
-use mold_devices::{CommandFault, MemorySink, MemorySource};
-use std::alloc::Global;
+use mold_devices::{CommandFault, MemorySink, MemorySource, Source};
 use std::process::Abort;
 use std::test::Fail;
 
-/// The journal of `AB` and a message without bytes: the file of version 1, and that of version 2, open.
+// The journal of `AB` and a message without bytes: the file of version 1, and that of version 2, open.
 const FILE_1: &[u8] = b"MOLDJNL1SESSION001\0\x02AB\0\0";
 
 const FILE_2: &[u8] = b"MOLDJNL2SESSION001\0\0\0\0\0\0\0\0\x02\0\x02AB\0\0";
 
-/// The lines of both messages.
+// The lines of both messages.
 const LINES: &[u8] = b"4142\n\n";
 
 const ALL: u64 = u64::MAX;
 
-// Dumps the file in reads and writes of at most so many bytes, and compares what is told.
-fn expect_pieces(
-    rt: &(impl Abort + AllocGlobal),
-    file: &[u8],
+// The first `len` bytes of a file, the number of the first message and the most messages, and what dumping them prints
+// and returns.
+#[derive(Clone, Copy)]
+struct Dump {
+    file: &'static [u8],
+    len: usize,
     part: (u64, u64),
-    most: usize,
-    text: &[u8],
+    text: &'static [u8],
     status: u8,
-)
-    requires { 0 < most }
-{
-    let mut source = MemorySource::new(file);
-    source.at_most(most);
-    let mut sink = MemorySink::new(rt.alloc());
-    sink.at_most(most);
+}
+
+fn expect_run(rt: &(impl Abort + AllocGlobal), part: (u64, u64), run: &Run<'_>) {
+    let mut source = source_of(run);
+    let mut sink = sink_of(rt.alloc(), run);
     let outcome = dump_file(rt.alloc(), &mut source, part.0, part.1, &mut sink);
-    same_bytes(rt, sink.bytes(), text, most as u64);
-    same_outcome(rt, outcome, Ok(status), most as u64);
+    expect_result(rt, run, outcome, &sink, source.failures());
 }
 
-fn expect_part(
-    rt: &(impl Abort + AllocGlobal),
-    file: &[u8],
-    part: (u64, u64),
-    text: &[u8],
-    status: u8,
-) {
-    expect_pieces(rt, file, part, 100, text, status);
-    expect_pieces(rt, file, part, 1, text, status);
+// Dumps in calls of at most 100 bytes, and of one byte.
+fn expect_all(rt: &(impl Abort + AllocGlobal), dumps: &[Dump]) {
+    for dump in dumps {
+        let file = dump.file.get(..dump.len).unwrap_or(dump.file);
+        for most in [100, 1] {
+            let run = whole(file, most, dump.text, dump.status);
+            expect_run(rt, dump.part, &run);
+        }
+    }
 }
 
-fn expect_all(rt: &(impl Abort + AllocGlobal), file: &[u8], text: &[u8], status: u8) {
-    expect_part(rt, file, (1, ALL), text, status);
-}
+const WHOLE_1: Dump = Dump {
+    file: FILE_1,
+    len: FILE_1.len(),
+    part: (1, ALL),
+    text: LINES,
+    status: 0,
+};
+
+const WHOLE_2: Dump = Dump {
+    file: FILE_2,
+    len: FILE_2.len(),
+    ..WHOLE_1
+};
 
 #[test]
 fn journal_cuts_dumped(rt: HostRuntime) {
-    expect_all(&rt, FILE_2, LINES, 0);
-    expect_all(&rt, FILE_1, LINES, 0);
+    expect_all(&rt, &[WHOLE_2, WHOLE_1]);
 }
 
-// Each of the 24 bytes of version 1 is cut off; behind 18 and 22 the file is a journal.
+// The file of version 1 has 24 bytes. Its first 18 and its first 22 bytes are journals too.
+const CUTS_1: &[Dump] = &[
+    Dump {
+        len: 0,
+        text: b"refused Short 0\n",
+        status: 2,
+        ..WHOLE_1
+    },
+    Dump {
+        len: 17,
+        text: b"refused Short 17\n",
+        status: 2,
+        ..WHOLE_1
+    },
+    Dump {
+        len: 18,
+        text: b"",
+        ..WHOLE_1
+    },
+    Dump {
+        len: 19,
+        text: b"refused BlockCut 1\n",
+        status: 2,
+        ..WHOLE_1
+    },
+    Dump {
+        len: 20,
+        text: b"refused BlockCut 1\n",
+        status: 2,
+        ..WHOLE_1
+    },
+    Dump {
+        len: 21,
+        text: b"refused BlockCut 1\n",
+        status: 2,
+        ..WHOLE_1
+    },
+    Dump {
+        len: 22,
+        text: b"4142\n",
+        ..WHOLE_1
+    },
+    Dump {
+        len: 23,
+        text: b"4142\nrefused BlockCut 2\n",
+        status: 2,
+        ..WHOLE_1
+    },
+];
+
 #[test]
 fn each_cut_of_version_1(rt: HostRuntime) {
-    expect_all(&rt, &FILE_1[..0], b"refused Short 0\n", 2);
-    expect_all(&rt, &FILE_1[..17], b"refused Short 17\n", 2);
-    expect_all(&rt, &FILE_1[..18], b"", 0);
-    for len in 19..22usize {
-        expect_all(&rt, &FILE_1[..len], b"refused BlockCut 1\n", 2);
-    }
-    expect_all(&rt, &FILE_1[..22], b"4142\n", 0);
-    expect_all(&rt, &FILE_1[..23], b"4142\nrefused BlockCut 2\n", 2);
+    expect_all(&rt, CUTS_1);
 }
+
+const CUTS_2: &[Dump] = &[
+    Dump {
+        len: 26,
+        text: b"refused Short 26\n",
+        status: 2,
+        ..WHOLE_2
+    },
+    Dump {
+        len: 27,
+        text: b"refused CountDiffers 2 0\n",
+        status: 2,
+        ..WHOLE_2
+    },
+    Dump {
+        len: 28,
+        text: b"refused BlockCut 1\n",
+        status: 2,
+        ..WHOLE_2
+    },
+    Dump {
+        len: 29,
+        text: b"refused BlockCut 1\n",
+        status: 2,
+        ..WHOLE_2
+    },
+    Dump {
+        len: 30,
+        text: b"refused BlockCut 1\n",
+        status: 2,
+        ..WHOLE_2
+    },
+    Dump {
+        len: 31,
+        text: b"4142\nrefused CountDiffers 2 1\n",
+        status: 2,
+        ..WHOLE_2
+    },
+    Dump {
+        len: 32,
+        text: b"4142\nrefused BlockCut 2\n",
+        status: 2,
+        ..WHOLE_2
+    },
+];
 
 #[test]
 fn each_cut_of_version_2(rt: HostRuntime) {
-    expect_all(&rt, &FILE_2[..26], b"refused Short 26\n", 2);
-    expect_all(&rt, &FILE_2[..27], b"refused CountDiffers 2 0\n", 2);
-    for len in 28..31usize {
-        expect_all(&rt, &FILE_2[..len], b"refused BlockCut 1\n", 2);
-    }
-    expect_all(&rt, &FILE_2[..31], b"4142\nrefused CountDiffers 2 1\n", 2);
-    expect_all(&rt, &FILE_2[..32], b"4142\nrefused BlockCut 2\n", 2);
+    expect_all(&rt, CUTS_2);
 }
 
+const OTHER_FILES: &[Dump] = &[
+    Dump {
+        file: b"MOLDJNL3SESSION001",
+        text: b"refused BadMagic\n",
+        status: 2,
+        ..WHOLE_2
+    },
+    Dump {
+        file: b"MOLDJNL2SESSION001\x02\0\0\0\0\0\0\0\0",
+        text: b"refused BadFlag 2\n",
+        status: 2,
+        ..WHOLE_2
+    },
+];
+
 #[test]
-fn files_that_are_none(rt: HostRuntime) {
-    expect_all(&rt, b"MOLDJNL3SESSION001", b"refused BadMagic\n", 2);
-    let flag = b"MOLDJNL2SESSION001\x02\0\0\0\0\0\0\0\0";
-    expect_all(&rt, flag, b"refused BadFlag 2\n", 2);
+fn files_that_are_not_journals(rt: HostRuntime) {
+    expect_all(&rt, OTHER_FILES);
 }
+
+const PARTS: &[Dump] = &[
+    Dump {
+        part: (2, ALL),
+        text: b"\n",
+        ..WHOLE_2
+    },
+    Dump {
+        part: (1, 1),
+        text: b"4142\n",
+        ..WHOLE_2
+    },
+    Dump {
+        part: (2, 1),
+        text: b"\n",
+        ..WHOLE_2
+    },
+    Dump {
+        part: (1, 0),
+        text: b"",
+        ..WHOLE_2
+    },
+    Dump {
+        part: (3, 5),
+        text: b"",
+        ..WHOLE_2
+    },
+    Dump {
+        part: (ALL, ALL),
+        text: b"",
+        ..WHOLE_2
+    },
+];
 
 #[test]
 fn a_part_is_dumped(rt: HostRuntime) {
-    expect_part(&rt, FILE_2, (2, ALL), b"\n", 0);
-    expect_part(&rt, FILE_2, (1, 1), b"4142\n", 0);
-    expect_part(&rt, FILE_2, (2, 1), b"\n", 0);
-    expect_part(&rt, FILE_2, (1, 0), b"", 0);
-    expect_part(&rt, FILE_2, (3, 5), b"", 0);
-    expect_part(&rt, FILE_2, (ALL, ALL), b"", 0);
+    expect_all(&rt, PARTS);
 }
 
-// The file is judged whole, whatever is asked for.
+// The whole file is checked, whatever part is printed.
+const PARTS_OF_CUTS: &[Dump] = &[
+    Dump {
+        file: FILE_1,
+        len: 23,
+        part: (1, 0),
+        text: b"refused BlockCut 2\n",
+        status: 2,
+        ..WHOLE_2
+    },
+    Dump {
+        file: FILE_1,
+        len: 23,
+        part: (2, ALL),
+        text: b"refused BlockCut 2\n",
+        status: 2,
+        ..WHOLE_2
+    },
+    Dump {
+        file: FILE_2,
+        len: 31,
+        part: (2, 1),
+        text: b"refused CountDiffers 2 1\n",
+        status: 2,
+        ..WHOLE_2
+    },
+];
+
 #[test]
-fn a_part_of_a_file_that_is_none(rt: HostRuntime) {
-    let cut = &FILE_1[..23];
-    expect_part(&rt, cut, (1, 0), b"refused BlockCut 2\n", 2);
-    expect_part(&rt, cut, (2, ALL), b"refused BlockCut 2\n", 2);
-    let fewer = &FILE_2[..31];
-    expect_part(&rt, fewer, (2, 1), b"refused CountDiffers 2 1\n", 2);
+fn a_part_of_a_file_that_is_not_a_journal(rt: HostRuntime) {
+    expect_all(&rt, PARTS_OF_CUTS);
 }
 
-// Dumps the cut file byte by byte with a failure, and compares what is told.
-fn expect_failing(
-    rt: &(impl Abort + AllocGlobal),
-    read: u64,
-    write: u64,
-    wanted: CommandFault,
-    text: &[u8],
-) {
-    let mut source = MemorySource::new(&FILE_1[..23]);
-    source.at_most(1);
-    source.fail_at(read);
-    let mut sink = MemorySink::new(rt.alloc());
-    sink.at_most(1);
-    sink.fail_at(write);
-    let outcome = dump_file(rt.alloc(), &mut source, 1, ALL, &mut sink);
-    let at = read.max(write);
-    same_bytes(rt, sink.bytes(), text, at);
-    same_outcome(rt, outcome, Err(wanted), at);
-}
+// The cut file is read and its text written byte by byte, and a call fails.
+const CUT: Case = Case {
+    input: b"MOLDJNL1SESSION001\0\x02AB\0",
+    text: b"4142\nrefused BlockCut 2\n",
+    status: 2,
+};
 
 // Each of the 23 bytes is a read, and so is the end. The line of a message that was read whole is written.
 #[test]
 fn each_read_of_a_dump_that_fails_is_told(rt: HostRuntime) {
-    for read in 1..=22u64 {
-        expect_failing(&rt, read, 0, CommandFault::Read, b"");
-    }
-    for read in 23..=24u64 {
-        expect_failing(&rt, read, 0, CommandFault::Read, b"4142\n");
+    for read in 1..=24u64 {
+        let text = if read < 23 { b"".as_slice() } else { b"4142\n" };
+        let run = Run {
+            read_fails: read,
+            outcome: Err(CommandFault::Read),
+            ..whole(CUT.input, 1, text, 0)
+        };
+        expect_run(&rt, (1, ALL), &run);
     }
 }
 
 #[test]
-fn each_write_of_a_dump_that_fails_leaves_a_beginning(rt: HostRuntime) {
-    let text = b"4142\nrefused BlockCut 2\n";
-    for k in 1..=text.len() {
-        let written = &text[..k - 1];
-        expect_failing(&rt, 0, k as u64, CommandFault::Write, written);
+fn each_write_of_a_dump_that_fails_leaves_a_prefix(rt: HostRuntime) {
+    for k in 1..=CUT.text.len() {
+        let run = Run {
+            write_fails: k as u64,
+            outcome: Err(CommandFault::Write),
+            ..whole(CUT.input, 1, &CUT.text[..k - 1], 0)
+        };
+        expect_run(&rt, (1, ALL), &run);
     }
 }
 
-fn dump(alloc: Global, file: &[u8], sink: &mut MemorySink) -> Result<u8, CommandFault> {
-    dump_file(alloc, &mut MemorySource::new(file), 1, ALL, sink)
-}
-
-// Dumps the file. If memory is refused, a prefix of the text is written.
-fn expect_once(
-    rt: &(impl Abort + AllocGlobal),
-    file: &[u8],
-    text: &[u8],
-    status: u8,
-) -> Result<u8, CommandFault> {
+// If an allocation fails, a prefix of the text is written.
+fn expect_once(rt: &(impl Abort + AllocGlobal), case: &Case) -> Result<u8, CommandFault> {
+    let mut source = MemorySource::new(case.input);
     let mut sink = MemorySink::new(rt.alloc());
-    let outcome = dump(rt.alloc(), file, &mut sink);
-    expect_whole_or_prefix(rt, outcome, status, &sink, text);
+    let outcome = dump_file(rt.alloc(), &mut source, 1, ALL, &mut sink);
+    expect_whole_or_prefix(rt, outcome, &sink, case);
     outcome
 }
 
-// Dumps the file, once more if memory is refused.
-fn expect_again(
-    rt: &(impl Abort + AllocGlobal),
-    file: &[u8],
-    text: &[u8],
-    status: u8,
-) -> Result<(), Fail> {
-    if expect_once(rt, file, text, status).is_err() {
-        expect_once(rt, file, text, status)?;
+// Dumps once more if an allocation failed.
+fn expect_again(rt: &(impl Abort + AllocGlobal), case: &Case) -> Result<(), Fail> {
+    if expect_once(rt, case).is_err() {
+        expect_once(rt, case)?;
     }
     Ok(())
 }
 
+const WHOLE: Case = Case {
+    input: FILE_2,
+    text: LINES,
+    status: 0,
+};
+
 #[test]
 fn a_refused_growth_dumps_a_beginning(rt: HostRuntime) -> Result<(), Fail> {
-    expect_again(&rt, FILE_2, LINES, 0)?;
-    expect_again(&rt, &FILE_1[..23], b"4142\nrefused BlockCut 2\n", 2)
+    expect_again(&rt, &WHOLE)?;
+    expect_again(&rt, &CUT)
 }

@@ -1,4 +1,4 @@
-//! A folder that the test makes, and folders that can't be read.
+//! `check` of folders that the tests make, and of folders that cannot be read.
 
 use crate::comparisons::{same_bytes, same_outcome};
 use mold_commands::check_folder;
@@ -13,7 +13,7 @@ const TWO_X: &[u8] = b"SESSION001\0\0\0\0\0\0\0\x02\0\x01\0\x01X";
 
 const TWO_Y: &[u8] = b"SESSION001\0\0\0\0\0\0\0\x02\0\x01\0\x01Y";
 
-// A new folder of the process, for the test of this name.
+// Makes a folder that is named by the test and the process.
 fn new_folder(rt: &HostRuntime, test: &str) -> io::Result<PathBuf> {
     let name = format!(in rt.alloc(); "mold-check-{test}-{}", process::id(rt.process()))?;
     let folder = env::temp_dir(rt)?.join(rt.alloc(), name.as_str())?;
@@ -21,7 +21,7 @@ fn new_folder(rt: &HostRuntime, test: &str) -> io::Result<PathBuf> {
     Ok(folder)
 }
 
-// Writes the file of this name in the folder.
+// Writes a file in the folder.
 fn put(
     rt: &(impl Files + AllocGlobal),
     folder: &PathBuf,
@@ -33,14 +33,14 @@ fn put(
     Ok(())
 }
 
-// Makes a folder of this name in the folder.
+// Makes a folder in the folder.
 fn put_folder(rt: &(impl Files + AllocGlobal), folder: &PathBuf, name: &str) -> Result<(), Fail> {
     let inner = folder.join(rt.alloc(), name)?;
     create_dir(rt, inner)?;
     Ok(())
 }
 
-// Checks the folder, and compares the answer, and what is told. `at` is the number of the check in its test.
+// Checks the folder, and compares the outcome and the text. `at` is the number of the check in its test.
 fn expect(
     rt: &(impl Abort + Files + AllocGlobal + Clone + Drop),
     folder: &PathBuf,
@@ -50,13 +50,13 @@ fn expect(
 ) -> Result<(), Fail> {
     let folder = folder.to_str().ok_or("no text")?;
     let mut sink = MemorySink::new(rt.alloc());
-    let answer = check_folder(rt, folder, &mut sink);
-    same_outcome(rt, answer, wanted, at);
+    let outcome = check_folder(rt, folder, &mut sink);
+    same_outcome(rt, outcome, wanted, at);
     same_bytes(rt, sink.bytes(), text, at);
     Ok(())
 }
 
-// Two datagrams that contradict each other, and a file that is none.
+// Two datagrams that contradict each other, and a file that is not a datagram.
 fn put_conflict(rt: &(impl Files + AllocGlobal), folder: &PathBuf) -> Result<(), Fail> {
     put(rt, folder, "b.pkt", TWO_Y)?;
     put(rt, folder, "c.txt", b"no datagram")?;
@@ -73,7 +73,7 @@ fn check_folders(rt: HostRuntime) -> Result<(), Fail> {
     Ok(())
 }
 
-// A folder is skipped, and one whose name is that of a datagram can't be read.
+// A folder is skipped, and a folder with the name of a datagram cannot be read.
 fn expect_folders(
     rt: &(impl Abort + Files + AllocGlobal + Clone + Drop),
     folder: &PathBuf,
@@ -85,7 +85,6 @@ fn expect_folders(
     expect(rt, folder, b"", Err(CommandFault::Read), 2)
 }
 
-/// A folder in the folder is skipped, unless its name is that of a datagram.
 #[test]
 fn folders_that_are_not_read(rt: HostRuntime) -> Result<(), Fail> {
     let folder = new_folder(&rt, "unread")?;

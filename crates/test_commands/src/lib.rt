@@ -1,4 +1,4 @@
-//! Tests of `mold_commands`, over sources, sinks and folders.
+//! Tests of `mold_commands`, over sources and sinks in memory and over folders.
 #![tactic(auto)]
 
 #[cfg(test)]
@@ -9,6 +9,8 @@ mod dump;
 mod folder;
 #[cfg(test)]
 mod lines;
+#[cfg(test)]
+mod orders;
 #[cfg(test)]
 mod pack;
 #[cfg(test)]

@@ -5,121 +5,206 @@ use mold_commands::run_upgrade;
 use mold_devices::{CommandFault, MemorySink, MemorySource};
 use std::process::Abort;
 
-/// The journal of `AB` and a message without bytes: the file of version 1, which is open, and that of
-/// version 2 where it is closed.
+// The journal of `AB` and a message without bytes: the file of version 1, which is open, and that of version 2, closed.
 const JOURNAL_1: &[u8] = b"MOLDJNL1SESSION001\0\x02AB\0\0";
 
 const CLOSED_2: &[u8] = b"MOLDJNL2SESSION001\x01\0\0\0\0\0\0\0\x02\0\x02AB\0\0";
 
-// Upgrades the file, and compares the new one, what is told, and the status.
-fn expect_upgrade(
-    rt: &(impl Abort + AllocGlobal),
-    file: &[u8],
+/// A file, its devices, and what upgrading it writes and returns.
+#[derive(Clone, Copy)]
+struct Case {
+    file: &'static [u8],
     close: bool,
-    wanted: &[u8],
-    text: &[u8],
-    status: u8,
-) {
-    let mut source = MemorySource::new(file);
-    let mut journal = MemorySink::new(rt.alloc());
-    let mut sink = MemorySink::new(rt.alloc());
-    let outcome = run_upgrade(rt.alloc(), &mut source, &mut journal, close, &mut sink);
-    same_bytes(rt, journal.bytes(), wanted, 0);
-    same_bytes(rt, sink.bytes(), text, 0);
-    same_outcome(rt, outcome, Ok(status), 0);
+    /// The most bytes of a call. If it is 0, there is no limit.
+    most: usize,
+    /// The number of the read, of the write of the journal and of the write of the text that fails. If it is 0, no such
+    /// call fails.
+    read_fails: u64,
+    save_fails: u64,
+    write_fails: u64,
+    outcome: Result<u8, CommandFault>,
+    journal: &'static [u8],
+    text: &'static [u8],
 }
+
+fn source_of(case: &Case) -> MemorySource<'static> {
+    let mut source = MemorySource::new(case.file);
+    if case.most > 0 {
+        source.at_most(case.most);
+    }
+    source.fail_at(case.read_fails);
+    source
+}
+
+fn new_sink(rt: &impl AllocGlobal, most: usize, fails: u64) -> MemorySink {
+    let mut sink = MemorySink::new(rt.alloc());
+    if most > 0 {
+        sink.at_most(most);
+    }
+    sink.fail_at(fails);
+    sink
+}
+
+fn upgrade(
+    rt: &impl AllocGlobal,
+    case: &Case,
+    journal: &mut MemorySink,
+    sink: &mut MemorySink,
+) -> Result<u8, CommandFault> {
+    let mut source = source_of(case);
+    run_upgrade(rt.alloc(), &mut source, journal, case.close, sink)
+}
+
+// Upgrades the file, and compares the new one, the text and the outcome.
+fn expect(rt: &(impl Abort + AllocGlobal), case: &Case) {
+    let mut journal = new_sink(rt, case.most, case.save_fails);
+    let mut sink = new_sink(rt, case.most, case.write_fails);
+    let outcome = upgrade(rt, case, &mut journal, &mut sink);
+    let at = case.read_fails.max(case.save_fails.max(case.write_fails));
+    same_outcome(rt, outcome, case.outcome, at);
+    same_bytes(rt, journal.bytes(), case.journal, at);
+    same_bytes(rt, sink.bytes(), case.text, at);
+}
+
+fn expect_all(rt: &(impl Abort + AllocGlobal), cases: &[Case]) {
+    for case in cases {
+        expect(rt, case);
+    }
+}
+
+const CLOSED: Case = Case {
+    file: JOURNAL_1,
+    close: true,
+    most: 0,
+    read_fails: 0,
+    save_fails: 0,
+    write_fails: 0,
+    outcome: Ok(0),
+    journal: CLOSED_2,
+    text: b"upgraded 2 closed\n",
+};
+
+const UPGRADES: &[Case] = &[
+    CLOSED,
+    Case {
+        close: false,
+        journal: b"MOLDJNL2SESSION001\0\0\0\0\0\0\0\0\x02\0\x02AB\0\0",
+        text: b"upgraded 2 open\n",
+        ..CLOSED
+    },
+    Case {
+        file: CLOSED_2,
+        close: false,
+        ..CLOSED
+    },
+];
 
 #[test]
 fn journal_cuts_upgraded(rt: HostRuntime) {
-    let open = b"MOLDJNL2SESSION001\0\0\0\0\0\0\0\0\x02\0\x02AB\0\0";
-    expect_upgrade(&rt, JOURNAL_1, true, CLOSED_2, b"upgraded 2 closed\n", 0);
-    expect_upgrade(&rt, JOURNAL_1, false, open, b"upgraded 2 open\n", 0);
-    expect_upgrade(&rt, CLOSED_2, false, CLOSED_2, b"upgraded 2 closed\n", 0);
+    expect_all(&rt, UPGRADES);
 }
 
-// The file is refused so, and nothing is written.
-fn expect_refused_file(rt: &(impl Abort + AllocGlobal), file: &[u8], text: &[u8]) {
-    expect_upgrade(rt, file, true, b"", text, 2);
-}
+const REFUSED: Case = Case {
+    outcome: Ok(2),
+    journal: b"",
+    ..CLOSED
+};
+
+const REFUSALS: &[Case] = &[
+    Case {
+        file: b"MOLDJNL2SESSION001\x01\0\0\0\0\0\0\0\x02\0\x02AB",
+        text: b"refused CountDiffers 2 1\n",
+        ..REFUSED
+    },
+    Case {
+        file: b"MOLDJNL2SESSION001\x01\0\0\0\0\0\0\0\x02\0\x02A",
+        text: b"refused BlockCut 1\n",
+        ..REFUSED
+    },
+    Case {
+        file: b"MOLDJNL1SESSION00",
+        text: b"refused Short 17\n",
+        ..REFUSED
+    },
+    Case {
+        file: b"MOLDJNL3SESSION001",
+        text: b"refused BadMagic\n",
+        ..REFUSED
+    },
+    Case {
+        file: b"MOLDJNL2SESSION001\x02\0\0\0\0\0\0\0\0",
+        text: b"refused BadFlag 2\n",
+        ..REFUSED
+    },
+];
 
 #[test]
 fn files_that_are_not_upgraded(rt: HostRuntime) {
-    let cut = b"MOLDJNL2SESSION001\x01\0\0\0\0\0\0\0\x02\0\x02AB";
-    expect_refused_file(&rt, cut, b"refused CountDiffers 2 1\n");
-    let cut = b"MOLDJNL2SESSION001\x01\0\0\0\0\0\0\0\x02\0\x02A";
-    expect_refused_file(&rt, cut, b"refused BlockCut 1\n");
-    expect_refused_file(&rt, b"MOLDJNL1SESSION00", b"refused Short 17\n");
-    expect_refused_file(&rt, b"MOLDJNL3SESSION001", b"refused BadMagic\n");
-    let flag = b"MOLDJNL2SESSION001\x02\0\0\0\0\0\0\0\0";
-    expect_refused_file(&rt, flag, b"refused BadFlag 2\n");
+    expect_all(&rt, REFUSALS);
 }
 
-// Devices of one byte a call, of which a read, a write of the journal or a write of the text fails: 0 is none.
-#[derive(Clone, Copy)]
-struct Failing {
-    read: u64,
-    save: u64,
-    tell: u64,
-}
+const BY_BYTES: Case = Case { most: 1, ..CLOSED };
 
-// Upgrades the file byte by byte with a failure, and compares the journal and what is told.
-fn expect_upgraded(
-    rt: &(impl Abort + AllocGlobal),
-    failing: Failing,
-    wanted: Result<u8, CommandFault>,
-    journal: &[u8],
-    text: &[u8],
-) {
-    let mut source = MemorySource::new(JOURNAL_1);
-    source.at_most(1);
-    source.fail_at(failing.read);
-    let mut to = MemorySink::new(rt.alloc());
-    to.at_most(1);
-    to.fail_at(failing.save);
-    let mut sink = MemorySink::new(rt.alloc());
-    sink.at_most(1);
-    sink.fail_at(failing.tell);
-    let outcome = run_upgrade(rt.alloc(), &mut source, &mut to, true, &mut sink);
-    let at = failing.read.max(failing.save).max(failing.tell);
-    same_outcome(rt, outcome, wanted, at);
-    same_bytes(rt, to.bytes(), journal, at);
-    same_bytes(rt, sink.bytes(), text, at);
-}
-
-const UPGRADED: &[u8] = b"upgraded 2 closed\n";
-
-const SOUND: Failing = Failing {
-    read: 0,
-    save: 0,
-    tell: 0,
+const FAILED_READ: Case = Case {
+    outcome: Err(CommandFault::Read),
+    journal: b"",
+    text: b"",
+    ..BY_BYTES
 };
+
+fn expect_failed_read(rt: &(impl Abort + AllocGlobal), case: &Case, call: u64) {
+    let mut failing = *case;
+    failing.read_fails = call;
+    expect(rt, &failing);
+}
 
 // Each of the 24 bytes is a read, and so is the end.
 #[test]
-fn each_read_of_an_upgrade_that_fails_is_told(rt: HostRuntime) {
-    expect_upgraded(&rt, SOUND, Ok(0), CLOSED_2, UPGRADED);
-    for read in 1..=25u64 {
-        let failing = Failing { read, ..SOUND };
-        expect_upgraded(&rt, failing, Err(CommandFault::Read), b"", b"");
+fn each_read_of_an_upgrade_that_fails_is_reported(rt: HostRuntime) {
+    expect(&rt, &BY_BYTES);
+    for call in 1..=25u64 {
+        expect_failed_read(&rt, &FAILED_READ, call);
     }
 }
 
+const FAILED_SAVE: Case = Case {
+    outcome: Err(CommandFault::Write),
+    text: b"",
+    ..BY_BYTES
+};
+
+fn expect_failed_save(rt: &(impl Abort + AllocGlobal), case: &Case, call: usize) {
+    let mut failing = *case;
+    failing.save_fails = call as u64;
+    failing.journal = case
+        .journal
+        .get(..call.saturating_sub(1))
+        .unwrap_or(case.journal);
+    expect(rt, &failing);
+}
+
 #[test]
-fn each_write_of_an_upgrade_that_fails_leaves_a_beginning(rt: HostRuntime) {
-    for k in 1..=CLOSED_2.len() {
-        let failing = Failing {
-            save: k as u64,
-            ..SOUND
-        };
-        let written = &CLOSED_2[..k - 1];
-        expect_upgraded(&rt, failing, Err(CommandFault::Write), written, b"");
+fn each_write_of_a_journal_that_fails_leaves_a_prefix(rt: HostRuntime) {
+    for call in 1..=FAILED_SAVE.journal.len() {
+        expect_failed_save(&rt, &FAILED_SAVE, call);
     }
-    for k in 1..=UPGRADED.len() {
-        let failing = Failing {
-            tell: k as u64,
-            ..SOUND
-        };
-        let written = &UPGRADED[..k - 1];
-        expect_upgraded(&rt, failing, Err(CommandFault::Write), CLOSED_2, written);
+}
+
+const FAILED_WRITE: Case = Case {
+    outcome: Err(CommandFault::Write),
+    ..BY_BYTES
+};
+
+fn expect_failed_write(rt: &(impl Abort + AllocGlobal), case: &Case, call: usize) {
+    let mut failing = *case;
+    failing.write_fails = call as u64;
+    failing.text = case.text.get(..call.saturating_sub(1)).unwrap_or(case.text);
+    expect(rt, &failing);
+}
+
+#[test]
+fn each_write_of_a_text_that_fails_leaves_a_prefix(rt: HostRuntime) {
+    for call in 1..=FAILED_WRITE.text.len() {
+        expect_failed_write(&rt, &FAILED_WRITE, call);
     }
 }
