@@ -1,3 +1,4 @@
 pub mod DeviceLemmas
 pub mod LineLemmas
 pub mod TurnLemmas
+pub mod WritingLemmas

@@ -28,7 +28,7 @@ pub use lines::Lines;
 pub use memory_sink::MemorySink;
 pub use memory_source::MemorySource;
 pub use new_file::NewFile;
-pub use output::{LARGE, send};
+pub use output::{LARGE, end_with, send, send_large};
 pub use piece::Piece;
 pub use sink::{Sink, write_all};
 pub use slice_source::SliceSource;

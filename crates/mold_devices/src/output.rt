@@ -1,8 +1,10 @@
 //! Text output in large writes.
 
-ghost use Rattle.std.specs.Prelude.{◌≡◌, [], OnErr, OnOk, IfErr};
+ghost use Rattle.std.specs.Prelude.{◌≡◌, ◌<◌, [], length, take, OnErr, OnOk, IfErr};
 ghost use Rattle.std.specs.Io.KnownBytes.{Appends};
 ghost use Rattle.mold_devices.specs.Devices.{AppendsPrefix, Counts};
+ghost use Rattle.mold_devices.specs.Writing.{EndsWith, Moves};
+ghost use Rattle.mold_devices.specs.declared.output.TheConstants.{LARGE};
 
 use crate::fault::CommandFault;
 use crate::sink::{Sink, write_all};
@@ -26,4 +28,40 @@ pub fn send<K: Sink>(sink: &mut K, text: &mut Vec<u8>) -> Result<(), CommandFaul
     };
     text.clear();
     Ok(())
+}
+
+/// Writes the text and empties it if it has at least 65,536 bytes. Otherwise it writes nothing and keeps the text.
+/// After a fault, a prefix of the text is written, and `text` is unchanged.
+pub fn send_large<K: Sink>(sink: &mut K, text: &mut Vec<u8>) -> Result<(), CommandFault>
+    ensures moved { OnOk result (Moves (K.held sink.old) (K.held sink.new) text.old.items text.new.items) }
+    ensures short { OnOk result (length text.new.items < LARGE) }
+    ensures kept { OnErr result (text.new.items ≡ text.old.items) }
+    ensures front { AppendsPrefix (K.held sink.old) (K.held sink.new) text.old.items }
+    ensures fault { IfErr result (λ fault. fault ≡ CommandFault.Write) }
+    ensures failures { Counts (K.failed sink.old) (K.failed sink.new) result }
+    ensures live { K.live sink.new ≡ K.live sink.old }
+{
+    if text.len() < LARGE {
+        return Ok(());
+    }
+    send(sink, text)
+}
+
+/// Drops the text after its first `len` bytes and writes these bytes, after the fault `met`. Returns the fault
+/// that the command ends with: `met`, or `Write` if the write fails.
+pub fn end_with<K: Sink>(
+    sink: &mut K,
+    text: &mut Vec<u8>,
+    len: usize,
+    met: CommandFault,
+) -> CommandFault
+    ensures ends { EndsWith met result (K.held sink.old) (K.held sink.new) (take len text.old.items)
+        (K.failed sink.old) (K.failed sink.new) }
+    ensures live { K.live sink.new ≡ K.live sink.old }
+{
+    text.truncate(len);
+    match send(sink, text) {
+        Ok(()) => met,
+        Err(fault) => fault,
+    }
 }

@@ -7,7 +7,8 @@ use Rattle.std.specs.Prelude.{IsErr, IfOk, OnOk, if◌then◌else◌}
 use Rattle.std.specs.Io.KnownBytes.{Appends}
 use Rattle.std.proofs.KnownBytes.{Appends-nil, Appends-trans}
 use Rattle.mold_devices.specs.Devices.{AppendsPrefix}
-use Rattle.mold_turns.specs.Runs.{Loop, run, Begins, Moves, Rests, RestsOfTwo, Ran, TurnRests}
+use Rattle.mold_devices.specs.Writing.{Moves}
+use Rattle.mold_turns.specs.Runs.{Loop, run, Begins, Rests, RestsOfTwo, Ran, TurnRests}
 
 -- ---- prefixes
 

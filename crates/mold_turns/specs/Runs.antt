@@ -28,13 +28,6 @@ pub record Begins {A : Type 0} (front whole : List A) : Type 0 where
   pub rest : List A
   pub parts : whole ≡ front ++ rest
 
--- A prefix of `text` was written, and `left` is the rest.
-pub record Moves (old new : Option (List ℕ)) (text left : List ℕ) : Type 0 where
-  -- the text that was written
-  pub front : List ℕ
-  pub parts : text ≡ front ++ left
-  pub appended : Appends old new front
-
 -- What one turn that starts at `start` leaves, together with the write after it. `now` is the state that the loop holds
 -- then, whose text is not written yet. `behind front s` is the state `s` with `front` put before its text.
 pub record TurnRests {C S M T E : Type 0} (loop : Loop C S M) (behind : List ℕ → S → S) (start : S)

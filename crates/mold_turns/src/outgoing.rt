@@ -6,10 +6,10 @@ ghost use Rattle.std.specs.Prelude.{OnOk};
 ghost use Rattle.std.specs.Io.KnownBytes.{Appends};
 ghost use Rattle.mold_devices.specs.Devices.{AppendsPrefix, Counts};
 ghost use Rattle.mold_turns.specs.Outgoing.{IsBounded, failed_often, failed_once, nothing_out, with_more};
-ghost use Rattle.mold_turns.specs.Runs.{Moves};
+ghost use Rattle.mold_devices.specs.Writing.{EndsWith, Moves};
 ghost use Rattle.mold_text.specs.Line.{line_of, word_text};
 
-use mold_devices::{CommandFault, LARGE, Sink, send};
+use mold_devices::{CommandFault, LARGE, Sink, end_with, send};
 use mold_text::{Word, push_line};
 use std::alloc::{AllocError, Global};
 use std::marker::Model;
@@ -40,6 +40,13 @@ impl Outgoing {
             text: Vec::new(alloc),
             failures: 0,
         }
+    }
+
+    /// Returns the length in bytes of the text that is still to be written.
+    pub fn unwritten(&self) -> usize
+        ensures { result ≡ length self.now.text }
+    {
+        self.text.len()
     }
 
     /// Returns the count of failed sends and receives.
@@ -92,19 +99,15 @@ impl Outgoing {
         self.send(sink)
     }
 
-    /// Drops the text after its first `len` bytes, and writes these bytes. If the turn that was to append more text
-    /// fails, this writes the text of the turns before it. After a fault of the sink, a prefix of the bytes is written.
-    pub fn send_kept<K: Sink>(&mut self, len: usize, sink: &mut K) -> Result<(), CommandFault>
-        ensures whole { OnOk result (Appends (K.held sink.old) (K.held sink.new) (take len self.old.text)) }
-        ensures empty { OnOk result (self.new.text ≡ []) }
-        ensures front { AppendsPrefix (K.held sink.old) (K.held sink.new) (take len self.old.text) }
+    /// Ends a loop that met the fault `met`: drops the text after its first `len` bytes and writes these bytes, which
+    /// earlier turns printed. Returns the fault that the loop ends with: `met`, or `Write` if the write fails.
+    pub fn end_with<K: Sink>(&mut self, len: usize, met: CommandFault, sink: &mut K) -> CommandFault
+        ensures ends { EndsWith met result (K.held sink.old) (K.held sink.new) (take len self.old.text)
+            (K.failed sink.old) (K.failed sink.new) }
         ensures failures { self.new.failures ≡ self.old.failures }
         ensures live { K.live sink.new ≡ K.live sink.old }
-        ensures fault { IfErr result (λ fault. fault ≡ CommandFault.Write) }
-        ensures sink { Counts (K.failed sink.old) (K.failed sink.new) result }
     {
-        self.text.truncate(len);
-        self.send(sink)
+        end_with(sink, &mut self.text, len, met)
     }
 
     /// Writes the text. After a fault, a prefix of it is written, and the text is unchanged.

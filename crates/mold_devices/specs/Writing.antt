@@ -1,0 +1,20 @@
+-- What is written of a text, and what a command writes before it ends with a fault.
+use Rattle.std.specs.Prelude.{◌≡◌, ◌⊎◌, ℕ, List, ◌++◌, Option}
+use Rattle.std.specs.Io.KnownBytes.{Appends}
+use Rattle.mold_devices.specs.Devices.{AppendsPrefix, one_more}
+use Rattle.mold_devices.specs.declared.fault.CommandFault.{CommandFault}
+use Rattle.mold_devices.specs.declared.fault.CommandFault.TheVariants.{Write}
+
+-- A prefix of `text` was written, and `left` is the rest.
+pub record Moves (old new : Option (List ℕ)) (text left : List ℕ) : Type 0 where
+  -- The text that was written.
+  pub front : List ℕ
+  pub parts : text ≡ front ++ left
+  pub appended : Appends old new front
+
+-- A command that met the fault `met` ends with the fault `last`. If the text was written, `last` is `met`. If its write
+-- failed, a prefix of the text was written, and `last` is `Write`. The two numbers are the sink's counts of failures.
+abbrev pub EndsWith : CommandFault → CommandFault → Option (List ℕ) → Option (List ℕ) → List ℕ → ℕ → ℕ → Type 0
+EndsWith met last old new text failed_old failed_new =
+    ((last ≡ met) × (Appends old new text × (failed_new ≡ failed_old)))
+    ⊎ ((last ≡ Write) × (AppendsPrefix old new text × (failed_new ≡ one_more failed_old)))
