@@ -4,6 +4,7 @@ use Rattle.std.specs.Io.KnownBytes.{Appends}
 use Rattle.std.proofs.KnownBytes.{Appends-nil, Appends-trans}
 use Rattle.std.specs.Prelude.{Result, Ok, Err, IsErr, IsErrAnd, IfErr}
 use Rattle.mold_devices.specs.Devices.{AppendsPrefix, Counts, one_more}
+use Rattle.mold_devices.specs.Writing.{Moves}
 use Rattle.mold_devices.specs.declared.fault.CommandFault.{CommandFault}
 use Rattle.mold_devices.specs.declared.fault.CommandFault.TheVariants as fault
 use Rattle.mold_rule.specs.Ranges as lacking
@@ -69,13 +70,14 @@ sent_more old now begun done next r text more has is written =
           ∙ ap (λ t. has.written ++ t) (sym written);
     }
 
--- The text so far was written.
-pub sent_out : (old mid now : Option (List ℕ)) (begun : List ℕ) (done : List Range) (text left : List ℕ) →
-    HasSent old mid begun done text → Appends mid now text → left ≡ [] → HasSent old now begun done left
-sent_out old mid now begun done text left has out none = record {
-  written = has.written ++ text;
-  sent = Appends-trans old mid now has.written text has.sent out;
-  parts = has.parts ∙ sym (append-nil (has.written ++ text)) ∙ ap (λ t. (has.written ++ text) ++ t) (sym none);
+-- A prefix of the text so far was written, and the rest is still to be written.
+pub sent_moved : (old mid now : Option (List ℕ)) (begun : List ℕ) (done : List Range) (text left : List ℕ) →
+    HasSent old mid begun done text → Moves mid now text left → HasSent old now begun done left
+sent_moved old mid now begun done text left has moves = record {
+  written = has.written ++ moves.front;
+  sent = Appends-trans old mid now has.written moves.front has.sent moves.appended;
+  parts =
+      has.parts ∙ ap (λ t. has.written ++ t) moves.parts ∙ sym (append_assoc has.written moves.front left);
 }
 
 -- A prefix of the text so far was written.

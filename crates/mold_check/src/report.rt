@@ -1,6 +1,6 @@
 //! Writes the report of a check.
 
-ghost use Rattle.std.specs.Prelude.{◌≡◌, ◌++◌, ◌∷◌, [], OnOk, IfOk};
+ghost use Rattle.std.specs.Prelude.{◌≡◌, ◌<◌, ◌++◌, ◌∷◌, [], length, take, IfErr, IfOk, OnErr, OnOk};
 ghost use Rattle.std.specs.Io.KnownBytes.{Appends};
 ghost use Rattle.mold_capture.specs.Outcome.{incomplete, outcome_in, whole};
 ghost use Rattle.mold_capture.specs.Verdict.{ranges_of};
@@ -9,6 +9,8 @@ ghost use Rattle.mold_check.specs.Report.{Checked, counts_line, incomplete_line,
 ghost use Rattle.mold_check.specs.Report.{missing_text, outcome_status, outcome_text, report};
 ghost use Rattle.mold_devices.specs.Devices.{AppendsPrefix};
 ghost use Rattle.mold_devices.specs.Faults.{CountsSink};
+ghost use Rattle.mold_devices.specs.Writing.{Moves};
+ghost use Rattle.mold_devices.specs.declared.output.TheConstants.{LARGE};
 ghost use Rattle.mold_rule.specs.Ranges as lacking;
 ghost use Rattle.mold_text.specs.Text.{refusal_words, refused_line};
 
@@ -16,7 +18,7 @@ use crate::datagrams::{lend_bytes, sorted_datagrams};
 use crate::entry::Entry;
 use mold_capture::laws::outcome_law;
 use mold_capture::{Range, Refusal, Verdict, check};
-use mold_devices::{CommandFault, LARGE, Sink, send};
+use mold_devices::{CommandFault, Sink, end_with, send, send_large};
 use mold_text::{Word, push_line, push_refusal};
 use std::alloc::{AllocError, Global};
 
@@ -52,7 +54,9 @@ fn push_incomplete(text: &mut Vec<u8>, end: Option<u64>) -> Result<(), AllocErro
 }
 
 fn push_missing(text: &mut Vec<u8>, range: Range) -> Result<(), AllocError>
-    ensures { OnOk result (text.new.items ≡ text.old.items ++ missing_line (lacking.range range.first range.last)) }
+    ensures line { OnOk result
+        (text.new.items ≡ text.old.items ++ missing_line (lacking.range range.first range.last)) }
+    ensures kept { OnErr result (take (length text.old.items) text.new.items ≡ text.old.items) }
 {
     push_line(
         text,
@@ -62,6 +66,32 @@ fn push_missing(text: &mut Vec<u8>, range: Range) -> Result<(), AllocError>
             Word::Number(range.last),
         ],
     )
+}
+
+// Appends the line of a missing range. Then writes the text if it has at least 65,536 bytes. If an allocation fails,
+// writes the text before that line.
+fn print_missing<K: Sink>(
+    sink: &mut K,
+    text: &mut Vec<u8>,
+    range: Range,
+) -> Result<(), CommandFault>
+    ensures moved { OnOk result (Moves (K.held sink.old) (K.held sink.new)
+        (text.old.items ++ missing_line (lacking.range range.first range.last)) text.new.items) }
+    ensures short { OnOk result (length text.new.items < LARGE) }
+    ensures kept { IfErr result (λ fault. fault ≡ CommandFault.Memory →
+        Appends (K.held sink.old) (K.held sink.new) text.old.items) }
+    ensures front { AppendsPrefix (K.held sink.old) (K.held sink.new)
+        (text.old.items ++ missing_line (lacking.range range.first range.last)) }
+    ensures failures { CountsSink (K.failed sink.old) (K.failed sink.new) result }
+{
+    let told = text.len();
+    match push_missing(text, range) {
+        Ok(()) => {
+            send_large(sink, text)?;
+            Ok(())
+        }
+        Err(_) => Err(end_with(sink, text, told, CommandFault::Memory)),
+    }
 }
 
 // Writes the text and the lines of the missing ranges, in pieces of 65,536 bytes or more.
@@ -77,10 +107,7 @@ fn send_missing<K: Sink>(
     ensures failures { CountsSink (K.failed sink.old) (K.failed sink.new) result }
 {
     for range in missing {
-        push_missing(text, *range)?;
-        if text.len() >= LARGE {
-            send(sink, text)?;
-        }
+        print_missing(sink, text, *range)?;
     }
     send(sink, text)
 }
