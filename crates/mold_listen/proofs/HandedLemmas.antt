@@ -1,13 +1,24 @@
 -- The lines of a batch's messages, one by one.
 use Rattle.std.proofs.Common.{arith, ◌≡◌, ℕ, ◌+◌, ◌-◌, ◌<◌, ◌≤◌, List, [], ◌∷◌, ◌++◌, length, drop, None, Some}
-use Rattle.std.proofs.Common.{ap, sym, take, ◌∙◌, append_assoc, append-nil, drop_of_length-le, length-append}
-use Rattle.std.proofs.lemmas.List.{drop_more, length-take, length-take-le}
+use Rattle.std.proofs.Common.{ap, refl, sym, take, ◌∙◌, append_assoc, append-nil, drop_of_length-le, length-append}
+use Rattle.std.proofs.lemmas.List.{drop_more, length-take, length-take-le, take-append-le, take-take, take_at}
 use Rattle.std.proofs.lemmas.Option.{slice_get_within, get_or_from_slice_get, slice_get-get_or}
 use Rattle.std.specs.Prelude.{slice_get}
 use Rattle.mold_receiver.specs.Batch.{first_in, after_in}
 use Rattle.mold_receiver.specs.Store.{Message}
 use Rattle.mold_digits.specs.Writing.{IsWritten}
 use Rattle.mold_listen.specs.Text.{handed_line, handed_text}
+
+-- bytes at `at` or after changed, so the former text is still a prefix
+pub kept_below : (old now later rest more : List ℕ) (at : ℕ) → length old ≤ at → at ≤ length now →
+    take at now ++ rest ≡ old ++ more → take at later ≡ take at now → take (length old) later ≡ old
+kept_below old now later rest more at low within printed same =
+    sym (take-take (length old) at later low)
+    ∙ ap (take (length old)) same
+    ∙ sym (take-append-le (length old) (take at now) rest
+    (let e : length old ≤ length (take at now) = omega (arith, length-take-le at now within, low) in e))
+    ∙ ap (take (length old)) printed
+    ∙ take_at old more (length old) refl
 
 -- if a batch has a first number, this is it
 pub first_is : (number first : ℕ) (ms : List Message) → Some first ≡ first_in number ms → first ≡ number

@@ -3,6 +3,7 @@
 ghost use Rattle.std.specs.Prelude.{◌≡◌, IfOk, OnOk};
 ghost use Rattle.mold_listen.specs.Listening.{progress, last_lines, listener_status};
 ghost use Rattle.mold_turns.specs.Outgoing.{with_more};
+ghost use Rattle.mold_turns.specs.Runs.{Begins};
 ghost use Rattle.mold_listen.specs.Text.{line_name, report_line, reports_text};
 ghost use Rattle.mold_receiver.specs.Arbiter.{report_on};
 
@@ -24,8 +25,9 @@ fn name(line: Line) -> &'static [u8]
 
 // Appends the report of a line: what was received on it, and its lag.
 fn push_report(arbiter: &Arbiter, line: Line, outgoing: &mut Outgoing) -> Result<(), AllocError>
-    ensures { OnOk result (outgoing.new ≡ with_more
+    ensures line { OnOk result (outgoing.new ≡ with_more
         (report_line line (report_on line arbiter.now.reports) arbiter.now.view.known) outgoing.old) }
+    ensures prints { Begins outgoing.old.text outgoing.new.text }
 {
     let report = arbiter.report(line);
     let words = [
@@ -49,8 +51,9 @@ fn push_reports(
     reporting: bool,
     outgoing: &mut Outgoing,
 ) -> Result<(), AllocError>
-    ensures { OnOk result (outgoing.new ≡ with_more
+    ensures lines { OnOk result (outgoing.new ≡ with_more
         (reports_text reporting arbiter.now.reports arbiter.now.view.known) outgoing.old) }
+    ensures prints { Begins outgoing.old.text outgoing.new.text }
 {
     if !reporting {
         return Ok(());
@@ -69,6 +72,7 @@ pub fn push_end(
     ensures status { IfOk result (λ status. status ≡ listener_status (progress arbiter.now outgoing.old)) }
     ensures lines { OnOk result (outgoing.new ≡ with_more
         (last_lines reporting (progress arbiter.now outgoing.old)) outgoing.old) }
+    ensures prints { Begins outgoing.old.text outgoing.new.text }
 {
     push_reports(arbiter, reporting, outgoing)?;
     push_last(arbiter, outgoing)

@@ -1,11 +1,12 @@
 //! The listener at work: it receives on two lines, requests missing messages, and prints what the arbiter delivers.
 
-ghost use Rattle.std.specs.Prelude.{◌≡◌, true, length, OnOk};
+ghost use Rattle.std.specs.Prelude.{◌≡◌, true, length, IfErr, OnOk};
+ghost use Rattle.std.specs.Io.KnownBytes.{Appends};
 ghost use Rattle.mold_devices.specs.Faults.{CountsSink};
 ghost use Rattle.mold_listen.specs.Listening.{Agrees, HasAsked, HasTurned, IsSame, asking_state, receive_responses};
 ghost use Rattle.mold_listen.specs.Listening.{listened_lines, listening, put_before, receives, state, status};
 ghost use Rattle.mold_turns.specs.Outgoing.{IsBounded};
-ghost use Rattle.mold_turns.specs.Runs.{Ran, Rests, TurnRests};
+ghost use Rattle.mold_turns.specs.Runs.{Begins, Ran, Rests, TurnRests};
 ghost use Rattle.mold_receiver.specs.Wanted.{wanted};
 ghost use Rattle.mold_wire.specs.declared.limits.TheConstants.{MAX_LIMIT};
 
@@ -38,6 +39,7 @@ impl<'a, D: Datagrams> FeedListener<'a, D> {
             ≡ receive_responses (receives most (D.port self.old.requests.now).comes) (asking_state D.port self.old)) }
         ensures a { self.new.a ≡ self.old.a }
         ensures b { self.new.b ≡ self.old.b }
+        ensures prints { Begins self.old.printer.now.outgoing.text self.new.printer.now.outgoing.text }
         ensures same { IsSame self.old self.new }
     {
         for _ in 0..most {
@@ -62,6 +64,7 @@ impl<'a, D: Datagrams> FeedListener<'a, D> {
             (asking_state D.port self.old) (asking_state D.port self.new) }
         ensures a { self.new.a ≡ self.old.a }
         ensures b { self.new.b ≡ self.old.b }
+        ensures prints { Begins self.old.printer.now.outgoing.text self.new.printer.now.outgoing.text }
         ensures same { IsSame self.old self.new }
     {
         let Some(request) = self.arbiter.receiver().wanted() else {
@@ -84,6 +87,7 @@ impl<'a, D: Datagrams> FeedListener<'a, D> {
         requires { length buffer.old ≡ MAX_LIMIT }
         ensures turned { D.modeled ≡ true →
             HasTurned server burst result (state D.port self.old) (state D.port self.new) }
+        ensures prints { Begins self.old.printer.now.outgoing.text self.new.printer.now.outgoing.text }
         ensures same { IsSame self.old self.new }
     {
         receive_on(
@@ -103,7 +107,8 @@ impl<'a, D: Datagrams> FeedListener<'a, D> {
         self.ask(server, burst, buffer)
     }
 
-    // Makes one turn. Then writes the text if it has at least 65,536 bytes or the sink is live.
+    // Makes one turn. Then writes the text if it has at least 65,536 bytes or the sink is live. If the turn fails, writes
+    // the text of the turns before it.
     fn write_turn<K: Sink>(
         &mut self,
         server: D::Peer,
@@ -116,11 +121,17 @@ impl<'a, D: Datagrams> FeedListener<'a, D> {
             TurnRests (listening server burst) put_before (state D.port self.old)
             result (K.held sink.old) (K.held sink.new) (state D.port self.new) }
         ensures bounded { OnOk result (IsBounded (K.live sink.old) self.new.printer.now.outgoing.text) }
+        ensures kept { IfErr result (λ fault. fault ≡ CommandFault.Memory →
+            Appends (K.held sink.old) (K.held sink.new) self.old.printer.now.outgoing.text) }
         ensures live { K.live sink.new ≡ K.live sink.old }
         ensures same { IsSame self.old self.new }
         ensures sink { CountsSink (K.failed sink.old) (K.failed sink.new) result }
     {
-        self.take_turn(server, burst, buffer)?;
+        let told = self.printer.outgoing.unwritten();
+        let Ok(()) = self.take_turn(server, burst, buffer) else {
+            let outgoing = &mut self.printer.outgoing;
+            return Err(outgoing.end_with(told, CommandFault::Memory, sink));
+        };
         self.printer.outgoing.send_large(sink)?;
         Ok(())
     }
@@ -170,8 +181,12 @@ impl<'a, D: Datagrams> FeedListener<'a, D> {
         ensures sink { CountsSink (K.failed sink.old) (K.failed sink.new) result }
     {
         self.take_turns(options, buffer, sink)?;
-        let status = push_end(self.arbiter, options.reporting, &mut self.printer.outgoing)?;
-        self.printer.outgoing.send(sink)?;
+        let outgoing = &mut self.printer.outgoing;
+        let told = outgoing.unwritten();
+        let Ok(status) = push_end(self.arbiter, options.reporting, outgoing) else {
+            return Err(outgoing.end_with(told, CommandFault::Memory, sink));
+        };
+        outgoing.send(sink)?;
         Ok(status)
     }
 }

@@ -1,6 +1,6 @@
 //! The lines that are printed for delivered messages.
 
-ghost use Rattle.std.specs.Prelude.{◌≡◌, ◌++◌, ◌+◌, ◌≤◌, length, take, OnOk};
+ghost use Rattle.std.specs.Prelude.{◌≡◌, ◌++◌, ◌+◌, ◌≤◌, length, take, OnErr, OnOk};
 ghost use Rattle.mold_listen.specs.Text.{handed_text};
 
 use mold_receiver::Batch;
@@ -14,7 +14,7 @@ const GROWTH: usize = 4096;
 fn make_room(out: &mut Vec<u8>, at: usize, room: usize) -> Result<(), AllocError>
     requires { at ≤ length out.old.items }
     ensures room { OnOk result (at + room ≤ length out.new.items) }
-    ensures front { OnOk result (take at out.new.items ≡ take at out.old.items) }
+    ensures front { take at out.new.items ≡ take at out.old.items }
 {
     // If the end overflows, it becomes the greatest number, and the allocation for that fails.
     let end = at.saturating_add(room);
@@ -29,7 +29,8 @@ fn make_room(out: &mut Vec<u8>, at: usize, room: usize) -> Result<(), AllocError
 /// meaningless.
 #[tactic(auto, unfolding(crate::specs::Text::handed_text))]
 pub(crate) fn push_handed(out: &mut Vec<u8>, batch: &Batch) -> Result<(), AllocError>
-    ensures { OnOk result (out.new.items ≡ out.old.items ++ handed_text batch.now.first batch.now.messages) }
+    ensures text { OnOk result (out.new.items ≡ out.old.items ++ handed_text batch.now.first batch.now.messages) }
+    ensures kept { OnErr result (take (length out.old.items) out.new.items ≡ out.old.items) }
 {
     let (Some(first), Some(after)) = (batch.first(), batch.after()) else {
         return Ok(());

@@ -5,7 +5,7 @@ ghost use Rattle.mold_devices.specs.Faults.{CountsSink};
 ghost use Rattle.mold_listen.specs.Listening.{Agrees, beginning, progress, last_line, listener_status};
 ghost use Rattle.mold_listen.specs.Listening.{listened_lines, listening, status};
 ghost use Rattle.mold_turns.specs.Outgoing.{with_more};
-ghost use Rattle.mold_turns.specs.Runs.{Ran};
+ghost use Rattle.mold_turns.specs.Runs.{Begins, Ran};
 ghost use Rattle.mold_listen.specs.Text.{finished_line, open_line};
 
 use crate::feed_listener::FeedListener;
@@ -22,7 +22,8 @@ use std::alloc::{AllocError, Global};
 
 // The last line if all messages up to the end of the session were delivered.
 fn push_finished(outgoing: &mut Outgoing, next: u64) -> Result<(), AllocError>
-    ensures { OnOk result (outgoing.new ≡ with_more (finished_line next outgoing.old.failures) outgoing.old) }
+    ensures line { OnOk result (outgoing.new ≡ with_more (finished_line next outgoing.old.failures) outgoing.old) }
+    ensures prints { Begins outgoing.old.text outgoing.new.text }
 {
     let words = [
         Word::Text(b"finished"),
@@ -36,7 +37,8 @@ fn push_finished(outgoing: &mut Outgoing, next: u64) -> Result<(), AllocError>
 
 // The last line of a listener that has not finished.
 fn push_open(outgoing: &mut Outgoing, next: u64, known: u64) -> Result<(), AllocError>
-    ensures { OnOk result (outgoing.new ≡ with_more (open_line next known outgoing.old.failures) outgoing.old) }
+    ensures line { OnOk result (outgoing.new ≡ with_more (open_line next known outgoing.old.failures) outgoing.old) }
+    ensures prints { Begins outgoing.old.text outgoing.new.text }
 {
     let words = [
         Word::Text(b"open"),
@@ -57,6 +59,7 @@ pub fn push_last(arbiter: &Arbiter, outgoing: &mut Outgoing) -> Result<u8, Alloc
     ensures status { IfOk result (λ status. status ≡ listener_status (progress arbiter.now outgoing.old)) }
     ensures line { OnOk result
         (outgoing.new ≡ with_more (last_line (progress arbiter.now outgoing.old)) outgoing.old) }
+    ensures prints { Begins outgoing.old.text outgoing.new.text }
 {
     let receiver = arbiter.receiver();
     if receiver.finished() {

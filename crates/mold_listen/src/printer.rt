@@ -1,9 +1,10 @@
 //! The text that a listener still has to print.
 
-ghost use Rattle.std.specs.Prelude.{◌≡◌, OnOk};
+ghost use Rattle.std.specs.Prelude.{◌≡◌, length, take, OnErr, OnOk};
 ghost use Rattle.mold_listen.specs.Listening.{progress, taken};
 ghost use Rattle.mold_listen.specs.Text.{handed_text};
 ghost use Rattle.mold_turns.specs.Outgoing.{nothing_out, with_more};
+ghost use Rattle.mold_turns.specs.Runs.{Begins};
 ghost use Rattle.mold_receiver.specs.Origin.{line_of};
 ghost use Rattle.mold_text.specs.Text.{refusal_words, refused_line};
 
@@ -15,15 +16,17 @@ use std::alloc::{AllocError, Global};
 
 // Appends a line for each message of the batch.
 fn print_handed(outgoing: &mut Outgoing, batch: &Batch) -> Result<(), AllocError>
-    ensures { OnOk result
+    ensures text { OnOk result
         (outgoing.new ≡ with_more (handed_text batch.now.first batch.now.messages) outgoing.old) }
+    ensures kept { OnErr result (take (length outgoing.old.text) outgoing.new.text ≡ outgoing.old.text) }
 {
     push_handed(&mut outgoing.text, batch)
 }
 
 // Appends the line of a refused datagram.
 fn print_refused(outgoing: &mut Outgoing, why: Refusal) -> Result<(), AllocError>
-    ensures { OnOk result (outgoing.new ≡ with_more (refused_line (refusal_words why)) outgoing.old) }
+    ensures text { OnOk result (outgoing.new ≡ with_more (refused_line (refusal_words why)) outgoing.old) }
+    ensures kept { OnErr result (take (length outgoing.old.text) outgoing.new.text ≡ outgoing.old.text) }
 {
     push_refusal(&mut outgoing.text, &[Word::Text(b"refused")], why)
 }
@@ -56,8 +59,9 @@ impl Printer {
         origin: Origin,
         bytes: &[u8],
     ) -> Result<(), AllocError>
-        ensures { OnOk result (progress arbiter.new self.new.outgoing
+        ensures taken { OnOk result (progress arbiter.new self.new.outgoing
             ≡ taken (line_of origin) bytes.now (progress arbiter.old self.old.outgoing)) }
+        ensures prints { Begins self.old.outgoing.text self.new.outgoing.text }
     {
         self.batch.clear();
         match arbiter.take_from(origin, bytes, &mut self.batch) {

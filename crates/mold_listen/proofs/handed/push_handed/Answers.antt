@@ -1,7 +1,8 @@
-use Rattle.std.proofs.Common.{arith, ◌≡◌, sym, ◌∙◌, ap, ◌++◌, ◌<◌, ◌-◌, length, drop, ℕ, List, take}
+use Rattle.std.proofs.Common.{arith, ◌≡◌, sym, ◌∙◌, ap, ◌++◌, ◌<◌, ◌-◌, length, drop, ℕ, List, take, Result, Ok, Err}
+use Rattle.std.specs.Prelude.{OnErr}
 use Rattle.std.proofs.lemmas.List.{take_all, take_at}
 use Rattle.mold_listen.specs.Text.{handed_line, handed_text}
-use Rattle.mold_listen.proofs.HandedLemmas.{first_is, after_is, none_within, handed_more, handed_all, handed_init, written_within}
+use Rattle.mold_listen.proofs.HandedLemmas.{first_is, after_is, none_within, handed_more, handed_all, handed_init, kept_below, written_within}
 use Rattle.mold_listen.proofs.handed.push_handed.Goals as goal
 use Rattle.mold_listen.proofs.handed.push_handed.Goals.{in-Some+in_ok-make_room, in_default-get}
 
@@ -9,6 +10,7 @@ pub loop-number-init : goal.loop-number-init
 loop-number-init c =
     let all = take_all c.len-at.result c.args.out.now.items (omega arith) in
     record {
+      low = omega arith;
       within = omega arith;
       printed = ap (λ (t : List ℕ). t ++ handed_text c.in-Some-Some.first
           (drop (c.in-Some-Some.first - c.in-Some-Some.first) c.args.batch.now.messages)) all
@@ -31,6 +33,7 @@ loop-number-preserved c =
           (omega (arith, line.size, ap (λ (t : List ℕ). length t) w.as_mut_slice.ensures.value)) in
           rw (w.out-is, w.at-is, whole)
           (record {
+            low = omega (arith, line.stops, c.loop-number.invariant.low);
             within = written_within _ _ _ _ _ (omega (
               arith,
               w.in_ok-make_room.ensures.room,
@@ -45,8 +48,8 @@ loop-number-preserved c =
           omega (arith, after, first, c.loop-number-test.true) in e))
     ]
 
-pub returns : goal.returns
-returns c =
+pub returns-clause-text : goal.returns-clause-text
+returns-clause-text c =
     let after = after_is c.args.batch.now.first c.in-Some-Some.after c.args.batch.now.messages
     (sym c.in-Some-Some.is-1 ∙ c.after.ensures) in
     let first = first_is c.args.batch.now.first c.in-Some-Some.first c.args.batch.now.messages
@@ -55,3 +58,15 @@ returns c =
     ∙ handed_all c.loop-number.number c.in-Some-Some.first c.args.batch.now.messages _ _
     (omega (arith, after, first, c.loop-number-test.false)) c.loop-number.invariant.printed
     ∙ ap (λ (n : ℕ). c.args.out.now.items ++ handed_text n c.args.batch.now.messages) first
+
+-- after a failed allocation
+if_err : {T E : Type 0} (result : Result T E) {P : Type 0} → P → OnErr result P
+if_err (Ok _) p = tt
+if_err (Err _) p = p
+
+pub returns-in_err-make_room-clause-kept : goal.returns-in_err-make_room-clause-kept
+returns-in_err-make_room-clause-kept c =
+    if_err c.from_residual.result
+    (kept_below c.args.out.now.items c.loop-number.out.items c.make_room.new.out.items _ _ c.loop-number.at
+    c.loop-number.invariant.low c.loop-number.invariant.within c.loop-number.invariant.printed
+    c.make_room.ensures.front)

@@ -12,7 +12,8 @@ returns-then-finished c =
       status = finished_status (progress c.args.arbiter.now c.args.outgoing.now) over;
       line =
           finished_last c.args.arbiter.now c.args.outgoing.now c.push_finished.new.outgoing c.receiver-receiver.result.now
-          c.next.result over c.receiver-receiver.ensures c.next.ensures c.in_ok-push_finished.ensures;
+          c.next.result over c.receiver-receiver.ensures c.next.ensures c.in_ok-push_finished.ensures.line;
+      prints = c.in_ok-push_finished.ensures.prints;
     }
 
 pub returns : goal.returns
@@ -25,5 +26,6 @@ returns c =
       line =
           open_last c.args.arbiter.now c.args.outgoing.now c.push_open.new.outgoing c.receiver-receiver.result.now
           c.next-2.result c.known.result over c.receiver-receiver.ensures c.next-2.ensures c.known.ensures
-          c.in_ok-push_open.ensures;
+          c.in_ok-push_open.ensures.line;
+      prints = c.in_ok-push_open.ensures.prints;
     }

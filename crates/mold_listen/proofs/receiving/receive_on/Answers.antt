@@ -14,7 +14,7 @@ returns-in_ok-take-in-Ok-Some-clause-received g c = λ t.
     let next =
     received_next (line_of c.args.origin) (g.D.Datagrams.port c.args.port.now) before (length c.receive.new.buffer) _ long
     (rw c.in-Ok-Some.field-0-is at c.in-Ok-Some.ensures.came t) in
-    c.in_ok-take-in-Ok-Some.ensures ∙ next
+    c.in_ok-take-in-Ok-Some.ensures.taken ∙ next
 
 pub returns-in-Ok-None-clause-came : goal.returns-in-Ok-None-clause-came
 returns-in-Ok-None-clause-came g c = λ t.

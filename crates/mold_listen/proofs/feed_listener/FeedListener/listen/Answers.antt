@@ -1,5 +1,10 @@
-use Rattle.std.proofs.Common.{◌∙◌, ap, refl}
-use Rattle.mold_turns.proofs.FaultLemmas.{counts_memory, counts_same, counts_write}
+use Rattle.std.proofs.Common.{◌∙◌, ℕ, Err, List, Result, ap, refl, subst, take}
+use Rattle.mold_devices.specs.Devices.{AppendsPrefix}
+use Rattle.mold_devices.specs.Faults.{CountsSinkFault}
+use Rattle.mold_devices.specs.declared.fault.CommandFault.{CommandFault}
+use Rattle.mold_devices.proofs.WritingLemmas.{ends_front, ends_sink}
+use Rattle.mold_turns.proofs.PrintingLemmas.{front_more, kept_begins}
+use Rattle.mold_turns.proofs.FaultLemmas.{counts_same, counts_write}
 use Rattle.mold_turns.proofs.RunLemmas.{ran_cut, ran_front, ran_whole}
 use Rattle.mold_listen.specs.Listening.{Agrees, listened_lines, state, status}
 use Rattle.mold_turns.specs.Outgoing.{OutgoingState}
@@ -19,18 +24,27 @@ returns-in_err-take_turns-clause-sink g c =
     counts_same c.from_residual.result c.in_err-take_turns.field-0.0 _ _
     c.from_residual.ensures.1 c.in_err-take_turns.ensures.sink
 
-pub returns-in_err-status-clause-run : goal.returns-in_err-status-clause-run
-returns-in_err-status-clause-run g c = λ t.
-    ran_cut (is_loop c.args.options.server c.args.options.burst) c.args.options.turns
+pub returns-in_default-clause-run : goal.returns-in_default-clause-run
+returns-in_default-clause-run g c = λ t.
+    let before = c.take_turns.new.self.printer.now.outgoing.text in
+    let result : Result ℕ CommandFault = Err c.end_with.result in
+    ran_front (is_loop c.args.options.server c.args.options.burst) c.args.options.turns
     (state g.D.Datagrams.port c.args.self.now)
-    (listened_lines c.args.options.reporting) status _ c.take_turns.result c.from_residual-in_err-status.result
-    (c.take_turns.ensures.run t)
-    c.from_residual-in_err-status.ensures.0
+    (listened_lines c.args.options.reporting) status _ (λ front s. refl) c.in_ok-take_turns.field-0
+    (state g.D.Datagrams.port c.take_turns.new.self)
+    (c.in_ok-take_turns.ensures.run t)
+    result _ refl
+    (front_more _ _ before _
+    (subst (λ (text : List ℕ). AppendsPrefix (g.K.Sink.held c.take_turns.new.sink) (g.K.Sink.held c.end_with.new.sink) text)
+    (ap (λ (n : ℕ). take n c.push_end.new.outgoing.text) c.unwritten-told.ensures
+    ∙ kept_begins before _ c.push_end.ensures.prints)
+    (ends_front c.end_with.ensures.ends)))
+    refl
 
-pub returns-in_err-status-clause-sink : goal.returns-in_err-status-clause-sink
-returns-in_err-status-clause-sink g c =
-    counts_memory c.from_residual-in_err-status.result _ _ c.from_residual-in_err-status.ensures.1
-    c.in_ok-take_turns.ensures.sink
+pub returns-in_default-clause-sink : goal.returns-in_default-clause-sink
+returns-in_default-clause-sink g c =
+    subst (λ (n : ℕ). CountsSinkFault n (g.K.Sink.failed c.end_with.new.sink) c.end_with.result)
+    c.in_ok-take_turns.ensures.sink (ends_sink c.end_with.ensures.ends)
 
 pub returns-in_err-send-clause-run : goal.returns-in_err-send-clause-run
 returns-in_err-send-clause-run g c = λ t.
@@ -40,7 +54,7 @@ returns-in_err-send-clause-run g c = λ t.
     (state g.D.Datagrams.port c.take_turns.new.self)
     (c.in_ok-take_turns.ensures.run t)
     c.from_residual-in_err-send.result c.push_end.new.outgoing.text
-    (ap (λ (out : OutgoingState). out.text) c.in_ok-status.ensures.lines) c.send.ensures.front
+    (ap (λ (out : OutgoingState). out.text) c.in-Ok.ensures.lines) c.send.ensures.front
     c.from_residual-in_err-send.ensures.0
 
 pub returns-in_err-send-clause-sink : goal.returns-in_err-send-clause-sink
@@ -59,9 +73,9 @@ returns-clause-run g c = λ t.
     (λ front s. refl) c.in_ok-take_turns.field-0
     (state g.D.Datagrams.port c.take_turns.new.self)
     (c.in_ok-take_turns.ensures.run t)
-    c.in_ok-status.status c.push_end.new.outgoing.text
-    (ap (λ (out : OutgoingState). out.text) c.in_ok-status.ensures.lines) c.in_ok-send.ensures.whole
-    c.in_ok-status.ensures.status
+    c.in-Ok.status c.push_end.new.outgoing.text
+    (ap (λ (out : OutgoingState). out.text) c.in-Ok.ensures.lines) c.in_ok-send.ensures.whole
+    c.in-Ok.ensures.status
     (record { a_left = refl; b_left = refl; requests_left = refl; arbiter_left = refl })
 
 pub returns-clause-sink : goal.returns-clause-sink

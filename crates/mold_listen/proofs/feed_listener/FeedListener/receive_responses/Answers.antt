@@ -1,6 +1,7 @@
 use Rattle.std.proofs.Common.{arith, ◌≡◌, ◌∙◌, ◌-◌, ◌+◌, ℕ, ap, sym, refl}
 use Rattle.mold_ports.specs.Ports.{Port}
 use Rattle.mold_listen.specs.Listening.{asking, asking_state, receive_responses, receives}
+use Rattle.mold_turns.proofs.RunLemmas.{begins_trans, begins_whole}
 use Rattle.mold_listen.proofs.ListenLemmas.{answer_received, after_responses, asking_is, none_received, stepped}
 use Rattle.mold_listen.proofs.TurnLemmas.{same_at_first}
 use Rattle.mold_listen.proofs.feed_listener.FeedListener.receive_responses.Goals as goal
@@ -15,6 +16,7 @@ loop-init g c = record {
   a = refl;
   b = refl;
   same = same_at_first c.args.self.now;
+  prints = begins_whole _;
 }
 
 pub loop-preserved : goal.loop-preserved
@@ -33,7 +35,17 @@ loop-preserved g c = record {
   same =
       let same = c.loop.invariant.same in
       record { a = same.a; b = same.b; requests = same.requests; arbiter = same.arbiter; printer = same.printer };
+  prints = begins_trans c.loop.invariant.prints c.receive_on.ensures.prints;
 }
+
+pub returns-in_err-receive_on-clause-prints : goal.returns-in_err-receive_on-clause-prints
+returns-in_err-receive_on-clause-prints g c = begins_trans c.loop.invariant.prints c.receive_on.ensures.prints
+
+pub returns-after-loop-clause-prints : goal.returns-after-loop-clause-prints
+returns-after-loop-clause-prints g c = c.loop.invariant.prints
+
+pub returns-then-not-branch-clause-prints : goal.returns-then-not-branch-clause-prints
+returns-then-not-branch-clause-prints g c = begins_trans c.loop.invariant.prints c.receive_on.ensures.prints
 
 pub returns-in_err-receive_on-clause-sent : goal.returns-in_err-receive_on-clause-sent
 returns-in_err-receive_on-clause-sent g c = λ t.

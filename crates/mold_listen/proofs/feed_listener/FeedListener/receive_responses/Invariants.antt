@@ -1,5 +1,6 @@
 use Rattle.std.proofs.Common.{◌≡◌, true, ◌-◌}
 use Rattle.mold_listen.specs.Listening.{IsSame, asking_state, receive_responses, receives}
+use Rattle.mold_turns.specs.Runs.{Begins}
 use Rattle.mold_listen.proofs.feed_listener.FeedListener.receive_responses.Given as goal
 
 -- all receives give the same end as the remaining receives do from here; nothing is sent, and the lines do not change
@@ -15,4 +16,5 @@ invariant-loop g l = record {
   a : l.self.a ≡ l.fn.self.a;
   b : l.self.b ≡ l.fn.self.b;
   same : IsSame l.fn.self l.self;
+  prints : Begins l.fn.self.printer.now.outgoing.text l.self.printer.now.outgoing.text;
 }

@@ -2,6 +2,7 @@ use Rattle.std.proofs.Common.{◌≡◌, ◌∙◌, ap, refl, Some}
 use Rattle.std.specs.Borrow.{MutBor}
 use Rattle.mold_receiver.specs.declared.line.Line.TheVariants.{B}
 use Rattle.mold_listen.specs.Listening.{progress, with_next_receipt, after_lines, listener, state}
+use Rattle.mold_turns.proofs.RunLemmas.{begins_trans}
 use Rattle.mold_listen.proofs.TurnLemmas.{has_turned, turned_cut}
 use Rattle.mold_listen.proofs.feed_listener.FeedListener.take_turn.Goals as goal
 
@@ -30,3 +31,10 @@ returns-clause-turned g c = λ t.
     has_turned c.args.server c.args.burst c.ask.result before after mid is_mid
     (ap (λ (p : MutBor _). g.D.Datagrams.port p.now) c.ask.ensures.a ∙ c.receive_on.ensures.port t)
     (ap (λ (p : MutBor _). g.D.Datagrams.port p.now) c.ask.ensures.b ∙ c.receive_on-2.ensures.port t) (c.ask.ensures.asked t)
+
+pub returns-in_err-receive_on-2-clause-prints : goal.returns-in_err-receive_on-2-clause-prints
+returns-in_err-receive_on-2-clause-prints g c = begins_trans c.receive_on.ensures.prints c.receive_on-2.ensures.prints
+
+pub returns-clause-prints : goal.returns-clause-prints
+returns-clause-prints g c =
+    begins_trans (begins_trans c.receive_on.ensures.prints c.receive_on-2.ensures.prints) c.ask.ensures.prints
