@@ -41,6 +41,8 @@ const NO_DESCRIPTOR: RawFd = -1;
 #[derive(Debug, Drop)]
 pub struct UdpPort {
     socket: UdpSocket,
+    // The address that the port was opened at. Its port number may be 0.
+    bound: SocketAddrV4,
     address: SocketAddr,
     // The descriptors of the ports beside this one.
     beside: [RawFd; 2],
@@ -53,19 +55,20 @@ impl Model for UdpPort {
 
     ghost Value = { UdpState };
 
-    ghost view = { λ p. record { failures = p.failures; outlook = p.outlook } };
+    ghost view = { λ p. record { bound = p.bound; failures = p.failures; outlook = p.outlook } };
 }
 
 impl UdpPort {
     /// Opens a port at an address of this machine. For port 0, the system chooses a port. It fails if the address is
     /// not the machine's or is taken, or if no socket is available.
     pub fn bind<R: Net>(rt: &R, address: SocketAddrV4) -> Result<UdpPort, DeviceFault>
-        ensures { IfOk result (λ port. port ≡ record { failures = 0; outlook = Quiet }) }
+        ensures { IfOk result (λ port. port ≡ record { bound = address; failures = 0; outlook = Quiet }) }
     {
         match open(rt, address) {
-            Ok((socket, address)) => Ok(UdpPort {
+            Ok((socket, chosen)) => Ok(UdpPort {
                 socket,
-                address,
+                bound: address,
+                address: chosen,
                 beside: [NO_DESCRIPTOR, NO_DESCRIPTOR],
                 outlook: Outlook::Quiet,
                 failures: 0,

@@ -1,36 +1,39 @@
 //! The options of the loops over sockets, from the parsed command lines.
 
 ghost use Rattle.std.specs.Prelude.{◌≡◌};
+ghost use Rattle.mold_wiring.specs.Addresses.{IsPeerOf};
 
 use mold_listen::ListenOptions;
 use mold_send::PublishOptions;
+use mold_wiring::peer_address;
 use mold_words::{ListenOrder, PublishOrder, ServeOrder};
+use std::net::SocketAddr;
 
-/// Returns the options of a listener whose server is at the address `server`.
-pub(crate) fn listen_options<P: Copy>(order: &ListenOrder, server: P) -> ListenOptions<P>
-    ensures server { result.server ≡ server }
+/// Returns the options of the listener that the order asks for. Its server is at the order's address.
+pub(crate) fn listen_options(order: &ListenOrder) -> ListenOptions<SocketAddr>
+    ensures server { IsPeerOf order.now.server result.server }
     ensures burst { result.burst ≡ order.now.burst }
     ensures turns { result.turns ≡ order.now.turns }
     ensures reporting { result.reporting ≡ order.now.report }
 {
     ListenOptions {
-        server,
+        server: peer_address(order.server),
         burst: order.burst,
         turns: u64::from(order.turns),
         reporting: order.report,
     }
 }
 
-/// Returns the options of a publisher that sends line A to `a` and line B to `b`.
-pub(crate) fn publish_options<P: Copy>(order: &PublishOrder, a: P, b: P) -> PublishOptions<P>
-    ensures a { result.a ≡ a }
-    ensures b { result.b ≡ b }
+/// Returns the options of the publisher that the order asks for. It sends each line to that line's address.
+pub(crate) fn publish_options(order: &PublishOrder) -> PublishOptions<SocketAddr>
+    ensures a { IsPeerOf order.now.a result.a }
+    ensures b { IsPeerOf order.now.b result.b }
     ensures beats { result.beats ≡ order.now.beats }
     ensures ends { result.ends ≡ order.now.ends }
 {
     PublishOptions {
-        a,
-        b,
+        a: peer_address(order.a),
+        b: peer_address(order.b),
         beats: order.beats,
         ends: order.ends,
     }

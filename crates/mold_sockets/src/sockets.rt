@@ -2,6 +2,7 @@
 
 ghost use Rattle.mold_wire.specs.declared.limits.TheConstants.{MESSAGE_OVERHEAD};
 ghost use Rattle.std.specs.Prelude.{◌≡◌, ◌-◌};
+ghost use Rattle.mold_wiring.specs.Addresses.{IsSocketOf};
 
 use crate::options::{listen_options, publish_options, serve_turns};
 use mold_devices::{CommandFault, FromRead, IntoWrite, NewFile};
@@ -12,12 +13,11 @@ use mold_serve::serve_loop;
 use mold_session::{FileError, Journal};
 use mold_wiring::{
     ProgramFault, flushed, load_journal, make_arbiter, make_publisher, make_server, open_port,
-    print_file_refusal, socket_address,
+    print_file_refusal,
 };
 use mold_words::{Address, ListenOrder, PublishOrder, ServeOrder};
 use std::fs::File;
 use std::io::{Stdout, Write};
-use std::net::SocketAddr;
 
 /// An address at which the system chooses the port, on every address of the machine.
 const ANY: Address = Address {
@@ -55,14 +55,15 @@ pub fn run_serve(rt: &HostRuntime, order: &ServeOrder) -> Result<u8, ProgramFaul
     Ok(serve_on(rt, order, &mut port, &journal)?)
 }
 
-// Serves the journal over the port.
+// Serves the journal over the port, which was opened at the order's address.
 fn serve_on(
     rt: &HostRuntime,
     order: &ServeOrder,
     port: &mut UdpPort,
     journal: &Journal,
 ) -> Result<u8, CommandFault>
-    requires { journal.now.max_message ≡ order.now.limit - MESSAGE_OVERHEAD }
+    requires bound { IsSocketOf order.now.bind port.old.bound }
+    requires longest { journal.now.max_message ≡ order.now.limit - MESSAGE_OVERHEAD }
 {
     let mut server = make_server(rt.alloc(), order)?;
     let mut sink = standard_output(rt, order.live);
@@ -91,16 +92,18 @@ pub fn run_listen(rt: &HostRuntime, order: &ListenOrder) -> Result<u8, ProgramFa
     Ok(listen_on(rt, order, &mut ListenPorts { a, b, requests })?)
 }
 
-// Listens on the ports.
+// Listens on the ports. Those of the lines were opened at the order's addresses.
 fn listen_on(
     rt: &HostRuntime,
     order: &ListenOrder,
     ports: &mut ListenPorts<UdpPort>,
-) -> Result<u8, CommandFault> {
+) -> Result<u8, CommandFault>
+    requires a { IsSocketOf order.now.a ports.old.a.bound }
+    requires b { IsSocketOf order.now.b ports.old.b.bound }
+{
     let mut arbiter = make_arbiter(rt.alloc(), order)?;
-    let server = SocketAddr::V4(socket_address(order.server));
     let mut sink = standard_output(rt, order.live);
-    let options = listen_options(order, server);
+    let options = listen_options(order);
     let outcome = listen(rt.alloc(), ports, options, &mut arbiter, &mut sink);
     flushed(outcome, sink.into_inner().flush())
 }
@@ -119,14 +122,12 @@ fn publish_on(
     port: &mut UdpPort,
 ) -> Result<u8, CommandFault> {
     let mut publisher = make_publisher(rt.alloc(), order)?;
-    let a = SocketAddr::V4(socket_address(order.a));
-    let b = SocketAddr::V4(socket_address(order.b));
     let mut devices = PublishDevices {
         source: FromRead::new(rt.stdin()),
         sink: IntoWrite::new(rt.stdout()),
         journal: IntoWrite::new(NewFile::new(rt, order.journal.as_str())),
     };
-    let options = publish_options(order, a, b);
+    let options = publish_options(order);
     let outcome = publish(rt.alloc(), port, options, &mut publisher, &mut devices);
     let PublishDevices { sink, .. } = devices;
     flushed(outcome, sink.into_inner().flush())

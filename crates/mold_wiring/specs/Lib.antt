@@ -1,3 +1,4 @@
+pub mod Addresses
 pub mod Ending
 pub mod File
 pub mod Wiring

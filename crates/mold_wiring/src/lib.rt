@@ -10,7 +10,7 @@ mod program_fault;
 mod publishing;
 mod serving;
 
-pub use addresses::socket_address;
+pub use addresses::{peer_address, socket_address};
 pub use ending::{exit_code, flushed, print_fault};
 pub use limits::longest_message;
 pub use listening::make_arbiter;
