@@ -17,22 +17,26 @@ use std::{env, io};
 
 const NOT_UTF8: &str = "error: a word is not UTF-8\n";
 
-// Prints the text of help or of the version, or the text of a usage fault followed by the fault's word.
-fn print_usage(rt: &(impl Print + Eprint), fault: UsageFault) -> ExitCode {
+// Prints the text of help or of the version, or the text of a usage fault followed by the fault's line.
+fn print_usage(rt: &HostRuntime, fault: UsageFault) -> ExitCode {
+    let mut errors = IntoWrite::new(rt.stderr());
     match fault {
         UsageFault::Help { text } | UsageFault::Version { text } => match rt.print(text.as_str()) {
             Ok(()) => ExitCode::SUCCESS,
-            Err(_) => print_fault(rt, CommandFault::Write.word()),
+            Err(_) => exit_code(&mut errors, Err(ProgramFault::Command(CommandFault::Write))),
         },
         UsageFault::Usage { text } => {
             let _ = rt.eprint(text.as_str());
-            print_fault(rt, "Usage")
+            print_fault(&mut errors, "fault Usage\n")
         }
         UsageFault::Address { text } => {
             let _ = rt.eprint(text.as_str());
-            print_fault(rt, "Address")
+            print_fault(&mut errors, "fault Address\n")
         }
-        UsageFault::Memory => print_fault(rt, CommandFault::Memory.word()),
+        UsageFault::Memory => exit_code(
+            &mut errors,
+            Err(ProgramFault::Command(CommandFault::Memory)),
+        ),
     }
 }
 
@@ -119,5 +123,5 @@ fn main(rt: HostRuntime) -> ExitCode {
         Ok(order) => order,
         Err(fault) => return print_usage(&rt, fault),
     };
-    exit_code(&rt, run(&rt, &order))
+    exit_code(&mut IntoWrite::new(rt.stderr()), run(&rt, &order))
 }

@@ -1,5 +1,6 @@
 -- How a command ends.
-use Rattle.std.specs.Prelude.{ℕ, List, codes, Result, Ok, Err}
+use Rattle.std.specs.Prelude.{◌≡◌, ℕ, ◌<◌, List, ◌++◌, codes, Option, Result, Ok, Err}
+use Rattle.std.specs.Io.KnownBytes.{Appends}
 use Rattle.mold_devices.specs.Faults.{fault_word}
 use Rattle.mold_devices.specs.declared.fault.CommandFault.{CommandFault}
 use Rattle.mold_devices.specs.declared.fault.CommandFault.TheVariants.{Write}
@@ -17,6 +18,16 @@ flushed (Ok status) (Err _) = Err Write
 abbrev pub program_fault_word : ProgramFault → List ℕ
 program_fault_word (Command fault) = fault_word fault
 program_fault_word Socket = codes "Socket"
+
+-- The line that the program prints for the fault with this name: `fault`, a space, the name, and the byte 0A.
+abbrev pub fault_line : List ℕ → List ℕ
+fault_line word = codes "fault " ++ word ++ codes "\n"
+
+-- The text was appended to the bytes that a sink holds, unless the sink failed. `failed` is its count of failures
+-- before, and `failures` the count afterwards. The count tells no failure once it is 18,446,744,073,709,551,615.
+abbrev pub AppendsUnlessFailed : ℕ → ℕ → Option (List ℕ) → Option (List ℕ) → List ℕ → Type 0
+AppendsUnlessFailed failed failures old new text =
+    failed < 18446744073709551615 → failures ≡ failed → Appends old new text
 
 -- The status of the program: the command's status, or 3 if a fault ended the command.
 abbrev pub program_status : Result ℕ ProgramFault → ℕ

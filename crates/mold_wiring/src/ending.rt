@@ -1,11 +1,11 @@
 //! How a command ends: its output is flushed, and its status or fault becomes the status of the program.
 
-ghost use Rattle.std.specs.Prelude.{◌≡◌};
+ghost use Rattle.std.specs.Prelude.{◌≡◌, IfErr, OnOk};
 ghost use Rattle.std.specs.Process.{exit_status};
-ghost use Rattle.mold_wiring.specs.Ending.{flushed, program_fault_word, program_status};
+ghost use Rattle.mold_wiring.specs.Ending.{AppendsUnlessFailed, fault_line, flushed, program_fault_word, program_status};
 
 use crate::program_fault::ProgramFault;
-use mold_devices::CommandFault;
+use mold_devices::{CommandFault, Sink, write_all};
 use std::io;
 use std::process::ExitCode;
 
@@ -24,31 +24,37 @@ pub fn flushed(outcome: Result<u8, CommandFault>, flush: io::Result<()>) -> Resu
     }
 }
 
-// The name of the fault that is printed after `fault`.
-fn word(fault: ProgramFault) -> &'static str
-    ensures { result.now ≡ program_fault_word fault }
+// The line that is printed for the fault.
+fn line(fault: ProgramFault) -> &'static str
+    ensures { result.now ≡ fault_line (program_fault_word fault) }
 {
     match fault {
-        ProgramFault::Command(fault) => fault.word(),
-        ProgramFault::Socket => "Socket",
+        ProgramFault::Command(CommandFault::Read) => "fault Read\n",
+        ProgramFault::Command(CommandFault::Write) => "fault Write\n",
+        ProgramFault::Command(CommandFault::Memory) => "fault Memory\n",
+        ProgramFault::Socket => "fault Socket\n",
     }
 }
 
-/// Prints `fault` and the name of a fault as one line on standard error. Returns the status of the program, which is
-/// 3.
-pub fn print_fault(rt: &impl Eprint, word: &str) -> ExitCode
-    ensures { exit_status result ≡ 3 }
+/// Prints the line of a fault on the sink, which is standard error, in one write. A sink that fails is ignored. Returns
+/// the status of the program, which is 3. Nothing is allocated, since memory may be short.
+pub fn print_fault<K: Sink>(sink: &mut K, line: &str) -> ExitCode
+    ensures status { exit_status result ≡ 3 }
+    ensures told { AppendsUnlessFailed (K.failed sink.old) (K.failed sink.new) (K.held sink.old) (K.held sink.new) line.now }
 {
-    let _ = rt.eprintln(format_args!("fault {word}"));
+    let _ = write_all(sink, line.as_bytes());
     ExitCode::from(FAULT)
 }
 
-/// Returns the status of the program. A fault is printed on standard error.
-pub fn exit_code(rt: &impl Eprint, outcome: Result<u8, ProgramFault>) -> ExitCode
-    ensures { exit_status result ≡ program_status outcome }
+/// Returns the status of the program. The line of a fault is printed on the sink, which is standard error.
+pub fn exit_code<K: Sink>(sink: &mut K, outcome: Result<u8, ProgramFault>) -> ExitCode
+    ensures status { exit_status result ≡ program_status outcome }
+    ensures silent { OnOk outcome (sink.new ≡ sink.old) }
+    ensures told { IfErr outcome (λ fault. AppendsUnlessFailed (K.failed sink.old) (K.failed sink.new)
+        (K.held sink.old) (K.held sink.new) (fault_line (program_fault_word fault))) }
 {
     match outcome {
         Ok(status) => ExitCode::from(status),
-        Err(fault) => print_fault(rt, word(fault)),
+        Err(fault) => print_fault(sink, line(fault)),
     }
 }
