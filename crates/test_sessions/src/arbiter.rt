@@ -1,4 +1,4 @@
-//! The arbiter's examples by their names, and what is left after a growth was refused.
+//! The arbiter of line A and line B: worked examples, and its state after an allocation has failed.
 
 use crate::comparisons::same_number;
 use crate::reception::{
@@ -10,7 +10,7 @@ use std::alloc::Global;
 use std::process::Abort;
 use std::test::Fail;
 
-/// An arbiter at message 1 with a window of 4, and the batch that it hands on to.
+/// An arbiter at message 1 with a window of 4, and its batch.
 #[derive(Drop)]
 struct Arbitration {
     arbiter: Arbiter,
@@ -26,7 +26,7 @@ impl Arbitration {
         })
     }
 
-    /// Takes a packet of a line, or an answer, which is on none.
+    /// Takes a packet of a line, or a response, which belongs to no line.
     fn take(
         &mut self,
         rt: &impl Abort,
@@ -40,7 +40,8 @@ impl Arbitration {
         }
     }
 
-    /// Takes messages 1 to 3 of line A, once more if memory is refused: neither line has a datagram then.
+    /// Takes messages 1 to 3 of line A. If an allocation fails, neither line has a datagram, and the packet is taken
+    /// again.
     fn take_again(&mut self, rt: &impl Abort) -> Result<(), Refusal> {
         if self.take(rt, Some(Line::A), DATA_1_3) == Err(Refusal::Memory) {
             self.expect_lines(rt, (0, 0, 1), (0, 0, 1));
@@ -87,20 +88,20 @@ impl Arbitration {
     }
 }
 
-/// A call of an arbiter with its result, or what can be read of it.
+/// A call of an arbiter with its result, or what its reports state.
 #[derive(Clone, Copy)]
 enum Step {
-    /// A packet of a line, or an answer, of which this many messages are delivered and none kept.
+    /// A packet of a line, or a response: this many of its messages are delivered, and none is stored.
     Taken(Option<Line>, &'static [u8], u32),
     /// Bytes that are too short for a packet.
     Short(Option<Line>, &'static [u8]),
-    /// The reports of both lines: datagrams, refused ones, front.
+    /// The reports of both lines: datagrams, refused datagrams, and `front`.
     Lines((u64, u64, u64), (u64, u64, u64)),
     /// How many messages each line lags.
     Lags(u64, u64),
 }
 
-// An arbiter goes through the steps, after which its batch has messages 1 to 3.
+// An arbiter takes the steps. Its batch then has messages 1 to 3.
 fn expect_steps(rt: &impl Abort, alloc: Global, steps: &[Step]) -> Result<(), Fail> {
     let mut arbitration = Arbitration::new(alloc)?;
     arbitration.expect_steps(rt, steps);
@@ -124,7 +125,7 @@ fn two_lines(rt: HostRuntime) -> Result<(), Fail> {
     expect_steps(&rt, rt.alloc(), TWO_LINES)
 }
 
-const ANSWERS: &[Step] = &[
+const RESPONSES: &[Step] = &[
     Step::Taken(None, DATA_1_3, 3),
     Step::Lines((0, 0, 1), (0, 0, 1)),
     Step::Lags(3, 3),
@@ -133,17 +134,25 @@ const ANSWERS: &[Step] = &[
 ];
 
 #[test]
-fn answers_are_on_no_line(rt: HostRuntime) -> Result<(), Fail> {
-    expect_steps(&rt, rt.alloc(), ANSWERS)
+fn responses_belong_to_no_line(rt: HostRuntime) -> Result<(), Fail> {
+    expect_steps(&rt, rt.alloc(), RESPONSES)
 }
 
-/// Being out of memory is in no line's report.
+/// Out of memory is in no line's report.
 #[test]
 fn a_refused_growth_is_not_reported(rt: HostRuntime) -> Result<(), Fail> {
     let mut arbitration = Arbitration::new(rt.alloc())?;
     arbitration.take_again(&rt)?;
     arbitration.expect_lines(&rt, (1, 0, 4), (0, 0, 1));
     expect_batch(&rt, &arbitration.batch, 1, &[b"A", b"B", b"C"]);
+    Ok(())
+}
+
+// An arbiter takes a response with messages 1 to 3, and then the steps.
+fn expect_no_news(rt: &impl Abort, alloc: Global, steps: &[Step]) -> Result<(), Fail> {
+    let mut arbitration = Arbitration::new(alloc)?;
+    arbitration.take(rt, None, DATA_1_3)?;
+    arbitration.expect_steps(rt, steps);
     Ok(())
 }
 
@@ -154,13 +163,10 @@ const NO_NEWS: &[Step] = &[
     Step::Lines((0, 0, 1), (0, 0, 1)),
 ];
 
-/// No memory is taken by an answer that brings nothing.
+/// A response that brings nothing new allocates nothing.
 #[test]
 fn no_growth_of_an_answer_of_nothing_new(rt: HostRuntime) -> Result<(), Fail> {
-    let mut arbitration = Arbitration::new(rt.alloc())?;
-    arbitration.take(&rt, None, DATA_1_3)?;
-    arbitration.expect_steps(&rt, NO_NEWS);
-    Ok(())
+    expect_no_news(&rt, rt.alloc(), NO_NEWS)
 }
 
 const NO_NEWS_OF_LINES: &[Step] = &[
@@ -172,11 +178,8 @@ const NO_NEWS_OF_LINES: &[Step] = &[
     Step::Lags(0, 0),
 ];
 
-/// Nor by datagrams of lines that bring nothing, or are refused.
+/// Nor does a datagram of a line that brings nothing new or is refused.
 #[test]
 fn no_growth_of_lines_of_nothing_new(rt: HostRuntime) -> Result<(), Fail> {
-    let mut arbitration = Arbitration::new(rt.alloc())?;
-    arbitration.take(&rt, None, DATA_1_3)?;
-    arbitration.expect_steps(&rt, NO_NEWS_OF_LINES);
-    Ok(())
+    expect_no_news(&rt, rt.alloc(), NO_NEWS_OF_LINES)
 }

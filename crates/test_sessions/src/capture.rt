@@ -1,16 +1,16 @@
-//! The lists of the examples by their names, which reason comes first, and what is left after a growth was
-//! refused: `tests/out-of-memory` refuses each growth of the tests that are made for it. Each kind of comparison stands
-//! once, and what is owned is lent: the proof of a test grows with both.
+//! The checker of captures: verdicts, which refusal comes first, and its state after an allocation has failed.
+//! `tests/out-of-memory` makes each allocation of the tests for it fail. Expected values are constants, and each kind of
+//! comparison is in one function: the proof of a test grows with the owned values and the comparisons in it.
 
 use mold_capture::{Checker, Memory, Range, Refusal, Verdict, check};
 use mold_wire::DecodeError;
-use std::alloc::{AllocError, Global};
+use std::alloc::Global;
 use std::process::Abort;
 use std::test::Fail;
 
 const MAX: u64 = 18446744073709551615;
 
-/// Datagrams: heartbeats, messages by their numbers, message 1 being `A`, and ends.
+// Datagrams of heartbeats, of messages by their numbers (message 1 is `A`), and of ends.
 const BEAT_1: &[u8] = b"SESSION001\0\0\0\0\0\0\0\x01\0\0";
 
 const BEAT_5: &[u8] = b"SESSION001\0\0\0\0\0\0\0\x05\0\0";
@@ -48,305 +48,360 @@ const END_7: &[u8] = b"SESSION001\0\0\0\0\0\0\0\x07\xff\xff";
 
 const PAST_LAST: &[u8] = b"SESSION001\xff\xff\xff\xff\xff\xff\xff\xff\0\x01\0\x01x";
 
-fn ranges_of(alloc: Global, ranges: &[(u64, u64)]) -> Result<Vec<Range>, AllocError> {
-    let mut made = Vec::new(alloc);
-    for (first, last) in ranges {
-        made.push(Range {
-            first: *first,
-            last: *last,
-        })?;
+/// What `check` returns for a list of datagrams, or the verdict of a checker.
+#[derive(Clone, Copy)]
+enum Outcome {
+    /// The session is whole, and has this many messages.
+    Whole(u64),
+    /// The missing numbers, as pairs of the first and the last of a range, and the number of the end packet, if any.
+    Incomplete(&'static [(u64, u64)], Option<u64>),
+    /// The last datagram of the list is refused.
+    Refused(Refusal),
+}
+
+fn are_ranges(found: &[Range], wanted: &[(u64, u64)]) -> bool {
+    for (i, pair) in wanted.iter().enumerate() {
+        match found.get(i) {
+            Some(range) if range.first == pair.0 && range.last == pair.1 => {}
+            _ => return false,
+        }
     }
-    Ok(made)
+    found.len() == wanted.len()
 }
 
-/// The verdict that isn't whole, with these ranges.
-fn incomplete(alloc: Global, ranges: &[(u64, u64)], end: Option<u64>) -> Result<Verdict, Fail> {
-    let missing = ranges_of(alloc, ranges)?;
-    Ok(Verdict::Incomplete { missing, end })
-}
-
-fn expect<'w, 'd>(
-    rt: &impl Abort,
-    alloc: Global,
-    list: &'w [&'d [u8]],
-    wanted: Result<Verdict, (usize, Refusal)>,
-) {
-    let found = check(alloc, list);
-    assert!(rt; found == wanted, "another verdict");
-}
-
-fn expect_incomplete<'w, 'd>(
-    rt: &impl Abort,
-    alloc: Global,
-    list: &'w [&'d [u8]],
-    ranges: &[(u64, u64)],
-    end: Option<u64>,
-) -> Result<(), Fail> {
-    let wanted = incomplete(alloc, ranges, end)?;
-    expect(rt, alloc, list, Ok(wanted));
-    Ok(())
-}
-
-fn expect_whole<'w, 'd>(rt: &impl Abort, alloc: Global, list: &'w [&'d [u8]], messages: u64) {
-    expect(rt, alloc, list, Ok(Verdict::Whole { messages }));
-}
-
-/// The last datagram of the list is refused.
-fn expect_refused<'w, 'd>(rt: &impl Abort, alloc: Global, list: &'w [&'d [u8]], reason: Refusal) {
-    let index = list.len().saturating_sub(1);
-    expect(rt, alloc, list, Err((index, reason)));
-}
-
-#[test]
-fn lists_and_their_answers(rt: HostRuntime) -> Result<(), Fail> {
-    let alloc = rt.alloc();
-    expect_incomplete(&rt, alloc, &[DATA_1_TO_2, END_4], &[(3, 3)], Some(4))?;
-    let greatest = b"SESSION001\xff\xff\xff\xff\xff\xff\xff\xff\0\0";
-    expect_incomplete(&rt, alloc, &[greatest], &[(1, MAX - 1)], None)?;
-    expect_refused(&rt, alloc, &[BEAT_5, END_3], Refusal::EndBelow { known: 5 });
-    expect_whole(&rt, alloc, &[END_1, END_1], 0);
-    Ok(())
-}
-
-/// The lists of the example's folders.
-#[test]
-fn check_folders(rt: HostRuntime) -> Result<(), Fail> {
-    let alloc = rt.alloc();
-    expect_incomplete(&rt, alloc, &[], &[], None)?;
-    expect_whole(&rt, alloc, &[BEAT_1, END_1], 0);
-    expect_incomplete(&rt, alloc, &[DATA_1, END_3], &[(2, 2)], Some(3))?;
-    let x = b"SESSION001\0\0\0\0\0\0\0\x02\0\x01\0\x01X";
-    let y = b"SESSION001\0\0\0\0\0\0\0\x02\0\x01\0\x01Y";
-    expect_refused(&rt, alloc, &[x, y], Refusal::Conflict { number: 2 });
-    Ok(())
-}
-
-/// Number 1 is never carried; a hole between; a list that a longer packet fills.
-#[test]
-fn holes_are_told(rt: HostRuntime) -> Result<(), Fail> {
-    let alloc = rt.alloc();
-    let list = [DATA_2, END_7, DATA_4_TO_5];
-    expect_incomplete(&rt, alloc, &list, &[(1, 1), (3, 3), (6, 6)], Some(7))?;
-    let list = [DATA_4_TO_5, END_7, DATA_2, DATA_1_TO_6, DATA_4_TO_5];
-    expect_whole(&rt, alloc, &list, 6);
-    let other = b"SESSION001\0\0\0\0\0\0\0\x03\0\x03\0\x01C\0\x01x\0\x01E".as_slice();
-    let list = [DATA_2, DATA_1_TO_6, other];
-    expect_refused(&rt, alloc, &list, Refusal::Conflict { number: 4 });
-    Ok(())
-}
-
-#[test]
-fn bytes_that_spell_no_packet(rt: HostRuntime) -> Result<(), Fail> {
-    let cut = b"SESSION001\0\0\0\0\0\0\0\0\0";
-    let reason = Refusal::Malformed(DecodeError::Short { len: 19 });
-    expect_refused(&rt, rt.alloc(), &[BEAT_1, cut.as_slice()], reason);
-    Ok(())
-}
-
-/// Another session comes before all other reasons.
-#[test]
-fn another_session_comes_first(rt: HostRuntime) -> Result<(), Fail> {
-    let alloc = rt.alloc();
-    let others: [&[u8]; 5] = [
-        b"SESSION002\0\0\0\0\0\0\0\0\0\0",
-        b"SESSION002\xff\xff\xff\xff\xff\xff\xff\xff\0\x01\0\x01x",
-        b"SESSION002\0\0\0\0\0\0\0\x04\xff\xff",
-        b"SESSION002\0\0\0\0\0\0\0\x04\0\0",
-        b"SESSION002\0\0\0\0\0\0\0\x01\0\x01\0\x01x",
-    ];
-    for other in others {
-        let list = [DATA_1, END_3, other];
-        expect_refused(&rt, alloc, &list, Refusal::WrongSession);
+fn is_verdict(found: &Verdict, wanted: Outcome) -> bool {
+    match (found, wanted) {
+        (Verdict::Whole { messages }, Outcome::Whole(count)) => *messages == count,
+        (Verdict::Incomplete { missing, end }, Outcome::Incomplete(ranges, wanted_end)) => {
+            *end == wanted_end && are_ranges(missing.as_slice(), ranges)
+        }
+        _ => false,
     }
-    let below = b"SESSION002\0\0\0\0\0\0\0\x01\xff\xff".as_slice();
-    expect_refused(&rt, alloc, &[DATA_1, below], Refusal::WrongSession);
-    Ok(())
 }
 
-/// Number 0 comes before what is said of the end and before a conflict.
-#[test]
-fn number_zero_comes_second(rt: HostRuntime) -> Result<(), Fail> {
-    let alloc = rt.alloc();
-    let other = b"SESSION001\0\0\0\0\0\0\0\0\xff\xff".as_slice();
-    let behind = b"SESSION001\0\0\0\0\0\0\0\0\0\x03\0\0\0\x01A\0\x01B".as_slice();
-    let differs = b"SESSION001\0\0\0\0\0\0\0\0\0\x02\0\0\0\x01x".as_slice();
-    for last in [other, behind] {
-        expect_refused(&rt, alloc, &[DATA_1, END_2, last], Refusal::SequenceZero);
+fn is_refused(found: (usize, Refusal), last: usize, wanted: Outcome) -> bool {
+    match wanted {
+        Outcome::Refused(refusal) => found == (last, refusal),
+        _ => false,
     }
-    for last in [other, differs] {
-        expect_refused(&rt, alloc, &[DATA_1, last], Refusal::SequenceZero);
+}
+
+/// Lists of datagrams, and what `check` returns for each.
+type Cases = &'static [(&'static [&'static [u8]], Outcome)];
+
+fn expect_outcomes(rt: &impl Abort, alloc: Global, cases: Cases) {
+    for (i, (list, wanted)) in cases.iter().enumerate() {
+        let is_wanted = match check(alloc, list) {
+            Ok(verdict) => is_verdict(&verdict, *wanted),
+            Err(found) => is_refused(found, list.len().saturating_sub(1), *wanted),
+        };
+        assert!(rt; is_wanted, "list {i}");
     }
-    Ok(())
 }
 
-/// A top above all numbers comes before what is behind the end and before a conflict.
+/// The example's folders.
+const FOLDERS: Cases = &[
+    (&[], Outcome::Incomplete(&[], None)),
+    (&[BEAT_1, END_1], Outcome::Whole(0)),
+    (&[DATA_1, END_3], Outcome::Incomplete(&[(2, 2)], Some(3))),
+    (
+        &[
+            b"SESSION001\0\0\0\0\0\0\0\x02\0\x01\0\x01X",
+            b"SESSION001\0\0\0\0\0\0\0\x02\0\x01\0\x01Y",
+        ],
+        Outcome::Refused(Refusal::Conflict { number: 2 }),
+    ),
+];
+
 #[test]
-fn past_the_last_number_comes_third(rt: HostRuntime) -> Result<(), Fail> {
-    let alloc = rt.alloc();
-    expect_refused(&rt, alloc, &[DATA_1, END_2, PAST_LAST], Refusal::PastLast);
-    let last = b"SESSION001\xff\xff\xff\xff\xff\xff\xff\xfe\0\x01\0\x01A";
-    let differs = b"SESSION001\xff\xff\xff\xff\xff\xff\xff\xfe\0\x02\0\x01x\0\x01B";
-    expect_refused(&rt, alloc, &[last, differs], Refusal::PastLast);
-    Ok(())
+fn check_folders(rt: HostRuntime) {
+    expect_outcomes(&rt, rt.alloc(), FOLDERS);
 }
 
-/// Another end comes before one that is below, one that is behind, and a conflict comes last.
+const VERDICTS: Cases = &[
+    (
+        &[DATA_1_TO_2, END_4],
+        Outcome::Incomplete(&[(3, 3)], Some(4)),
+    ),
+    (
+        &[b"SESSION001\xff\xff\xff\xff\xff\xff\xff\xff\0\0"],
+        Outcome::Incomplete(&[(1, MAX - 1)], None),
+    ),
+    (&[END_1, END_1], Outcome::Whole(0)),
+    // Message 1 and one in the middle are missing. Then a longer packet fills the gaps.
+    (
+        &[DATA_2, END_7, DATA_4_TO_5],
+        Outcome::Incomplete(&[(1, 1), (3, 3), (6, 6)], Some(7)),
+    ),
+    (
+        &[DATA_4_TO_5, END_7, DATA_2, DATA_1_TO_6, DATA_4_TO_5],
+        Outcome::Whole(6),
+    ),
+];
+
 #[test]
-fn ends_come_in_order(rt: HostRuntime) -> Result<(), Fail> {
-    let alloc = rt.alloc();
-    for other in [END_1, END_4] {
-        let list = [DATA_1, END_3, other];
-        expect_refused(&rt, alloc, &list, Refusal::EndConflict { end: 3 });
-    }
-    let behind = b"SESSION001\0\0\0\0\0\0\0\x01\0\x03\0\x01x\0\x01B\0\x01C".as_slice();
-    let list = [DATA_1, END_3, behind];
-    expect_refused(&rt, alloc, &list, Refusal::PastEnd { end: 3 });
-    Ok(())
+fn gaps_are_reported(rt: HostRuntime) {
+    expect_outcomes(&rt, rt.alloc(), VERDICTS);
 }
 
-fn same_verdict(rt: &impl Abort, found: &Verdict, wanted: &Verdict) {
-    assert!(rt; *found == *wanted);
+/// Lists whose last datagram has several faults: the first in the order of `Refusal` is returned.
+const REFUSALS: Cases = &[
+    (
+        &[BEAT_1, b"SESSION001\0\0\0\0\0\0\0\0\0"],
+        Outcome::Refused(Refusal::Malformed(DecodeError::Short { len: 19 })),
+    ),
+    // Another session comes before all other refusals.
+    (
+        &[DATA_1, END_3, b"SESSION002\0\0\0\0\0\0\0\0\0\0"],
+        Outcome::Refused(Refusal::WrongSession),
+    ),
+    (
+        &[
+            DATA_1,
+            END_3,
+            b"SESSION002\xff\xff\xff\xff\xff\xff\xff\xff\0\x01\0\x01x",
+        ],
+        Outcome::Refused(Refusal::WrongSession),
+    ),
+    (
+        &[DATA_1, END_3, b"SESSION002\0\0\0\0\0\0\0\x04\xff\xff"],
+        Outcome::Refused(Refusal::WrongSession),
+    ),
+    (
+        &[DATA_1, END_3, b"SESSION002\0\0\0\0\0\0\0\x04\0\0"],
+        Outcome::Refused(Refusal::WrongSession),
+    ),
+    (
+        &[DATA_1, END_3, b"SESSION002\0\0\0\0\0\0\0\x01\0\x01\0\x01x"],
+        Outcome::Refused(Refusal::WrongSession),
+    ),
+    (
+        &[DATA_1, b"SESSION002\0\0\0\0\0\0\0\x01\xff\xff"],
+        Outcome::Refused(Refusal::WrongSession),
+    ),
+    // Sequence number 0 comes before a fault of the end and before a conflict.
+    (
+        &[DATA_1, END_2, b"SESSION001\0\0\0\0\0\0\0\0\xff\xff"],
+        Outcome::Refused(Refusal::SequenceZero),
+    ),
+    (
+        &[
+            DATA_1,
+            END_2,
+            b"SESSION001\0\0\0\0\0\0\0\0\0\x03\0\0\0\x01A\0\x01B",
+        ],
+        Outcome::Refused(Refusal::SequenceZero),
+    ),
+    (
+        &[DATA_1, b"SESSION001\0\0\0\0\0\0\0\0\xff\xff"],
+        Outcome::Refused(Refusal::SequenceZero),
+    ),
+    (
+        &[DATA_1, b"SESSION001\0\0\0\0\0\0\0\0\0\x02\0\0\0\x01x"],
+        Outcome::Refused(Refusal::SequenceZero),
+    ),
+    // A top above the greatest number comes before a fault of the end and before a conflict.
+    (
+        &[DATA_1, END_2, PAST_LAST],
+        Outcome::Refused(Refusal::PastLast),
+    ),
+    (
+        &[
+            b"SESSION001\xff\xff\xff\xff\xff\xff\xff\xfe\0\x01\0\x01A",
+            b"SESSION001\xff\xff\xff\xff\xff\xff\xff\xfe\0\x02\0\x01x\0\x01B",
+        ],
+        Outcome::Refused(Refusal::PastLast),
+    ),
+    // A second end that differs comes before one below a known number, and a packet past the end before a conflict.
+    (
+        &[DATA_1, END_3, END_1],
+        Outcome::Refused(Refusal::EndConflict { end: 3 }),
+    ),
+    (
+        &[DATA_1, END_3, END_4],
+        Outcome::Refused(Refusal::EndConflict { end: 3 }),
+    ),
+    (
+        &[BEAT_5, END_3],
+        Outcome::Refused(Refusal::EndBelow { known: 5 }),
+    ),
+    (
+        &[
+            DATA_1,
+            END_3,
+            b"SESSION001\0\0\0\0\0\0\0\x01\0\x03\0\x01x\0\x01B\0\x01C",
+        ],
+        Outcome::Refused(Refusal::PastEnd { end: 3 }),
+    ),
+    (
+        &[
+            DATA_2,
+            DATA_1_TO_6,
+            b"SESSION001\0\0\0\0\0\0\0\x03\0\x03\0\x01C\0\x01x\0\x01E",
+        ],
+        Outcome::Refused(Refusal::Conflict { number: 4 }),
+    ),
+];
+
+#[test]
+fn refusals_come_in_their_order(rt: HostRuntime) {
+    expect_outcomes(&rt, rt.alloc(), REFUSALS);
 }
 
-fn expect_verdict(rt: &impl Abort, checker: &Checker, wanted: &Verdict) -> Result<(), Memory> {
+fn same_result(rt: &impl Abort, found: Result<(), Refusal>, wanted: Result<(), Refusal>) {
+    assert!(rt; found == wanted, "another result");
+}
+
+fn expect_verdict(rt: &impl Abort, checker: &Checker, wanted: Outcome) -> Result<(), Memory> {
     let verdict = checker.verdict()?;
-    same_verdict(rt, &verdict, wanted);
+    assert!(rt; is_verdict(&verdict, wanted), "another verdict");
     Ok(())
 }
 
-/// A verdict, made once more if memory is refused.
-fn verdict_again(rt: &impl Abort, checker: &Checker, wanted: &Verdict) -> Result<(), Memory> {
+/// Compares the verdict. If an allocation fails, it is made again.
+fn verdict_again(rt: &impl Abort, checker: &Checker, wanted: Outcome) -> Result<(), Memory> {
     match expect_verdict(rt, checker, wanted) {
         Ok(()) => Ok(()),
         Err(Memory) => expect_verdict(rt, checker, wanted),
     }
 }
 
-fn same_answer(rt: &impl Abort, found: Result<(), Refusal>, wanted: Result<(), Refusal>) {
-    assert!(rt; found == wanted, "another answer");
-}
-
-/// Adds a datagram, with this answer.
-fn add(rt: &impl Abort, checker: &mut Checker, bytes: &[u8], wanted: Result<(), Refusal>) {
-    let answer = checker.add(bytes);
-    same_answer(rt, answer, wanted);
-}
-
-/// Adds a datagram, once more where memory was refused: the verdict was then as before.
+/// Adds a datagram. If an allocation fails, the verdict is as before, and the datagram is added again.
 fn add_again(
     rt: &impl Abort,
     checker: &mut Checker,
     bytes: &[u8],
-    before: &Verdict,
-) -> Result<(), Fail> {
-    let answer = checker.add(bytes);
-    if !matches!(answer, Err(Refusal::Memory)) {
-        same_answer(rt, answer, Ok(()));
-        return Ok(());
+    before: Outcome,
+) -> Result<(), Memory> {
+    match checker.add(bytes) {
+        Err(Refusal::Memory) => {
+            verdict_again(rt, checker, before)?;
+            add_or_memory(rt, checker, bytes)
+        }
+        result => {
+            same_result(rt, result, Ok(()));
+            Ok(())
+        }
     }
-    verdict_again(rt, checker, before)?;
-    checker.add(bytes)?;
-    Ok(())
 }
 
-/// Adds a datagram, with these verdicts before and after.
-fn expect_added(
-    rt: &impl Abort,
-    checker: &mut Checker,
-    bytes: &[u8],
-    before: &Verdict,
-    after: &Verdict,
-) -> Result<(), Fail> {
-    add_again(rt, checker, bytes, before)?;
-    verdict_again(rt, checker, after)?;
-    Ok(())
+fn add_or_memory(rt: &impl Abort, checker: &mut Checker, bytes: &[u8]) -> Result<(), Memory> {
+    match checker.add(bytes) {
+        Err(Refusal::Memory) => Err(Memory),
+        result => {
+            same_result(rt, result, Ok(()));
+            Ok(())
+        }
+    }
 }
 
-/// Messages 1, 2 and 5, then all six and the end; `hole` lacks messages 3 and 4.
-fn expect_growth(
-    rt: &impl Abort,
-    checker: &mut Checker,
-    nothing: &Verdict,
-    hole: &Verdict,
-) -> Result<(), Fail> {
-    expect_added(rt, checker, DATA_1, nothing, nothing)?;
-    expect_added(rt, checker, DATA_2, nothing, nothing)?;
-    expect_added(rt, checker, DATA_5, nothing, hole)?;
-    expect_added(rt, checker, DATA_1_TO_6, hole, nothing)?;
-    expect_added(rt, checker, END_7, nothing, &Verdict::Whole { messages: 6 })
+const NOTHING: Outcome = Outcome::Incomplete(&[], None);
+
+const GAP: Outcome = Outcome::Incomplete(&[(3, 4)], None);
+
+/// Datagrams, with the verdict after each: messages 1, 2 and 5, then all six and the end.
+const ADDED: &[(&[u8], Outcome)] = &[
+    (DATA_1, NOTHING),
+    (DATA_2, NOTHING),
+    (DATA_5, GAP),
+    (DATA_1_TO_6, NOTHING),
+    (END_7, Outcome::Whole(6)),
+];
+
+fn expect_added(rt: &impl Abort, checker: &mut Checker) -> Result<(), Memory> {
+    let mut before = NOTHING;
+    for (datagram, after) in ADDED {
+        add_again(rt, checker, datagram, before)?;
+        verdict_again(rt, checker, *after)?;
+        before = *after;
+    }
+    Ok(())
 }
 
 #[test]
 fn a_refused_growth_adds_nothing(rt: HostRuntime) -> Result<(), Fail> {
-    let nothing = incomplete(rt.alloc(), &[], None)?;
-    let hole = incomplete(rt.alloc(), &[(3, 4)], None)?;
     let mut checker = Checker::new(rt.alloc());
-    expect_growth(&rt, &mut checker, &nothing, &hole)
+    expect_added(&rt, &mut checker)?;
+    Ok(())
 }
 
-/// Being out of memory is reported at the datagram that brings something new, or after the last one.
+/// `check` of message 2, twice, of four messages that a heartbeat announces.
+fn expect_check(rt: &impl Abort, alloc: Global) -> Result<(), (usize, Refusal)> {
+    let verdict = check(alloc, &[BEAT_5, DATA_2, DATA_2])?;
+    let wanted = Outcome::Incomplete(&[(1, 1), (3, 4)], None);
+    assert!(rt; is_verdict(&verdict, wanted), "another verdict");
+    Ok(())
+}
+
+fn expect_memory(rt: &impl Abort, index: usize, refusal: Refusal) {
+    same_result(rt, Err(refusal), Err(Refusal::Memory));
+    assert!(rt; index == 1 || index == 3, "refused at {index}");
+}
+
+/// Out of memory is reported at the datagram that brings something new, or after the last one.
 #[test]
 fn a_refused_growth_is_told_by_a_check(rt: HostRuntime) -> Result<(), Fail> {
-    let wanted = incomplete(rt.alloc(), &[(1, 1), (3, 4)], None)?;
-    if let Err((index, reason)) = expect_check(&rt, rt.alloc(), &wanted) {
-        same_answer(&rt, Err(reason), Err(Refusal::Memory));
-        assert!(rt; index == 1 || index == 3, "refused at {index}");
-        expect_check(&rt, rt.alloc(), &wanted)?;
+    if let Err((index, refusal)) = expect_check(&rt, rt.alloc()) {
+        expect_memory(&rt, index, refusal);
+        expect_check(&rt, rt.alloc())?;
     }
     Ok(())
 }
 
-/// Message 2, twice, of four messages that a heartbeat announces.
-fn expect_check(rt: &impl Abort, alloc: Global, wanted: &Verdict) -> Result<(), (usize, Refusal)> {
-    let verdict = check(alloc, &[BEAT_5, DATA_2, DATA_2])?;
-    same_verdict(rt, &verdict, wanted);
-    Ok(())
-}
+/// Datagrams of a session of four messages that bring nothing new, and two that are refused.
+const NOTHING_NEW: &[(&[u8], Result<(), Refusal>)] = &[
+    (DATA_1_TO_2, Ok(())),
+    (DATA_3_TO_4, Ok(())),
+    (DATA_2_TO_3, Ok(())),
+    (DATA_1_TO_4, Ok(())),
+    (BEAT_5, Ok(())),
+    (END_5, Ok(())),
+    (END_5, Ok(())),
+    (
+        b"SESSION001\0\0\0\0\0\0\0\x03\0\x02\0\x01C\0\x01x",
+        Err(Refusal::Conflict { number: 4 }),
+    ),
+    (DATA_5, Err(Refusal::PastEnd { end: 5 })),
+];
 
-/// Messages 1 to 4 and the end, and then nothing new.
-fn expect_nothing_new(rt: &impl Abort, checker: &mut Checker, empty: &Verdict) -> Result<(), Fail> {
-    add_again(rt, checker, DATA_1_TO_2, empty)?;
-    add_again(rt, checker, DATA_3_TO_4, empty)?;
-    let known: [&[u8]; 7] = [
-        DATA_1_TO_2,
-        DATA_3_TO_4,
-        DATA_2_TO_3,
-        DATA_1_TO_4,
-        BEAT_5,
-        END_5,
-        END_5,
-    ];
-    for datagram in known {
-        add(rt, checker, datagram, Ok(()));
+fn expect_results(
+    rt: &impl Abort,
+    checker: &mut Checker,
+    steps: &[(&'static [u8], Result<(), Refusal>)],
+) {
+    for (datagram, wanted) in steps {
+        same_result(rt, checker.add(datagram), *wanted);
     }
-    let differs = b"SESSION001\0\0\0\0\0\0\0\x03\0\x02\0\x01C\0\x01x";
-    add(rt, checker, differs, Err(Refusal::Conflict { number: 4 }));
-    add(rt, checker, DATA_5, Err(Refusal::PastEnd { end: 5 }));
-    verdict_again(rt, checker, &Verdict::Whole { messages: 4 })?;
-    Ok(())
 }
 
-/// A datagram that brings nothing new takes no memory, so it is never refused for want of it, nor is one that is
-/// refused for another reason.
+/// Messages 1 to 4, and then nothing new.
+fn expect_nothing_new(rt: &impl Abort, checker: &mut Checker) -> Result<(), Memory> {
+    add_again(rt, checker, DATA_1_TO_2, NOTHING)?;
+    add_again(rt, checker, DATA_3_TO_4, NOTHING)?;
+    expect_results(rt, checker, NOTHING_NEW);
+    verdict_again(rt, checker, Outcome::Whole(4))
+}
+
+/// A datagram that brings nothing new allocates nothing, nor does one that is refused. So neither is ever refused as
+/// `Memory`.
 #[test]
 fn a_refused_growth_is_of_something_new(rt: HostRuntime) -> Result<(), Fail> {
-    let empty = incomplete(rt.alloc(), &[], None)?;
     let mut checker = Checker::new(rt.alloc());
-    expect_nothing_new(&rt, &mut checker, &empty)
+    expect_nothing_new(&rt, &mut checker)?;
+    Ok(())
 }
 
-/// Nor does a checker that is made, or a packet without messages.
+const WITHOUT_MESSAGES: &[(&[u8], Result<(), Refusal>)] = &[
+    (BEAT_5, Ok(())),
+    (BEAT_1, Ok(())),
+    (END_5, Ok(())),
+    (END_3, Err(Refusal::EndConflict { end: 5 })),
+    (DATA_5, Err(Refusal::PastEnd { end: 5 })),
+];
+
+/// A new checker allocates nothing, nor does a packet without messages.
 #[test]
 fn no_growth_without_messages(rt: HostRuntime) {
     let mut checker = Checker::new(rt.alloc());
-    for datagram in [BEAT_5, BEAT_1, END_5] {
-        add(&rt, &mut checker, datagram, Ok(()));
-    }
-    add(
-        &rt,
-        &mut checker,
-        END_3,
-        Err(Refusal::EndConflict { end: 5 }),
-    );
-    add(&rt, &mut checker, DATA_5, Err(Refusal::PastEnd { end: 5 }));
+    expect_results(&rt, &mut checker, WITHOUT_MESSAGES);
 }

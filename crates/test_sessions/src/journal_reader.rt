@@ -12,83 +12,103 @@ fn same_turn(rt: &impl Abort, found: Result<bool, FileError>, wanted: Result<boo
     assert!(rt; found == wanted, "another turn");
 }
 
-/// The messages are `AB` and one without bytes, and the file says of its journal whether it is closed.
-fn expect_two(
-    rt: &impl Abort,
-    alloc: Global,
-    source: &mut MemorySource,
-    closed: bool,
-) -> Result<(), FileError> {
-    let mut reader = JournalReader::new(alloc, source)?;
-    same_truth(rt, reader.head().closed, closed);
-    expect_read(rt, &reader, b"", 0);
-    same_turn(rt, reader.advance(source), Ok(true));
-    expect_read(rt, &reader, b"AB", 1);
-    same_turn(rt, reader.advance(source), Ok(true));
-    expect_read(rt, &reader, b"", 2);
-    same_turn(rt, reader.advance(source), Ok(false));
-    Ok(())
-}
-
-/// The message that was read last, and how many were read.
 fn expect_read(rt: &impl Abort, reader: &JournalReader, message: &[u8], count: u64) {
     same_bytes(rt, reader.message(), message);
     same_number(rt, reader.count(), count);
 }
 
+/// The reader returns these messages, and then this result.
+fn expect_messages<'w, 'm>(
+    rt: &impl Abort,
+    reader: &mut JournalReader,
+    source: &mut MemorySource<'_>,
+    messages: &'w [&'m [u8]],
+    end: Result<bool, FileError>,
+) {
+    expect_read(rt, reader, b"", 0);
+    let mut count = 0u64;
+    for message in messages {
+        same_turn(rt, reader.advance(source), Ok(true));
+        count = count.saturating_add(1);
+        expect_read(rt, reader, message, count);
+    }
+    same_turn(rt, reader.advance(source), end);
+}
+
+/// The file states whether its journal is closed, and has these messages. After the last one the reader returns `end`.
+fn expect_file<'w, 'm>(
+    rt: &impl Abort,
+    alloc: Global,
+    source: &mut MemorySource<'_>,
+    closed: bool,
+    messages: &'w [&'m [u8]],
+    end: Result<bool, FileError>,
+) -> Result<(), FileError> {
+    let mut reader = JournalReader::new(alloc, source)?;
+    same_truth(rt, reader.head().closed, closed);
+    expect_messages(rt, &mut reader, source, messages, end);
+    Ok(())
+}
+
+fn expect_two(
+    rt: &impl Abort,
+    alloc: Global,
+    source: &mut MemorySource<'_>,
+    closed: bool,
+) -> Result<(), FileError> {
+    expect_file(rt, alloc, source, closed, &[b"AB", b""], Ok(false))
+}
+
+fn expect_two_by_bytes(rt: &impl Abort, alloc: Global) -> Result<(), FileError> {
+    let mut source = MemorySource::new(&CLOSED);
+    source.at_most(1);
+    expect_two(rt, alloc, &mut source, true)
+}
+
 #[test]
 fn the_messages_of_a_file_are_read(rt: HostRuntime) -> Result<(), Fail> {
     expect_two(&rt, rt.alloc(), &mut MemorySource::new(&FIRST), false)?;
-    let mut source = MemorySource::new(&CLOSED);
-    source.at_most(1);
-    expect_two(&rt, rt.alloc(), &mut source, true)?;
+    expect_two_by_bytes(&rt, rt.alloc())?;
     Ok(())
 }
 
-/// The file ends behind its first message, and the next turn is this.
-fn expect_end(
+/// The file ends after its first message, or within its second one, which has this fault.
+fn expect_fault(
     rt: &impl Abort,
     alloc: Global,
     file: &[u8],
-    wanted: FileError,
+    closed: bool,
+    fault: FileError,
 ) -> Result<(), FileError> {
     let mut source = MemorySource::new(file);
-    let mut reader = JournalReader::new(alloc, &mut source)?;
-    same_turn(rt, reader.advance(&mut source), Ok(true));
-    same_turn(rt, reader.advance(&mut source), Err(wanted));
-    Ok(())
+    expect_file(rt, alloc, &mut source, closed, &[b"AB"], Err(fault))
 }
 
 #[test]
-fn a_cut_file_is_refused_where_it_is_cut(rt: HostRuntime) -> Result<(), Fail> {
+fn a_truncated_file_is_refused_at_its_end(rt: HostRuntime) -> Result<(), Fail> {
     let cut = FileError::BlockCut { number: 2 };
-    expect_end(&rt, rt.alloc(), &FIRST[..23], cut)?;
-    expect_end(&rt, rt.alloc(), &CLOSED[..32], cut)?;
+    expect_fault(&rt, rt.alloc(), &FIRST[..23], false, cut)?;
+    expect_fault(&rt, rt.alloc(), &CLOSED[..32], true, cut)?;
     let fewer = FileError::CountDiffers { count: 2, found: 1 };
-    expect_end(&rt, rt.alloc(), &CLOSED[..31], fewer)?;
+    expect_fault(&rt, rt.alloc(), &CLOSED[..31], true, fewer)?;
     Ok(())
 }
 
-/// Reads the two messages, and the end behind them.
-fn read_two(alloc: Global, file: &[u8]) -> Result<(), FileError> {
-    let mut source = MemorySource::new(file);
-    let mut reader = JournalReader::new(alloc, &mut source)?;
-    advance_thrice(&mut reader, &mut source)
-}
-
-fn advance_thrice(reader: &mut JournalReader, source: &mut MemorySource) -> Result<(), FileError> {
+/// Reads the two messages, and the end of the file.
+fn read_two(alloc: Global, source: &mut MemorySource<'_>) -> Result<(), FileError> {
+    let mut reader = JournalReader::new(alloc, source)?;
     for _ in 0..3 {
         reader.advance(source)?;
     }
     Ok(())
 }
 
-/// Reads a file, and once more from a new source where memory was refused.
+/// If an allocation fails, the file is read again from a new source.
 #[test]
 fn a_refused_growth_ends_a_reading(rt: HostRuntime) -> Result<(), Fail> {
-    if let Err(error) = read_two(rt.alloc(), &CLOSED) {
+    if let Err(error) = read_two(rt.alloc(), &mut MemorySource::new(&CLOSED)) {
         same_refusal(&rt, error, FileError::Memory);
-        read_two(rt.alloc(), &CLOSED)?;
+        read_two(rt.alloc(), &mut MemorySource::new(&CLOSED))?;
     }
     Ok(())
 }

@@ -1,5 +1,5 @@
-//! The receiver's examples by their names, each public call on its happy path, and what is left after a growth
-//! was refused. `tests/out-of-memory` refuses each growth of the tests that are made for it.
+//! The receiver: worked examples, which refusal comes first, and its state after an allocation has failed.
+//! `tests/out-of-memory` makes each allocation of the tests for it fail.
 
 use crate::comparisons::{same_message, same_number, same_truth};
 use crate::reception::{
@@ -12,8 +12,8 @@ use std::alloc::Global;
 use std::process::Abort;
 use std::test::Fail;
 
-/// Packets that are refused by a receiver that delivered messages 1 to 3 and stored 5; the last two once the end
-/// is known.
+/// Packets that a receiver refuses after it has delivered messages 1 to 3 and stored message 5. It refuses the last two
+/// because it knows the end.
 const REFUSED: &[Step] = &[
     Step::Refused(b"", Refusal::Malformed(DecodeError::Short { len: 0 })),
     Step::Refused(b"SESSION002\0\0\0\0\0\0\0\x01\0\0", Refusal::WrongSession),
@@ -130,7 +130,7 @@ const FORGED: &[Step] = &[
     Step::Batch(1, &[b"A", b"B", b"Z"]),
 ];
 
-/// A datagram that no publisher sent: its message 3 stays, and the true one is refused.
+/// A forged datagram: the receiver keeps its message 3, and refuses the true one.
 #[test]
 fn a_forged_message_stays(rt: HostRuntime) -> Result<(), Fail> {
     expect_steps(&rt, rt.alloc(), 1, 4, FORGED)
@@ -166,7 +166,7 @@ const BOUNDED: &[Step] = &[
 ];
 
 #[test]
-fn the_end_bounds_what_comes(rt: HostRuntime) -> Result<(), Fail> {
+fn packets_past_the_end_are_refused(rt: HostRuntime) -> Result<(), Fail> {
     expect_steps(&rt, rt.alloc(), 1, 4, BOUNDED)
 }
 
@@ -192,7 +192,7 @@ fn expect_empty(rt: &impl Abort, batch: &Batch) {
 }
 
 #[test]
-fn a_batch_begins_at_next_and_is_cut(rt: HostRuntime) -> Result<(), Fail> {
+fn a_batch_begins_at_next_and_is_truncated(rt: HostRuntime) -> Result<(), Fail> {
     let mut reception = Reception::new(rt.alloc(), 2, 4)?;
     expect_empty(&rt, &reception.batch);
     reception.expect_taken(&rt, DATA_1_3, (2, 0, 0));
@@ -212,7 +212,7 @@ fn expect_cut(rt: &impl Abort, batch: &mut Batch) {
     same_truth(rt, batch.follows(7), true);
 }
 
-/// Makes a packet of 13,107 messages `x`.
+/// Makes a packet of 13,107 messages, each of which is `x`.
 fn fill(packer: &mut Packer, first: u64) {
     packer.start(SESSION, first);
     for _ in 0..13107u16 {
@@ -220,7 +220,7 @@ fn fill(packer: &mut Packer, first: u64) {
     }
 }
 
-/// Takes the messages 2 to 65,536, in five packets.
+/// Takes messages 2 to 65,536, in five packets.
 fn take_five(
     rt: &impl Abort,
     packer: &mut Packer,
@@ -235,7 +235,7 @@ fn take_five(
     Ok(())
 }
 
-/// The last message of the greatest window, and the one after it.
+/// The last message that the greatest window has room for, and the one after it.
 const LAST_OF_WINDOW: &[Step] = &[
     Step::Taken(b"SESSION001\0\0\0\0\0\x01\0\0\0\x01\0\x01x", (0, 1, 0)),
     Step::Wanted(Some((1, 65534))),
@@ -249,9 +249,9 @@ const WHOLE_WINDOW: &[Step] = &[
     Step::Numbers(65537, 65538, 0),
 ];
 
-/// The greatest window takes its last number first.
+/// The last message of the greatest window comes first.
 #[test]
-fn a_full_window_is_handed_on_at_once(rt: HostRuntime) -> Result<(), Fail> {
+fn a_full_window_is_delivered_at_once(rt: HostRuntime) -> Result<(), Fail> {
     let mut packer = Packer::new(rt.alloc(), 65507)?;
     let mut reception = Reception::new(rt.alloc(), 1, 65536)?;
     expect_full_window(&rt, &mut packer, &mut reception)?;
@@ -270,7 +270,7 @@ fn expect_full_window(
     Ok(())
 }
 
-/// A receiver at message 1 with a window of 4, made once more where memory was refused.
+/// A receiver at message 1 with a window of 4. If an allocation fails, it is made again.
 fn receiver_again(rt: &impl Abort, alloc: Global) -> Result<Receiver, Fail> {
     match Receiver::new(alloc, SESSION, 1, 4) {
         Ok(receiver) => Ok(receiver),
@@ -281,7 +281,7 @@ fn receiver_again(rt: &impl Abort, alloc: Global) -> Result<Receiver, Fail> {
     }
 }
 
-/// The first growth refused is `Memory`: a receiver that asked for none would handle no growth here.
+/// A new receiver allocates: if it did not, this test would handle no failed allocation.
 #[test]
 fn a_refused_growth_makes_no_receiver(rt: HostRuntime) -> Result<(), Fail> {
     let receiver = receiver_again(&rt, rt.alloc())?;
@@ -290,7 +290,7 @@ fn a_refused_growth_makes_no_receiver(rt: HostRuntime) -> Result<(), Fail> {
     Ok(())
 }
 
-/// `receiver-backwards`: messages 3 and 2 are stored, and 1 hands on all three, or nothing.
+/// `receiver-backwards`: messages 3 and 2 are stored, and message 1 delivers all three, or nothing.
 #[test]
 fn a_refused_growth_takes_nothing(rt: HostRuntime) -> Result<(), Fail> {
     let receiver = receiver_again(&rt, rt.alloc())?;
@@ -316,8 +316,8 @@ fn long_message(alloc: Global) -> Result<Vec<u8>, Fail> {
     Ok(message)
 }
 
-/// Long messages by their numbers, in the order in which they come: a new gap opens before the old one is
-/// closed. How many are handed on and stored, and the state before.
+/// Long messages in the order in which they arrive: a new gap opens before the old one is closed. Each row has the
+/// message's number, how many messages are delivered, stored and beyond the window, and the state before.
 const NEVER_EMPTY: [(u64, (u32, u32, u32), State); 8] = [
     (2, (0, 1, 0), (1, 1, 0, 0, None)),
     (4, (0, 1, 0), (1, 3, 1, 0, None)),
@@ -329,7 +329,7 @@ const NEVER_EMPTY: [(u64, (u32, u32, u32), State); 8] = [
     (7, (2, 0, 0), (7, 9, 1, 6, Some(1))),
 ];
 
-/// The store has 80,006 bytes of messages that were handed on when 8 comes, and is packed.
+/// When message 8 arrives, the store has 80,006 bytes of delivered messages, and is compacted.
 #[test]
 fn a_refused_growth_of_a_packed_store(rt: HostRuntime) -> Result<(), Fail> {
     let message = long_message(rt.alloc())?;
@@ -357,21 +357,25 @@ fn take_never_empty(
     Ok(())
 }
 
-/// A receiver that handed on messages 1 to 3 and has stored 5.
-fn with_three_and_five(rt: &impl Abort, alloc: Global) -> Result<Reception, Fail> {
-    let mut reception = Reception::new(alloc, 1, 4)?;
-    take_three_and_five(rt, &mut reception)?;
-    Ok(reception)
-}
-
+/// Takes messages 1 to 3, which are delivered, and message 5, which is stored.
 fn take_three_and_five(rt: &impl Abort, reception: &mut Reception) -> Result<(), Refusal> {
     reception.take(rt, DATA_1_3)?;
     reception.take(rt, b"SESSION001\0\0\0\0\0\0\0\x05\0\x01\0\x01E")?;
     Ok(())
 }
 
-/// Packets of which such a receiver hands on and stores nothing, and how many of their messages are beyond its
-/// window: a heartbeat, what it handed on, what is stored, message 8, and the end behind that.
+fn expect_after_five(
+    rt: &impl Abort,
+    reception: &mut Reception,
+    steps: &[Step],
+) -> Result<(), Refusal> {
+    take_three_and_five(rt, reception)?;
+    reception.expect_steps(rt, steps);
+    Ok(())
+}
+
+/// Packets of which such a receiver delivers and stores nothing: a heartbeat, delivered messages, a stored message,
+/// message 8, which is beyond the window, and the end after it.
 const NOTHING_NEW: &[Step] = &[
     Step::Taken(b"SESSION001\0\0\0\0\0\0\0\x06\0\0", (0, 0, 0)),
     Step::Taken(DATA_2_3, (0, 0, 0)),
@@ -383,11 +387,12 @@ const NOTHING_NEW: &[Step] = &[
     Step::Ended(Some(9), false),
 ];
 
-/// No memory is taken where nothing is handed on or stored, nor by what a batch loses, nor by what is read.
+/// A packet of which nothing is delivered or stored allocates nothing, nor do the calls that shorten a batch or read a
+/// receiver.
 #[test]
 fn no_growth_where_nothing_comes(rt: HostRuntime) -> Result<(), Fail> {
-    let mut reception = with_three_and_five(&rt, rt.alloc())?;
-    reception.expect_steps(&rt, NOTHING_NEW);
+    let mut reception = Reception::new(rt.alloc(), 1, 4)?;
+    expect_after_five(&rt, &mut reception, NOTHING_NEW)?;
     expect_session_and_window(&rt, &reception.receiver, 4);
     expect_emptied(&rt, &mut reception.batch);
     Ok(())
@@ -400,10 +405,10 @@ fn expect_emptied(rt: &impl Abort, batch: &mut Batch) {
     expect_empty(rt, batch);
 }
 
-/// Nor by any refusal of a packet.
+/// A packet that is refused allocates nothing.
 #[test]
 fn no_growth_of_what_is_refused(rt: HostRuntime) -> Result<(), Fail> {
-    let mut reception = with_three_and_five(&rt, rt.alloc())?;
-    reception.expect_steps(&rt, REFUSED);
+    let mut reception = Reception::new(rt.alloc(), 1, 4)?;
+    expect_after_five(&rt, &mut reception, REFUSED)?;
     Ok(())
 }

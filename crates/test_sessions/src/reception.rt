@@ -1,4 +1,4 @@
-//! Packets of one session, and a receiver beside its batch: what tests of receivers and arbiters share.
+//! What the tests of receivers and arbiters share: packets of one session, and a receiver with its batch.
 
 use crate::comparisons::{same_message, same_number, same_truth};
 use mold_receiver::{Batch, Receiver, Refusal, Taken};
@@ -9,7 +9,7 @@ use std::test::Fail;
 
 pub const SESSION: Session = Session(*b"SESSION001");
 
-/// Packets of messages by their numbers: message 1 is `A`, 2 is `B` and so on.
+/// Packets of messages by their numbers: message 1 is `A`, message 2 is `B`.
 pub const DATA_1: &[u8] = b"SESSION001\0\0\0\0\0\0\0\x01\0\x01\0\x01A";
 
 pub const DATA_2: &[u8] = b"SESSION001\0\0\0\0\0\0\0\x02\0\x01\0\x01B";
@@ -22,7 +22,7 @@ pub const DATA_2_3: &[u8] = b"SESSION001\0\0\0\0\0\0\0\x02\0\x02\0\x01B\0\x01C";
 
 pub const DATA_1_3: &[u8] = b"SESSION001\0\0\0\0\0\0\0\x01\0\x03\0\x01A\0\x01B\0\x01C";
 
-/// Ends after 2 and 3 messages.
+/// The ends of sessions of 2 and of 3 messages.
 pub const END_3: &[u8] = b"SESSION001\0\0\0\0\0\0\0\x03\xff\xff";
 
 pub const END_4: &[u8] = b"SESSION001\0\0\0\0\0\0\0\x04\xff\xff";
@@ -60,7 +60,7 @@ pub fn expect_batch<'w, 'm>(rt: &impl Abort, batch: &Batch, first: u64, messages
     same_message(rt, batch.get(i), None);
 }
 
-/// The batch has these messages, one after the other.
+/// The iterator of the batch returns these messages.
 pub fn expect_each<'w, 'm>(rt: &impl Abort, batch: &Batch, messages: &'w [&'m [u8]]) {
     let mut i = 0usize;
     for message in batch {
@@ -70,7 +70,7 @@ pub fn expect_each<'w, 'm>(rt: &impl Abort, batch: &Batch, messages: &'w [&'m [u
     same_number(rt, i as u64, messages.len() as u64);
 }
 
-/// A receiver of the session, and the batch that it hands on to.
+/// A receiver of the session, and its batch.
 #[derive(Drop)]
 pub struct Reception {
     pub receiver: Receiver,
@@ -86,15 +86,15 @@ pub enum Step {
     Refused(&'static [u8], Refusal),
     /// The next message, the greatest number that is known, and how many messages are stored.
     Numbers(u64, u64, u32),
-    /// The request for what is missing: its first number and its count.
+    /// The request for missing messages, if there is one: its sequence number and its count.
     Wanted(Option<(u64, u16)>),
-    /// The batch: its first number and its messages.
+    /// The batch: the number of its first message, and its messages.
     Batch(u64, &'static [&'static [u8]]),
     /// The end that is known, and whether the receiver has all messages before it.
     Ended(Option<u64>, bool),
 }
 
-/// What a refusal leaves: `next`, `known`, how many are stored, the batch's length and first number.
+/// The state that a refusal leaves: `next`, `known`, `stored`, and the batch's length and first number.
 pub type State = (u64, u64, u32, usize, Option<u64>);
 
 impl Reception {
@@ -140,7 +140,8 @@ impl Reception {
         same_maybe(rt, self.receiver.ended(), ended);
     }
 
-    /// Takes a packet, once more where memory was refused: receiver and batch were then in this state.
+    /// Takes a packet. If an allocation fails, the receiver and its batch are in this state, and the packet is taken
+    /// again.
     pub fn take_again(
         &mut self,
         rt: &impl Abort,
@@ -197,7 +198,7 @@ impl Reception {
     }
 }
 
-/// A receiver at this message with this window goes through the steps.
+/// A receiver at message `next` with this window takes the steps.
 pub fn expect_steps(
     rt: &impl Abort,
     alloc: Global,

@@ -1,4 +1,4 @@
-//! Each public call on its happy path, with the line that it writes.
+//! The text of refusals.
 
 use crate::comparisons::same_bytes;
 use mold_receiver::Refusal;
@@ -10,7 +10,7 @@ use std::alloc::AllocError;
 use std::test::Fail;
 
 #[test]
-fn refusals_are_words_behind_others(rt: HostRuntime) -> Result<(), Fail> {
+fn refusals_are_words_after_others(rt: HostRuntime) -> Result<(), Fail> {
     let mut out = Vec::new(rt.alloc());
     push_refusals(&mut out)?;
     let text = b"refused line 2 TooLong 43\nrefused Ahead 6\nnoise Malformed Short 1\nConflict 3\n";

@@ -1,5 +1,5 @@
-//! The worked examples by their names, and what is left after a growth was refused. `tests/out-of-memory` refuses each
-//! growth of the test that is made for it.
+//! Catching up: worked examples, and the state after an allocation has failed. `tests/out-of-memory` makes each
+//! allocation of the test for it fail.
 
 ghost use Rattle.std.specs.Prelude.{IsTrue};
 
@@ -14,10 +14,10 @@ use std::test::Fail;
 
 const SESSION: Session = Session(*b"SESSION001");
 
-// The five messages, the k-th of which is twenty bytes of the value k.
+// Five messages, the k-th of which is twenty bytes of the value k.
 const FIVE: [[u8; 20]; 5] = [[1; 20], [2; 20], [3; 20], [4; 20], [5; 20]];
 
-// Packets of the messages 2, 3 and 4 alone.
+// Packets of message 2, of message 3 and of message 4.
 const SECOND: &[u8] = b"SESSION001\0\0\0\0\0\0\0\x02\0\x01\
     \0\x14\x02\x02\x02\x02\x02\x02\x02\x02\x02\x02\x02\x02\x02\x02\x02\x02\x02\x02\x02\x02";
 
@@ -27,7 +27,7 @@ const THIRD: &[u8] = b"SESSION001\0\0\0\0\0\0\0\x03\0\x01\
 const FOURTH: &[u8] = b"SESSION001\0\0\0\0\0\0\0\x04\0\x01\
     \0\x14\x04\x04\x04\x04\x04\x04\x04\x04\x04\x04\x04\x04\x04\x04\x04\x04\x04\x04\x04\x04";
 
-// A heartbeat that tells of messages up to 5.
+// A heartbeat that announces messages up to 5.
 const HEARTBEAT: &[u8] = b"SESSION001\0\0\0\0\0\0\0\x06\0\0";
 
 // A journal of the five messages.
@@ -44,7 +44,7 @@ fn append_five(journal: &mut Journal) -> Result<(), AppendError> {
     Ok(())
 }
 
-// A receiver at 1, what it handed on, and the journal and the server of its session.
+// A receiver at message 1, its batch, and the journal and the server of the session.
 #[derive(Drop)]
 struct Parts {
     journal: Journal,
@@ -53,7 +53,7 @@ struct Parts {
     batch: Batch,
 }
 
-// Datagrams of the server have room for two messages.
+// A datagram of the server has room for two messages.
 fn make_parts(alloc: Global, window: u32, burst: u16) -> Result<Parts, Memory> {
     let Ok(journal) = journal_of_five(alloc) else {
         return Err(Memory);
@@ -79,7 +79,7 @@ fn holds(rt: &impl Abort, fact: bool)
 }
 
 // The receiver takes a packet.
-fn hear(rt: &impl Abort, parts: &mut Parts, packet: &[u8]) -> Result<(), Memory> {
+fn take(rt: &impl Abort, parts: &mut Parts, packet: &[u8]) -> Result<(), Memory> {
     holds(rt, parts.batch.follows(parts.receiver.next()));
     match parts.receiver.take(packet, &mut parts.batch) {
         Err(Refusal::Memory) => Err(Memory),
@@ -90,12 +90,12 @@ fn hear(rt: &impl Abort, parts: &mut Parts, packet: &[u8]) -> Result<(), Memory>
     }
 }
 
-// The receiver takes these packets, and hears of messages up to 5.
-fn hear_all(rt: &impl Abort, parts: &mut Parts, packets: &[&[u8]]) -> Result<(), Memory> {
+// The receiver takes these packets and the heartbeat.
+fn take_all(rt: &impl Abort, parts: &mut Parts, packets: &[&[u8]]) -> Result<(), Memory> {
     for packet in packets {
-        hear(rt, parts, packet)?;
+        take(rt, parts, packet)?;
     }
-    hear(rt, parts, HEARTBEAT)
+    take(rt, parts, HEARTBEAT)
 }
 
 fn catch_up_checked(rt: &impl Abort, parts: &mut Parts) -> Result<u64, Memory> {
@@ -126,7 +126,7 @@ fn expect_view(rt: &impl Abort, receiver: &Receiver, next: u64) {
     same_number(rt, receiver.known(), 6);
 }
 
-// The batch has the first `count` of the five messages, from number 1 on.
+// The batch has the first `count` of the five messages.
 fn expect_first(rt: &impl Abort, batch: &Batch, count: usize) {
     holds(rt, batch.len() == count);
     if count > 0 {
@@ -137,7 +137,7 @@ fn expect_first(rt: &impl Abort, batch: &Batch, count: usize) {
     }
 }
 
-// Catching up takes so many rounds.
+// Catching up takes this many rounds.
 fn expect_rounds(rt: &impl Abort, parts: &mut Parts, rounds: u64) {
     assert!(rt;
         catch_up_checked(rt, parts) == Ok(rounds),
@@ -145,15 +145,15 @@ fn expect_rounds(rt: &impl Abort, parts: &mut Parts, rounds: u64) {
     );
 }
 
-// The receiver has all five messages, after so many rounds in all.
+// The receiver has all five messages, and the server has answered this many requests.
 fn expect_end(rt: &impl Abort, parts: &Parts, answered: u64) {
     expect_view(rt, &parts.receiver, 6);
     expect_first(rt, &parts.batch, 5);
     same_number(rt, parts.server.answered(), answered);
 }
 
-// A receiver at 1 that took packets, in none of which is message 1, and heard of 5 is caught up in so many
-// rounds.
+// A receiver at message 1 that took these packets and the heartbeat lacks this many messages. It catches up in this
+// many rounds. No packet has message 1.
 fn expect_caught_up(
     rt: &(impl Abort + AllocGlobal),
     window: u32,
@@ -163,7 +163,7 @@ fn expect_caught_up(
     rounds: u64,
 ) -> Result<(), Memory> {
     let mut parts = make_parts(rt.alloc(), window, burst)?;
-    hear_all(rt, &mut parts, packets)?;
+    take_all(rt, &mut parts, packets)?;
     expect_catching_up(rt, &mut parts, lacking, rounds);
     Ok(())
 }
@@ -185,8 +185,8 @@ fn catch_up_two_rounds(rt: HostRuntime) -> Result<(), Fail> {
     Ok(())
 }
 
-/// The other rows of the table: one gap of five messages with bursts of 1, 2 and 3 datagrams, each of which
-/// has room for two, and three gaps of one.
+/// The other rows of the table: one gap of five messages with bursts of 1, 2 and 3 datagrams, and three gaps of one
+/// message.
 #[test]
 fn catching_up_follows_gaps_limit_and_burst(rt: HostRuntime) -> Result<(), Fail> {
     expect_caught_up(&rt, 1, &[], 1, 5, 3)?;
@@ -196,7 +196,7 @@ fn catching_up_follows_gaps_limit_and_burst(rt: HostRuntime) -> Result<(), Fail>
     Ok(())
 }
 
-// Catching up takes two rounds, or stops in a round where memory is refused, and another call goes on from there.
+// Catching up takes two rounds. If an allocation fails, it stops in that round, and a second call continues there.
 fn expect_going_on(rt: &impl Abort, parts: &mut Parts) -> Result<(), Memory> {
     let Ok(rounds) = catch_up_checked(rt, parts) else {
         return expect_going_on_after(rt, parts);
@@ -206,7 +206,7 @@ fn expect_going_on(rt: &impl Abort, parts: &mut Parts) -> Result<(), Memory> {
     Ok(())
 }
 
-// In the first round nothing was received, in the second one messages 1 to 3.
+// If it stopped in the first round, nothing was received; if in the second, messages 1 to 3.
 fn expect_going_on_after(rt: &impl Abort, parts: &mut Parts) -> Result<(), Memory> {
     let (next, count, left) = if parts.batch.is_empty() {
         (1, 0, 2)
@@ -225,7 +225,7 @@ fn expect_going_on_after(rt: &impl Abort, parts: &mut Parts) -> Result<(), Memor
 #[test]
 fn a_refused_growth_stops_in_a_round(rt: HostRuntime) -> Result<(), Fail> {
     let mut parts = make_parts(rt.alloc(), 8, 1)?;
-    hear_all(&rt, &mut parts, &[THIRD])?;
+    take_all(&rt, &mut parts, &[THIRD])?;
     expect_going_on(&rt, &mut parts)?;
     Ok(())
 }

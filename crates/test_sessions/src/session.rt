@@ -1,7 +1,7 @@
-//! Each public call on its happy path, the examples of a journal and a publisher, and what is left after a growth
-//! was refused. `tests/out-of-memory` refuses each growth of the tests that are made for it.
+//! Journals and publishers: worked examples, and their state after an allocation has failed. `tests/out-of-memory` makes
+//! each allocation of the tests for it fail.
 
-use crate::comparisons::{same_bytes, same_number, same_truth};
+use crate::comparisons::{same_message, same_number, same_truth};
 use mold_session::{AppendError, Journal, Publisher, PublisherError, Unsent};
 use mold_wire::Session;
 use std::alloc::Global;
@@ -10,73 +10,113 @@ use std::test::Fail;
 
 const SESSION: Session = Session(*b"SESSION001");
 
-fn same_added(rt: &impl Abort, found: Result<u64, AppendError>, wanted: Result<u64, AppendError>) {
+type Added = Result<u64, AppendError>;
+
+fn same_added(rt: &impl Abort, found: Added, wanted: Added) {
     assert!(rt; found == wanted, "another outcome");
 }
 
-fn same_closed(rt: &impl Abort, found: Result<(), Unsent>, wanted: Result<(), Unsent>) {
-    assert!(rt; found == wanted, "another outcome");
+/// A call of a journal with its result, or what can be read of it.
+#[derive(Clone, Copy)]
+enum JournalStep {
+    /// A message is appended, or refused.
+    Append(&'static [u8], Added),
+    /// The message of a number, if the journal has it.
+    Get(u64, Option<&'static [u8]>),
+    /// The number of the next message.
+    Next(u64),
+    /// Whether the journal is closed.
+    IsClosed(bool),
+    /// The journal is closed.
+    Close,
 }
 
-fn expect_bytes(rt: &impl Abort, lent: Option<&[u8]>, want: &[u8]) {
-    match lent {
-        Some(bytes) => same_bytes(rt, bytes, want),
-        None => assert!(rt; false, "nothing is lent"),
+fn expect_journal_step(rt: &impl Abort, journal: &mut Journal, step: JournalStep) {
+    match step {
+        JournalStep::Append(message, wanted) => same_added(rt, journal.append(message), wanted),
+        JournalStep::Get(number, wanted) => same_message(rt, journal.get(number), wanted),
+        JournalStep::Next(wanted) => same_number(rt, journal.next(), wanted),
+        JournalStep::IsClosed(wanted) => same_truth(rt, journal.is_closed(), wanted),
+        JournalStep::Close => journal.close(),
     }
 }
 
-fn expect_length(rt: &impl Abort, lent: Option<&[u8]>, want: u64) {
-    match lent {
-        Some(bytes) => same_number(rt, bytes.len() as u64, want),
-        None => assert!(rt; false, "nothing is lent"),
+/// A new journal of messages of at most this length takes the steps.
+fn expect_journal(rt: &impl Abort, alloc: Global, max_message: u16, steps: &[JournalStep]) {
+    let mut journal = Journal::new(alloc, SESSION, max_message);
+    expect_made(rt, &journal, max_message);
+    for step in steps {
+        expect_journal_step(rt, &mut journal, *step);
     }
-}
-
-fn expect_none(rt: &impl Abort, lent: Option<&[u8]>) {
-    assert!(rt; lent.is_none());
 }
 
 fn expect_made(rt: &impl Abort, journal: &Journal, max_message: u16) {
     assert!(rt; journal.session() == SESSION);
     same_number(rt, u64::from(journal.max_message()), u64::from(max_message));
-    same_number(rt, journal.next(), 1);
 }
+
+const APPENDED: &[JournalStep] = &[
+    JournalStep::Next(1),
+    JournalStep::Append(b"AB", Ok(1)),
+    JournalStep::Append(b"", Ok(2)),
+    JournalStep::Append(b"ABC", Err(AppendError::TooLong { len: 3 })),
+    JournalStep::Next(3),
+    JournalStep::Get(0, None),
+    JournalStep::Get(1, Some(b"AB")),
+    JournalStep::Get(2, Some(b"")),
+    JournalStep::Get(3, None),
+    JournalStep::IsClosed(false),
+    JournalStep::Close,
+    JournalStep::IsClosed(true),
+    JournalStep::Append(b"ABC", Err(AppendError::Closed)),
+];
 
 #[test]
-fn messages_are_appended_and_got_by_number(rt: HostRuntime) -> Result<(), Fail> {
-    let mut journal = Journal::new(rt.alloc(), SESSION, 2);
-    expect_made(&rt, &journal, 2);
-    same_added(&rt, journal.append(b"AB"), Ok(1));
-    same_added(&rt, journal.append(b""), Ok(2));
-    let too_long = Err(AppendError::TooLong { len: 3 });
-    same_added(&rt, journal.append(b"ABC"), too_long);
-    same_number(&rt, journal.next(), 3);
-    expect_none(&rt, journal.get(0));
-    expect_bytes(&rt, journal.get(1), b"AB");
-    expect_bytes(&rt, journal.get(2), b"");
-    expect_none(&rt, journal.get(3));
-    same_truth(&rt, journal.is_closed(), false);
-    journal.close();
-    same_truth(&rt, journal.is_closed(), true);
-    same_added(&rt, journal.append(b"ABC"), Err(AppendError::Closed));
-    Ok(())
+fn messages_are_appended_and_got_by_number(rt: HostRuntime) {
+    expect_journal(&rt, rt.alloc(), 2, APPENDED);
 }
 
-/// Appends a message, once more where memory was refused: the journal was then as before.
+const EMPTY: &[JournalStep] = &[
+    JournalStep::Next(1),
+    JournalStep::Get(1, None),
+    JournalStep::Append(&[1; 43], Err(AppendError::TooLong { len: 43 })),
+    JournalStep::IsClosed(false),
+    JournalStep::Close,
+    JournalStep::IsClosed(true),
+    JournalStep::Append(&[1; 43], Err(AppendError::Closed)),
+];
+
+/// To make and to read a journal allocates nothing, nor does a message that is refused.
+#[test]
+fn no_growth_of_an_empty_journal(rt: HostRuntime) {
+    expect_journal(&rt, rt.alloc(), 42, EMPTY);
+}
+
+/// Appends a message. If an allocation fails, the journal is as before, and the message is appended again.
 fn append_again(
     rt: &impl Abort,
     journal: &mut Journal,
     message: &[u8],
     number: u64,
 ) -> Result<(), AppendError> {
-    let answer = journal.append(message);
-    if answer != Err(AppendError::Memory) {
-        same_added(rt, answer, Ok(number));
-        return Ok(());
+    match journal.append(message) {
+        Err(AppendError::Memory) => {
+            same_number(rt, journal.next(), number);
+            same_message(rt, journal.get(number), None);
+            same_number(rt, journal.append(message)?, number);
+        }
+        found => same_added(rt, found, Ok(number)),
     }
-    same_number(rt, journal.next(), number);
-    expect_none(rt, journal.get(number));
-    same_number(rt, journal.append(message)?, number);
+    Ok(())
+}
+
+fn append_three(rt: &impl Abort, journal: &mut Journal) -> Result<(), AppendError> {
+    append_again(rt, journal, b"AB", 1)?;
+    append_again(rt, journal, &[3; 42], 2)?;
+    append_again(rt, journal, b"", 3)?;
+    same_message(rt, journal.get(1), Some(b"AB"));
+    same_message(rt, journal.get(2), Some(&[3; 42]));
+    same_message(rt, journal.get(3), Some(b""));
     Ok(())
 }
 
@@ -87,152 +127,217 @@ fn a_refused_growth_appends_nothing(rt: HostRuntime) -> Result<(), Fail> {
     Ok(())
 }
 
-fn append_three(rt: &impl Abort, journal: &mut Journal) -> Result<(), AppendError> {
-    append_again(rt, journal, b"AB", 1)?;
-    append_again(rt, journal, &[3; 42], 2)?;
-    append_again(rt, journal, b"", 3)?;
-    expect_bytes(rt, journal.get(1), b"AB");
-    expect_bytes(rt, journal.get(2), &[3; 42]);
-    expect_bytes(rt, journal.get(3), b"");
+fn append_thousand(rt: &impl Abort, journal: &mut Journal) -> Result<(), AppendError> {
+    for number in 1..1001u64 {
+        append_again(rt, journal, b"x", number)?;
+    }
+    same_number(rt, journal.next(), 1001);
+    same_message(rt, journal.get(1000), Some(b"x"));
     Ok(())
 }
 
-/// What makes and reads a journal takes no memory, nor does what it refuses for another cause.
-#[test]
-fn no_growth_of_an_empty_journal(rt: HostRuntime) {
-    let mut journal = Journal::new(rt.alloc(), SESSION, 42);
-    expect_made(&rt, &journal, 42);
-    expect_none(&rt, journal.get(1));
-    let too_long = Err(AppendError::TooLong { len: 43 });
-    same_added(&rt, journal.append(&[1; 43]), too_long);
-    same_truth(&rt, journal.is_closed(), false);
-    journal.close();
-    same_truth(&rt, journal.is_closed(), true);
-    same_added(&rt, journal.append(&[1; 43]), Err(AppendError::Closed));
-}
-
-/// A thousand messages, so that what keeps them grows several times, and far fewer than 500 times.
+/// A thousand messages, so that the journal's buffers grow several times, but far fewer than 500 times.
 #[test]
 fn a_refused_growth_of_a_thousand_appends(rt: HostRuntime) -> Result<(), Fail> {
     let mut journal = Journal::new(rt.alloc(), SESSION, 1);
-    for number in 1..1001u64 {
-        append_again(&rt, &mut journal, b"x", number)?;
-    }
-    same_number(&rt, journal.next(), 1001);
-    expect_bytes(&rt, journal.get(1000), b"x");
+    append_thousand(&rt, &mut journal)?;
     Ok(())
 }
 
-fn expect_no_publisher(rt: &impl Abort, alloc: Global, limit: usize) {
-    let refusal = Publisher::new(alloc, SESSION, limit).err();
-    assert!(rt; refusal == Some(PublisherError::Limit), "limit {limit}");
-}
-
-fn expect_longest(rt: &impl Abort, alloc: Global, limit: usize, longest: u16) -> Result<(), Fail> {
+/// The longest message of a publisher with this limit.
+fn longest(alloc: Global, limit: usize) -> Result<u16, PublisherError> {
     let publisher = Publisher::new(alloc, SESSION, limit)?;
-    let max_message = publisher.journal().max_message();
-    same_number(rt, u64::from(max_message), u64::from(longest));
-    Ok(())
+    Ok(publisher.journal().max_message())
 }
+
+const LIMITS: &[(usize, Result<u16, PublisherError>)] = &[
+    (63, Err(PublisherError::Limit)),
+    (64, Ok(42)),
+    (65507, Ok(65485)),
+    (65508, Err(PublisherError::Limit)),
+];
 
 #[test]
-fn limits_of_64_to_65507_bytes_are_taken(rt: HostRuntime) -> Result<(), Fail> {
-    for limit in [63, 65508] {
-        expect_no_publisher(&rt, rt.alloc(), limit);
+fn limits_of_64_to_65507_bytes_are_taken(rt: HostRuntime) {
+    for (limit, wanted) in LIMITS {
+        assert!(rt; longest(rt.alloc(), *limit) == *wanted, "limit {limit}");
     }
-    for (limit, longest) in [(64, 42), (65507, 65485)] {
-        expect_longest(&rt, rt.alloc(), limit, longest)?;
-    }
-    Ok(())
 }
 
-/// The datagram of messages of 20 bytes `1` and 20 bytes `2`.
-const FULL: &[u8] = b"SESSION001\0\0\0\0\0\0\0\x01\0\x02\
+// Datagrams of messages of 20 or 21 bytes, the k-th of which has the value k.
+const FIRST: &[u8] = b"SESSION001\0\0\0\0\0\0\0\x01\0\x01\
+    \0\x14\x01\x01\x01\x01\x01\x01\x01\x01\x01\x01\x01\x01\x01\x01\x01\x01\x01\x01\x01\x01";
+
+const SECOND: &[u8] = b"SESSION001\0\0\0\0\0\0\0\x02\0\x01\
+    \0\x15\x02\x02\x02\x02\x02\x02\x02\x02\x02\x02\x02\x02\x02\x02\x02\x02\x02\x02\x02\x02\x02";
+
+const FIRST_AND_SECOND: &[u8] = b"SESSION001\0\0\0\0\0\0\0\x01\0\x02\
     \0\x14\x01\x01\x01\x01\x01\x01\x01\x01\x01\x01\x01\x01\x01\x01\x01\x01\x01\x01\x01\x01\
     \0\x14\x02\x02\x02\x02\x02\x02\x02\x02\x02\x02\x02\x02\x02\x02\x02\x02\x02\x02\x02\x02";
 
-fn expect_datagram(rt: &impl Abort, publisher: &mut Publisher, length: u64) {
-    expect_length(rt, publisher.datagram(), length);
+const THIRD: &[u8] = b"SESSION001\0\0\0\0\0\0\0\x03\0\x01\
+    \0\x14\x03\x03\x03\x03\x03\x03\x03\x03\x03\x03\x03\x03\x03\x03\x03\x03\x03\x03\x03\x03";
+
+const FOURTH: &[u8] = b"SESSION001\0\0\0\0\0\0\0\x04\0\x01\
+    \0\x15\x04\x04\x04\x04\x04\x04\x04\x04\x04\x04\x04\x04\x04\x04\x04\x04\x04\x04\x04\x04\x04";
+
+/// A call of a publisher with its result, or what can be read of it.
+#[derive(Clone, Copy)]
+enum Step {
+    /// A message is published, or refused.
+    Publish(&'static [u8], Added),
+    /// The next datagram, if there is one.
+    Datagram(Option<&'static [u8]>),
+    /// A heartbeat, if the session is open.
+    Heartbeat(Option<&'static [u8]>),
+    /// The end packet, if the session is closed.
+    End(Option<&'static [u8]>),
+    /// The session is closed, or the call is refused.
+    Close(Result<(), Unsent>),
+    /// Whether the session and its journal are closed.
+    IsClosed(bool),
+    /// Whether the unsent messages do not all fit one datagram.
+    IsFull(bool),
+    /// How many messages are in no datagram yet.
+    Unsent(u64),
 }
 
-fn expect_heartbeat(rt: &impl Abort, publisher: &mut Publisher, want: &[u8]) {
-    expect_bytes(rt, publisher.heartbeat(), want);
+fn expect_step(rt: &impl Abort, publisher: &mut Publisher, step: Step) {
+    match step {
+        Step::Publish(message, wanted) => same_added(rt, publisher.publish(message), wanted),
+        Step::Datagram(wanted) => same_message(rt, publisher.datagram(), wanted),
+        Step::Heartbeat(wanted) => same_message(rt, publisher.heartbeat(), wanted),
+        Step::End(wanted) => same_message(rt, publisher.end(), wanted),
+        Step::Close(wanted) => assert!(rt; publisher.close() == wanted, "another outcome"),
+        Step::IsClosed(wanted) => {
+            same_truth(rt, publisher.is_closed(), wanted);
+            same_truth(rt, publisher.journal().is_closed(), wanted);
+        }
+        Step::IsFull(wanted) => same_truth(rt, publisher.is_full(), wanted),
+        Step::Unsent(wanted) => same_number(rt, publisher.unsent(), wanted),
+    }
 }
 
-/// The session of two messages is closed, and its end is lent.
-fn expect_end(rt: &impl Abort, publisher: &mut Publisher) {
-    expect_none(rt, publisher.datagram());
-    same_closed(rt, publisher.close(), Ok(()));
-    let end = b"SESSION001\0\0\0\0\0\0\0\x03\xff\xff";
-    expect_bytes(rt, publisher.end(), end);
+fn expect_steps(rt: &impl Abort, publisher: &mut Publisher, steps: &[Step]) {
+    for step in steps {
+        expect_step(rt, publisher, *step);
+    }
 }
 
-/// A publisher with a limit of 64 bytes, which published messages of 20 bytes and of so many as `second`.
-fn with_two(alloc: Global, second: &[u8]) -> Result<Publisher, Fail> {
-    let mut publisher = Publisher::new(alloc, SESSION, 64)?;
-    publish_two(&mut publisher, second)?;
-    Ok(publisher)
-}
-
-fn publish_two(publisher: &mut Publisher, second: &[u8]) -> Result<(), AppendError> {
-    publisher.publish(&[1; 20])?;
-    publisher.publish(second)?;
+fn publish_all(publisher: &mut Publisher, messages: &[&[u8]]) -> Result<(), AppendError> {
+    for message in messages {
+        publisher.publish(message)?;
+    }
     Ok(())
 }
+
+/// A publisher with a limit of 64 bytes publishes the messages, and then takes the steps.
+fn expect_published(
+    rt: &impl Abort,
+    alloc: Global,
+    messages: &[&[u8]],
+    steps: &[Step],
+) -> Result<(), Fail> {
+    let mut publisher = Publisher::new(alloc, SESSION, 64)?;
+    publish_all(&mut publisher, messages)?;
+    expect_steps(rt, &mut publisher, steps);
+    Ok(())
+}
+
+const ONE_DATAGRAM: &[Step] = &[
+    Step::IsFull(false),
+    Step::Unsent(2),
+    Step::Datagram(Some(FIRST_AND_SECOND)),
+    Step::Unsent(0),
+];
 
 /// `publisher-limit-64`: messages of 20 and 20 bytes go in one datagram of exactly 64.
 #[test]
 fn twenty_and_twenty_bytes_fill_a_datagram_of_64(rt: HostRuntime) -> Result<(), Fail> {
-    let mut publisher = with_two(rt.alloc(), &[2; 20])?;
-    same_truth(&rt, publisher.is_full(), false);
-    same_number(&rt, publisher.unsent(), 2);
-    expect_datagram(&rt, &mut publisher, 64);
-    same_number(&rt, publisher.unsent(), 0);
-    Ok(())
+    expect_published(&rt, rt.alloc(), &[&[1; 20], &[2; 20]], ONE_DATAGRAM)
 }
+
+const TWO_DATAGRAMS: &[Step] = &[
+    Step::IsFull(true),
+    Step::Datagram(Some(FIRST)),
+    Step::IsFull(false),
+    Step::Unsent(1),
+    Step::Heartbeat(Some(b"SESSION001\0\0\0\0\0\0\0\x02\0\0")),
+    Step::Close(Err(Unsent { count: 1 })),
+    Step::Datagram(Some(SECOND)),
+    Step::Datagram(None),
+    Step::Close(Ok(())),
+    Step::End(Some(b"SESSION001\0\0\0\0\0\0\0\x03\xff\xff")),
+];
 
 /// `publisher-limit-64`: messages of 20 and 21 bytes take two datagrams.
 #[test]
 fn twenty_and_twenty_one_bytes_take_two_datagrams(rt: HostRuntime) -> Result<(), Fail> {
-    let mut publisher = with_two(rt.alloc(), &[2; 21])?;
-    same_truth(&rt, publisher.is_full(), true);
-    expect_datagram(&rt, &mut publisher, 42);
-    same_truth(&rt, publisher.is_full(), false);
-    same_number(&rt, publisher.unsent(), 1);
-    let heartbeat = b"SESSION001\0\0\0\0\0\0\0\x02\0\0";
-    expect_heartbeat(&rt, &mut publisher, heartbeat);
-    same_closed(&rt, publisher.close(), Err(Unsent { count: 1 }));
-    expect_datagram(&rt, &mut publisher, 43);
-    expect_end(&rt, &mut publisher);
-    Ok(())
+    expect_published(&rt, rt.alloc(), &[&[1; 20], &[2; 21]], TWO_DATAGRAMS)
 }
+
+const LONGEST_MESSAGE: &[Step] = &[
+    Step::Publish(&[1; 42], Ok(1)),
+    Step::Publish(&[1; 43], Err(AppendError::TooLong { len: 43 })),
+];
 
 /// `publisher-limit-64`: a message of 42 bytes is published, one of 43 is too long.
 #[test]
 fn forty_two_bytes_are_published(rt: HostRuntime) -> Result<(), Fail> {
-    let mut publisher = Publisher::new(rt.alloc(), SESSION, 64)?;
-    same_added(&rt, publisher.publish(&[1; 42]), Ok(1));
-    let too_long = Err(AppendError::TooLong { len: 43 });
-    same_added(&rt, publisher.publish(&[1; 43]), too_long);
-    Ok(())
+    expect_published(&rt, rt.alloc(), &[], LONGEST_MESSAGE)
 }
 
-/// Publishes a message, once more where memory was refused: nothing more was then published or unsent.
+const CLOSED: &[Step] = &[
+    Step::Datagram(None),
+    Step::End(None),
+    Step::Heartbeat(Some(b"SESSION001\0\0\0\0\0\0\0\x01\0\0")),
+    Step::IsClosed(false),
+    Step::Close(Ok(())),
+    Step::IsClosed(true),
+    Step::Heartbeat(None),
+    Step::Publish(&[1; 43], Err(AppendError::Closed)),
+    Step::Close(Ok(())),
+    Step::End(Some(b"SESSION001\0\0\0\0\0\0\0\x01\xff\xff")),
+];
+
+#[test]
+fn a_session_without_messages_is_closed(rt: HostRuntime) -> Result<(), Fail> {
+    expect_published(&rt, rt.alloc(), &[], CLOSED)
+}
+
+/// Publishes a message. If an allocation fails, nothing more is published or unsent, and the message is published
+/// again.
 fn publish_again(
     rt: &impl Abort,
     publisher: &mut Publisher,
     message: &[u8],
     number: u64,
 ) -> Result<(), AppendError> {
-    let (next, unsent) = (publisher.journal().next(), publisher.unsent());
-    let answer = publisher.publish(message);
-    if answer != Err(AppendError::Memory) {
-        same_added(rt, answer, Ok(number));
-        return Ok(());
+    let unsent = publisher.unsent();
+    match publisher.publish(message) {
+        Err(AppendError::Memory) => {
+            same_number(rt, publisher.journal().next(), number);
+            same_number(rt, publisher.unsent(), unsent);
+            same_number(rt, publisher.publish(message)?, number);
+        }
+        found => same_added(rt, found, Ok(number)),
     }
-    same_number(rt, publisher.journal().next(), next);
-    same_number(rt, publisher.unsent(), unsent);
-    same_number(rt, publisher.publish(message)?, number);
+    Ok(())
+}
+
+const LAST_TWO: &[Step] = &[
+    Step::Unsent(2),
+    Step::Datagram(Some(THIRD)),
+    Step::Datagram(Some(FOURTH)),
+];
+
+fn publish_four(rt: &impl Abort, publisher: &mut Publisher) -> Result<(), AppendError> {
+    publish_again(rt, publisher, &[1; 20], 1)?;
+    publish_again(rt, publisher, &[2; 20], 2)?;
+    expect_step(rt, publisher, Step::Datagram(Some(FIRST_AND_SECOND)));
+    publish_again(rt, publisher, &[3; 20], 3)?;
+    publish_again(rt, publisher, &[4; 21], 4)?;
+    expect_steps(rt, publisher, LAST_TWO);
     Ok(())
 }
 
@@ -241,45 +346,5 @@ fn publish_again(
 fn a_refused_growth_publishes_nothing(rt: HostRuntime) -> Result<(), Fail> {
     let mut publisher = Publisher::new(rt.alloc(), SESSION, 64)?;
     publish_four(&rt, &mut publisher)?;
-    Ok(())
-}
-
-fn publish_four(rt: &impl Abort, publisher: &mut Publisher) -> Result<(), AppendError> {
-    publish_again(rt, publisher, &[1; 20], 1)?;
-    publish_again(rt, publisher, &[2; 20], 2)?;
-    expect_bytes(rt, publisher.datagram(), FULL);
-    publish_again(rt, publisher, &[3; 20], 3)?;
-    publish_again(rt, publisher, &[4; 21], 4)?;
-    same_number(rt, publisher.unsent(), 2);
-    expect_datagram(rt, publisher, 42);
-    expect_datagram(rt, publisher, 43);
-    Ok(())
-}
-
-// Nothing is lent, as no message was published.
-fn expect_nothing_sent(rt: &impl Abort, publisher: &mut Publisher) {
-    expect_none(rt, publisher.datagram());
-    expect_none(rt, publisher.end());
-}
-
-fn expect_closed(rt: &impl Abort, publisher: &mut Publisher) {
-    same_truth(rt, publisher.is_closed(), true);
-    same_truth(rt, publisher.journal().is_closed(), true);
-    expect_none(rt, publisher.heartbeat());
-    same_added(rt, publisher.publish(&[1; 43]), Err(AppendError::Closed));
-}
-
-#[test]
-fn a_session_without_messages_is_closed(rt: HostRuntime) -> Result<(), Fail> {
-    let mut publisher = Publisher::new(rt.alloc(), SESSION, 64)?;
-    expect_nothing_sent(&rt, &mut publisher);
-    let heartbeat = b"SESSION001\0\0\0\0\0\0\0\x01\0\0";
-    expect_heartbeat(&rt, &mut publisher, heartbeat);
-    same_truth(&rt, publisher.is_closed(), false);
-    same_closed(&rt, publisher.close(), Ok(()));
-    expect_closed(&rt, &mut publisher);
-    same_closed(&rt, publisher.close(), Ok(()));
-    let end = b"SESSION001\0\0\0\0\0\0\0\x01\xff\xff";
-    expect_bytes(&rt, publisher.end(), end);
     Ok(())
 }

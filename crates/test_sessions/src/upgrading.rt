@@ -1,4 +1,4 @@
-//! Files of journals upgraded: worked examples, and growths that are refused.
+//! Upgrades of journal files: worked examples, and allocations that fail.
 
 use crate::comparisons::same_bytes;
 use crate::journal_file::{CLOSED, FIRST, same_refusal};
@@ -8,7 +8,7 @@ use std::alloc::Global;
 use std::process::Abort;
 use std::test::Fail;
 
-/// The file is upgraded, or refused, and these bytes are written.
+/// Upgrades the file, or refuses it. The sink then has the bytes `written`.
 fn expect_upgrade(
     rt: &impl Abort,
     alloc: Global,
@@ -17,36 +17,32 @@ fn expect_upgrade(
     wanted: Result<Upgraded, FileError>,
     written: &[u8],
 ) {
-    let mut source = MemorySource::new(file);
     let mut sink = MemorySink::new(alloc);
-    let found = upgrade(alloc, &mut source, &mut sink, close);
+    let found = upgrade(alloc, &mut MemorySource::new(file), &mut sink, close);
     assert!(rt; found == wanted, "another outcome");
     same_bytes(rt, sink.bytes(), written);
 }
 
-/// `journal-cuts`: the file of version 1, upgraded.
+const UPGRADED: Result<Upgraded, FileError> = Ok(Upgraded {
+    messages: 2,
+    closed: true,
+    from: 1,
+});
+
+const COPIED: Result<Upgraded, FileError> = Ok(Upgraded {
+    messages: 2,
+    closed: true,
+    from: 2,
+});
+
+/// `journal-cuts`: the file of version 1, upgraded. A closed file of version 2 stays closed.
 #[test]
-fn a_file_of_version_1_is_upgraded(rt: HostRuntime) {
-    let upgraded = Upgraded {
-        messages: 2,
-        closed: true,
-        from: 1,
-    };
-    expect_upgrade(&rt, rt.alloc(), &FIRST, true, Ok(upgraded), &CLOSED);
+fn files_of_both_versions_are_upgraded(rt: HostRuntime) {
+    expect_upgrade(&rt, rt.alloc(), &FIRST, true, UPGRADED, &CLOSED);
+    expect_upgrade(&rt, rt.alloc(), &CLOSED, false, COPIED, &CLOSED);
 }
 
-/// A closed file stays closed.
-#[test]
-fn a_closed_file_is_upgraded(rt: HostRuntime) {
-    let upgraded = Upgraded {
-        messages: 2,
-        closed: true,
-        from: 2,
-    };
-    expect_upgrade(&rt, rt.alloc(), &CLOSED, false, Ok(upgraded), &CLOSED);
-}
-
-/// Nothing is written where the file is refused.
+/// If the file is refused, nothing is written.
 #[test]
 fn a_refused_file_is_not_upgraded(rt: HostRuntime) {
     let refused = Err(FileError::CountDiffers { count: 2, found: 1 });
@@ -58,8 +54,8 @@ fn upgrade_first(alloc: Global, sink: &mut MemorySink) -> Result<Upgraded, FileE
     upgrade(alloc, &mut MemorySource::new(&FIRST), sink, true)
 }
 
-/// Nothing is written where the file finds no memory, and a beginning where the sink finds none.
-fn expect_beginning(rt: &impl Abort, sink: &MemorySink, error: FileError) {
+/// If an allocation of the sink failed, a prefix is written. If another one failed, nothing is.
+fn expect_prefix(rt: &impl Abort, sink: &MemorySink, error: FileError) {
     if sink.failures() > 0 {
         same_refusal(rt, error, FileError::Write);
         assert!(rt; CLOSED.starts_with(sink.bytes()));
@@ -69,23 +65,21 @@ fn expect_beginning(rt: &impl Abort, sink: &MemorySink, error: FileError) {
     }
 }
 
-/// Upgrades a file: an error is a refusal of memory, at which a prefix was written.
-fn upgrades(rt: &impl Abort, alloc: Global) -> Result<(), FileError> {
-    let mut sink = MemorySink::new(alloc);
-    let upgraded = upgrade_first(alloc, &mut sink);
-    if let Err(error) = upgraded {
-        expect_beginning(rt, &sink, error);
+/// Upgrades the file of version 1. An error is out of memory, after a prefix is written.
+fn expect_upgraded(rt: &impl Abort, sink: &mut MemorySink, alloc: Global) -> Result<(), FileError> {
+    if let Err(error) = upgrade_first(alloc, sink) {
+        expect_prefix(rt, sink, error);
         return Err(error);
     }
     same_bytes(rt, sink.bytes(), &CLOSED);
     Ok(())
 }
 
-/// Upgrades a file, and once more into a new sink if memory is refused.
+/// If an allocation fails, the file is upgraded again into a new sink.
 #[test]
 fn a_refused_growth_upgrades_nothing(rt: HostRuntime) -> Result<(), Fail> {
-    if upgrades(&rt, rt.alloc()).is_err() {
-        upgrades(&rt, rt.alloc())?;
+    if expect_upgraded(&rt, &mut MemorySink::new(rt.alloc()), rt.alloc()).is_err() {
+        expect_upgraded(&rt, &mut MemorySink::new(rt.alloc()), rt.alloc())?;
     }
     Ok(())
 }
