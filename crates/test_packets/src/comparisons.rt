@@ -1,14 +1,14 @@
-//! Comparisons that several modules make: each costs its proof once.
+//! Comparisons that several modules make. Each is in a function of its own, so that its proof is made once.
 
 use mold_devices::DeviceFault;
 use std::process::Abort;
 
 pub fn same_number(rt: &impl Abort, found: u64, wanted: u64) {
-    assert_eq!(rt; found, wanted);
+    assert!(rt; found == wanted, "{found}, not {wanted}");
 }
 
 pub fn same_size(rt: &impl Abort, found: usize, wanted: usize) {
-    assert_eq!(rt; found, wanted);
+    assert!(rt; found == wanted, "{found}, not {wanted}");
 }
 
 pub fn same_bytes(rt: &impl Abort, found: &[u8], wanted: &[u8]) {
@@ -26,7 +26,7 @@ pub fn same_count(
     found: Result<usize, DeviceFault>,
     wanted: Result<usize, DeviceFault>,
 ) {
-    assert_eq!(rt; found, wanted);
+    assert!(rt; found == wanted, "another count");
 }
 
 /// Whether all bytes were written or sent.
@@ -35,5 +35,5 @@ pub fn same_outcome(
     found: Result<(), DeviceFault>,
     wanted: Result<(), DeviceFault>,
 ) {
-    assert_eq!(rt; found, wanted);
+    assert!(rt; found.is_ok() == wanted.is_ok(), "another outcome");
 }

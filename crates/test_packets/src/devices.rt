@@ -1,4 +1,4 @@
-//! What no clause says: that a device is asked once, and each call on its happy path.
+//! Devices in memory, and devices made of readers and writers. A device makes one call and reports its failure.
 
 use crate::comparisons::{same_bytes, same_count, same_number, same_outcome, same_size};
 use mold_devices::{
@@ -9,27 +9,111 @@ use std::io::{Error, ErrorKind, Read, Write};
 use std::process::Abort;
 use std::test::Fail;
 
-/// Gives one byte a call, but is interrupted at the second.
+type Count = Result<usize, DeviceFault>;
+
+// What reads of at most 8 bytes return, with the bytes and how many reads have failed so far.
+type Reads = &'static [(Count, &'static [u8], u64)];
+
+fn expect_reads<S: Source>(rt: &impl Abort, source: &mut S, reads: Reads) {
+    let mut buffer = [0u8; 8];
+    for (wanted, bytes, failures) in reads {
+        same_count(rt, source.read(&mut buffer), *wanted);
+        assert!(rt; buffer.starts_with(bytes), "not {bytes:?}");
+        same_number(rt, source.failures(), *failures);
+    }
+}
+
+// What writes return, and how many have failed so far.
+type Writes = &'static [(&'static [u8], Count, u64)];
+
+fn expect_writes<S: Sink>(rt: &impl Abort, sink: &mut S, writes: Writes) {
+    for (bytes, wanted, failures) in writes {
+        same_count(rt, sink.write(bytes), *wanted);
+        same_number(rt, sink.failures(), *failures);
+    }
+}
+
+#[test]
+fn memory_source_gives_its_bytes(rt: HostRuntime) {
+    expect_bytes_read(&rt, &mut MemorySource::new(b"abcde"));
+}
+
+fn expect_bytes_read(rt: &impl Abort, source: &mut MemorySource<'_>) {
+    source.at_most(3);
+    expect_reads(rt, source, &[(Ok(3), b"abc", 0)]);
+    source.fail_at(2);
+    source.at_most(1);
+    expect_reads(rt, source, SINGLE_READS);
+}
+
+const SINGLE_READS: Reads = &[
+    (Ok(1), b"d", 0),
+    (Err(DeviceFault), b"", 1),
+    (Ok(1), b"e", 1),
+    (Ok(0), b"", 1),
+];
+
+#[test]
+fn memory_sink_takes_bytes(rt: HostRuntime) {
+    let mut sink = MemorySink::new(rt.alloc());
+    expect_bytes_taken(&rt, &mut sink);
+}
+
+const SINGLE_WRITES: Writes = &[(b"cd", Ok(1), 0), (b"d", Err(DeviceFault), 1)];
+
+fn expect_bytes_taken(rt: &impl Abort, sink: &mut MemorySink) {
+    expect_writes(rt, sink, &[(b"ab", Ok(2), 0)]);
+    sink.at_most(1);
+    sink.fail_at(2);
+    expect_writes(rt, sink, SINGLE_WRITES);
+    same_outcome(rt, write_all(sink, b"de"), Ok(()));
+    same_bytes(rt, sink.bytes(), b"abcde");
+    sink.fail_at(2);
+    same_outcome(rt, write_all(sink, b"fg"), Err(DeviceFault));
+    same_bytes(rt, sink.bytes(), b"abcdef");
+    same_number(rt, sink.failures(), 2);
+}
+
+#[test]
+fn readers_and_writers_are_devices(rt: HostRuntime) {
+    expect_reader(&rt);
+    expect_writer(&rt, Vec::new(rt.alloc()));
+}
+
+fn expect_reader(rt: &impl Abort) {
+    let mut source = FromRead::new(b"abc".as_slice());
+    expect_reads(rt, &mut source, &[(Ok(3), b"abc", 0), (Ok(0), b"", 0)]);
+    same_size(rt, source.into_inner().len(), 0);
+}
+
+fn expect_writer(rt: &impl Abort, written: Vec<u8>) {
+    let mut sink = IntoWrite::new(written);
+    same_outcome(rt, write_all(&mut sink, b"abc"), Ok(()));
+    same_number(rt, sink.failures(), 0);
+    same_bytes(rt, sink.into_inner().as_slice(), b"abc");
+}
+
+/// Returns one byte a call. The second call is interrupted.
 #[derive(Drop)]
 struct Interrupted {
     calls: u64,
 }
 
 impl Read for Interrupted {
-    fn read(&mut self, place: &mut [u8]) -> io::Result<usize> {
+    fn read(&mut self, buffer: &mut [u8]) -> io::Result<usize> {
         self.calls = self.calls.saturating_add(1);
         if self.calls == 2 {
             return Err(Error::from(ErrorKind::Interrupted));
         }
-        if place.is_empty() {
+        if buffer.is_empty() {
             return Ok(0);
         }
-        place[0] = b'x';
+        buffer[0] = b'x';
         Ok(1)
     }
 }
 
-/// Takes no byte at the second call, is interrupted at the third, and else takes one a call.
+/// Takes one byte a call. The second call takes none, and the third is interrupted.
 #[derive(Drop)]
 struct Reluctant {
     calls: u64,
@@ -53,102 +137,38 @@ impl Write for Reluctant {
 }
 
 #[test]
-fn memory_source_gives_its_bytes(rt: HostRuntime) {
-    let mut place = [0u8; 8];
-    let mut source = MemorySource::new(b"abcde");
-    source.at_most(3);
-    same_count(&rt, source.read(&mut place), Ok(3));
-    same_bytes(&rt, &place[..3], b"abc");
-    source.fail_at(2);
-    source.at_most(1);
-    same_count(&rt, source.read(&mut place), Ok(1));
-    same_bytes(&rt, &place[..1], b"d");
-    same_count(&rt, source.read(&mut place), Err(DeviceFault));
-    same_count(&rt, source.read(&mut place), Ok(1));
-    same_bytes(&rt, &place[..1], b"e");
-    same_count(&rt, source.read(&mut place), Ok(0));
-    same_number(&rt, source.failures(), 1);
-}
-
-#[test]
-fn memory_sink_takes_bytes(rt: HostRuntime) {
-    let mut sink = MemorySink::new(rt.alloc());
-    expect_bytes_taken(&rt, &mut sink);
-}
-
-fn expect_bytes_taken(rt: &impl Abort, sink: &mut MemorySink) {
-    same_count(rt, sink.write(b"ab"), Ok(2));
-    sink.at_most(1);
-    sink.fail_at(2);
-    same_count(rt, sink.write(b"cd"), Ok(1));
-    same_count(rt, sink.write(b"d"), Err(DeviceFault));
-    same_outcome(rt, write_all(sink, b"de"), Ok(()));
-    same_bytes(rt, sink.bytes(), b"abcde");
-    sink.fail_at(2);
-    same_outcome(rt, write_all(sink, b"fg"), Err(DeviceFault));
-    same_bytes(rt, sink.bytes(), b"abcdef");
-    same_number(rt, sink.failures(), 2);
-}
-
-#[test]
-fn readers_and_writers_are_devices(rt: HostRuntime) -> Result<(), Fail> {
-    expect_reader(&rt);
-    expect_writer(&rt, Vec::new(rt.alloc()));
-    Ok(())
-}
-
-fn expect_reader(rt: &impl Abort) {
-    let mut place = [0u8; 8];
-    let mut source = FromRead::new(b"abc".as_slice());
-    same_count(rt, source.read(&mut place), Ok(3));
-    same_bytes(rt, &place[..3], b"abc");
-    same_count(rt, source.read(&mut place), Ok(0));
-    same_number(rt, source.failures(), 0);
-    same_size(rt, source.into_inner().len(), 0);
-}
-
-fn expect_writer(rt: &impl Abort, written: Vec<u8>) {
-    let mut sink = IntoWrite::new(written);
-    same_outcome(rt, write_all(&mut sink, b"abc"), Ok(()));
-    same_number(rt, sink.failures(), 0);
-    same_bytes(rt, sink.into_inner().as_slice(), b"abc");
-}
-
-#[test]
 fn interrupted_and_idle_calls_are_failures(rt: HostRuntime) {
     expect_interrupted(&rt);
-    expect_reluctant(&rt);
+    expect_writes(&rt, &mut IntoWrite::new(Reluctant { calls: 0 }), RELUCTANT);
 }
 
+const INTERRUPTED: Reads = &[
+    (Ok(1), b"x", 0),
+    (Err(DeviceFault), b"", 1),
+    (Ok(1), b"x", 1),
+];
+
 fn expect_interrupted(rt: &impl Abort) {
-    let mut place = [0u8; 8];
     let mut source = FromRead::new(Interrupted { calls: 0 });
-    same_count(rt, source.read(&mut place), Ok(1));
-    same_count(rt, source.read(&mut place), Err(DeviceFault));
-    same_number(rt, source.failures(), 1);
-    same_count(rt, source.read(&mut place), Ok(1));
-    same_number(rt, source.failures(), 1);
+    expect_reads(rt, &mut source, INTERRUPTED);
     same_number(rt, source.into_inner().calls, 3);
 }
 
-fn expect_reluctant(rt: &impl Abort) {
-    let mut sink = IntoWrite::new(Reluctant { calls: 0 });
-    same_count(rt, sink.write(b"ab"), Ok(1));
-    same_count(rt, sink.write(b"ab"), Err(DeviceFault));
-    same_count(rt, sink.write(b"ab"), Err(DeviceFault));
-    same_number(rt, sink.failures(), 2);
-    same_count(rt, sink.write(b""), Ok(0));
-    same_count(rt, sink.write(b"ab"), Ok(1));
-    same_number(rt, sink.failures(), 2);
-}
+const RELUCTANT: Writes = &[
+    (b"ab", Ok(1), 0),
+    (b"ab", Err(DeviceFault), 1),
+    (b"ab", Err(DeviceFault), 2),
+    (b"", Ok(0), 2),
+    (b"ab", Ok(1), 2),
+];
 
-// Writes bytes, once more where the sink found no memory: that was a failure, and it had what was there before.
+// Writes bytes. If an allocation fails, the write fails and the sink is as before, and the bytes are written again.
 fn write_again(
     rt: &impl Abort,
     sink: &mut MemorySink,
     bytes: &[u8],
     before: &[u8],
-) -> Result<(), Fail> {
+) -> Result<(), DeviceFault> {
     let failures = sink.failures();
     if sink.write(bytes).is_ok() {
         same_number(rt, sink.failures(), failures);
@@ -156,18 +176,23 @@ fn write_again(
     }
     same_number(rt, sink.failures(), failures.saturating_add(1));
     same_bytes(rt, sink.bytes(), before);
-    match sink.write(bytes) {
-        Ok(_) => Ok(()),
-        Err(DeviceFault) => Err(Fail::from("Write")),
-    }
+    sink.write(bytes)?;
+    Ok(())
+}
+
+fn write_two(rt: &impl Abort, sink: &mut MemorySink) -> Result<(), DeviceFault> {
+    write_again(rt, sink, b"ab", b"")?;
+    write_again(rt, sink, &[b'c'; 62], b"ab")?;
+    same_size(rt, sink.bytes().len(), 64);
+    assert!(rt; sink.bytes().starts_with(b"abc"));
+    Ok(())
 }
 
 #[test]
 fn a_refused_growth_is_a_failed_write(rt: HostRuntime) -> Result<(), Fail> {
     let mut sink = MemorySink::new(rt.alloc());
-    write_again(&rt, &mut sink, b"ab", b"")?;
-    write_again(&rt, &mut sink, &[b'c'; 62], b"ab")?;
-    same_size(&rt, sink.bytes().len(), 64);
-    assert!(rt; sink.bytes().starts_with(b"abc"));
-    Ok(())
+    match write_two(&rt, &mut sink) {
+        Ok(()) => Ok(()),
+        Err(DeviceFault) => Err(Fail::from("Write")),
+    }
 }

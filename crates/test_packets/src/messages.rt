@@ -1,4 +1,4 @@
-//! Each public call on its happy path, with its answer.
+//! Lists of messages.
 
 ghost use Rattle.std.specs.Prelude.{◌≡◌};
 
@@ -8,143 +8,154 @@ use std::alloc::{AllocError, Global};
 use std::process::Abort;
 use std::test::Fail;
 
-fn push_three(list: &mut MessageList) -> Result<(), AllocError> {
-    list.push(b"AB")?;
-    list.push(b"")?;
-    list.push(b"C")
+/// A call that changes a list, or what the list has.
+#[derive(Clone, Copy)]
+enum Step {
+    Push(&'static [u8]),
+    ExtendLast(&'static [u8]),
+    Truncate(usize),
+    Clear,
+    Reserve(usize, usize),
+    /// The messages.
+    Has(&'static [&'static [u8]]),
+    /// The length of the messages from one index to below another, joined.
+    Joined(usize, usize, usize),
 }
 
-/// `AB`, an empty message and `C`.
-fn three(alloc: Global) -> Result<MessageList, Fail> {
-    let mut list = MessageList::new(alloc);
-    push_three(&mut list)?;
-    Ok(list)
-}
-
+// The messages from an index on, one after the other.
 fn expect_from<'w, 'm>(rt: &impl Abort, list: &MessageList, first: usize, wanted: &'w [&'m [u8]]) {
-    let mut rest = list.iter_from(first);
-    for (place, want) in wanted.iter().enumerate() {
-        same_message(rt, place, rest.next(), Some(*want));
-    }
-    same_message(rt, wanted.len(), rest.next(), None);
-}
-
-fn expect_at(rt: &impl Abort, list: &MessageList, i: usize, want: &[u8]) {
-    same_message(rt, i, list.get(i), Some(want));
-}
-
-fn joined(rt: &impl Abort, list: &MessageList, from: usize, to: usize) -> usize {
-    assert!(rt; from <= to && to <= list.len());
-    list.joined_length(from, to)
-}
-
-#[test]
-fn messages_are_lent_as_they_were_pushed(rt: HostRuntime) -> Result<(), Fail> {
-    let list = three(rt.alloc())?;
-    same_size(&rt, list.len(), 3);
-    same_size(&rt, usize::from(list.is_empty()), 0);
-    expect_at(&rt, &list, 0, b"AB");
-    expect_at(&rt, &list, 1, b"");
-    expect_at(&rt, &list, 2, b"C");
-    same_message(&rt, 3, list.get(3), None);
-    same_size(&rt, joined(&rt, &list, 0, 3), 3);
-    same_size(&rt, joined(&rt, &list, 1, 3), 1);
-    same_size(&rt, joined(&rt, &list, 2, 2), 0);
-    Ok(())
-}
-
-#[test]
-fn messages_are_visited_from_any_of_them_on(rt: HostRuntime) -> Result<(), Fail> {
-    let list = three(rt.alloc())?;
-    expect_from(&rt, &list, 0, &[b"AB", b"", b"C"]);
-    expect_from(&rt, &list, 1, &[b"", b"C"]);
-    same_message(&rt, 0, list.iter_from(3).next(), None);
-    same_message(&rt, 0, list.iter_from(4).next(), None);
-    expect_three(&rt, &list);
-    Ok(())
-}
-
-/// The three messages come one after the other.
-fn expect_three(rt: &impl Abort, list: &MessageList) {
-    let mut i = 0usize;
-    for message in list {
-        same_message(rt, i, list.get(i), Some(message));
+    let mut i = first;
+    for message in list.iter_from(first) {
+        same_message(rt, i, Some(message), wanted.get(i).copied());
         i = i.saturating_add(1);
     }
-    same_size(rt, i, 3);
+    same_size(rt, i, wanted.len().max(first));
 }
 
-#[test]
-fn a_list_is_cut_and_filled_again(rt: HostRuntime) -> Result<(), Fail> {
-    let mut list = three(rt.alloc())?;
-    expect_cut_and_filled(&rt, &mut list)?;
-    Ok(())
-}
-
-fn expect_cut_and_filled(rt: &impl Abort, list: &mut MessageList) -> Result<(), AllocError> {
-    list.truncate(4);
-    expect_from(rt, list, 0, &[b"AB", b"", b"C"]);
-    list.truncate(1);
-    list.push(b"DEF")?;
-    expect_from(rt, list, 0, &[b"AB", b"DEF"]);
-    same_size(rt, joined(rt, list, 0, 2), 5);
-    list.clear();
-    same_size(rt, usize::from(list.is_empty()), 1);
-    same_message(rt, 0, list.get(0), None);
-    list.reserve(2, 4)?;
-    list.push(b"AB")?;
-    list.push(b"CD")?;
-    expect_from(rt, list, 0, &[b"AB", b"CD"]);
-    Ok(())
-}
-
-/// A thousand messages, so that what keeps them grows several times.
-#[test]
-fn a_thousand_messages_are_pushed(rt: HostRuntime) -> Result<(), Fail> {
-    let mut list = MessageList::new(rt.alloc());
-    for _ in 0..1000u16 {
-        list.push(b"x")?;
+fn expect_each<'w, 'm>(rt: &impl Abort, list: &MessageList, wanted: &'w [&'m [u8]]) {
+    let mut i = 0usize;
+    for message in list {
+        same_message(rt, i, Some(message), wanted.get(i).copied());
+        same_message(rt, i, list.get(i), Some(message));
+        expect_from(rt, list, i, wanted);
+        i = i.saturating_add(1);
     }
-    same_size(&rt, list.len(), 1000);
-    same_size(&rt, joined(&rt, &list, 0, 1000), 1000);
-    Ok(())
+    same_size(rt, i, wanted.len());
 }
 
-#[test]
-fn a_message_comes_in_parts(rt: HostRuntime) -> Result<(), Fail> {
-    let mut list = three(rt.alloc())?;
-    extend(&rt, &mut list, b"DE")?;
-    list.push(b"")?;
-    extend(&rt, &mut list, b"F")?;
-    expect_at(&rt, &list, 2, b"CDE");
-    expect_at(&rt, &list, 3, b"F");
-    Ok(())
+fn expect_list<'w, 'm>(rt: &impl Abort, list: &MessageList, wanted: &'w [&'m [u8]]) {
+    let len = wanted.len();
+    same_size(rt, list.len(), len);
+    same_size(rt, usize::from(list.is_empty()), usize::from(len == 0));
+    same_message(rt, len, list.get(len), None);
+    expect_each(rt, list, wanted);
+    expect_from(rt, list, len, wanted);
+    expect_from(rt, list, len.saturating_add(1), wanted);
 }
 
-fn extend(rt: &impl Abort, list: &mut MessageList, part: &[u8]) -> Result<(), AllocError> {
+fn expect_joined(rt: &impl Abort, list: &MessageList, from: usize, to: usize, wanted: usize) {
+    assert!(rt; from <= to && to <= list.len());
+    same_size(rt, list.joined_length(from, to), wanted);
+}
+
+fn extend_last(rt: &impl Abort, list: &mut MessageList, part: &[u8]) -> Result<(), AllocError> {
     assert!(rt; list.len() > 0);
     list.extend_last(part)
 }
 
-fn expect_part(rt: &impl Abort, list: &PartList, i: usize, want: &[u8]) {
-    same_message(rt, i, list.get(i), Some(want));
-}
-
-/// `AB` and `C` behind their lengths, and an empty message.
-#[test]
-fn parts_lie_in_copied_bytes(rt: HostRuntime) -> Result<(), Fail> {
-    let mut list = PartList::new(rt.alloc());
-    push_parts(&rt, &mut list)?;
-    same_size(&rt, list.len(), 3);
-    expect_part(&rt, &list, 0, b"AB");
-    expect_part(&rt, &list, 1, b"C");
-    expect_part(&rt, &list, 2, b"");
-    same_message(&rt, 3, list.get(3), None);
-    expect_parts(&rt, &list);
-    expect_cut(&rt, &mut list);
+fn take_step(rt: &impl Abort, list: &mut MessageList, step: Step) -> Result<(), AllocError> {
+    match step {
+        Step::Push(message) => return list.push(message),
+        Step::ExtendLast(part) => return extend_last(rt, list, part),
+        Step::Truncate(keep) => list.truncate(keep),
+        Step::Clear => list.clear(),
+        Step::Reserve(messages, bytes) => return list.reserve(messages, bytes),
+        Step::Has(wanted) => expect_list(rt, list, wanted),
+        Step::Joined(from, to, wanted) => expect_joined(rt, list, from, to, wanted),
+    }
     Ok(())
 }
 
+// A new list takes the steps.
+fn expect_steps(rt: &impl Abort, alloc: Global, steps: &[Step]) -> Result<(), Fail> {
+    let mut list = MessageList::new(alloc);
+    for step in steps {
+        take_step(rt, &mut list, *step)?;
+    }
+    Ok(())
+}
+
+const PUSHED: &[Step] = &[
+    Step::Push(b"AB"),
+    Step::Push(b""),
+    Step::Push(b"C"),
+    Step::Has(&[b"AB", b"", b"C"]),
+    Step::Joined(0, 3, 3),
+    Step::Joined(1, 3, 1),
+    Step::Joined(2, 2, 0),
+];
+
+#[test]
+fn messages_are_returned_as_they_were_pushed(rt: HostRuntime) -> Result<(), Fail> {
+    expect_steps(&rt, rt.alloc(), PUSHED)
+}
+
+const TRUNCATED: &[Step] = &[
+    Step::Push(b"AB"),
+    Step::Push(b""),
+    Step::Push(b"C"),
+    Step::Truncate(4),
+    Step::Has(&[b"AB", b"", b"C"]),
+    Step::Truncate(1),
+    Step::Push(b"DEF"),
+    Step::Has(&[b"AB", b"DEF"]),
+    Step::Joined(0, 2, 5),
+    Step::Clear,
+    Step::Has(&[]),
+    Step::Reserve(2, 4),
+    Step::Push(b"AB"),
+    Step::Push(b"CD"),
+    Step::Has(&[b"AB", b"CD"]),
+];
+
+#[test]
+fn a_list_is_truncated_and_filled_again(rt: HostRuntime) -> Result<(), Fail> {
+    expect_steps(&rt, rt.alloc(), TRUNCATED)
+}
+
+const EXTENDED: &[Step] = &[
+    Step::Push(b"AB"),
+    Step::Push(b""),
+    Step::Push(b"C"),
+    Step::ExtendLast(b"DE"),
+    Step::Push(b""),
+    Step::ExtendLast(b"F"),
+    Step::Has(&[b"AB", b"", b"CDE", b"F"]),
+];
+
+#[test]
+fn a_message_comes_in_parts(rt: HostRuntime) -> Result<(), Fail> {
+    expect_steps(&rt, rt.alloc(), EXTENDED)
+}
+
+fn push_thousand(list: &mut MessageList) -> Result<(), AllocError> {
+    for _ in 0..1000u16 {
+        list.push(b"x")?;
+    }
+    Ok(())
+}
+
+/// A thousand messages, so that the list's buffers grow several times.
+#[test]
+fn a_thousand_messages_are_pushed(rt: HostRuntime) -> Result<(), Fail> {
+    let mut list = MessageList::new(rt.alloc());
+    push_thousand(&mut list)?;
+    same_size(&rt, list.len(), 1000);
+    expect_joined(&rt, &list, 0, 1000, 1000);
+    Ok(())
+}
+
+// `AB` and `C`, each after its length, and an empty message.
 fn push_parts(rt: &impl Abort, list: &mut PartList) -> Result<(), AllocError>
     requires { list.old.end ≡ 0 }
 {
@@ -155,20 +166,31 @@ fn push_parts(rt: &impl Abort, list: &mut PartList) -> Result<(), AllocError>
     list.push(b"")
 }
 
-/// The three parts come one after the other.
-fn expect_parts(rt: &impl Abort, list: &PartList) {
+fn expect_parts<'w, 'm>(rt: &impl Abort, list: &PartList, wanted: &'w [&'m [u8]]) {
     let mut i = 0usize;
     for message in list {
+        same_message(rt, i, Some(message), wanted.get(i).copied());
         same_message(rt, i, list.get(i), Some(message));
         i = i.saturating_add(1);
     }
-    same_size(rt, i, 3);
+    same_size(rt, i, wanted.len());
+    same_size(rt, list.len(), i);
+    same_message(rt, i, list.get(i), None);
+    same_size(rt, usize::from(list.is_empty()), usize::from(i == 0));
 }
 
-fn expect_cut(rt: &impl Abort, list: &mut PartList) {
+fn expect_truncated(rt: &impl Abort, list: &mut PartList) {
+    expect_parts(rt, list, &[b"AB", b"C", b""]);
     list.truncate(1);
-    same_size(rt, list.len(), 1);
-    expect_part(rt, list, 0, b"AB");
+    expect_parts(rt, list, &[b"AB"]);
     list.clear();
-    same_size(rt, usize::from(list.is_empty()), 1);
+    expect_parts(rt, list, &[]);
+}
+
+#[test]
+fn parts_lie_in_copied_bytes(rt: HostRuntime) -> Result<(), Fail> {
+    let mut list = PartList::new(rt.alloc());
+    push_parts(&rt, &mut list)?;
+    expect_truncated(&rt, &mut list);
+    Ok(())
 }

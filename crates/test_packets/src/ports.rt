@@ -1,68 +1,70 @@
-//! What no clause says: that datagrams go by sockets, and each call on its happy path.
+//! Ports in memory, and ports of UDP over the loopback address.
 
 use crate::comparisons::{same_bytes, same_number, same_outcome, same_size};
 use mold_devices::DeviceFault;
 use mold_ports::{Datagrams, MemoryPort, Step, UdpPort};
-use std::alloc::Global;
+use std::alloc::{AllocError, Global};
 use std::net::{Ipv4Addr, Net, SocketAddr, SocketAddrV4};
 use std::process::Abort;
 use std::test::Fail;
 use std::time::{Clock, Instant};
 
-// The loopback address with a port, where 0 is one that the system gives.
-pub fn loopback(port: u16) -> SocketAddrV4 {
-    SocketAddrV4::new(Ipv4Addr::new(127, 0, 0, 1), port)
-}
-
-// A datagram from peer 7, nothing, and a failure.
-fn three_steps(alloc: Global) -> Result<MemoryPort, Fail> {
-    let mut script = Vec::new(alloc);
-    script.push(Step::Come {
-        from: 7,
-        bytes: b"abc".to_vec(alloc)?,
-    })?;
+// Datagrams from peers 7 and 8, nothing, and a failure.
+fn push_script(alloc: Global, script: &mut Vec<Step>) -> Result<(), AllocError> {
+    for from in 7..=8u32 {
+        let bytes = b"abc".to_vec(alloc)?;
+        script.push(Step::Come { from, bytes })?;
+    }
     script.push(Step::Quiet)?;
     script.push(Step::Fail)?;
-    Ok(MemoryPort::new(alloc, script))
+    Ok(())
 }
 
-// What a receive in memory gave: how many bytes from which peer.
-fn same_receipt(
-    rt: &impl Abort,
-    found: Result<Option<(usize, u32)>, DeviceFault>,
-    wanted: Result<Option<(usize, u32)>, DeviceFault>,
-) {
-    assert_eq!(rt; found, wanted);
+// What a receive in memory returns: how many bytes from which peer.
+type Receipt = Result<Option<(usize, u32)>, DeviceFault>;
+
+fn same_receipt(rt: &impl Abort, found: Receipt, wanted: Receipt) {
+    assert!(rt; found == wanted, "another receipt");
 }
 
+// What receives return after the first, and how many steps are left.
+const RECEIPTS: &[(Receipt, usize)] = &[
+    (Ok(Some((2, 8))), 2),
+    (Ok(None), 1),
+    (Err(DeviceFault), 0),
+    (Ok(None), 0),
+];
+
+fn expect_steps_once(rt: &impl Abort, port: &mut MemoryPort) {
+    let mut long = [0u8; 8];
+    let mut short = [0u8; 2];
+    same_size(rt, port.left(), 4);
+    same_receipt(rt, port.receive(&mut long), Ok(Some((3, 7))));
+    same_bytes(rt, &long[..3], b"abc");
+    for (wanted, left) in RECEIPTS {
+        same_receipt(rt, port.receive(&mut short), *wanted);
+        same_size(rt, port.left(), *left);
+    }
+    same_bytes(rt, &short, b"ab");
+    same_number(rt, port.failures(), 1);
+}
+
+/// A datagram that is longer than the buffer is truncated.
 #[test]
-fn memory_port_gives_its_steps_once(rt: HostRuntime) -> Result<(), Fail> {
-    let mut port = three_steps(rt.alloc())?;
+fn memory_port_takes_its_steps_once(rt: HostRuntime) -> Result<(), Fail> {
+    let mut script = Vec::new(rt.alloc());
+    push_script(rt.alloc(), &mut script)?;
+    let mut port = MemoryPort::new(rt.alloc(), script);
     expect_steps_once(&rt, &mut port);
     Ok(())
 }
 
-fn expect_steps_once(rt: &impl Abort, port: &mut MemoryPort) {
-    let mut place = [0u8; 8];
-    same_size(rt, port.left(), 3);
-    same_receipt(rt, port.receive(&mut place), Ok(Some((3, 7))));
-    same_bytes(rt, &place[..3], b"abc");
-    same_receipt(rt, port.receive(&mut place), Ok(None));
-    same_size(rt, port.left(), 1);
-    same_receipt(rt, port.receive(&mut place), Err(DeviceFault));
-    same_receipt(rt, port.receive(&mut place), Ok(None));
-    same_size(rt, port.left(), 0);
-    same_number(rt, port.failures(), 1);
-}
-
-#[test]
-fn memory_port_cuts_what_is_longer_than_the_place(rt: HostRuntime) -> Result<(), Fail> {
-    let mut place = [0u8; 2];
-    let mut port = three_steps(rt.alloc())?;
-    same_receipt(&rt, port.receive(&mut place), Ok(Some((2, 7))));
-    same_bytes(&rt, &place, b"ab");
-    Ok(())
-}
+// Sends, and what they return.
+const SENDS: &[(u32, &[u8], Result<(), DeviceFault>)] = &[
+    (1, b"ab", Ok(())),
+    (2, b"cd", Err(DeviceFault)),
+    (2, b"", Ok(())),
+];
 
 #[test]
 fn memory_port_keeps_what_it_sends(rt: HostRuntime) {
@@ -72,30 +74,32 @@ fn memory_port_keeps_what_it_sends(rt: HostRuntime) {
 
 fn expect_sent_kept(rt: &impl Abort, port: &mut MemoryPort) {
     port.fail_send(2);
-    same_outcome(rt, port.send(1, b"ab"), Ok(()));
-    same_outcome(rt, port.send(2, b"cd"), Err(DeviceFault));
-    same_outcome(rt, port.send(2, b""), Ok(()));
+    for (to, bytes, wanted) in SENDS {
+        same_outcome(rt, port.send(*to, bytes), *wanted);
+    }
     same_number(rt, port.failures(), 1);
-    let sent = port.sent();
-    same_size(rt, sent.len(), 2);
-    expect_sent(rt, sent, 0, 1, b"ab");
-    expect_sent(rt, sent, 1, 2, b"");
+    expect_sent(rt, port, &[(1, b"ab"), (2, b"")]);
 }
 
-// The datagram at this place is these bytes to this peer.
-fn expect_sent(rt: &impl Abort, sent: &[(u32, Vec<u8>)], place: usize, to: u32, bytes: &[u8]) {
-    match sent.get(place) {
-        Some(found) => {
-            assert!(rt; found.0 == to, "datagram {place}");
-            same_bytes(rt, found.1.as_slice(), bytes);
-        }
-        None => assert!(rt; false, "no datagram {place}"),
+fn is_sent(sent: &[(u32, Vec<u8>)], i: usize, to: u32, bytes: &[u8]) -> bool {
+    match sent.get(i) {
+        Some(found) => found.0 == to && found.1.as_slice() == bytes,
+        None => false,
     }
 }
 
-// Sends bytes to peer 1, once more where the port found no memory for them: that was a failed send, of which nothing
-// is kept.
-fn send_again(rt: &impl Abort, port: &mut MemoryPort, bytes: &[u8]) -> Result<(), Fail> {
+// The port has sent these datagrams to these peers.
+fn expect_sent<'w, 'd>(rt: &impl Abort, port: &MemoryPort, wanted: &'w [(u32, &'d [u8])]) {
+    let sent = port.sent();
+    same_size(rt, sent.len(), wanted.len());
+    for (i, (to, bytes)) in wanted.iter().enumerate() {
+        assert!(rt; is_sent(sent, i, *to, bytes), "datagram {i}");
+    }
+}
+
+// Sends bytes to peer 1. If an allocation fails, the send fails and nothing is kept of it, and the bytes are sent
+// again.
+fn send_again(rt: &impl Abort, port: &mut MemoryPort, bytes: &[u8]) -> Result<(), DeviceFault> {
     let (failures, kept) = (port.failures(), port.sent().len());
     if port.send(1, bytes).is_ok() {
         same_number(rt, port.failures(), failures);
@@ -103,170 +107,255 @@ fn send_again(rt: &impl Abort, port: &mut MemoryPort, bytes: &[u8]) -> Result<()
     }
     same_number(rt, port.failures(), failures.saturating_add(1));
     same_size(rt, port.sent().len(), kept);
-    match port.send(1, bytes) {
-        Ok(()) => Ok(()),
-        Err(DeviceFault) => Err(Fail::from("Memory")),
-    }
+    port.send(1, bytes)
+}
+
+fn send_three(rt: &impl Abort, port: &mut MemoryPort) -> Result<(), DeviceFault> {
+    send_again(rt, port, b"ab")?;
+    send_again(rt, port, b"")?;
+    send_again(rt, port, b"cd")?;
+    expect_sent(rt, port, &[(1, b"ab"), (1, b""), (1, b"cd")]);
+    Ok(())
 }
 
 #[test]
 fn a_refused_growth_is_a_failed_send(rt: HostRuntime) -> Result<(), Fail> {
     let mut port = MemoryPort::new(rt.alloc(), Vec::new(rt.alloc()));
-    send_again(&rt, &mut port, b"ab")?;
-    send_again(&rt, &mut port, b"")?;
-    send_again(&rt, &mut port, b"cd")?;
-    same_size(&rt, port.sent().len(), 3);
-    expect_sent(&rt, port.sent(), 0, 1, b"ab");
-    expect_sent(&rt, port.sent(), 2, 1, b"cd");
-    Ok(())
+    match send_three(&rt, &mut port) {
+        Ok(()) => Ok(()),
+        Err(DeviceFault) => Err(Fail::from("Memory")),
+    }
 }
 
-// A port of the loopback address.
-pub fn open(rt: &impl Net) -> Result<UdpPort, Fail> {
-    Ok(UdpPort::bind(rt, loopback(0))?)
+// The loopback address with a port number. The system chooses the port of number 0.
+fn loopback(port: u16) -> SocketAddrV4 {
+    SocketAddrV4::new(Ipv4Addr::new(127, 0, 0, 1), port)
 }
 
-// A receive gives so many bytes from this address.
-fn expect_datagram(
-    rt: &impl Abort,
-    port: &mut UdpPort,
-    place: &mut [u8],
-    len: usize,
-    from: SocketAddr,
-) {
-    assert_eq!(rt; port.receive(place), Ok(Some((len, from))));
+/// An address to which no datagram can be sent.
+pub fn nowhere() -> SocketAddr {
+    SocketAddr::V4(loopback(0))
 }
 
-fn expect_nothing(rt: &impl Abort, port: &mut UdpPort) {
-    let mut place = [0u8; 16];
+fn open(rt: &impl Net) -> Result<UdpPort, DeviceFault> {
+    UdpPort::bind(rt, loopback(0))
+}
+
+fn is_taken(rt: &impl Net, port: u16) -> bool {
+    UdpPort::bind(rt, loopback(port)).is_err()
+}
+
+fn expect_taken(rt: &(impl Abort + Net), address: SocketAddr) {
+    let port = address.port();
     assert!(rt;
-        matches!(port.receive(&mut place), Ok(None)),
-        "something came, or a fault"
+        address == SocketAddr::V4(loopback(port)),
+        "another address"
     );
-}
-
-#[test]
-fn datagrams_go_by_sockets(rt: HostRuntime) -> Result<(), Fail> {
-    let mut one = open(&rt)?;
-    let mut other = open(&rt)?;
-    expect_by_sockets(&rt, &mut one, &mut other);
-    Ok(())
-}
-
-fn expect_by_sockets(rt: &impl Abort, one: &mut UdpPort, other: &mut UdpPort) {
-    let mut place = [0u8; 65507];
-    let (from, to) = (one.address(), other.address());
-    assert!(rt; from != to);
-    same_outcome(rt, one.send(to, b"abc"), Ok(()));
-    expect_datagram(rt, other, &mut place, 3, from);
-    same_bytes(rt, &place[..3], b"abc");
-    // Port 0 takes no datagram.
-    let nowhere = SocketAddr::V4(loopback(0));
-    same_outcome(rt, one.send(nowhere, b"abc"), Err(DeviceFault));
-    same_number(rt, one.failures(), 1);
-    same_number(rt, other.failures(), 0);
+    assert!(rt; is_taken(rt, port), "bound again");
 }
 
 #[test]
 fn a_taken_port_is_not_bound_again(rt: HostRuntime) -> Result<(), Fail> {
-    let port = UdpPort::bind(&rt, loopback(0))?;
-    let taken = loopback(port.address().port());
-    assert_eq!(rt; port.address(), SocketAddr::V4(taken));
-    assert!(rt; UdpPort::bind(&rt, taken).is_err());
+    let port = open(&rt)?;
+    expect_taken(&rt, port.address());
     Ok(())
 }
 
-// How many milliseconds the shortest of so many receives takes. Other work of the machine may hold up some.
-fn least_wait(rt: &impl Clock, port: &mut UdpPort, receives: u8) -> Result<u128, Fail> {
-    let mut place = [0u8; 16];
-    let mut least = 1000;
-    for _ in 0..receives {
-        let start = Instant::now(rt)?;
-        port.receive(&mut place)?;
-        least = start.elapsed(rt)?.as_millis().min(least);
-    }
-    Ok(least)
+/// Three ports of the loopback address.
+#[derive(Drop)]
+pub struct Ports {
+    pub quiet: UdpPort,
+    pub busy: UdpPort,
+    server: UdpPort,
 }
 
-// A wait for nothing lasts its time. Beside a port that has a datagram it ends at once, or after a send once the time
-// for the answer is over.
+/// One of the three.
+#[derive(Clone, Copy)]
+pub enum Side {
+    Quiet,
+    Busy,
+    Server,
+}
+
+/// A call of one of the ports that succeeds.
+#[derive(Clone, Copy)]
+enum Call {
+    /// The quiet port stands beside the busy one.
+    StandBeside,
+    /// And the busy port beside the quiet one.
+    StandOpposite,
+    /// A port sends these bytes to another one.
+    Send(Side, Side, &'static [u8]),
+    /// A send of the quiet port fails, and is counted. The busy port counts none.
+    FailedSend,
+    /// A port receives these bytes from another one.
+    Receive(Side, &'static [u8], Side),
+    /// A port receives nothing.
+    Nothing(Side),
+    /// The shortest of this many receives of the quiet port takes at least so many milliseconds.
+    Waits(u8, u128),
+    /// The shortest of this many receives of the quiet port takes fewer milliseconds.
+    WaitEnds(u8, u128),
+}
+
+impl Ports {
+    pub fn new(rt: &impl Net) -> Result<Ports, DeviceFault> {
+        Ok(Ports {
+            quiet: open(rt)?,
+            busy: open(rt)?,
+            server: open(rt)?,
+        })
+    }
+
+    pub fn stand_beside(&mut self) {
+        self.quiet.stand_beside(&self.busy);
+    }
+
+    fn address(&self, side: Side) -> SocketAddr {
+        match side {
+            Side::Quiet => self.quiet.address(),
+            Side::Busy => self.busy.address(),
+            Side::Server => self.server.address(),
+        }
+    }
+
+    fn port(&mut self, side: Side) -> &mut UdpPort {
+        match side {
+            Side::Quiet => &mut self.quiet,
+            Side::Busy => &mut self.busy,
+            Side::Server => &mut self.server,
+        }
+    }
+
+    /// Whether a port sends these bytes to another one.
+    pub fn is_sent(&mut self, from: Side, to: Side, bytes: &[u8]) -> bool {
+        let to = self.address(to);
+        self.port(from).send(to, bytes).is_ok()
+    }
+
+    fn is_received(&mut self, at: Side, bytes: &[u8], from: Side) -> bool {
+        let mut buffer = [0u8; 65507];
+        let wanted = (bytes.len(), self.address(from));
+        match self.port(at).receive(&mut buffer) {
+            Ok(Some(found)) => found == wanted && buffer.starts_with(bytes),
+            _ => false,
+        }
+    }
+
+    fn is_nothing_received(&mut self, at: Side) -> bool {
+        let mut buffer = [0u8; 16];
+        matches!(self.port(at).receive(&mut buffer), Ok(None))
+    }
+
+    fn is_failed_send(&mut self) -> bool {
+        self.quiet.send(nowhere(), b"abc") == Err(DeviceFault)
+            && self.quiet.failures() == 1
+            && self.busy.failures() == 0
+            && self.quiet.address() != self.busy.address()
+    }
+
+    // How many milliseconds the shortest of some receives takes. Other work of the machine may delay some.
+    fn least_wait(&mut self, rt: &impl Clock, receives: u8) -> Result<u128, Fail> {
+        let mut buffer = [0u8; 16];
+        let mut least = 1000;
+        for _ in 0..receives {
+            let start = Instant::now(rt)?;
+            self.quiet.receive(&mut buffer)?;
+            least = start.elapsed(rt)?.as_millis().min(least);
+        }
+        Ok(least)
+    }
+
+    fn succeeds(&mut self, rt: &impl Clock, call: Call) -> Result<bool, Fail> {
+        match call {
+            Call::StandBeside => self.stand_beside(),
+            Call::StandOpposite => self.busy.stand_beside(&self.quiet),
+            Call::Send(from, to, bytes) => return Ok(self.is_sent(from, to, bytes)),
+            Call::FailedSend => return Ok(self.is_failed_send()),
+            Call::Receive(at, bytes, from) => return Ok(self.is_received(at, bytes, from)),
+            Call::Nothing(at) => return Ok(self.is_nothing_received(at)),
+            Call::Waits(receives, least) => return Ok(self.least_wait(rt, receives)? >= least),
+            Call::WaitEnds(receives, most) => return Ok(self.least_wait(rt, receives)? < most),
+        }
+        Ok(true)
+    }
+}
+
+// The calls succeed, one after the other, at new ports.
+fn expect_calls(rt: &(impl Abort + Clock + Net), calls: &[Call]) -> Result<(), Fail> {
+    let mut ports = Ports::new(rt)?;
+    for (i, call) in calls.iter().enumerate() {
+        let succeeded = ports.succeeds(rt, *call)?;
+        assert!(rt; succeeded, "call {i}");
+    }
+    Ok(())
+}
+
+const BY_SOCKETS: &[Call] = &[
+    Call::Send(Side::Quiet, Side::Busy, b"abc"),
+    Call::Receive(Side::Busy, b"abc", Side::Quiet),
+    Call::FailedSend,
+];
+
+#[test]
+fn datagrams_go_by_sockets(rt: HostRuntime) -> Result<(), Fail> {
+    expect_calls(&rt, BY_SOCKETS)
+}
+
+const WAITS_ENDED: &[Call] = &[
+    Call::Waits(1, 90),
+    Call::StandBeside,
+    Call::Send(Side::Busy, Side::Busy, b"abc"),
+    Call::WaitEnds(5, 90),
+    // After a send the port waits two milliseconds for the response alone.
+    Call::Send(Side::Quiet, Side::Busy, b"ask"),
+    Call::Waits(1, 2),
+    Call::Receive(Side::Busy, b"abc", Side::Busy),
+];
+
+/// A receive of nothing waits its full time. If a port beside has a datagram, the wait ends at once; after a send it ends
+/// when the time for a response is over.
 #[test]
 fn a_wait_ends_where_a_port_beside_has_a_datagram(rt: HostRuntime) -> Result<(), Fail> {
-    let mut silent = open(&rt)?;
-    let mut busy = open(&rt)?;
-    expect_wait_ended(&rt, &mut silent, &mut busy)
+    expect_calls(&rt, WAITS_ENDED)
 }
 
-fn expect_wait_ended(
-    rt: &(impl Abort + Clock),
-    silent: &mut UdpPort,
-    busy: &mut UdpPort,
-) -> Result<(), Fail> {
-    let mut place = [0u8; 16];
-    assert!(rt; least_wait(rt, silent, 1)? >= 90);
-    silent.stand_beside(busy);
-    let address = busy.address();
-    same_outcome(rt, busy.send(address, b"abc"), Ok(()));
-    assert!(rt; least_wait(rt, silent, 5)? < 90);
-    // After a send two milliseconds are for the answer alone.
-    same_outcome(rt, silent.send(address, b"ask"), Ok(()));
-    assert!(rt; least_wait(rt, silent, 1)? >= 2);
-    expect_datagram(rt, busy, &mut place, 3, address);
-    Ok(())
-}
+const FULL_WAITS: &[Call] = &[
+    Call::StandBeside,
+    Call::Send(Side::Busy, Side::Busy, b"abc"),
+    Call::Nothing(Side::Quiet),
+    Call::Receive(Side::Busy, b"abc", Side::Busy),
+    Call::Waits(1, 90),
+    Call::Send(Side::Quiet, Side::Server, b"ask"),
+    Call::Waits(1, 90),
+];
 
-// A wait that another port ended spares the next one nothing: where nothing is left it lasts its time, after a
-// send too.
+/// A wait that another port ended does not shorten the next one. If no port has a datagram, that wait lasts its full
+/// time, also after a send.
 #[test]
 fn a_receive_of_nothing_waits(rt: HostRuntime) -> Result<(), Fail> {
-    let server = open(&rt)?;
-    let mut asking = open(&rt)?;
-    let mut busy = open(&rt)?;
-    expect_waits(&rt, &mut asking, &mut busy, server.address())
+    expect_calls(&rt, FULL_WAITS)
 }
 
-fn expect_waits(
-    rt: &(impl Abort + Clock),
-    asking: &mut UdpPort,
-    busy: &mut UdpPort,
-    server: SocketAddr,
-) -> Result<(), Fail> {
-    let mut place = [0u8; 16];
-    asking.stand_beside(busy);
-    let address = busy.address();
-    same_outcome(rt, busy.send(address, b"abc"), Ok(()));
-    expect_nothing(rt, asking);
-    expect_datagram(rt, busy, &mut place, 3, address);
-    assert!(rt; least_wait(rt, asking, 1)? >= 90);
-    same_outcome(rt, asking.send(server, b"ask"), Ok(()));
-    assert!(rt; least_wait(rt, asking, 1)? >= 90);
-    Ok(())
-}
+const LOOKS: &[Call] = &[
+    Call::StandBeside,
+    Call::StandOpposite,
+    Call::Send(Side::Busy, Side::Busy, b"abc"),
+    Call::Nothing(Side::Quiet),
+    Call::Send(Side::Busy, Side::Quiet, b"late"),
+    Call::Receive(Side::Quiet, b"late", Side::Busy),
+    Call::Nothing(Side::Quiet),
+    Call::Send(Side::Busy, Side::Quiet, b"more"),
+    Call::Send(Side::Busy, Side::Quiet, b"last"),
+    Call::Receive(Side::Quiet, b"more", Side::Busy),
+    Call::Receive(Side::Quiet, b"last", Side::Busy),
+    Call::Receive(Side::Busy, b"abc", Side::Busy),
+    Call::Nothing(Side::Busy),
+];
 
-// Each receive gives what is here, whatever a wait beside it said, after one that gave a datagram and after one
-// that gave none.
+/// Each receive returns a datagram that has arrived, whatever an earlier wait reported, and whether or not the receive
+/// before returned one.
 #[test]
 fn each_receive_looks(rt: HostRuntime) -> Result<(), Fail> {
-    let mut quiet = open(&rt)?;
-    let mut busy = open(&rt)?;
-    quiet.stand_beside(&busy);
-    busy.stand_beside(&quiet);
-    expect_looks(&rt, &mut quiet, &mut busy);
-    Ok(())
-}
-
-fn expect_looks(rt: &impl Abort, quiet: &mut UdpPort, busy: &mut UdpPort) {
-    let mut place = [0u8; 16];
-    let (to_quiet, to_busy) = (quiet.address(), busy.address());
-    same_outcome(rt, busy.send(to_busy, b"abc"), Ok(()));
-    expect_nothing(rt, quiet);
-    same_outcome(rt, busy.send(to_quiet, b"late"), Ok(()));
-    expect_datagram(rt, quiet, &mut place, 4, to_busy);
-    expect_nothing(rt, quiet);
-    same_outcome(rt, busy.send(to_quiet, b"more"), Ok(()));
-    same_outcome(rt, busy.send(to_quiet, b"last"), Ok(()));
-    expect_datagram(rt, quiet, &mut place, 4, to_busy);
-    expect_datagram(rt, quiet, &mut place, 4, to_busy);
-    expect_datagram(rt, busy, &mut place, 3, to_busy);
-    expect_nothing(rt, busy);
+    expect_calls(&rt, LOOKS)
 }

@@ -1,4 +1,4 @@
-//! Each public call on its happy path, with the text that it writes.
+//! The text of lines, packets, requests and refusals.
 
 use crate::comparisons::{same_bytes, same_size};
 use mold_text::{
@@ -11,7 +11,7 @@ use std::test::Fail;
 
 const SESSION: Session = Session(*b"SESSION001");
 
-// A line of each kind of word, and one without words.
+// A line with each kind of word, and one without words.
 fn push_lines(out: &mut Vec<u8>) -> Result<(), AllocError> {
     let words = [
         Word::Text(b"delivered"),
@@ -25,7 +25,7 @@ fn push_lines(out: &mut Vec<u8>) -> Result<(), AllocError> {
     push_line(out, &[])
 }
 
-// Lines of which the first words, the last words or neither are left out.
+// Lines without first words, without last words, and with both.
 fn push_lines_in_two_parts(out: &mut Vec<u8>) -> Result<(), AllocError> {
     let sent = [Word::Text(b"sent"), Word::Number(0)];
     push_line_with(out, &[], &[Word::Text(b"nothing")])?;
@@ -34,22 +34,12 @@ fn push_lines_in_two_parts(out: &mut Vec<u8>) -> Result<(), AllocError> {
 }
 
 #[test]
-fn words_are_joined_by_single_spaces(rt: HostRuntime) -> Result<(), Fail> {
-    let mut out = Vec::new(rt.alloc());
-    push_lines(&mut out)?;
-    push_lines_in_two_parts(&mut out)?;
-    let text = b"delivered 7 18446744073709551616 0aff - 41\n\nnothing\nsent 0\nsent 0 1\n";
-    same_bytes(&rt, out.as_slice(), text);
-    Ok(())
-}
-
-#[test]
 fn a_line_is_written_into_a_slice(rt: HostRuntime) {
-    let mut place = [b'.'; 32];
+    let mut buffer = [b'.'; 32];
     let words = [Word::Number(7), Word::Message(b"A")];
     same_size(&rt, line_room(&words), 26);
-    let end = write_line(&mut place, 1, &words);
-    same_bytes(&rt, &place[..end], b".7 41\n");
+    let end = write_line(&mut buffer, 1, &words);
+    same_bytes(&rt, &buffer[..end], b".7 41\n");
 }
 
 fn push_packet_and_request(out: &mut Vec<u8>) -> Result<(), Fail> {
@@ -64,16 +54,6 @@ fn push_packet_and_request(out: &mut Vec<u8>) -> Result<(), Fail> {
     Ok(())
 }
 
-#[test]
-fn packets_and_requests_are_printed(rt: HostRuntime) -> Result<(), Fail> {
-    let mut out = Vec::new(rt.alloc());
-    push_packet_and_request(&mut out)?;
-    let text =
-        b"data 53455353494f4e303031 1 2\n  1 2 4142\n  2 0 -\nrequest 53455353494f4e303031 1 2\n";
-    same_bytes(&rt, out.as_slice(), text);
-    Ok(())
-}
-
 fn push_refusals(out: &mut Vec<u8>) -> Result<(), AllocError> {
     push_refused(out, &packet_fault_words(DecodeError::Short { len: 19 }))?;
     push_refused(out, &packet_fault_words(DecodeError::BlockCut { index: 1 }))?;
@@ -84,12 +64,34 @@ fn push_refusals(out: &mut Vec<u8>) -> Result<(), AllocError> {
     )
 }
 
+fn push_all(out: &mut Vec<u8>) -> Result<(), Fail> {
+    push_lines(out)?;
+    push_lines_in_two_parts(out)?;
+    push_packet_and_request(out)?;
+    push_refusals(out)?;
+    Ok(())
+}
+
+const TEXT: &[u8] = b"delivered 7 18446744073709551616 0aff - 41
+
+nothing
+sent 0
+sent 0 1
+data 53455353494f4e303031 1 2
+  1 2 4142
+  2 0 -
+request 53455353494f4e303031 1 2
+refused Short 19
+refused BlockCut 1
+refused Trailing 20
+refused RequestLength 21
+";
+
+/// The words of a line are joined by single spaces. A message is its hexadecimal digits, and an empty one is `-`.
 #[test]
-fn refusals_are_names_and_numbers(rt: HostRuntime) -> Result<(), Fail> {
+fn lines_packets_and_refusals_are_printed(rt: HostRuntime) -> Result<(), Fail> {
     let mut out = Vec::new(rt.alloc());
-    push_refusals(&mut out)?;
-    let text =
-        b"refused Short 19\nrefused BlockCut 1\nrefused Trailing 20\nrefused RequestLength 21\n";
-    same_bytes(&rt, out.as_slice(), text);
+    push_all(&mut out)?;
+    same_bytes(&rt, out.as_slice(), TEXT);
     Ok(())
 }

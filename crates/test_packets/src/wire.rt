@@ -1,4 +1,4 @@
-//! Each public call on its happy path, and the bytes of known packets, read and written.
+//! The bytes of known packets and requests, read and written.
 
 use crate::comparisons::{same_bytes, same_message, same_number, same_size};
 use mold_wire::{
@@ -7,9 +7,11 @@ use mold_wire::{
 use std::process::Abort;
 use std::test::Fail;
 
+const MAX: u64 = 18446744073709551615;
+
 const SESSION: Session = Session(*b"SESSION001");
 
-// From number 1 on, `AB` and a message without bytes.
+// From message 1 on, `AB` and an empty message.
 const TWO_MESSAGES: &[u8] = b"SESSION001\0\0\0\0\0\0\0\x01\0\x02\0\x02AB\0\0";
 
 const HEARTBEAT: &[u8] = b"SESSION001\0\0\0\0\0\0\0\x01\0\0";
@@ -18,7 +20,7 @@ const END: &[u8] = b"SESSION001\0\0\0\0\0\0\0\x03\xff\xff";
 
 const END_1: &[u8] = b"SESSION001\0\0\0\0\0\0\0\x01\xff\xff";
 
-// The greatest number, and `A`.
+// The message `A` with the greatest sequence number.
 const LAST: &[u8] = b"SESSION001\xff\xff\xff\xff\xff\xff\xff\xff\0\x01\0\x01A";
 
 // Two messages that fill 64 bytes.
@@ -26,50 +28,33 @@ const FULL: &[u8] = b"SESSION001\0\0\0\0\0\0\0\x01\0\x02\
     \0\x14\x01\x01\x01\x01\x01\x01\x01\x01\x01\x01\x01\x01\x01\x01\x01\x01\x01\x01\x01\x01\
     \0\x14\x02\x02\x02\x02\x02\x02\x02\x02\x02\x02\x02\x02\x02\x02\x02\x02\x02\x02\x02\x02";
 
-// Where the header of a packet ends, and the first block of `TWO_MESSAGES`.
+// The ends of a packet's header and of the first block of `TWO_MESSAGES`.
 const HEADER_END: usize = 20;
 
 const FIRST_END: usize = 24;
 
-// A packet of the session from this number on, up to this one.
-fn expect_header(rt: &impl Abort, packet: &Packet<'_>, sequence: u64, top: u64) {
-    assert!(rt; packet.session == SESSION, "another session");
-    same_number(rt, packet.sequence, sequence);
-    same_number(rt, packet.top().unwrap_or(0), top);
+fn has_header(packet: &Packet<'_>, sequence: u64, top: Option<u64>) -> bool {
+    packet.session == SESSION && packet.sequence == sequence && packet.top() == top
 }
 
-fn name_of(body: &Body<'_>) -> &'static [u8] {
-    match body {
-        Body::Data(_) => b"data",
-        Body::Heartbeat => b"heartbeat",
-        Body::End => b"end",
-    }
-}
-
-// A packet without messages.
-fn expect_bare(rt: &impl Abort, bytes: &[u8], sequence: u64, name: &[u8]) -> Result<(), Fail> {
-    let packet = decode(bytes)?;
-    expect_header(rt, &packet, sequence, sequence);
-    same_bytes(rt, name_of(&packet.body), name);
-    Ok(())
+// Whether the bytes encode an end packet or a heartbeat with this sequence number.
+fn is_bare(bytes: &[u8], sequence: u64, is_end: bool) -> bool {
+    let Ok(packet) = decode(bytes) else {
+        return false;
+    };
+    let is_body = match packet.body {
+        Body::Data(_) => false,
+        Body::Heartbeat => !is_end,
+        Body::End => is_end,
+    };
+    is_body && has_header(&packet, sequence, Some(sequence))
 }
 
 #[test]
-fn heartbeats_and_ends_are_read(rt: HostRuntime) -> Result<(), Fail> {
-    expect_bare(&rt, HEARTBEAT, 1, b"heartbeat")?;
-    expect_bare(&rt, END_1, 1, b"end")?;
-    expect_bare(&rt, END, 3, b"end")
-}
-
-#[test]
-fn messages_are_lent_in_order(rt: HostRuntime) -> Result<(), Fail> {
-    let packet = decode(TWO_MESSAGES)?;
-    expect_header(&rt, &packet, 1, 3);
-    match &packet.body {
-        Body::Data(blocks) => expect_two(&rt, blocks),
-        Body::Heartbeat | Body::End => assert!(rt; false, "no messages"),
+fn heartbeats_and_ends_are_read(rt: HostRuntime) {
+    for (bytes, sequence, is_end) in [(HEARTBEAT, 1, false), (END_1, 1, true), (END, 3, true)] {
+        assert!(rt; is_bare(bytes, sequence, is_end), "{bytes:?}");
     }
-    Ok(())
 }
 
 fn expect_two(rt: &impl Abort, blocks: &Blocks<'_>) {
@@ -91,35 +76,60 @@ fn expect_each(rt: &impl Abort, blocks: &Blocks<'_>) {
     same_number(rt, u64::from(i), 2);
 }
 
+fn expect_two_messages(rt: &impl Abort, packet: &Packet<'_>) {
+    assert!(rt; has_header(packet, 1, Some(3)), "another header");
+    match &packet.body {
+        Body::Data(blocks) => expect_two(rt, blocks),
+        Body::Heartbeat | Body::End => assert!(rt; false, "no messages"),
+    }
+}
+
 #[test]
-fn packets_are_compared_by_value(rt: HostRuntime) -> Result<(), Fail> {
-    let elsewhere = *b"SESSION001\0\0\0\0\0\0\0\x01\0\x02\0\x02AB\0\0";
-    expect_compared(&rt, &elsewhere, TWO_MESSAGES, true)?;
-    let another = b"SESSION001\0\0\0\0\0\0\0\x01\0\x02\0\x02AC\0\0";
-    expect_compared(&rt, &elsewhere, another, false)?;
-    expect_compared(&rt, &elsewhere, HEARTBEAT, false)?;
-    let packet = decode(&elsewhere)?;
-    same_packets(&rt, &packet.clone()?, &packet, true);
+fn messages_are_lent_in_order(rt: HostRuntime) -> Result<(), Fail> {
+    let packet = decode(TWO_MESSAGES)?;
+    expect_two_messages(&rt, &packet);
     Ok(())
 }
 
 fn expect_compared(rt: &impl Abort, one: &[u8], other: &[u8], same: bool) -> Result<(), Fail> {
     let one = decode(one)?;
     let other = decode(other)?;
-    same_packets(rt, &one, &other, same);
+    assert!(rt; (one == other) == same, "the same: {same}");
     Ok(())
 }
 
-fn same_packets(rt: &impl Abort, one: &Packet<'_>, other: &Packet<'_>, same: bool) {
-    assert!(rt; (one == other) == same, "the same: {same}");
+fn expect_cloned(rt: &impl Abort, bytes: &[u8]) -> Result<(), Fail> {
+    let packet = decode(bytes)?;
+    assert!(rt; packet.clone()? == packet, "another clone");
+    Ok(())
 }
+
+// Packets that are compared with `TWO_MESSAGES`, and whether they are the same.
+const COMPARED: &[(&[u8], bool)] = &[
+    (b"SESSION001\0\0\0\0\0\0\0\x01\0\x02\0\x02AB\0\0", true),
+    (b"SESSION001\0\0\0\0\0\0\0\x01\0\x02\0\x02AC\0\0", false),
+    (HEARTBEAT, false),
+];
 
 #[test]
-fn a_top_beyond_64_bits_is_none(rt: HostRuntime) -> Result<(), Fail> {
-    let packet = decode(LAST)?;
-    same_number(&rt, packet.sequence, 18446744073709551615);
-    assert!(rt; packet.top().is_none());
-    Ok(())
+fn packets_are_compared_by_value(rt: HostRuntime) -> Result<(), Fail> {
+    for (bytes, same) in COMPARED {
+        expect_compared(&rt, TWO_MESSAGES, bytes, *same)?;
+    }
+    expect_cloned(&rt, TWO_MESSAGES)
+}
+
+fn is_header(bytes: &[u8], sequence: u64, top: Option<u64>) -> bool {
+    match decode(bytes) {
+        Ok(packet) => has_header(&packet, sequence, top),
+        Err(_) => false,
+    }
+}
+
+/// The message with the greatest sequence number has no number after it.
+#[test]
+fn a_top_beyond_64_bits_is_none(rt: HostRuntime) {
+    assert!(rt; is_header(LAST, MAX, None));
 }
 
 fn expect_fault(rt: &impl Abort, bytes: &[u8], fault: DecodeError) {
@@ -127,7 +137,7 @@ fn expect_fault(rt: &impl Abort, bytes: &[u8], fault: DecodeError) {
     assert!(rt; decode(bytes).err() == Some(fault), "{len} bytes");
 }
 
-// Where the first bytes of `TWO_MESSAGES` end too early.
+// The fault of a prefix of `TWO_MESSAGES`.
 fn fault_after(len: usize) -> DecodeError {
     match len {
         0..HEADER_END => DecodeError::Short { len },
@@ -146,106 +156,130 @@ fn each_front_of_two_messages_has_its_fault(rt: HostRuntime) {
     expect_fault(&rt, longer, DecodeError::Trailing { at });
 }
 
+const LIMITS: &[(usize, Option<PackerError>)] = &[
+    (63, Some(PackerError::Limit)),
+    (64, None),
+    (65507, None),
+    (65508, Some(PackerError::Limit)),
+];
+
 #[test]
 fn limits_of_a_packer(rt: HostRuntime) {
-    expect_limit(&rt, 63, Some(PackerError::Limit));
-    expect_limit(&rt, 64, None);
-    expect_limit(&rt, 65507, None);
-    expect_limit(&rt, 65508, Some(PackerError::Limit));
+    for (limit, refusal) in LIMITS {
+        let found = Packer::new(rt.alloc(), *limit).err();
+        assert!(rt; found == *refusal, "limit {limit}");
+    }
 }
 
-// In this order: before any packet, a heartbeat, up to the limit, and the end.
+/// A call of a packer with its result, or what can be read of it.
+#[derive(Clone, Copy)]
+enum Step {
+    /// A data packet is started at this sequence number.
+    Start(u64),
+    /// An end packet with this sequence number.
+    End(u64),
+    /// A message is added, if there is room for it.
+    Add(&'static [u8], bool),
+    /// Whether there is room for a message of this many bytes.
+    Fits(usize, bool),
+    /// The bytes of the packet.
+    Bytes(&'static [u8]),
+}
+
+fn expect_steps(rt: &impl Abort, packer: &mut Packer, steps: &[Step]) {
+    for (i, step) in steps.iter().enumerate() {
+        assert!(rt; takes(packer, *step), "step {i}");
+    }
+}
+
+fn takes(packer: &mut Packer, step: Step) -> bool {
+    match step {
+        Step::Start(sequence) => packer.start(SESSION, sequence),
+        Step::End(sequence) => packer.end(SESSION, sequence),
+        Step::Add(message, fits) => return packer.add(message) == fits,
+        Step::Fits(len, fits) => return packer.fits(len) == fits,
+        Step::Bytes(bytes) => return packer.bytes() == bytes,
+    }
+    true
+}
+
+// A header leaves 44 of 64 bytes, and the length of a block 42 of these.
+const TABLE: &[Step] = &[
+    Step::Bytes(b""),
+    Step::Fits(0, false),
+    Step::Add(b"", false),
+    Step::Start(1),
+    Step::Bytes(HEARTBEAT),
+    Step::Fits(42, true),
+    Step::Fits(43, false),
+    Step::Add(&[1; 20], true),
+    Step::Add(&[2; 20], true),
+    Step::Bytes(FULL),
+    Step::Add(b"", false),
+    Step::Bytes(FULL),
+    Step::End(3),
+    Step::Fits(0, false),
+    Step::Bytes(END),
+];
+
+/// In this order: before any packet, a heartbeat, messages up to the limit, and the end.
 #[test]
 fn the_table_of_the_packer(rt: HostRuntime) -> Result<(), Fail> {
     let mut packer = Packer::new(rt.alloc(), 64)?;
-    expect_packed(&rt, &mut packer);
+    expect_steps(&rt, &mut packer, TABLE);
     Ok(())
 }
 
-fn expect_limit(rt: &(impl Abort + AllocGlobal), limit: usize, refusal: Option<PackerError>) {
-    let found = Packer::new(rt.alloc(), limit).err();
-    assert!(rt; found == refusal, "limit {limit}");
-}
-
-// Of 64 bytes a header leaves 44, and a block's length 42 of these.
-fn expect_packed(rt: &impl Abort, packer: &mut Packer) {
-    same_bytes(rt, packer.bytes(), b"");
-    expect_fits(rt, packer, 0, false);
-    expect_added(rt, packer, b"", false);
-    packer.start(SESSION, 1);
-    same_bytes(rt, packer.bytes(), HEARTBEAT);
-    expect_fits(rt, packer, 42, true);
-    expect_fits(rt, packer, 43, false);
-    expect_added(rt, packer, &[1; 20], true);
-    expect_added(rt, packer, &[2; 20], true);
-    same_bytes(rt, packer.bytes(), FULL);
-    expect_added(rt, packer, b"", false);
-    same_bytes(rt, packer.bytes(), FULL);
-    packer.end(SESSION, 3);
-    expect_fits(rt, packer, 0, false);
-    same_bytes(rt, packer.bytes(), END);
-}
-
-fn expect_fits(rt: &impl Abort, packer: &Packer, len: usize, fits: bool) {
-    assert!(rt; packer.fits(len) == fits, "{len} bytes");
-}
-
-fn expect_added(rt: &impl Abort, packer: &mut Packer, message: &[u8], fits: bool) {
-    assert!(rt; packer.add(message) == fits, "{message:?}");
-}
+const WRITTEN: &[Step] = &[
+    Step::End(1),
+    Step::Bytes(END_1),
+    Step::Start(1),
+    Step::Add(b"AB", true),
+    Step::Add(b"", true),
+    Step::Bytes(TWO_MESSAGES),
+    Step::Start(MAX),
+    Step::Add(b"A", true),
+    Step::Bytes(LAST),
+];
 
 #[test]
 fn packets_are_written_as_they_are_read(rt: HostRuntime) -> Result<(), Fail> {
     let mut packer = Packer::new(rt.alloc(), 1400)?;
-    expect_written(&rt, &mut packer);
-    let packet = decode(packer.bytes())?;
-    same_number(&rt, packet.sequence, 18446744073709551615);
+    expect_steps(&rt, &mut packer, WRITTEN);
+    assert!(rt; is_header(packer.bytes(), MAX, None));
     Ok(())
 }
 
-fn expect_written(rt: &impl Abort, packer: &mut Packer) {
-    packer.end(SESSION, 1);
-    same_bytes(rt, packer.bytes(), END_1);
-    packer.start(SESSION, 1);
-    expect_added(rt, packer, b"AB", true);
-    expect_added(rt, packer, b"", true);
-    same_bytes(rt, packer.bytes(), TWO_MESSAGES);
-    packer.start(SESSION, 18446744073709551615);
-    expect_added(rt, packer, b"A", true);
-    same_bytes(rt, packer.bytes(), LAST);
-}
-
-#[test]
-fn requests_are_read_and_written(rt: HostRuntime) -> Result<(), Fail> {
-    expect_request(&rt, 1, 2, b"SESSION001\0\0\0\0\0\0\0\x01\0\x02")?;
-    expect_request(&rt, 2, 65535, b"SESSION001\0\0\0\0\0\0\0\x02\xff\xff")
-}
-
-fn expect_request(rt: &impl Abort, sequence: u64, count: u16, bytes: &[u8]) -> Result<(), Fail> {
+fn is_request(sequence: u64, count: u16, bytes: &[u8]) -> bool {
     let request = Request {
         session: SESSION,
         sequence,
         count,
     };
-    same_bytes(rt, &request.encode(), bytes);
-    let read = Request::decode(bytes)?;
-    assert!(rt; read == request, "another request");
-    Ok(())
+    request.encode().as_slice() == bytes && Request::decode(bytes) == Ok(request)
 }
 
-// A request, and 20 bytes behind it.
+#[test]
+fn requests_are_read_and_written(rt: HostRuntime) {
+    assert!(rt; is_request(1, 2, b"SESSION001\0\0\0\0\0\0\0\x01\0\x02"));
+    assert!(rt; is_request(2, 65535, b"SESSION001\0\0\0\0\0\0\0\x02\xff\xff"));
+}
+
+// A request, followed by 20 bytes.
 const LONGER: [u8; 40] = *b"SESSION001\0\0\0\0\0\0\0\x05\0\x01SESSION001\0\0\0\0\0\0\0\x05\0\x01";
 
-// Of 0 to 40 bytes that begin as a request just the 20 of one are read.
+// Whether the bytes are read if they are 20, and are refused otherwise.
+fn has_length_checked(bytes: &[u8]) -> bool {
+    match Request::decode(bytes) {
+        Ok(_) => bytes.len() == 20,
+        Err(RequestError::RequestLength { len }) => len == bytes.len() && len != 20,
+    }
+}
+
+/// Of the prefixes of `LONGER` only the one of 20 bytes is a request.
 #[test]
 fn requests_of_other_lengths_are_refused(rt: HostRuntime) {
     for len in 0..41usize {
-        let refusal = if len == 20 {
-            None
-        } else {
-            Some(RequestError::RequestLength { len })
-        };
-        let found = Request::decode(&LONGER[..len]).err();
-        assert!(rt; found == refusal, "{len} bytes");
+        assert!(rt; has_length_checked(&LONGER[..len]), "{len} bytes");
     }
 }
