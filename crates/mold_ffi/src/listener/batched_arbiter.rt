@@ -59,7 +59,16 @@ impl BatchedArbiter {
     {
         taken_law();
         followed_law();
-        self.arbiter.take_from(origin, bytes, &mut self.batch)
+        // For the optimizer: two inlined calls, one for lines and one for responses. So neither copy has a branch on the
+        // kind of the origin. With one call, a datagram of one message takes a sixth longer.
+        match origin {
+            Origin::Line(line) => self
+                .arbiter
+                .take_from(Origin::Line(line), bytes, &mut self.batch),
+            Origin::Response => self
+                .arbiter
+                .take_from(Origin::Response, bytes, &mut self.batch),
+        }
     }
 
     /// The arbiter.
