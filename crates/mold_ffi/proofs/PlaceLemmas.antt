@@ -7,6 +7,7 @@ use Rattle.std.specs.List.{sum_by}
 use Rattle.std.proofs.lemmas.List.{length-set}
 use Rattle.std.proofs.lemmas.List.Sums.{sum_by-cons}
 use Rattle.mold_wire.specs.Packing.{packet_length}
+use Rattle.mold_wire.specs.declared.header.TheConstants.{HEADER_LENGTH}
 use Rattle.mold_ffi.specs.declared.packets.mold_place.MoldPlace.{MoldPlace}
 use Rattle.mold_ffi.specs.Packets.MoldPlace.{places_of, written_front}
 
@@ -45,11 +46,11 @@ none_left (suc index) (old ∷ places) = ap (λ (t : List MoldPlace). old ∷ t)
 
 -- what was written so far and what is still found are all the places; and where the blocks that are left begin
 pub record HasFilled (at filled : ℕ) (left : List (List ℕ)) (places : List MoldPlace) (blocks : List (List ℕ)) (old : List MoldPlace) : Type 0 where
-  pub told : written_from filled (places_of at left) places ≡ written_front (places_of 20 blocks) old
+  pub told : written_from filled (places_of at left) places ≡ written_front (places_of HEADER_LENGTH blocks) old
   pub room : filled ≤ length places
   pub bound : at + sum_by (λ message. 2 + length message) left ≡ packet_length blocks
 
-pub begun : (blocks : List (List ℕ)) (old : List MoldPlace) → HasFilled 20 0 blocks old blocks old
+pub begun : (blocks : List (List ℕ)) (old : List MoldPlace) → HasFilled HEADER_LENGTH 0 blocks old blocks old
 unfolding packet_length
 begun blocks old = record { told = refl; room = omega arith; bound = refl }
 
@@ -77,18 +78,18 @@ filled_more at filled message left places blocks old has below =
 pub filled_full :
     (at filled : ℕ) (left : List (List ℕ)) (places : List MoldPlace) (blocks : List (List ℕ)) (old : List MoldPlace) →
     HasFilled at filled left places blocks old → filled ≡ length places →
-    places ≡ written_front (places_of 20 blocks) old
+    places ≡ written_front (places_of HEADER_LENGTH blocks) old
 filled_full at filled left places blocks old has full =
     sym (all_written filled (places_of at left) places full) ∙ has.told
 
 pub filled_all :
     (at filled : ℕ) (places : List MoldPlace) (blocks : List (List ℕ)) (old : List MoldPlace) →
-    HasFilled at filled [] places blocks old → places ≡ written_front (places_of 20 blocks) old
+    HasFilled at filled [] places blocks old → places ≡ written_front (places_of HEADER_LENGTH blocks) old
 unfolding places_of
 filled_all at filled places blocks old has = sym (none_left filled places) ∙ has.told
 
 -- where nothing was found nothing is written
-pub no_places : (old : List MoldPlace) → written_front (places_of 20 []) old ≡ old
+pub no_places : (old : List MoldPlace) → written_front (places_of HEADER_LENGTH []) old ≡ old
 unfolding places_of
 no_places old = none_left 0 old
 
@@ -134,20 +135,20 @@ get_kept (suc i) (place ∷ found) (first ∷ old) behind = get_kept i found old
 pub placed :
     (messages before behind : List (List ℕ)) (message : List ℕ) (old : List MoldPlace) →
     messages ≡ before ++ message ∷ behind → length before < length old →
-    slice_get (written_front (places_of 20 messages) old) (length before)
+    slice_get (written_front (places_of HEADER_LENGTH messages) old) (length before)
     ≡ Some (record { offset = packet_length before + 2; length = length message })
 unfolding packet_length
 placed messages before behind message old parts room =
-    get_written (length before) (places_of 20 messages) old
-    (omega (arith, length-places 20 messages, ap (λ (t : List (List ℕ)). length t) parts, length-append before (message ∷ behind)))
+    get_written (length before) (places_of HEADER_LENGTH messages) old
+    (omega (arith, length-places HEADER_LENGTH messages, ap (λ (t : List (List ℕ)). length t) parts, length-append before (message ∷ behind)))
     room
-    ∙ ap (λ (t : List (List ℕ)). slice_get (places_of 20 t) (length before)) parts
-    ∙ place_found 20 before behind message
+    ∙ ap (λ (t : List (List ℕ)). slice_get (places_of HEADER_LENGTH t) (length before)) parts
+    ∙ place_found HEADER_LENGTH before behind message
 
 pub kept :
     (messages : List (List ℕ)) (old : List MoldPlace) (i : ℕ) → length messages ≤ i →
-    slice_get (written_front (places_of 20 messages) old) i ≡ slice_get old i
-kept messages old i behind = get_kept i (places_of 20 messages) old (omega (arith, length-places 20 messages))
+    slice_get (written_front (places_of HEADER_LENGTH messages) old) i ≡ slice_get old i
+kept messages old i behind = get_kept i (places_of HEADER_LENGTH messages) old (omega (arith, length-places HEADER_LENGTH messages))
 
 some_is : (one other : MoldPlace) → Some one ≡ Some other → one ≡ other
 some_is one other same = ap (λ (found : Option MoldPlace). unwrap_or found one) same

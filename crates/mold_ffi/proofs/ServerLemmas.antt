@@ -7,6 +7,7 @@ use Rattle.mold_session.specs.Server.{ServerState}
 use Rattle.mold_session.specs.declared.error.FileError.{FileError}
 use Rattle.mold_session.specs.declared.error.FileError.TheVariants.{TooLong, Memory, BadMagic, Short, BlockCut, Read}
 use Rattle.mold_session.specs.declared.error.FileError.TheVariants.{Write, Full, CountDiffers, BadFlag}
+use Rattle.mold_wire.specs.declared.limits.TheConstants.{MESSAGE_OVERHEAD}
 use Rattle.mold_ffi.specs.declared.code.TheConstants as codes
 use Rattle.mold_ffi.specs.Code.FileError.{file_error_code, file_error_number}
 use Rattle.mold_ffi.specs.Server.Answering.{Answers, Plans}
@@ -15,7 +16,7 @@ use Rattle.mold_ffi.specs.declared.server.mold_plan.MoldPlan.{MoldPlan}
 
 -- a load from memory is refused for the bytes' fault, or since memory was refused, and never since a read failed
 told_fault : (limit : ℕ) (bytes : List ℕ) (error : FileError) (code number : ℕ) →
-    Refuses (JournalFault (limit - 22)) (Some bytes) error → CountsLoadFault 0 0 error → code ≡ file_error_code error →
+    Refuses (JournalFault (limit - MESSAGE_OVERHEAD)) (Some bytes) error → CountsLoadFault 0 0 error → code ≡ file_error_code error →
     number ≡ file_error_number error → IsFault limit bytes code number ⊎ ((code ≡ codes.MEMORY) × (number ≡ 0))
 told_fault limit bytes (Short len) code number fault count by_code by_number =
     inl (record { error = Short len; fault = fault; by_code = by_code; by_number = by_number })
@@ -36,12 +37,12 @@ told_fault limit bytes Write code number fault count by_code by_number = absurd 
 told_fault limit bytes Memory code number fault count by_code by_number = inr (by_code, by_number)
 
 pub file_fault : (limit most : ℕ) (bytes known : List ℕ) (error : FileError) (code number : ℕ) →
-    most ≡ limit - 22 → known ≡ bytes → Refuses (JournalFault most) (Some known) error → CountsLoadFault 0 0 error →
+    most ≡ limit - MESSAGE_OVERHEAD → known ≡ bytes → Refuses (JournalFault most) (Some known) error → CountsLoadFault 0 0 error →
     code ≡ file_error_code error → number ≡ file_error_number error →
     IsFault limit bytes code number ⊎ ((code ≡ codes.MEMORY) × (number ≡ 0))
 file_fault limit most bytes known error code number bound lent fault count by_code by_number =
     told_fault limit bytes error code number
-    (subst (λ (t : List ℕ). Refuses (JournalFault (limit - 22)) (Some t) error) lent
+    (subst (λ (t : List ℕ). Refuses (JournalFault (limit - MESSAGE_OVERHEAD)) (Some t) error) lent
     (subst (λ (n : ℕ). Refuses (JournalFault n) (Some known) error) bound fault))
     count by_code by_number
 

@@ -3,9 +3,9 @@ use Rattle.std.specs.Prelude.{◌≡◌, ◌⊎◌, ℕ, List, [], Result, Ok, E
 use Rattle.std.specs.Coded.{Coded, code_by, coded×, coded_list, coded_ℕ}
 use Rattle.mold_receiver.specs.Arbiter.{Arbitration, arbitrated, arbitration_code}
 use Rattle.mold_receiver.specs.Batch.{Handed, Follows, followed_by}
+use Rattle.mold_receiver.specs.Fresh.{fresh_arbitration}
 use Rattle.mold_receiver.specs.Origin.{line_of}
 use Rattle.mold_receiver.specs.Receive.{IsCopied, Reception, receive}
-use Rattle.mold_receiver.specs.View.{fresh}
 use Rattle.mold_receiver.specs.declared.origin.Origin.{Origin}
 use Rattle.mold_receiver.specs.declared.taken.Taken.{Taken}
 use Rattle.mold_rule.specs.declared.refusal.Refusal.{Refusal}
@@ -30,16 +30,8 @@ IsFollowed batched = Follows batched.batch batched.arbitration.view.next
 
 -- a listener that begins at a sequence number: nothing was received on either line, and nothing was delivered
 abbrev pub begun : Session → ℕ → ℕ → BatchedArbitration
-begun session next window = record {
-  arbitration = record {
-    view = fresh session next window;
-    reports = record {
-      a = record { datagrams = 0; refused = 0; front = next };
-      b = record { datagrams = 0; refused = 0; front = next };
-    };
-  };
-  batch = record { first = 0; messages = [] };
-}
+begun session next window =
+    record { arbitration = fresh_arbitration session next window; batch = record { first = 0; messages = [] } }
 
 -- a listener after a datagram, by what the receiving rule makes of it: the delivered messages join the batch
 abbrev pub received : Origin → List ℕ → BatchedArbitration → Result Reception Refusal → BatchedArbitration

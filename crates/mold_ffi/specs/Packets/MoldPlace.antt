@@ -2,6 +2,7 @@
 use Rattle.std.specs.Prelude.{ℕ, ◌+◌, List, [], ◌∷◌, ◌++◌, length, take, drop, Result, Ok, Err}
 use Rattle.mold_wire.specs.Packet.{messages_of}
 use Rattle.mold_wire.specs.declared.error.DecodeError.{DecodeError}
+use Rattle.mold_wire.specs.declared.header.TheConstants.{HEADER_LENGTH}
 use Rattle.mold_wire.specs.declared.packet.Packet.{Packet}
 use Rattle.mold_ffi.specs.declared.packets.mold_place.MoldPlace.{MoldPlace}
 
@@ -17,5 +18,5 @@ written_front found old = take (length old) found ++ drop (length found) old
 
 -- the array after a packet was read; after a fault it is as it was
 abbrev pub places_read : Result Packet DecodeError → List MoldPlace → List MoldPlace
-places_read (Ok packet) old = written_front (places_of 20 (messages_of packet.body)) old
+places_read (Ok packet) old = written_front (places_of HEADER_LENGTH (messages_of packet.body)) old
 places_read (Err error) old = old

@@ -1,13 +1,14 @@
 -- A publisher with its server, and what the calls on it return.
-use Rattle.std.specs.Prelude.{◌≡◌, ◌⊎◌, ℕ, ◌+◌, ◌-◌, ◌<◌, ◌≤◌, true, false, List, [], length, Option, None, Some}
+use Rattle.std.specs.Prelude.{◌≡◌, ◌⊎◌, ℕ, ◌+◌, ◌-◌, ◌<◌, ◌≤◌, true, List, length, Option, None, Some}
 use Rattle.std.specs.Prelude.{is_some}
+use Rattle.mold_wire.specs.declared.limits.TheConstants.{MAX_BURST}
 use Rattle.mold_wire.specs.declared.packet.Packet.{Packet}
 use Rattle.mold_wire.specs.declared.session.Session.{Session}
 use Rattle.mold_session.specs.File.{file_length}
 use Rattle.mold_session.specs.Journal.{JournalState, append_refusal}
-use Rattle.mold_session.specs.Publisher.{PublisherState, closed, published}
+use Rattle.mold_session.specs.Publisher.{PublisherState, closed, fresh_publisher, published}
 use Rattle.mold_session.specs.Putting.{PutsFile}
-use Rattle.mold_session.specs.Server.{ServerState}
+use Rattle.mold_session.specs.Server.{ServerState, fresh_server}
 use Rattle.mold_session.specs.declared.error.AppendError.{AppendError}
 use Rattle.mold_ffi.specs.Buffer.{PutsPacket}
 use Rattle.mold_ffi.specs.Code.AppendError.{append_error_code, append_error_number}
@@ -18,14 +19,7 @@ use Rattle.mold_ffi.specs.declared.handle.held.Held.TheVariants.{Publisher}
 
 -- the publisher of an open session without messages, and no server
 abbrev pub opened : Session → ℕ → Exchange
-opened session limit = record {
-  publisher = record {
-    journal = record { session = session; max_message = limit - 22; messages = []; closed = false };
-    limit = limit;
-    sent = 0;
-  };
-  server = None;
-}
+opened session limit = record { publisher = fresh_publisher session limit; server = None }
 
 -- what a handle holds: an exchange, the same with another publisher, and the same with this server
 abbrev pub holding : Exchange → Option Held
@@ -39,12 +33,11 @@ with_server exchange server = holding (record { publisher = exchange.publisher; 
 
 -- a server with the limit of the publisher and for its journal, that has answered no request
 abbrev pub server_beside : PublisherState → ℕ → ServerState
-server_beside publisher burst =
-    record { limit = publisher.limit; max_message = publisher.journal.max_message; burst = burst; answered = 0 }
+server_beside publisher burst = fresh_server publisher.limit publisher.journal.max_message burst
 
 -- the greatest number of datagrams that answer a request
 abbrev pub IsBurst : ℕ → Type 0
-IsBurst burst = (1 ≤ burst) × (burst ≤ 64)
+IsBurst burst = (1 ≤ burst) × (burst ≤ MAX_BURST)
 
 -- a message is published, or memory for it was refused; or it is refused for the first reason that applies
 pub record Publishes (exchange : Exchange) (message : List ℕ) (code number : ℕ) (held : Option Held) : Type 0 where

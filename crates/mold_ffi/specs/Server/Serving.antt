@@ -3,8 +3,9 @@ use Rattle.std.specs.Prelude.{◌≡◌, ◌⊎◌, ℕ, ◌-◌, false, List, O
 use Rattle.mold_session.specs.File.{SpellsJournal, SpellsJournal2}
 use Rattle.mold_session.specs.FileFault.{JournalFault}
 use Rattle.mold_session.specs.Journal.{IsJournal}
-use Rattle.mold_session.specs.Server.{ServerState}
+use Rattle.mold_session.specs.Server.{ServerState, fresh_server}
 use Rattle.mold_session.specs.declared.error.FileError.{FileError}
+use Rattle.mold_wire.specs.declared.limits.TheConstants.{MESSAGE_OVERHEAD}
 use Rattle.mold_ffi.specs.Code.FileError.{file_error_code, file_error_number}
 use Rattle.mold_ffi.specs.declared.handle.held.Held.{Held}
 use Rattle.mold_ffi.specs.declared.handle.held.Held.TheVariants.{Server}
@@ -16,9 +17,8 @@ with_serving serving server = Some (Server (record { server = server; journal = 
 
 -- a server that has answered no request, and the journal whose file the bytes are
 pub record IsOfFile (limit burst : ℕ) (bytes : List ℕ) (serving : Serving) : Type 0 where
-  pub server : serving.server
-      ≡ record { limit = limit; max_message = limit - 22; burst = burst; answered = 0 }
-  pub bound : serving.journal.max_message ≡ limit - 22
+  pub server : serving.server ≡ fresh_server limit (limit - MESSAGE_OVERHEAD) burst
+  pub bound : serving.journal.max_message ≡ limit - MESSAGE_OVERHEAD
   pub listed : IsJournal serving.journal
   pub spelled : ((serving.journal.closed ≡ false)
       × SpellsJournal serving.journal.session serving.journal.messages bytes)
@@ -27,6 +27,6 @@ pub record IsOfFile (limit burst : ℕ) (bytes : List ℕ) (serving : Serving) :
 -- the bytes are not a journal's file, for the reason that code and number give
 pub record IsFault (limit : ℕ) (bytes : List ℕ) (code number : ℕ) : Type 0 where
   pub error : FileError
-  pub fault : JournalFault (limit - 22) bytes error
+  pub fault : JournalFault (limit - MESSAGE_OVERHEAD) bytes error
   pub by_code : code ≡ file_error_code error
   pub by_number : number ≡ file_error_number error

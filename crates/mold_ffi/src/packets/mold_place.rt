@@ -3,6 +3,7 @@
 ghost use Rattle.std.specs.Prelude.{◌≡◌, ◌<◌, ◌^◌};
 ghost use Rattle.mold_ffi.specs.Packets.MoldPlace.{places_of, written_front};
 ghost use Rattle.mold_wire.specs.Packing.{packet_length};
+ghost use Rattle.mold_wire.specs.declared.header.TheConstants.{HEADER_LENGTH};
 
 use mold_wire::{Blocks, HEADER_LENGTH, LENGTH_BYTES};
 
@@ -19,7 +20,7 @@ pub struct MoldPlace {
 /// Writes where the messages lie, as many as the array has room for.
 pub(crate) fn put_places(blocks: &Blocks<'_>, places: &mut [MoldPlace])
     requires { packet_length blocks.now < 2 ^ 63 }
-    ensures { places.new ≡ written_front (places_of 20 blocks.now) places.old }
+    ensures { places.new ≡ written_front (places_of HEADER_LENGTH blocks.now) places.old }
 {
     let mut at = HEADER_LENGTH;
     let mut filled = 0;

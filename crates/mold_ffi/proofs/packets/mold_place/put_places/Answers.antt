@@ -1,10 +1,11 @@
 use Rattle.std.proofs.Common.{List, ℕ, ◌∷◌, ◌∙◌, sym, subst, arith}
+use Rattle.mold_wire.specs.declared.header.TheConstants.{HEADER_LENGTH}
 use Rattle.mold_ffi.proofs.PlaceLemmas.{HasFilled, begun, filled_more, filled_all}
 use Rattle.mold_ffi.proofs.packets.mold_place.put_places.Goals as goal
 
 pub loop-message-init : goal.loop-message-init
 loop-message-init c =
-    subst (λ (t : List (List ℕ)). HasFilled 20 0 t c.args.places.now c.args.blocks.now c.args.places.now)
+    subst (λ (t : List (List ℕ)). HasFilled HEADER_LENGTH 0 t c.args.places.now c.args.blocks.now c.args.places.now)
     (sym (c.into_iter-message-iterator.ensures.into_iter_gives ∙ c.iter-message-items.ensures))
     (begun c.args.blocks.now c.args.places.now)
 
