@@ -128,7 +128,8 @@ class Gate:
         self.run(parts.RT_CI)
         if os.path.exists(BUILT) and os.stat(BUILT).st_mtime_ns > self.began:
             self.keep_program()
-        self.run_all([*parts.WITHOUT_PROGRAM, parts.EDITS])
+        self.run_lanes([[parts.BUILD_LIBRARY], parts.WITHOUT_PROGRAM])
+        self.run(parts.EDITS)
         if self.has_program():
             self.run_lanes(parts.LANES)
 

@@ -51,6 +51,9 @@ def over_program(command, *reads, crate=PROGRAM, needs_compiler=False):
 RT_CI = Part("rt ci")
 # Builds the program with the kept proofs, and runs it on empty input.
 BUILD = Part("rt run -- show", folder=f"crates/{PROGRAM}", is_counted=False)
+# Builds the library from what `rt ci` has built, before the edits, which start with what this proves.
+BUILD_LIBRARY = Part("tests/build-library", ("library/build", "library/alloc.c"), LIBRARY, needs_compiler=True,
+                     is_counted=False)
 EDITS = Part("tests/edits --proved")
 # Parts that do not need the program. They run one after the other.
 WITHOUT_PROGRAM = (
@@ -59,10 +62,10 @@ WITHOUT_PROGRAM = (
     Part("tests/prose", ("*.md", "docs/mold.1", "library/mold.h*", "crates/*/specs/*", "tests/prose-allowed")),
     Part("tests/contracts --check", ("docs/CONTRACTS.md", "crates.txt", "crates/*/src/*", "crates/*/specs/*",
                                      "crates/*/wrong/*", "crates/*/must-fail/*")),
-    Part("tests/edits-test", ("tests/edits",)),
+    Part("tests/edits-test", ("tests/edits", "tests/libraries.py")),
 )
-# Lanes run in parallel; the parts of a lane run one after the other. The parts of the first lane use fixed ports, build
-# the library and mostly wait. In the second lane each process has a separate loopback address.
+# Lanes run in parallel; the parts of a lane run one after the other. The parts of the first lane use fixed ports and mostly
+# wait. In the second lane each process has a separate loopback address.
 LANES = (
     (
         over_program("tests/program-checks", "try", "mold", "examples/*", "tests/checks.sh", "tests/table*",
@@ -89,7 +92,7 @@ LANES = (
 
 def parts():
     """All parts except the proofs and the edits, in their order."""
-    return [*WITHOUT_PROGRAM, *(part for lane in LANES for part in lane)]
+    return [BUILD_LIBRARY, *WITHOUT_PROGRAM, *(part for lane in LANES for part in lane)]
 
 
 def files_read(script):
