@@ -1,43 +1,50 @@
-/* libmold: MoldUDP64 packets, a listener of two lines, a publisher, a re-request server and a checker of captures.
+/* libmold: MoldUDP64 packets, a listener to two lines, a publisher, a re-request server, and a checker of captures.
  *
- * For programs in C (C99 and later) and C++ (C++11 and later), on Linux on x86-64. The library is libmold.a: what is
- * proved of it, and what is only tested, stands in docs/LIBRARY.md. It opens no socket, reads no clock, starts no
- * thread, prints nothing and never ends the process: every call is a function of what it is lent and of its handle.
+ * For programs in C (C99 and later) and C++ (C++11 and later), on Linux on x86-64. The library is libmold.a.
+ * docs/LIBRARY.md states what is proved of it and what is only tested. The library opens no socket, reads no clock,
+ * starts no thread, prints nothing, and never ends the process. The effect of a call depends only on its arguments, on
+ * what its handle holds, and on whether its allocations succeed.
  *
- * THE CALLER'S DUTIES. Nothing checks them, and all that is said below holds only where they are kept.
+ * THE CALLER'S DUTIES. Nothing checks them. Everything stated below holds only if they are kept.
  *
- *   1. A pointer is valid for the length that goes with it: so many bytes, or elements of an array, may be read, and
- *      written where the call writes. A pointer without a length is valid for one value of its type; session[10],
- *      request[20] and bytes[20] for so many bytes. NULL is allowed where the length is 0, and nowhere else.
- *   2. A pointer is aligned as its type asks for.
- *   3. What a call writes is initialized before, with any value: an output, a buffer, an array, a handle.
+ *   1. A pointer is valid for the length that goes with it: that many bytes or elements may be read, and written if the
+ *      call writes them. A pointer without a length is valid for one value of its type; session[10], request[20] and
+ *      bytes[20] for that many bytes. NULL is allowed only if the length is 0.
+ *   2. A pointer has the alignment of its type.
+ *   3. Everything that a call writes was initialized before, with any value: an output, a buffer, an array, a handle.
  *   4. A length is below 2^63.
- *   5. Nothing that a call writes overlaps anything else that it is lent.
- *   6. What a call is lent is changed by nobody else while it lasts; a datagram stays as it is.
- *   7. One call at a time is made on a handle. Which thread makes it doesn't matter.
- *   8. A handle is not copied, begins as MOLD_EMPTY, and is written by nobody else than these functions. (It may be
- *      moved: its bytes go to a new place, and MOLD_EMPTY to the old one.) So it is with the fields of a packer, which
- *      begin as MOLD_PACKER, and those of a plan, which mold_server_plan writes.
- *   9. A bool is 0 or 1.
+ *   5. What a call writes does not overlap anything else that is passed to it.
+ *   6. During a call nobody else changes what was passed to it.
+ *   7. Only one call at a time runs on a handle, in any thread.
+ *   8. A handle begins as MOLD_EMPTY, and only these functions write it. It is not copied. It may be moved: its bytes
+ *      are copied to a new place, and MOLD_EMPTY is written to the old one.
+ *   9. Only these functions write the fields of a packer, which begin as MOLD_PACKER, and those of a plan, which
+ *      mold_server_plan writes first.
+ *  10. A bool is 0 or 1.
  *
- * HANDLES. A listener, a publisher, a server or a checker is a handle: 16 bytes in the caller's hands, beside memory
- * that the library takes. It begins as MOLD_EMPTY and holds nothing. mold_.._new makes it hold something, and mold_free
- * makes it hold nothing again, and gives the memory back. A handle that holds something has to be freed before it holds
- * something else, and before it goes away. A call on a handle that holds nothing, or something of another kind, answers
- * MOLD_BROKEN and does nothing; one that answers no code then answers 0 or false.
+ * HANDLES. A listener, a publisher, a server or a checker is a handle: 16 bytes of the caller, and memory that the
+ * library allocates. A handle begins as MOLD_EMPTY and is then empty. mold_.._new fills it. mold_free frees its memory
+ * and makes it empty again. A filled handle must be freed before it is filled again, and before it goes out of scope.
+ * If a handle does not hold what a call needs, the call returns MOLD_BROKEN and does nothing. A call that returns no
+ * code then returns 0 or false.
  *
- * LENT BYTES. A mold_bytes that a listener's call answers lies in the listener's memory. It may be read until the next
- * call on that handle, and is never freed by the caller. All else is written to memory of the caller's own. What is
- * lent to a call may be thrown away when it returns: the library keeps copies.
+ * SLICES. A mold_bytes that a listener returns is a slice of the listener's memory. It is valid until the next call on
+ * that handle, and the caller never frees it. If its length is 0, its address may be invalid: do not read it or
+ * compute with it. All other results are written to memory of the caller. The library keeps copies, so whatever is
+ * passed to a call may be freed when the call returns. The exception is a packer's buffer, which the packer keeps.
  *
- * CODES. A call that may refuse answers a code: 0 where it is done, and else the first reason that applies, in the
- * order in which the call names them. After any code but 0 what the handle holds is as it was, but that the report of a
- * line counts a datagram that is refused on it. Outputs are as they were, but for those that the call names: where it
- * has one for a number, the number that goes with the refusal is written to it, or 0 where there is none; MOLD_BROKEN
- * writes nothing, and what else writes nothing says so. A code has one meaning for ever.
+ * CODES. A call that can be refused returns a code. The code is 0 if the call succeeded. Otherwise it is that of the
+ * first reason that applies, in the order in which the call lists them; mold_server_new states an exception. After a
+ * code other than 0 the handle holds what it held before, except that a line's report counts a refused datagram.
+ * If a call has an output for a number, it then writes the number that goes with the refusal, or 0 if there is none.
+ * All other outputs keep their values. MOLD_BROKEN and MOLD_LINE write nothing; other codes that write nothing say so.
+ * The meaning of a code never changes.
  *
- * NUMBERS. The messages of a session have the sequence numbers 1, 2, 3 and so on. Lengths and sizes are in bytes, and
- * numbers in structs are in the machine's own order. A session is any ten bytes. */
+ * MOLD_MEMORY means that an allocation failed. mold_listener_take also returns it if the store would reach 4 GiB. The
+ * same call may succeed later.
+ *
+ * NUMBERS. The messages of a session have the sequence numbers 1, 2, 3 and so on. Lengths and sizes are in bytes.
+ * Numbers in structs are in the byte order of the machine. A session is any ten bytes. */
 #ifndef MOLD_H
 #define MOLD_H
 
@@ -49,45 +56,45 @@
 extern "C" {
 #endif
 
-/* ---- Codes: what mold_text says of each ---- */
+/* ---- Codes, each with its text from mold_text ---- */
 
 enum {
     MOLD_DONE = 0,            /* done */
     MOLD_SHORT = 1,           /* a packet has at least 20 bytes */
-    MOLD_BLOCK_CUT = 2,       /* a message block is cut */
-    MOLD_TRAILING = 3,        /* more bytes follow the packet's end */
-    MOLD_LIMIT = 4,           /* a datagram's limit is 64 to 65,507 bytes */
+    MOLD_BLOCK_CUT = 2,       /* a message block is cut short */
+    MOLD_TRAILING = 3,        /* bytes follow the end of the packet */
+    MOLD_LIMIT = 4,           /* a datagram limit is 64 to 65,507 bytes */
     MOLD_FULL = 5,            /* the packet has no room for the message */
-    MOLD_BROKEN = 6,          /* the handle is empty or of another kind, or the fields can't be */
+    MOLD_BROKEN = 6,          /* the call cannot use this handle or these fields */
     MOLD_MEMORY = 7,          /* out of memory */
     MOLD_WRONG_SESSION = 8,   /* another session */
     MOLD_SEQUENCE_ZERO = 9,   /* the sequence number is 0 */
-    MOLD_PAST_LAST = 10,      /* the numbers end above 18446744073709551615 */
-    MOLD_END_CONFLICT = 11,   /* the packet tells another end of the session */
+    MOLD_PAST_LAST = 10,      /* a message has a number above 18446744073709551614 */
+    MOLD_END_CONFLICT = 11,   /* the packet states another end of the session */
     MOLD_END_BELOW = 12,      /* the packet ends the session below what is known */
-    MOLD_PAST_END = 13,       /* the packet goes on behind the session's end */
-    MOLD_CONFLICT = 14,       /* a message differs from the one that came before */
+    MOLD_PAST_END = 13,       /* the packet goes past the end of the session */
+    MOLD_CONFLICT = 14,       /* a message differs from the one received before */
     MOLD_LINE = 15,           /* there is no such line */
-    MOLD_NEXT_ZERO = 16,      /* the next message can't have number 0 */
+    MOLD_NEXT_ZERO = 16,      /* a listener cannot begin at sequence number 0 */
     MOLD_WINDOW = 17,         /* a window is 1 to 65,536 messages */
-    MOLD_ABSENT = 18,         /* there is nothing of what was asked for */
+    MOLD_ABSENT = 18,         /* there is nothing to return */
     MOLD_CLOSED = 19,         /* the session is closed */
     MOLD_TOO_LONG = 20,       /* the message is too long */
-    MOLD_NUMBERS = 21,        /* the session has no number left for a message */
-    MOLD_UNSENT = 22,         /* some messages were not yet put in a datagram */
+    MOLD_NUMBERS = 21,        /* no sequence number is left for a message */
+    MOLD_UNSENT = 22,         /* some messages are not yet in a datagram */
     MOLD_ROOM = 23,           /* the buffer is too small */
     MOLD_REQUEST_LENGTH = 24, /* a request has 20 bytes */
-    MOLD_EMPTY_REQUEST = 25,  /* a request for no message */
-    MOLD_AHEAD = 26,          /* a request for a message behind the last one */
-    MOLD_BURST = 27,          /* a request is answered by at most 1 to 64 datagrams */
+    MOLD_EMPTY_REQUEST = 25,  /* the request is for no message */
+    MOLD_AHEAD = 26,          /* the request begins above the last message */
+    MOLD_BURST = 27,          /* a burst is 1 to 64 datagrams */
     MOLD_FILE_SHORT = 28,     /* too few bytes for a journal */
-    MOLD_BAD_MAGIC = 29,      /* no journal of version 1 or 2 */
-    MOLD_BAD_FLAG = 30,       /* the journal says neither open nor closed */
+    MOLD_BAD_MAGIC = 29,      /* not a journal of version 1 or 2 */
+    MOLD_BAD_FLAG = 30,       /* the journal's flag is neither open nor closed */
     MOLD_FILE_CUT = 31,       /* the journal ends within a message */
-    MOLD_COUNT_DIFFERS = 32   /* the journal has another number of messages than it states */
+    MOLD_COUNT_DIFFERS = 32   /* the journal does not have as many messages as it states */
 };
 
-/* Bytes that lie elsewhere. */
+/* A slice: `length` bytes at `at`. */
 typedef struct mold_bytes {
     const uint8_t *at;
     size_t length;
@@ -95,92 +102,92 @@ typedef struct mold_bytes {
 
 #define MOLD_NO_BYTES { NULL, 0 }
 
-/* Points to a text in English that says what a code means, or that it is no code. The text lives for ever, has
- * text->length bytes, and is not ended by a byte 0. */
+/* Returns the meaning of a code as an English text; `unknown code` for any other number. The text is valid forever. It
+ * has text->length bytes, and no zero byte at its end. */
 void mold_text(uint32_t code, mold_bytes *text);
 
-/* ---- Packets: no handle, no memory taken ---- */
+/* ---- Packets: no handle, no allocation ---- */
 
-/* What a packet is. */
+/* The kinds of packets. */
 enum {
-    MOLD_DATA = 0,      /* it has messages, 1 to 65,534 */
-    MOLD_HEARTBEAT = 1, /* it has none, and its number is the next one to expect */
-    MOLD_END = 2        /* it has none, and ends the session */
+    MOLD_DATA = 0,      /* 1 to 65,534 messages */
+    MOLD_HEARTBEAT = 1, /* no messages; its number is that of the next message */
+    MOLD_END = 2        /* no messages; it ends the session */
 };
 
 typedef struct mold_packet {
-    uint64_t sequence;   /* the number of the first message, or of the one to expect */
-    uint64_t detail;     /* the number that goes with a refusal; else 0 */
+    uint64_t sequence;   /* the number of the first message; of a heartbeat that of the next message; of an end packet
+                            one more than the number of messages of the session */
+    uint64_t detail;     /* the number that goes with a refusal; otherwise 0 */
     uint32_t kind;       /* MOLD_DATA, MOLD_HEARTBEAT or MOLD_END */
-    uint16_t count;      /* how many messages there are: 0 of a heartbeat and of an end */
+    uint16_t count;      /* the number of messages; 0 for a heartbeat and for an end packet */
     uint8_t session[10];
 } mold_packet;
 
-/* Where a message lies in a datagram: so many bytes from its front. */
+/* Where a message is in a datagram. */
 typedef struct mold_place {
-    size_t offset;
-    size_t length;
+    size_t offset; /* the offset of its first byte */
+    size_t length; /* its length */
 } mold_place;
 
 typedef struct mold_request {
-    uint64_t sequence;   /* the number of the first message that is asked for */
-    uint16_t count;      /* how many messages are asked for */
+    uint64_t sequence;   /* the number of the first requested message */
+    uint16_t count;      /* the number of requested messages */
     uint8_t session[10];
 } mold_request;
 
-/* Reads a datagram's bytes as a packet, and says in *packet what stands in its header.
+/* Decodes a datagram, and writes its header to *packet.
  *
- *   MOLD_DONE       the bytes spell this packet, and no other one
- *   MOLD_SHORT      packet->detail is how many bytes there are
- *   MOLD_BLOCK_CUT  packet->detail is how many whole message blocks stand before the one that is cut
- *   MOLD_TRAILING   packet->detail is where the first byte too many stands
+ *   MOLD_DONE       the bytes are the encoding of this packet and of no other
+ *   MOLD_SHORT      packet->detail is the length of the datagram
+ *   MOLD_BLOCK_CUT  packet->detail is the number of whole message blocks before the one that is cut short
+ *   MOLD_TRAILING   packet->detail is the offset of the first byte after the packet
  *
- * After a refusal the other fields of *packet are as they were. */
+ * A refusal keeps the other fields of *packet. */
 uint32_t mold_decode(const uint8_t *bytes, size_t length, mold_packet *packet);
 
-/* Does what mold_decode does, and writes to places[i] where message i of the packet lies, i from 0. Where the array has
- * less room than the packet has messages, the first ones are written. After a refusal, and behind the packet's
- * messages, the array is as it was. */
+/* Decodes a datagram as mold_decode does, and writes to places[i] where message i of the packet is, i from 0. If the
+ * packet has more messages than the array has elements, only the first ones are written. The other elements of the
+ * array keep their values; after a refusal all of them do. `room` is the number of elements. */
 uint32_t mold_read(const uint8_t *bytes, size_t length, mold_packet *packet, mold_place *places, size_t room);
 
-/* Reads a request packet.
+/* Decodes a request packet. Any 20 bytes are one, also with sequence number 0 or count 0.
  *
- *   MOLD_DONE            *request is what is asked for; sequence number 0 and count 0 are read like any other
- *   MOLD_REQUEST_LENGTH  there are not 20 bytes; *request is as it was */
+ *   MOLD_REQUEST_LENGTH  the length is not 20; writes nothing */
 uint32_t mold_request_decode(const uint8_t *bytes, size_t length, mold_request *request);
 
 /* Writes the 20 bytes of a request packet. */
 void mold_request_encode(const mold_request *request, uint8_t bytes[20]);
 
-/* A packet that is written, in memory of the caller's own: so far it is the first `used` bytes of `buffer`, of which
- * `limit` are lent. A packer is a plain struct, which is begun by MOLD_PACKER and never freed. Only these functions
- * write its fields; `buffer`, the bytes and `used` may be read at any time between calls. */
+/* Writes a packet into a buffer of the caller. The packet is the first `used` bytes of `buffer`, which has `limit`
+ * bytes. A packer is a plain struct. It begins as MOLD_PACKER and is never freed. Only these functions write its
+ * fields. The caller may read `buffer`, its bytes and `used` between calls. */
 typedef struct mold_packer {
-    uint8_t *buffer;
-    size_t limit;
-    size_t used;
-    uint16_t count;
-    bool open;
+    uint8_t *buffer; /* valid as long as the packer is used */
+    size_t limit;    /* the size of the buffer, and the greatest length of a packet */
+    size_t used;     /* the length of the packet so far */
+    uint16_t count;  /* the number of its messages */
+    bool open;       /* whether messages may be added */
 } mold_packer;
 
 #define MOLD_PACKER(buffer, limit) { (buffer), (limit), 0, 0, false }
 
-/* Begins a packet anew, without messages: until one is added, its bytes are those of a heartbeat.
+/* Begins a packet without messages, in place of the previous packet. Until a message is added, it is a heartbeat.
  *
  *   MOLD_LIMIT  the limit is not 64 to 65,507 bytes */
 uint32_t mold_packer_start(mold_packer *packer, const uint8_t session[10], uint64_t sequence);
 
-/* Whether a message of so many bytes could be added. */
+/* Whether mold_packer_add would add a message of `length` bytes. */
 bool mold_packer_fits(const mold_packer *packer, size_t length);
 
-/* Adds a message to a packet that was begun.
+/* Adds a message to the packet.
  *
- *   MOLD_BROKEN  the fields can't be a packer's
- *   MOLD_FULL    no packet is begun, or an end was written, or the message doesn't fit: with its two bytes of length
+ *   MOLD_BROKEN  the fields are invalid. Not all invalid fields are detected
+ *   MOLD_FULL    no packet was begun, or it is an end packet, or the message does not fit: with its two bytes of length
  *                the packet would be longer than the limit */
 uint32_t mold_packer_add(mold_packer *packer, const uint8_t *message, size_t length);
 
-/* Writes an end of session in place of what was begun. No message can be added to it.
+/* Writes an end packet in place of the previous packet. No message can be added to it.
  *
  *   MOLD_LIMIT  the limit is not 64 to 65,507 bytes */
 uint32_t mold_packer_end(mold_packer *packer, const uint8_t session[10], uint64_t sequence);
@@ -207,202 +214,204 @@ typedef struct mold_checker {
     bool live;
 } mold_checker;
 
-/* A handle that holds nothing. */
+/* An empty handle. */
 #define MOLD_EMPTY { NULL, false }
 
-/* Gives back what a handle of any kind holds: it holds nothing then, and may be used for mold_.._new again. On a handle
- * that holds nothing it does nothing. The pointer is that of a mold_listener, mold_publisher, mold_server or
- * mold_checker. */
+/* Frees what a handle of any kind holds. The handle is then empty, and may be filled again. Freeing an empty handle
+ * does nothing. The pointer is that of a mold_listener, mold_publisher, mold_server or mold_checker. */
 void mold_free(void *handle);
 
-/* ---- Listener: two lines and the answers of a re-request server, handed on in order ---- */
+/* ---- Listener: two lines and a server's responses, delivered in order ---- */
 
-/* What a datagram that was taken brought. */
+/* What a datagram brought. */
 typedef struct mold_told {
-    uint64_t detail; /* the number that goes with a refusal; else 0. After a refusal the counts are 0 */
-    uint32_t handed; /* how many messages were handed on: these were put behind the batch */
-    uint32_t kept;   /* how many messages of the datagram were stored above a gap */
-    uint32_t beyond; /* how many messages of the datagram lie behind the window: they are lost and have to come again */
-    uint32_t unused;
+    uint64_t detail; /* the number that goes with a refusal; otherwise 0. After a refusal the counts are 0 */
+    uint32_t handed; /* the number of messages that were delivered, its own and stored ones: the last of the batch */
+    uint32_t kept;   /* the number of its messages that were stored above a gap */
+    uint32_t beyond; /* the number of its messages above the window: they are dropped and must be received again */
+    uint32_t unused; /* padding, which is never written */
 } mold_told;
 
-/* What came on a line. */
+/* What was received on a line. Both counts stop at 18446744073709551615. */
 typedef struct mold_report {
-    uint64_t datagrams; /* how many datagrams were taken on it */
-    uint64_t refused;   /* how many were refused on it, but for want of memory */
-    uint64_t front;     /* one more than the greatest number that a datagram taken on it told of; at least the number
-                           that the listener began at */
+    uint64_t datagrams; /* the number of datagrams that were taken */
+    uint64_t refused;   /* the number of datagrams that were refused, except with MOLD_MEMORY */
+    uint64_t front;     /* the greatest top of a packet that was taken, at least the number at which the listener began.
+                           A packet's top is its sequence number plus its number of messages */
 } mold_report;
 
 /* Where a datagram came from. */
 enum {
     MOLD_LINE_A = 0,
     MOLD_LINE_B = 1,
-    MOLD_ANSWER = 2 /* the server's answer to a request, which counts on no line */
+    MOLD_ANSWER = 2 /* a server's response, which no line's report counts */
 };
 
-/* Makes a listener of a session, which hands on the messages from number `next` on. Messages above a gap are stored as
- * far as the window goes: fewer than `window` numbers above the one that is handed on next.
+/* Makes a listener to a session. It delivers the messages from number `next` on. It stores a message above a gap if the
+ * message's number is less than that of the next message to deliver plus `window`.
  *
- *   MOLD_BROKEN     the handle holds something
+ *   MOLD_BROKEN     the handle is not empty
  *   MOLD_NEXT_ZERO  next is 0
  *   MOLD_WINDOW     window is not 1 to 65,536
- *   MOLD_MEMORY     memory was refused; the handle holds nothing */
+ *   MOLD_MEMORY     an allocation failed; the handle is empty */
 uint32_t mold_listener_new(mold_listener *listener, const uint8_t session[10], uint64_t next, uint32_t window);
 
-/* Takes a datagram that came on a line, or as an answer. What comes next in order is put behind the batch: the
- * datagram's own messages, and those that were stored. What lies above a gap is stored. What was there before is passed
- * over.
+/* Takes a datagram of a line, or a server's response. Messages that are next in order join the batch: those of the
+ * datagram, and then stored ones. Messages above a gap are stored. Messages that were delivered or stored before are
+ * ignored.
  *
- *   MOLD_DONE           *told says what it brought
- *   MOLD_BROKEN         the handle holds no listener
+ *   MOLD_DONE           *told states what it brought
+ *   MOLD_BROKEN         the handle does not hold a listener
  *   MOLD_LINE           line is not MOLD_LINE_A, MOLD_LINE_B or MOLD_ANSWER
  *   MOLD_SHORT, MOLD_BLOCK_CUT, MOLD_TRAILING
- *                       the bytes spell no packet; told->detail is as packet->detail of mold_decode
- *   MOLD_WRONG_SESSION  the packet is of another session
+ *                       the bytes do not encode a packet; told->detail is as packet->detail of mold_decode
+ *   MOLD_WRONG_SESSION  the packet belongs to another session
  *   MOLD_SEQUENCE_ZERO  its sequence number is 0
- *   MOLD_PAST_LAST      it has a message above number 18446744073709551614
- *   MOLD_END_CONFLICT   it ends the session elsewhere than at told->detail, the end that is known
- *   MOLD_END_BELOW      it ends the session below told->detail, one more than the greatest number heard of
- *   MOLD_PAST_END       it goes beyond told->detail, the end that is known
- *   MOLD_CONFLICT       it has another message than the one that is stored at number told->detail, the least such
- *   MOLD_MEMORY         memory was refused; taken again it may go through
+ *   MOLD_PAST_LAST      it has a message with a number above 18446744073709551614
+ *   MOLD_END_CONFLICT   it states another end of the session than the known one, told->detail
+ *   MOLD_END_BELOW      it ends the session below told->detail, the greatest known top
+ *   MOLD_PAST_END       its top is above told->detail, the known end
+ *   MOLD_CONFLICT       it has another message than the one stored under number told->detail, the least such number
+ *   MOLD_MEMORY         an allocation failed, or the store would reach 4 GiB
  *
- * After a refusal the listener is as it was, but that the line counts the datagram as refused. It doesn't after
- * MOLD_MEMORY; after MOLD_BROKEN and MOLD_LINE *told is as it was too. */
+ * After a refusal the listener is as before, except that the line's report counts the datagram as refused. MOLD_MEMORY
+ * is not counted. */
 uint32_t mold_listener_take(mold_listener *listener, uint32_t line, const uint8_t *bytes, size_t length,
                             mold_told *told);
 
-/* The batch: the messages that were handed on since the last mold_listener_clear, in order. Take them after a datagram
- * or after many; the batch is the listener's, and grows until it is cleared. */
+/* The batch: the messages that were delivered since the last mold_listener_clear, in order. Read it after each datagram
+ * or after many. It is in the listener's memory, and grows until it is cleared. */
 
-/* How many messages the batch has. */
+/* Returns the number of messages of the batch. */
 size_t mold_listener_count(mold_listener *listener);
 
-/* The number of the first message of the batch, 0 where it is empty. Message i has this number and i more. */
+/* Returns the number of the first message of the batch; 0 if the batch is empty. The message at index i has this number
+ * plus i. */
 uint64_t mold_listener_first(mold_listener *listener);
 
-/* Lends message i of the batch, i from 0.
+/* Returns a slice of the message at index i of the batch, i from 0.
  *
- *   MOLD_BROKEN  the handle holds no listener
- *   MOLD_ABSENT  the batch has no message i; *message is as it was */
+ *   MOLD_BROKEN  the handle does not hold a listener
+ *   MOLD_ABSENT  the batch has no message at this index; writes nothing */
 uint32_t mold_listener_message(mold_listener *listener, size_t i, mold_bytes *message);
 
-/* Lends the first messages of the batch, as many as there are and the array has room for, in one call, and answers how
- * many. The array's other elements are as they were. */
+/* Writes slices of the first messages of the batch, as many as the array has room for, and returns how many. The other
+ * elements of the array keep their values. `room` is the number of elements. */
 size_t mold_listener_messages(mold_listener *listener, mold_bytes *messages, size_t room);
 
-/* Copies message i of the batch to the front of a buffer, and tells its size. What stands behind it in the buffer is as
- * it was.
+/* Copies the message at index i of the batch to the start of a buffer, and writes its length to *size. The other bytes
+ * of the buffer keep their values.
  *
- *   MOLD_BROKEN  the handle holds no listener
- *   MOLD_ABSENT  the batch has no message i; *size is as it was
- *   MOLD_ROOM    the message is longer than the buffer: *size is its size, and the buffer is as it was */
+ *   MOLD_BROKEN  the handle does not hold a listener
+ *   MOLD_ABSENT  the batch has no message at this index; writes nothing
+ *   MOLD_ROOM    the message is longer than the buffer: *size is its length, and the buffer keeps its bytes */
 uint32_t mold_listener_copy(mold_listener *listener, size_t i, uint8_t *buffer, size_t room, size_t *size);
 
-/* Whether messages are missing. Then `request` has the 20 bytes to send to the re-request server: they ask for all that
- * is missing in front of the first stored message, 65,534 messages at most. Else `request` is as it was. */
+/* Whether messages are missing. If so, `request` is the request packet to send to the re-request server. It asks for
+ * the messages of the first gap, at most 65,534. Otherwise `request` keeps its bytes. */
 bool mold_listener_wanted(mold_listener *listener, uint8_t request[20]);
 
-/* The number of the message that is handed on next. */
+/* Returns the number of the next message to deliver. */
 uint64_t mold_listener_next(mold_listener *listener);
 
-/* One more than the greatest number heard of, on a line or in an answer. */
+/* Returns the greatest known top: one more than the greatest number known from packets. It is at least the number at
+ * which the listener began. */
 uint64_t mold_listener_known(mold_listener *listener);
 
-/* Whether the session's end was told and all messages below it were handed on. */
+/* Whether the end of the session is known and all messages below it were delivered. */
 bool mold_listener_finished(mold_listener *listener);
 
-/* Tells what came on line MOLD_LINE_A or MOLD_LINE_B. A line is behind by mold_listener_known less its front.
+/* Writes the report of line MOLD_LINE_A or MOLD_LINE_B. The lag of a line is mold_listener_known minus its front.
  *
- *   MOLD_BROKEN  the handle holds no listener
- *   MOLD_LINE    line is neither */
+ *   MOLD_BROKEN  the handle does not hold a listener
+ *   MOLD_LINE    line is neither of them */
 uint32_t mold_listener_report(mold_listener *listener, uint32_t line, mold_report *report);
 
-/* Empties the batch. Its memory is kept for what comes.
+/* Empties the batch, and keeps its memory for later messages. Slices of the batch are no longer valid.
  *
- *   MOLD_BROKEN  the handle holds no listener */
+ *   MOLD_BROKEN  the handle does not hold a listener */
 uint32_t mold_listener_clear(mold_listener *listener);
 
-/* ---- Publisher: messages in datagrams, and the journal of them ---- */
+/* ---- Publisher: messages in datagrams, and their journal ---- */
 
-/* Makes a publisher of a session without messages, whose datagrams have at most `limit` bytes. A message may have 22
- * bytes less.
+/* Makes a publisher of a session without messages. Its datagrams have at most `limit` bytes, and its messages at most
+ * 22 bytes fewer.
  *
- *   MOLD_BROKEN  the handle holds something
+ *   MOLD_BROKEN  the handle is not empty
  *   MOLD_LIMIT   limit is not 64 to 65,507
- *   MOLD_MEMORY  memory was refused; the handle holds nothing */
+ *   MOLD_MEMORY  an allocation failed; the handle is empty */
 uint32_t mold_publisher_new(mold_publisher *publisher, const uint8_t session[10], size_t limit);
 
-/* Publishes a message: it gets the next number, *number, and its bytes are kept in the journal.
+/* Publishes a message: it gets the next sequence number, *number, and the journal keeps its bytes.
  *
- *   MOLD_BROKEN    the handle holds no publisher
+ *   MOLD_BROKEN    the handle does not hold a publisher
  *   MOLD_CLOSED    the session is closed
- *   MOLD_TOO_LONG  the message is longer than the limit allows; *number is how many bytes it has
+ *   MOLD_TOO_LONG  the message is longer than the limit allows; *number is its length
  *   MOLD_NUMBERS   18446744073709551614 messages were published
- *   MOLD_MEMORY    memory was refused */
+ *   MOLD_MEMORY    an allocation failed */
 uint32_t mold_publisher_publish(mold_publisher *publisher, const uint8_t *message, size_t length, uint64_t *number);
 
-/* Whether the messages that were not yet put in a datagram don't all fit one. A publisher that fills its datagrams
- * takes one after each message as long as this is so; one that must not wait takes one whenever a message was
- * published. */
+/* Whether the unsent messages do not all fit in one datagram. A message is unsent until mold_publisher_datagram has
+ * written it. To fill datagrams, take them after each message, but only while this is true. To send without delay, take
+ * a datagram after each message. */
 bool mold_publisher_is_full(mold_publisher *publisher);
 
-/* Writes a datagram to the front of a buffer, and its size to *size: it has as many messages as fit, from the first one
- * on that was not yet put in a datagram. A buffer of as many bytes as the limit is always enough.
+/* Writes a datagram of the unsent messages, in order and as many as fit, to the start of a buffer. *size is its length.
+ * The buffer must have at least as many bytes as the limit.
  *
- *   MOLD_BROKEN  the handle holds no publisher
- *   MOLD_ROOM    the buffer has less room than the limit, which *size is then
- *   MOLD_ABSENT  every message was put in a datagram; *size is 0 */
+ *   MOLD_BROKEN  the handle does not hold a publisher
+ *   MOLD_ROOM    the buffer is shorter than the limit; *size is the limit
+ *   MOLD_ABSENT  no message is unsent; *size is 0 */
 uint32_t mold_publisher_datagram(mold_publisher *publisher, uint8_t *buffer, size_t room, size_t *size);
 
-/* Writes a heartbeat, which has 20 bytes and the number of the first message that was not yet put in a datagram.
+/* Writes a heartbeat, which has 20 bytes. Its number is that of the first unsent message.
  *
- *   MOLD_BROKEN  the handle holds no publisher
- *   MOLD_ROOM    the buffer has less room than the limit, which *size is then
+ *   MOLD_BROKEN  the handle does not hold a publisher
+ *   MOLD_ROOM    the buffer is shorter than the limit; *size is the limit
  *   MOLD_ABSENT  the session is closed; *size is 0 */
 uint32_t mold_publisher_heartbeat(mold_publisher *publisher, uint8_t *buffer, size_t room, size_t *size);
 
-/* Closes the session: no message can be published any more. On a closed session it is done and changes nothing.
+/* Closes the session: no more messages can be published. Closing a closed session succeeds and changes nothing. *number
+ * is then 0.
  *
- *   MOLD_BROKEN  the handle holds no publisher
- *   MOLD_UNSENT  *number messages were not yet put in a datagram */
+ *   MOLD_BROKEN  the handle does not hold a publisher
+ *   MOLD_UNSENT  *number messages are unsent */
 uint32_t mold_publisher_close(mold_publisher *publisher, uint64_t *number);
 
-/* Writes an end of session, which has 20 bytes and one more than the number of messages.
+/* Writes an end packet, which has 20 bytes. Its number is one more than the number of messages.
  *
- *   MOLD_BROKEN  the handle holds no publisher
- *   MOLD_ROOM    the buffer has less room than the limit, which *size is then
+ *   MOLD_BROKEN  the handle does not hold a publisher
+ *   MOLD_ROOM    the buffer is shorter than the limit; *size is the limit
  *   MOLD_ABSENT  the session is not closed; *size is 0 */
 uint32_t mold_publisher_end(mold_publisher *publisher, uint8_t *buffer, size_t room, size_t *size);
 
-/* Writes the journal of what was published to the front of a buffer: the bytes of a journal's file of version 2, as
- * `mold serve` and mold_server_new read it. It has 27 bytes, and for each message two bytes and the message.
+/* Writes the journal to the start of a buffer, as a journal file of version 2, which `mold serve` and mold_server_new
+ * read. Its length, *size, is 27 bytes plus 2 bytes and the message for each message.
  *
- *   MOLD_BROKEN  the handle holds no publisher
- *   MOLD_ROOM    the buffer is too small: *size is how many bytes the journal has, and the buffer is as it was */
+ *   MOLD_BROKEN  the handle does not hold a publisher
+ *   MOLD_ROOM    the buffer is too small: *size is the length of the journal, and the buffer keeps its bytes */
 uint32_t mold_publisher_save(mold_publisher *publisher, uint8_t *buffer, size_t room, size_t *size);
 
-/* ---- Server: answers of requests from a journal ---- */
+/* ---- Server: responses to requests, from a journal ---- */
 
-/* What is left of an answer: the messages from `from` to below `to`, in at most `left` datagrams. */
+/* The rest of a response. */
 typedef struct mold_plan {
-    uint64_t from;
-    uint64_t to;
-    uint16_t left;
+    uint64_t from; /* the number of its next message */
+    uint64_t to;   /* one more than the number of its last message */
+    uint16_t left; /* the greatest number of its remaining datagrams */
     uint8_t session[10];
 } mold_plan;
 
-/* From here on the publisher answers requests too, from the journal of what it has published by then, with at most
- * `burst` datagrams each, which have its own limit. Its handle goes as a server's in the calls below:
+/* Lets the publisher respond to requests too, from its journal. A response has at most `burst` datagrams, each of at
+ * most the publisher's limit. For the calls below the publisher's handle is then also that of a server:
  * mold_server_of(&publisher).
  *
- *   MOLD_BROKEN  the handle holds no publisher, or one that answers requests already
+ *   MOLD_BROKEN  the handle does not hold a publisher, or the publisher responds to requests already
  *   MOLD_BURST   burst is not 1 to 64
- *   MOLD_MEMORY  memory was refused */
+ *   MOLD_MEMORY  an allocation failed */
 uint32_t mold_server_from_publisher(mold_publisher *publisher, uint16_t burst);
 
-/* A publisher's handle, as that of its server. */
+/* Returns a publisher's handle as that of its server. */
 static inline mold_server *mold_server_of(mold_publisher *publisher) {
     void *handle = publisher;
 #ifdef __cplusplus
@@ -412,99 +421,104 @@ static inline mold_server *mold_server_of(mold_publisher *publisher) {
 #endif
 }
 
-/* Makes a server of the bytes of a journal's file, of version 1 or 2, whose datagrams have at most `limit` bytes.
+/* Makes a server of the bytes of a journal file of version 1 or 2. Its datagrams have at most `limit` bytes, and a
+ * response at most `burst` datagrams. *number is 0 if the call succeeds.
  *
- *   MOLD_BROKEN         the handle holds something
+ *   MOLD_BROKEN         the handle is not empty
  *   MOLD_LIMIT          limit is not 64 to 65,507
  *   MOLD_BURST          burst is not 1 to 64
- *   MOLD_FILE_SHORT     the bytes end before the messages begin; *number is how many there are
- *   MOLD_BAD_MAGIC      the bytes are no journal
- *   MOLD_BAD_FLAG       the byte that says open or closed is *number
- *   MOLD_NUMBERS        there are more messages than numbers
- *   MOLD_TOO_LONG       a message is longer than the limit allows; *number is how many bytes it has
+ *   MOLD_FILE_SHORT     the bytes end before the messages begin; *number is the number of bytes
+ *   MOLD_BAD_MAGIC      the bytes are not a journal
+ *   MOLD_BAD_FLAG       the flag, *number, is neither open nor closed
+ *   MOLD_NUMBERS        there are more messages than sequence numbers
+ *   MOLD_TOO_LONG       a message is longer than the limit allows; *number is its length
  *   MOLD_FILE_CUT       the bytes end within message *number
- *   MOLD_COUNT_DIFFERS  the journal has *number messages, and states another number of them
- *   MOLD_MEMORY         memory was refused; the handle holds nothing */
+ *   MOLD_COUNT_DIFFERS  the journal has *number messages, and states another number
+ *   MOLD_MEMORY         an allocation failed; the handle is empty
+ *
+ * If an allocation fails, MOLD_MEMORY may be returned in place of any code listed after MOLD_BURST. */
 uint32_t mold_server_new(mold_server *server, size_t limit, uint16_t burst, const uint8_t *journal, size_t length,
                          uint64_t *number);
 
-/* Writes the first datagram of the answer to a request to the front of a buffer, and its size to *number. A server of
- * more datagrams than one uses mold_server_plan and mold_server_datagram in place of it.
+/* Writes the first datagram of the response to a request to the start of a buffer. *number is its length. For a
+ * response of several datagrams use mold_server_plan and mold_server_datagram instead.
  *
- *   MOLD_BROKEN          the handle holds no server
- *   MOLD_ROOM            the buffer has less room than the limit, which *number is then
- *   MOLD_REQUEST_LENGTH  the request has *number bytes and not 20
- *   MOLD_WRONG_SESSION   it is of another session
- *   MOLD_SEQUENCE_ZERO   it asks from number 0 on
- *   MOLD_EMPTY_REQUEST   it asks for no message
- *   MOLD_AHEAD           it asks from a number on that is at or above *number, one more than the last message's */
+ *   MOLD_BROKEN          the handle does not hold a server
+ *   MOLD_ROOM            the buffer is shorter than the limit; *number is the limit
+ *   MOLD_REQUEST_LENGTH  the length of the request, *number, is not 20
+ *   MOLD_WRONG_SESSION   the request is for another session
+ *   MOLD_SEQUENCE_ZERO   its sequence number is 0
+ *   MOLD_EMPTY_REQUEST   its count is 0
+ *   MOLD_AHEAD           its sequence number is at least *number, one more than that of the last message */
 uint32_t mold_server_answer(mold_server *server, const uint8_t *request, size_t length, uint8_t *buffer, size_t room,
                             uint64_t *number);
 
-/* Plans the whole answer to a request. It refuses what mold_server_answer refuses, but for MOLD_ROOM; *plan is as it
- * was then. A plan is a plain struct: it may be kept as long as the session is served, and thrown away at any time. */
+/* Plans the whole response to a request. The codes are those of mold_server_answer, except MOLD_ROOM. A refusal keeps
+ * *plan. If the call succeeds, *number is 0. A plan is a plain struct. It may be kept as long as the session is served,
+ * and discarded at any time. */
 uint32_t mold_server_plan(mold_server *server, const uint8_t *request, size_t length, mold_plan *plan,
                           uint64_t *number);
 
-/* Writes the next datagram of a plan to the front of a buffer, and its size to *size, and moves the plan behind its
- * messages.
+/* Writes the next datagram of a plan to the start of a buffer, and moves the plan past its messages. *size is its
+ * length.
  *
- *   MOLD_BROKEN  the handle holds no server; or the plan can't be one of this server: its numbers are no part of the
- *                journal, or its session is another one
- *   MOLD_ROOM    the buffer has less room than the limit, which *size is then
- *   MOLD_ABSENT  nothing is left of the plan: the answer is whole; *size is 0 */
+ *   MOLD_BROKEN  the handle does not hold a server, or the plan is not one of this server: its session is another one,
+ *                or the journal does not have its messages
+ *   MOLD_ROOM    the buffer is shorter than the limit; *size is the limit
+ *   MOLD_ABSENT  the plan has no remaining datagram; *size is 0 */
 uint32_t mold_server_datagram(mold_server *server, mold_plan *plan, uint8_t *buffer, size_t room, size_t *size);
 
 /* ---- Checker: whether captured datagrams are one whole session ---- */
 
-/* Numbers from first to last, both among them. */
+/* The sequence numbers from `first` to `last`, inclusive. */
 typedef struct mold_range {
     uint64_t first;
     uint64_t last;
 } mold_range;
 
 typedef struct mold_verdict {
-    uint64_t messages; /* where it is whole: how many messages the session has */
-    uint64_t end;      /* where it is not: the number that the end of session told, 0 where none came */
-    uint64_t ranges;   /* where it is not: how many ranges of numbers are missing */
-    uint32_t whole;    /* 1 where it is whole, else 0 */
-    uint32_t unused;
+    uint64_t messages; /* if the session is whole, its number of messages; otherwise 0 */
+    uint64_t end;      /* if it is not whole, the number of its end packet, or 0 if none was taken; otherwise 0 */
+    uint64_t ranges;   /* if it is not whole, the number of missing ranges; otherwise 0 */
+    uint32_t whole;    /* 1 if the session is whole, otherwise 0 */
+    uint32_t unused;   /* padding, which is never written */
 } mold_verdict;
 
-/* Makes a checker that was given nothing.
+/* Makes a checker that has taken no datagram.
  *
- *   MOLD_BROKEN  the handle holds something
- *   MOLD_MEMORY  memory was refused; the handle holds nothing */
+ *   MOLD_BROKEN  the handle is not empty
+ *   MOLD_MEMORY  an allocation failed; the handle is empty */
 uint32_t mold_checker_new(mold_checker *checker);
 
-/* Gives it a datagram, in any order. The session is that of the first one that is accepted. A datagram is refused
- * exactly where no session explains it together with those that were accepted before; then it is as if it had not come.
+/* Takes a datagram. Datagrams may come in any order. The session is that of the first datagram taken. Except for
+ * MOLD_BROKEN and MOLD_MEMORY, a datagram is refused exactly when no session explains it together with those taken
+ * before. A refusal changes nothing. If the datagram is taken, *number is 0.
  *
- *   MOLD_BROKEN         the handle holds no checker
+ *   MOLD_BROKEN         the handle does not hold a checker
  *   MOLD_SHORT, MOLD_BLOCK_CUT, MOLD_TRAILING
- *                       the bytes spell no packet; *number is as packet->detail of mold_decode
- *   MOLD_WRONG_SESSION  the packet is of another session
+ *                       the bytes do not encode a packet; *number is as packet->detail of mold_decode
+ *   MOLD_WRONG_SESSION  the packet belongs to another session
  *   MOLD_SEQUENCE_ZERO  its sequence number is 0
- *   MOLD_PAST_LAST      it has a message above number 18446744073709551614
- *   MOLD_END_CONFLICT   it ends the session elsewhere than at *number
- *   MOLD_END_BELOW      it ends the session below *number, one more than the greatest number heard of
- *   MOLD_PAST_END       it goes beyond the end, *number
- *   MOLD_CONFLICT       it has another message than an earlier datagram at *number, the least such
- *   MOLD_MEMORY         memory was refused; given again it may go through */
+ *   MOLD_PAST_LAST      it has a message with a number above 18446744073709551614
+ *   MOLD_END_CONFLICT   it states another end of the session than the known one, *number
+ *   MOLD_END_BELOW      it ends the session below *number, the greatest known top
+ *   MOLD_PAST_END       its top is above *number, the known end
+ *   MOLD_CONFLICT       it has another message than an earlier datagram under *number, the least such number
+ *   MOLD_MEMORY         an allocation failed */
 uint32_t mold_checker_take(mold_checker *checker, const uint8_t *bytes, size_t length, uint64_t *number);
 
-/* Says whether the datagrams are one whole session: an end was told, and each message below it came.
+/* Writes whether the datagrams are one whole session: its end is known, and each message below the end was taken.
  *
- *   MOLD_BROKEN  the handle holds no checker
- *   MOLD_MEMORY  memory was refused */
+ *   MOLD_BROKEN  the handle does not hold a checker
+ *   MOLD_MEMORY  an allocation failed; writes nothing */
 uint32_t mold_checker_verdict(mold_checker *checker, mold_verdict *verdict);
 
-/* Writes the longest ranges of missing numbers below the greatest number heard of, ascending, to the front of an array:
- * the first ones where it has too little room for all. *count is how many there are in all, as many as
- * mold_checker_verdict says. What stands behind them in the array is as it was.
+/* Writes the missing ranges below the greatest known top, ascending, as many as the array has room for. No two of them
+ * adjoin. *count is the number of all of them, as in the verdict. The other elements of the array keep their values.
+ * `room` is the number of elements.
  *
- *   MOLD_BROKEN  the handle holds no checker
- *   MOLD_MEMORY  memory was refused; nothing is written */
+ *   MOLD_BROKEN  the handle does not hold a checker
+ *   MOLD_MEMORY  an allocation failed; writes nothing */
 uint32_t mold_checker_ranges(mold_checker *checker, mold_range *ranges, size_t room, size_t *count);
 
 #ifdef __cplusplus
