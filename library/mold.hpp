@@ -1,9 +1,9 @@
-// libmold for C++17 and later: classes over the handles of mold.h, which says what each call does and when each code
-// comes. A class frees its handle when it goes away. None can be copied; one that was moved from is empty, and may be
-// opened again. Nothing here throws: each call answers a code, MOLD_DONE where it is done.
+// libmold for C++17 and later: classes over the handles of mold.h, which states what each call does and when it returns
+// each code. The destructor of a class frees its handle. Objects cannot be copied. An object that was moved from is
+// empty, and may be opened again. Nothing here throws: each call returns a code, MOLD_DONE if it succeeded.
 //
-// A mold::Bytes is a view: a pointer and a length, as of std::span. What a listener lends is valid until the next call
-// on it.
+// A mold::Bytes is a view: a pointer and a length, like std::span. A view that a listener returns is valid until the
+// next call on that listener.
 #ifndef MOLD_HPP
 #define MOLD_HPP
 
@@ -16,14 +16,14 @@
 
 namespace mold {
 
-/// Bytes that lie elsewhere, in order.
+/// A view of bytes.
 class Bytes {
 public:
     constexpr Bytes() noexcept = default;
     constexpr Bytes(const std::uint8_t *at, std::size_t length) noexcept : at_(at), length_(length) {}
     constexpr Bytes(mold_bytes bytes) noexcept : at_(bytes.at), length_(bytes.length) {}
 
-    /// Anything that has its bytes in one piece, as std::vector, std::array, std::string and std::span.
+    /// A view of a contiguous range of bytes, such as std::vector, std::array, std::string or std::span.
     template <class Range, class = decltype(static_cast<const void *>(std::declval<const Range &>().data())),
               class = decltype(std::declval<const Range &>().size())>
     Bytes(const Range &range) noexcept
@@ -43,12 +43,12 @@ private:
     std::size_t length_ = 0;
 };
 
-/// Room that a call writes to.
+/// A buffer that a call writes to.
 class Room {
 public:
     constexpr Room(std::uint8_t *at, std::size_t length) noexcept : at_(at), length_(length) {}
 
-    /// Anything that has its bytes in one piece and lets them be written.
+    /// A view of a contiguous range of bytes that may be written.
     template <class Range, class = decltype(static_cast<void *>(std::declval<Range &>().data())),
               class = decltype(std::declval<Range &>().size())>
     Room(Range &range) noexcept : at_(reinterpret_cast<std::uint8_t *>(range.data())), length_(range.size()) {
@@ -63,8 +63,8 @@ private:
     std::size_t length_;
 };
 
-/// The name of a session: ten bytes. A shorter text is filled with spaces, as on the program's command line; of a
-/// longer one the first ten bytes count.
+/// The name of a session: ten bytes. A shorter text is padded with spaces, as on the command line of `mold`. A longer
+/// text is truncated.
 class Session {
 public:
     explicit Session(std::string_view text) noexcept {
@@ -79,19 +79,19 @@ private:
     std::uint8_t name_[10];
 };
 
-/// The text of a code.
+/// Returns the text of a code.
 inline std::string_view text(std::uint32_t code) noexcept {
     mold_bytes bytes = MOLD_NO_BYTES;
     mold_text(code, &bytes);
     return {reinterpret_cast<const char *>(bytes.at), bytes.length};
 }
 
-/// Reads a datagram's header, and checks the rest of it.
+/// Decodes a datagram, and writes its header.
 [[nodiscard]] inline std::uint32_t decode(Bytes datagram, mold_packet &packet) noexcept {
     return mold_decode(datagram.data(), datagram.size(), &packet);
 }
 
-/// A handle that is freed at the end. What is moved away is empty.
+/// Owns a handle, and frees it in its destructor. An object that was moved from is empty.
 template <class Handle>
 class Owned {
 public:
@@ -112,20 +112,20 @@ public:
 
     ~Owned() { mold_free(&handle_); }
 
-    /// Frees what it holds, so that it can be opened again.
+    /// Frees what the handle holds. The object can then be opened again.
     void close() noexcept { mold_free(&handle_); }
 
-    /// Whether it holds something.
+    /// Whether the handle holds something.
     explicit operator bool() const noexcept { return handle_.live; }
 
-    /// The handle, for calls of mold.h. It is not to be copied.
+    /// The handle, for calls of mold.h. Do not copy it.
     Handle *get() noexcept { return &handle_; }
 
 protected:
     Handle handle_ = MOLD_EMPTY;
 };
 
-/// Hands on the messages of a session in order, from two lines and from answers to requests.
+/// Delivers the messages of a session in order, from two lines and from the responses of a server.
 class Listener : public Owned<mold_listener> {
 public:
     [[nodiscard]] std::uint32_t open(const Session &session, std::uint64_t next = 1,
@@ -137,7 +137,7 @@ public:
         return mold_listener_take(&handle_, line, datagram.data(), datagram.size(), &told);
     }
 
-    /// How many messages were handed on and not yet cleared away, and the number of the first.
+    /// The number of messages of the batch, and the sequence number of the first.
     std::size_t count() noexcept { return mold_listener_count(&handle_); }
     std::uint64_t first() noexcept { return mold_listener_first(&handle_); }
 
@@ -149,7 +149,7 @@ public:
         return code;
     }
 
-    /// Lends the first messages of the batch, as many as the array has room for.
+    /// Writes slices of the first messages of the batch, as many as the array has room for, and returns how many.
     std::size_t messages(mold_bytes *array, std::size_t room) noexcept {
         return mold_listener_messages(&handle_, array, room);
     }
@@ -173,7 +173,7 @@ public:
     std::uint32_t clear() noexcept { return mold_listener_clear(&handle_); }
 };
 
-/// What answers requests: a server of its own, or a publisher's.
+/// Responds to requests: the server of a journal, or that of a publisher.
 class Answering {
 public:
     explicit Answering(mold_server *server) noexcept : server_(server) {}
@@ -194,7 +194,7 @@ private:
     mold_server *server_;
 };
 
-/// Puts the messages of a session in datagrams and keeps them.
+/// Sends the messages of a session in datagrams, and keeps them in a journal.
 class Publisher : public Owned<mold_publisher> {
 public:
     [[nodiscard]] std::uint32_t open(const Session &session, std::size_t limit = 1400) noexcept {
@@ -215,7 +215,7 @@ public:
         return mold_publisher_heartbeat(&handle_, buffer.data(), buffer.size(), &size);
     }
 
-    /// Closes the session, which is another thing than `close`.
+    /// Closes the session. `close` frees the publisher instead.
     [[nodiscard]] std::uint32_t close_session(std::uint64_t &number) noexcept {
         return mold_publisher_close(&handle_, &number);
     }
@@ -228,16 +228,16 @@ public:
         return mold_publisher_save(&handle_, buffer.data(), buffer.size(), &size);
     }
 
-    /// From here on it answers requests too, by `server`.
+    /// Lets the publisher respond to requests too, through `server`.
     [[nodiscard]] std::uint32_t serve(std::uint16_t burst) noexcept {
         return mold_server_from_publisher(&handle_, burst);
     }
 
-    /// What answers requests here. It is valid as long as this publisher is, and stands, in its place.
+    /// The server of this publisher. It is valid until this publisher is moved or destroyed.
     Answering server() noexcept { return Answering(mold_server_of(&handle_)); }
 };
 
-/// Answers requests from the bytes of a journal's file.
+/// Responds to requests from the bytes of a journal file.
 class Server : public Owned<mold_server> {
 public:
     [[nodiscard]] std::uint32_t open(std::size_t limit, std::uint16_t burst, Bytes journal,
@@ -258,7 +258,7 @@ public:
     }
 };
 
-/// Says whether captured datagrams are one whole session.
+/// Reports whether captured datagrams are one whole session.
 class Checker : public Owned<mold_checker> {
 public:
     [[nodiscard]] std::uint32_t open() noexcept { return mold_checker_new(&handle_); }

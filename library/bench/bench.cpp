@@ -1,14 +1,16 @@
-// How fast the library's listener is, against a plain receiver in C++ that does the same checks: once the plain one
-// hands its messages to a function where they lie, and is compiled into its user; once it has the calls of the library,
-// and copies them into a batch first, as one has to that is asked for them.
+// Measures the library's listener against a plain receiver in C++ that does the same checks. The plain receiver is
+// measured in two forms. In the first it is inlined into its caller, and passes each message to a function without a
+// copy. In the second it has the calls of the library, and copies the messages into a batch.
 //
 //     c++ -O2 -std=c++17 library/bench/bench.cpp library/out/libmold.a -pthread -o bench && ./bench
 //
-// A row is one kind of work. All do it by turns, each the same number of times, and the least time of a round counts,
-// in nanoseconds a datagram; of the plain ones that of the quicker store. With --brief there are few rounds, whose
-// times say little. Each looks at the length and the first byte of every message that is handed on, and their sums are
-// compared. The last lines tell how many datagrams a second one, two and four threads take, each with a listener of its
-// own: by the clock, which wants a machine with nothing else to do, and by the processor time of the threads.
+// Each row of the table is one kind of work. The receivers do it in alternation, each the same number of times. The
+// table has the least time of a round, in nanoseconds a datagram. The plain receiver has two stores; the faster one
+// counts. With --brief there are only a few rounds, and the times are rough. Each receiver reads the length and the
+// first byte of every delivered message, and the sums are compared.
+//
+// The last lines are the datagrams a second of one, two and four threads, each with its own listener. They are measured
+// by the clock, which needs an idle machine, and by the processor time of the threads.
 #include "plain.hpp"
 
 #include <atomic>
@@ -26,13 +28,13 @@ using Clock = std::chrono::steady_clock;
 constexpr std::uint32_t window = 1024;
 const std::uint8_t session[] = {'B', 'E', 'N', 'C', 'H', ' ', ' ', ' ', ' ', ' '};
 
-/// A datagram, and where it comes from.
+/// A datagram, and its line.
 struct Arrival {
     std::vector<std::uint8_t> bytes;
     std::uint32_t line;
 };
 
-/// A kind of work: datagrams that a new receiver takes in this order. What a batch has is looked at after so many.
+/// A kind of work: datagrams that a new receiver takes in this order. The batch is read after each `at_once` of them.
 struct Work {
     std::string name;
     std::vector<Arrival> arrivals;
@@ -65,7 +67,7 @@ Work in_order(std::size_t count) {
     return work;
 }
 
-/// The same, where the system gave many datagrams at once.
+/// The same, but the batch is read after 20 datagrams, as after one `recvmmsg`.
 Work in_order_at_once(std::size_t count) {
     Work work = in_order(count);
     work.name += ", by 20 datagrams";
@@ -95,7 +97,7 @@ Work two_lines() {
     return work;
 }
 
-/// Nine of ten datagrams lie above a gap, and then the answer comes that fills it.
+/// Nine of ten datagrams are above a gap, and then the response that fills it comes.
 Work stored() {
     Work work{"9 of 10 stored, 10 x 40", {}};
     for (std::uint64_t gap = 0; gap < 100; gap++) {
@@ -106,7 +108,7 @@ Work stored() {
     return work;
 }
 
-/// A new gap opens before the old one is filled, so that something is always stored.
+/// A new gap opens before the old one is filled, so that the store is never empty.
 Work never_empty() {
     Work work{"never empty, 1 x 1,400", {}};
     work.arrivals.push_back({datagram(2, 1, 1400), MOLD_LINE_A});
@@ -117,7 +119,7 @@ Work never_empty() {
     return work;
 }
 
-/// A store of many messages that never empties: datagrams come two by two the wrong way round, sixty-four behind a gap.
+/// A store of many messages: 64 datagrams above a gap, then 64 above the next gap before the first one is filled.
 Work never_empty_behind() {
     Work work{"never empty, 64 behind, 1 x 1,400", {}};
     for (std::uint64_t i = 2; i <= 65; i++)
@@ -132,7 +134,7 @@ Work never_empty_behind() {
 
 // ---- The three receivers ----
 
-/// What was handed on, so that none of it can be left out.
+/// Sums over the delivered messages, so that the compiler cannot omit the work.
 struct Sum {
     std::uint64_t messages = 0, lengths = 0, first_bytes = 0;
 
@@ -156,7 +158,7 @@ double since(Clock::time_point began) {
     return std::chrono::duration<double, std::nano>(Clock::now() - began).count();
 }
 
-/// The time of a round in which the plain receiver hands messages to a function.
+/// The time of a round in which the plain receiver passes messages to a function.
 template <bool keeps_memory>
 double by_function(const Work &work, Sum &sum) {
     plain::Receiver<keeps_memory> receiver(session, 1, window);
@@ -168,7 +170,7 @@ double by_function(const Work &work, Sum &sum) {
     return since(began);
 }
 
-/// The library's listener, by the names of the plain one.
+/// The library's listener, with the method names of the plain one.
 class Library {
 public:
     Library() {
@@ -199,7 +201,7 @@ struct Plain : plain::Listener<keeps_memory> {
     Plain() : plain::Listener<keeps_memory>(session, 1, window) {}
 };
 
-/// The time of a round in which messages are asked for, all by one call, and the batch is emptied.
+/// The time of a round in which one call returns all messages, and the batch is then cleared.
 template <class Listener>
 double by_batch(const Work &work, Sum &sum) {
     Listener listener;
@@ -248,12 +250,12 @@ void run_row(const Work &work, int rounds) {
     std::fflush(stdout);
 }
 
-/// How many datagrams a second are taken, by the clock and by the processor time that each thread used.
+/// Datagrams a second, by the clock and by the processor time of the threads.
 struct Rates {
     double by_clock = 0, by_processors = 0;
 };
 
-/// The processor time that this thread used, in nanoseconds.
+/// The processor time of this thread, in nanoseconds.
 double processor_time() {
     timespec time{};
     if (clock_gettime(CLOCK_THREAD_CPUTIME_ID, &time) != 0)
@@ -261,7 +263,7 @@ double processor_time() {
     return 1e9 * static_cast<double>(time.tv_sec) + static_cast<double>(time.tv_nsec);
 }
 
-/// What so many threads take that begin together, each with a listener of its own.
+/// The rates of threads that begin together, each with its own listener.
 Rates in_threads(const Work &work, unsigned threads, int rounds) {
     std::atomic<unsigned> ready{0};
     std::atomic<bool> go{false};
@@ -292,7 +294,7 @@ Rates in_threads(const Work &work, unsigned threads, int rounds) {
     return rates;
 }
 
-/// Of many short runs the quickest counts: on a busy machine the processors are seldom all free.
+/// Of many short runs the fastest counts, since on a busy machine the processors are seldom all free.
 void run_threads(int runs) {
     const Work work = in_order(10);
     Rates alone;

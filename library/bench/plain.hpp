@@ -1,7 +1,7 @@
-// A plain receiver in C++, for comparison: it does the work of the library's listener, with the same refusals in the
-// same order, the same window and the same counts of lines, as an engineer would write it who wants it fast. Nothing is
-// proved of it. What is handed on goes to a function, message by message. Its store is a ring of vectors, which either
-// keep their memory when a message leaves, or give it back: which is quicker hangs on the work.
+// A plain receiver in C++, for comparison, written for speed. It does the work of the library's listener, with the same
+// refusals in the same order, the same window, and the same counts of lines. Nothing is proved of it. It passes
+// delivered messages to a function, one by one. Its store is a ring of vectors. A vector whose message leaves either
+// keeps its memory or frees it; which is faster depends on the work.
 #ifndef PLAIN_HPP
 #define PLAIN_HPP
 
@@ -27,12 +27,12 @@ inline std::size_t length_at(const std::uint8_t *at) {
     return static_cast<std::size_t>(at[0]) << 8 | at[1];
 }
 
-/// What came on a line.
+/// What was received on a line.
 struct Report {
     std::uint64_t datagrams = 0, refused = 0, front = 0;
 };
 
-/// A datagram that spells a packet.
+/// A decoded packet.
 struct Packet {
     std::uint64_t sequence = 0;
     std::size_t count = 0;
@@ -40,7 +40,7 @@ struct Packet {
     const std::uint8_t *blocks = nullptr;
 };
 
-/// Messages in one buffer, as one who hands on by an array has to copy them.
+/// Copies of messages in one buffer, which can be returned as an array of slices.
 class Batch {
 public:
     void push(const std::uint8_t *message, std::size_t length) {
@@ -74,7 +74,7 @@ public:
         reports_[0].front = reports_[1].front = next;
     }
 
-    /// Takes a datagram of a line; `hand` gets the number, the bytes and the length of each message that comes next.
+    /// Takes a datagram of a line, and passes the number, bytes and length of each delivered message to `hand`.
     template <class Hand>
     std::uint32_t take(std::uint32_t line, const std::uint8_t *bytes, std::size_t length, mold_told &told,
                        Hand &&hand) {
@@ -148,7 +148,7 @@ private:
         return at == length ? MOLD_DONE : MOLD_TRAILING;
     }
 
-    /// The first reason to refuse a datagram.
+    /// The code of the first reason to refuse a datagram.
     std::uint32_t judge(const std::uint8_t *bytes, std::size_t length, Packet &packet, std::uint64_t &detail) {
         const std::uint32_t code = decode(bytes, length, packet, detail);
         if (code != MOLD_DONE)
@@ -181,7 +181,7 @@ private:
         return MOLD_DONE;
     }
 
-    /// Compares a packet's messages with those that are stored at their numbers.
+    /// Compares the messages of a packet with those stored under their numbers.
     std::uint32_t compare(const Packet &packet, std::uint64_t &detail) {
         const std::uint8_t *at = packet.blocks;
         for (std::size_t i = 0; i < packet.count; i++) {
@@ -200,7 +200,7 @@ private:
         return MOLD_DONE;
     }
 
-    /// Hands on a packet's messages from the next number on, and those that are stored behind them.
+    /// Delivers the messages of a packet from the next number on, and the stored ones after them.
     template <class Hand>
     void hand_on(const Packet &packet, mold_told &told, Hand &&hand) {
         const std::uint8_t *at = packet.blocks;
@@ -225,7 +225,7 @@ private:
         told.handed = static_cast<std::uint32_t>(next_ - first);
     }
 
-    /// Frees the slot of a number.
+    /// Empties the slot of a number.
     void release(std::uint64_t number) {
         Slot &freed = slot(number);
         if (!freed.is_held)
@@ -236,7 +236,7 @@ private:
             std::vector<std::uint8_t>().swap(freed.bytes);
     }
 
-    /// Stores a packet's messages as far as the window goes.
+    /// Stores the messages of a packet within the window.
     void store(const Packet &packet, mold_told &told) {
         const std::uint8_t *at = packet.blocks;
         for (std::size_t i = 0; i < packet.count; i++) {
@@ -267,8 +267,8 @@ private:
     Report reports_[2];
 };
 
-/// A receiver whose messages are asked for, with the calls of the library: it copies them into a batch, and its calls
-/// are calls, as those of any library that is compiled by itself.
+/// A plain receiver with the calls of the library. It copies messages into a batch, and its calls are not inlined, like
+/// those of a library that is compiled separately.
 template <bool keeps_memory>
 class Listener {
 public:
@@ -281,7 +281,7 @@ public:
         return receiver_.take(line, bytes, length, told, copy);
     }
 
-    /// Lends the first messages of the batch, as many as the array has room for.
+    /// Writes slices of the first messages of the batch, as many as the array has room for.
     [[gnu::noinline]] std::size_t messages(mold_bytes *array, std::size_t room) const {
         const std::size_t count = std::min(room, batch_.size());
         for (std::size_t i = 0; i < count; i++)

@@ -1,17 +1,18 @@
-/* Says whether captures have one whole session: it reads classic pcap files, and gives the checker the payload of each
- * UDP datagram in them, as `mold check` does of datagrams.
+/* Reports whether captures have one whole session, as `mold check` does. It reads classic pcap files, and passes the
+ * payload of each UDP datagram to the checker.
  *
  *     cc -O2 library/examples/check.c library/out/libmold.a -o check
  *     ./check [--port PORT] [--to ADDRESS] FILE..
  *
- * With --port and --to only datagrams to this port and to this address are taken; without them all are. Files of both
- * byte orders, with times in microseconds or nanoseconds, are read, of Ethernet with and without VLAN tags, raw IP and
- * Linux cooked captures of both versions. Of a datagram that was captured in part, or that IP cut into fragments,
- * nothing is known: it is skipped, and counted on standard error.
+ * --port and --to select the datagrams to this port and to this address; without them all datagrams are taken. A file
+ * may have either byte order, and times in microseconds or nanoseconds. Its link may be Ethernet with or without VLAN
+ * tags, raw IP, or Linux cooked capture of either version. A datagram that was captured only in part, or that IP
+ * fragmented, is skipped. The number of skipped datagrams is reported on standard error.
  *
- * It prints `datagrams N`, and `whole MESSAGES`, or `incomplete end END` and a line `missing FIRST LAST` for each range
- * of missing numbers, or `refused datagram K WHY NUMBER`. The status is 0 where all of the session is there, 1 where
- * something is missing, 2 where a datagram was refused, 3 where a file can't be read. */
+ * It prints `datagrams N` and a verdict. The verdict is `whole MESSAGES`; or `incomplete end END`, and a line `missing
+ * FIRST LAST` for each missing range. If a datagram is refused, it only prints `refused datagram K WHY NUMBER`. The
+ * status is 0 if the session is whole, 1 if something is missing, 2 if a datagram was refused, and 3 if a file cannot
+ * be read. */
 #include "udp.h"
 
 struct options {
@@ -35,7 +36,7 @@ struct check {
     bool refused;
 };
 
-/* Bytes of a frame, from the front of a header on. */
+/* The rest of a frame, from the start of a header on. */
 struct part {
     const uint8_t *at;
     size_t length;
@@ -55,7 +56,7 @@ static uint32_t four(const struct capture *capture, const uint8_t *at) {
     return capture->is_swapped ? little : big;
 }
 
-/* The file's head: a number that tells the byte order, versions, and what kind of frames there are. */
+/* Opens a file and reads its head: a magic number, which shows the byte order, versions, and the kind of link. */
 static struct capture open_capture(const char *name) {
     struct capture capture = {fopen(name, "rb"), name, false, 0};
     uint8_t head[24];
@@ -72,7 +73,7 @@ static struct capture open_capture(const char *name) {
     return capture;
 }
 
-/* Reads the next frame; false at the file's end. *whole says whether all of it was captured. */
+/* Reads the next frame; false at the end of the file. *whole: whether all of the frame was captured. */
 static bool next_frame(struct capture *capture, uint8_t *frame, size_t *length, bool *whole) {
     uint8_t head[16];
     size_t came = fread(head, 1, sizeof head, capture->file);
@@ -91,7 +92,7 @@ static bool next_frame(struct capture *capture, uint8_t *frame, size_t *length, 
 
 /* ---- Frames ---- */
 
-/* Goes behind a header of so many bytes; false where there are fewer. */
+/* Skips a header of `bytes` bytes; false if there are fewer. */
 static bool skip(struct part *part, size_t bytes) {
     if (part->length < bytes)
         return false;
@@ -100,7 +101,7 @@ static bool skip(struct part *part, size_t bytes) {
     return true;
 }
 
-/* Goes behind the header of the link, where IPv4 follows it. */
+/* Skips the header of the link; false if IPv4 does not follow it. */
 static bool skip_link(uint32_t link, struct part *part) {
     uint16_t type = 0x0800;
     if (link == RAW || link == RAW_OLD || link == RAW_BSD || link == IPV4)
@@ -120,8 +121,8 @@ static bool skip_link(uint32_t link, struct part *part) {
     return type == 0x0800;
 }
 
-/* Goes behind the headers of IPv4 and UDP, and leaves the payload; false where it is no such datagram, or one that
- * isn't asked for. *whole is false where IP cut it. */
+/* Skips the headers of IPv4 and UDP, so that the payload remains. False if it is not such a datagram, or not a selected
+ * one. *whole is false if IP fragmented the datagram, or if a part of it was not captured. */
 static bool skip_headers(const struct options *options, struct part *part, bool *whole) {
     if (part->length < 20 || part->at[0] >> 4 != 4 || part->at[9] != 17)
         return false;
@@ -146,7 +147,7 @@ static bool skip_headers(const struct options *options, struct part *part, bool 
     return true;
 }
 
-/* Gives the checker the datagram of a frame, where there is one; false where it is refused. */
+/* Passes the datagram of a frame, if it has one, to the checker; false if the datagram is refused. */
 static bool check_frame(struct check *check, uint32_t link, struct part part, bool whole) {
     mold_bytes text = MOLD_NO_BYTES;
     uint64_t number = 0;
@@ -194,7 +195,7 @@ static void print_missing(mold_checker *checker, uint64_t count) {
     free(ranges);
 }
 
-/* Prints what is said of all datagrams, and answers the status. */
+/* Prints the verdict, and returns the status. */
 static int print_verdict(struct check *check) {
     mold_verdict verdict = {0, 0, 0, 0, 0};
     need("verdict", mold_checker_verdict(&check->checker, &verdict));

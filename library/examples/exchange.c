@@ -1,19 +1,23 @@
-/* An exchange: a publisher and its re-request server in one process, over a session that goes on.
+/* An exchange: a publisher and its re-request server in one process, over a live session.
  *
  *     cc -O2 library/examples/exchange.c library/out/libmold.a -o exchange
  *     ./exchange --session DEMO --a 239.192.1.1:26477 --b 239.192.1.2:26477 --bind 0.0.0.0:26400 --journal day.journal
  *
- * Messages come as lines of hexadecimal digits on standard input, as `mold publish` reads them, and go out on both
- * lines at once: what has come together goes in one datagram, as far as it fits. A heartbeat goes out in each second
- * without a datagram. Requests are answered meanwhile. Where the input ends, the session is closed, and an end of
- * session goes out four times a second, until no request came for --linger MS (2000).
+ * It reads messages as lines of hexadecimal digits from standard input, as `mold publish` does, and sends them on both
+ * lines at once. Messages that were read together share datagrams, as far as they fit. It sends a heartbeat after each
+ * second without a datagram, and responds to requests meanwhile. At the end of the input it closes the session. Then it
+ * sends end packets, four a second, until no request came for the time of --linger. The other options, with defaults:
  *
- * Other options: --limit L, the most bytes of a datagram (1400); --burst B, the most datagrams of an answer (4);
- * --save N, after how many messages the journal is saved each time (1000000); --interface ADDRESS, by which groups are
- * sent to. The journal is saved at the end too. It is written to a new file, which then takes the place of the old one.
+ *   --limit L             the limit of a datagram, in bytes (1400)
+ *   --burst B             the greatest number of datagrams of a response (4)
+ *   --save N              after how many messages the journal is saved each time (1000000)
+ *   --linger MS           see above (2000)
+ *   --interface ADDRESS   the interface by which it sends to multicast groups (chosen by the system)
  *
- * The last line is `published MESSAGES datagrams D answered R failed F`. The status is 0, or 2 where a line was no
- * message: that is told on standard error, and the session goes on. */
+ * The journal is also saved at the end. It is written to a new file, which then replaces the old one.
+ *
+ * The last line is `published MESSAGES datagrams D answered R failed F`. A refused input line is reported on standard
+ * error, and the session goes on. The status is 0, or 2 after a refused line, or 3 after an error of the system. */
 #include "udp.h"
 
 enum { INPUT = 1 << 16, LONGEST = 1 << 18 };
@@ -31,14 +35,14 @@ struct options {
 struct exchange {
     struct options options;
     mold_publisher publisher;
-    /* Where datagrams are sent from, and where requests come to. */
+    /* The sockets that send datagrams and receive requests. */
     int out, requests;
     uint64_t messages, datagrams, answered, failed, saved, line;
     bool ended, refused;
     int64_t last_sent, last_asked;
 };
 
-/* The datagram that is sent, and what of a line of input has come. */
+/* The datagram to send, and the part of an input line that was read. */
 static uint8_t datagram[GREATEST];
 static char line[LONGEST];
 static size_t line_length;
@@ -99,7 +103,7 @@ static void send_on_lines(struct exchange *exchange, size_t size) {
     exchange->last_sent = now();
 }
 
-/* Sends the messages that were not sent yet: all of them, or as long as they don't fit one datagram. */
+/* Sends unsent messages: all of them, or only while they do not fit in one datagram. */
 static void send_messages(struct exchange *exchange, bool all) {
     size_t size = 0;
     while ((all || mold_publisher_is_full(&exchange->publisher)) &&
@@ -109,7 +113,7 @@ static void send_messages(struct exchange *exchange, bool all) {
     }
 }
 
-/* Sends a heartbeat, or the end of the session where it is closed. */
+/* Sends a heartbeat, or an end packet if the session is closed. */
 static void send_heartbeat(struct exchange *exchange) {
     size_t size = 0;
     if (exchange->ended)
@@ -133,7 +137,7 @@ static void write_all(const char *name, int file, const uint8_t *bytes, size_t l
     }
 }
 
-/* Writes a new file, and gives it the name of the old one once its bytes are kept. */
+/* Writes a new file, and renames it to the old one when its bytes are on disk. */
 static void replace_file(const char *name, const uint8_t *bytes, size_t length) {
     char new_name[4096];
     int size = snprintf(new_name, sizeof new_name, "%s.new", name);
@@ -169,7 +173,7 @@ static int digit_of(char text) {
     return text >= 'a' && text <= 'f' ? text - 'a' + 10 : -1;
 }
 
-/* Makes bytes of the digits of a line; false where it has others. */
+/* Decodes the digits of a line; false if it is not an even number of hexadecimal digits. */
 static bool unhex(uint8_t *bytes) {
     for (size_t i = 0; i + 1 < line_length; i += 2) {
         int high = digit_of(line[i]), low = digit_of(line[i + 1]);
@@ -185,7 +189,7 @@ static void refuse_line(struct exchange *exchange, const char *why, size_t lengt
     fprintf(stderr, "refused line %llu %.*s\n", (unsigned long long)exchange->line, (int)length, why);
 }
 
-/* Publishes the line that has come to its end. */
+/* Publishes a complete line. */
 static void publish_line(struct exchange *exchange) {
     static uint8_t message[LONGEST / 2];
     mold_bytes text = MOLD_NO_BYTES;
@@ -212,7 +216,7 @@ static void publish_line(struct exchange *exchange) {
         save_journal(exchange);
 }
 
-/* Publishes what has come on standard input. At its end the session is closed. */
+/* Publishes what was read from standard input. At the end of the input it closes the session. */
 static void read_input(struct exchange *exchange) {
     static char input[INPUT];
     uint64_t unsent = 0;
@@ -240,7 +244,7 @@ static void read_input(struct exchange *exchange) {
 
 /* ---- Requests ---- */
 
-/* Answers the requests that have come; one that is refused gets no answer. */
+/* Responds to the requests that arrived; a refused one gets no response. */
 static void answer_requests(struct exchange *exchange) {
     mold_server *server = mold_server_of(&exchange->publisher);
     struct sockaddr_in from;
@@ -267,7 +271,7 @@ static void answer_requests(struct exchange *exchange) {
 
 /* ---- The loop ---- */
 
-/* When the next heartbeat is due, or the next end of session. */
+/* When the next heartbeat or end packet is due. */
 static int64_t due(const struct exchange *exchange) {
     return exchange->last_sent + (exchange->ended ? 250 : 1000);
 }

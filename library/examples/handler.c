@@ -1,16 +1,20 @@
-/* A feed handler: it hears the two lines of a feed, asks a re-request server for what both lost, and prints the
- * messages in order, a line each, as `mold listen` does.
+/* A feed handler. It receives the two lines of a feed, requests messages that both lost from a re-request server, and
+ * prints the messages in order, one on each line, as `mold listen` does.
  *
  *     cc -O2 library/examples/handler.c library/out/libmold.a -o handler
  *     ./handler --session DEMO --a 239.192.1.1:26477 --b 239.192.1.2:26477 --interface 10.0.0.7 --server 10.0.0.9:26400
  *
- * Where the address of a line is a multicast group, it is joined on the interface. Other options: --next N, the number
- * of the first message (1); --window W, how many messages are stored above a gap (1024); --patience MS, how long a gap
- * stands before it is asked for (2), as the other line may fill it; --timeout MS, after which it is asked for again
- * (50); --quiet MS, after which it gives up where nothing comes (10000). Without --server nothing is asked for.
+ * If the address of a line is a multicast group, the handler joins it on the interface. Without --server it requests
+ * nothing. The other options, with their defaults:
  *
- * It ends when it has all of the session, with status 0, or when nothing came for too long, with status 1. At the end
- * it tells what came on each line. Refused datagrams are told on standard error. */
+ *   --next N        the sequence number of the first message (1)
+ *   --window W      the window of the listener, in messages (1024)
+ *   --patience MS   how long a gap lasts before it is requested, since the other line may fill it (2)
+ *   --timeout MS    after how long a gap is requested again (50)
+ *   --quiet MS      after how long without a datagram the handler gives up (10000)
+ *
+ * Its status is 0 if it delivered the whole session, and 1 if it gave up. At the end it prints a report of each line.
+ * It reports refused datagrams on standard error. */
 #include "udp.h"
 
 enum { LINES = 3, AT_ONCE = 32 };
@@ -28,16 +32,16 @@ struct options {
 struct handler {
     struct options options;
     mold_listener listener;
-    /* Line A, line B, and where answers come to. */
+    /* The sockets of line A, of line B, and of responses. */
     int sockets[LINES];
-    /* The gap that was seen last, by the number at its front, and when it is asked for. */
+    /* The first number of the last gap, and when it is requested. */
     uint64_t gap;
     int64_t due;
     int64_t last_came;
     uint64_t failed;
 };
 
-/* Room for what comes at once. */
+/* Buffers for the datagrams of one system call. */
 static uint8_t room[AT_ONCE][GREATEST];
 
 static struct options options_of(int count, char **words) {
@@ -80,7 +84,7 @@ static struct options options_of(int count, char **words) {
     return read;
 }
 
-/* Prints the messages that were handed on, and empties the batch. */
+/* Prints the messages of the batch, and clears it. */
 static void print_batch(mold_listener *listener) {
     size_t count = mold_listener_count(listener);
     uint64_t first = mold_listener_first(listener);
@@ -99,7 +103,7 @@ static void tell_refused(uint32_t line, uint32_t code, uint64_t detail) {
             (unsigned long long)detail);
 }
 
-/* Takes a datagram of a line; one that wants memory that isn't there is lost, as on the network. */
+/* Takes a datagram of a line. If an allocation fails, the datagram is lost, as on the network. */
 static void take(struct handler *handler, uint32_t line, const uint8_t *bytes, size_t length) {
     mold_told told = {0, 0, 0, 0, 0};
     uint32_t code = mold_listener_take(&handler->listener, line, bytes, length, &told);
@@ -107,7 +111,7 @@ static void take(struct handler *handler, uint32_t line, const uint8_t *bytes, s
         tell_refused(line, code, told.detail);
 }
 
-/* Takes what has come on a line, many datagrams by one call of the system, and answers how many those were. */
+/* Takes datagrams of a line, many by one system call, and returns how many there were. */
 static int hear(struct handler *handler, uint32_t line) {
     struct mmsghdr heads[AT_ONCE];
     struct iovec places[AT_ONCE];
@@ -130,8 +134,8 @@ static int hear(struct handler *handler, uint32_t line) {
     return came;
 }
 
-/* Sends the request for what is missing, once its time has come. After an answer that brought something the rest is
- * asked for at once. */
+/* Sends the request for the missing messages when it is due. After a response, the remaining gap is requested at once.
+ */
 static void ask(struct handler *handler, bool answered) {
     uint8_t request[20] = {0};
     int64_t time = now();
@@ -150,7 +154,7 @@ static void ask(struct handler *handler, bool answered) {
     handler->due = time + handler->options.timeout;
 }
 
-/* How long to wait for what comes: until a request is due, or nothing came for too long. */
+/* How long to wait for datagrams, in milliseconds: until a request is due, or the handler gives up. */
 static int waiting(struct handler *handler) {
     uint8_t request[20] = {0};
     int64_t until = handler->last_came + handler->options.quiet;
@@ -160,7 +164,7 @@ static int waiting(struct handler *handler) {
     return left < 0 ? 0 : (int)left;
 }
 
-/* A turn: it waits, takes all that has come, and asks for what is missing. */
+/* One iteration: waits, takes the datagrams that arrived, and requests missing messages. */
 static void turn(struct handler *handler) {
     struct pollfd ready[LINES];
     bool answered = false;
@@ -189,7 +193,7 @@ static void tell_line(mold_listener *listener, uint32_t line) {
            (unsigned long long)(mold_listener_known(listener) - report.front));
 }
 
-/* Tells how it ended, and answers the status. */
+/* Prints the reports and how it ended, and returns the status. */
 static int tell_end(struct handler *handler) {
     unsigned long long next = mold_listener_next(&handler->listener), failed = handler->failed;
     tell_line(&handler->listener, MOLD_LINE_A);

@@ -1,11 +1,11 @@
-//! A feed handler in Rust, without cargo: it hears two lines, asks a re-request server for what both lost, and prints
-//! the messages in order, as `handler.c` does.
+//! A feed handler in Rust, without cargo. It receives two lines, requests messages that both lost from a re-request
+//! server, and prints the messages in order, as `handler.c` does.
 //!
 //!     rustc -O --edition 2021 library/examples/handler.rs -L library/out -l static=mold -o handler-rs
 //!     ./handler-rs DEMO 127.0.0.1:26477 127.0.0.1:26478 127.0.0.1:26400
 //!
-//! The words are the session, the addresses of line A and line B, and that of the server. It ends when it has all of
-//! the session, with status 0, or when nothing came for ten seconds, with status 1.
+//! The arguments are the session and the addresses of line A, line B and the server. The status is 0 if it delivered
+//! the whole session, and 1 if no datagram came for ten seconds.
 
 use std::io::{self, ErrorKind, Write};
 use std::net::UdpSocket;
@@ -13,7 +13,7 @@ use std::os::raw::c_void;
 use std::process::ExitCode;
 use std::time::{Duration, Instant};
 
-/// What of mold.h is used here. Its duties are the caller's: a safe type stands over it below.
+/// The declarations of mold.h that are used here. The safe type `Listener` below keeps the duties of mold.h.
 mod sys {
     use super::c_void;
 
@@ -82,7 +82,7 @@ struct Refused {
 impl std::fmt::Display for Refused {
     fn fmt(&self, f: &mut std::fmt::Formatter<'_>) -> std::fmt::Result {
         let mut text = sys::Bytes { at: std::ptr::null(), length: 0 };
-        // The text lives for ever.
+        // The text is valid forever.
         let bytes = unsafe {
             sys::mold_text(self.code, &mut text);
             std::slice::from_raw_parts(text.at, text.length)
@@ -91,8 +91,7 @@ impl std::fmt::Display for Refused {
     }
 }
 
-/// A listener. That each call takes `&mut self` keeps the duties: one call at a time, and what is lent ends with the
-/// next.
+/// A listener. Each call takes `&mut self`, so only one call at a time runs, and a slice ends before the next call.
 struct Listener(sys::Listener);
 
 impl Listener {
@@ -113,7 +112,7 @@ impl Listener {
         }
     }
 
-    /// Hands the batch to a function, message by message with its number, and empties it.
+    /// Passes the messages of the batch with their numbers to a function, and clears the batch.
     fn drain(&mut self, mut hand: impl FnMut(u64, &[u8]) -> io::Result<()>) -> io::Result<()> {
         let (first, count) = unsafe { (sys::mold_listener_first(&mut self.0), sys::mold_listener_count(&mut self.0)) };
         for i in 0..count {
@@ -159,7 +158,7 @@ fn print_message(out: &mut impl Write, number: u64, message: &[u8]) -> io::Resul
     writeln!(out)
 }
 
-/// Takes what has come at a socket, and answers whether something had.
+/// Takes the datagrams that arrived at a socket, and returns whether there were any.
 fn hear(listener: &mut Listener, socket: &UdpSocket, from: Origin, out: &mut impl Write) -> io::Result<bool> {
     let mut room = [0; 65507];
     let mut came = false;
@@ -176,7 +175,7 @@ fn hear(listener: &mut Listener, socket: &UdpSocket, from: Origin, out: &mut imp
                 }
             }
             Err(error) if error.kind() == ErrorKind::WouldBlock => return Ok(came),
-            // As where nobody listens at the server's port.
+            // For example, if nobody listens at the server's port.
             Err(_) => return Ok(came),
         }
     }
@@ -210,7 +209,7 @@ fn handle(session: &[u8; 10], a: &str, b: &str, server: &str) -> io::Result<bool
             out.flush()?;
             std::thread::sleep(Duration::from_micros(200));
         }
-        // A gap is asked for when it stood for two milliseconds, and again after fifty.
+        // A gap is requested after two milliseconds, and again after fifty.
         if let Some(request) = listener.wanted() {
             if gap != listener.next() {
                 (gap, due) = (listener.next(), Instant::now() + Duration::from_millis(2));

@@ -1,5 +1,5 @@
-/* The least feed handler: two lines and a server, all at ports of this machine, and for each message its number and how
- * many bytes it has.
+/* A minimal feed handler: two lines and a server, all at ports of this machine. For each message it prints the sequence
+ * number and the length.
  *
  *     cc -O2 -I library library/examples/small.c library/out/libmold.a -o small
  *     ./small "DEMO      " 26477 26478 26400 */
@@ -10,7 +10,7 @@
 #include <stdlib.h>
 #include <string.h>
 
-/* A socket at a port, with an address that the words tell. */
+/* Opens a socket, and writes the address of a port of this machine. */
 static int socket_at(const char *port, struct sockaddr_in *address) {
     int made = socket(AF_INET, SOCK_DGRAM, 0);
     memset(address, 0, sizeof *address);
@@ -38,7 +38,7 @@ int main(int count, char **words) {
     if (mold_listener_new(&listener, (const uint8_t *)words[1], 1, 1024) != MOLD_DONE)
         return 3;
     for (unsigned turn = 0; !mold_listener_finished(&listener); turn++) {
-        /* Asks where it is quiet, and else now and then. */
+        /* Requests missing messages after 10 ms without a datagram, and in every 50th iteration. */
         if ((poll(from, 3, 10) == 0 || turn % 50 == 0) && mold_listener_wanted(&listener, request))
             sendto(from[MOLD_ANSWER].fd, request, sizeof request, 0, (struct sockaddr *)&server, sizeof server);
         for (uint32_t line = MOLD_LINE_A; line <= MOLD_ANSWER; line++) {

@@ -1,4 +1,4 @@
-/* What the examples have in common: words, addresses, UDP sockets, time, and bytes as hexadecimal digits. */
+/* Functions that the examples share: options, addresses, UDP sockets, time, and bytes as hexadecimal digits. */
 #ifndef UDP_H
 #define UDP_H
 
@@ -20,16 +20,16 @@
 #include <time.h>
 #include <unistd.h>
 
-/* The most bytes that a datagram can have over IPv4. */
+/* The greatest length of a datagram over IPv4. */
 #define GREATEST 65507
 
-/* Ends the program where it can't go on; the system gives back what is open. */
+/* Ends the program after an error. The system closes what is open. */
 static inline void fail(const char *what, const char *why) {
     fprintf(stderr, "%s: %s\n", what, why);
     exit(3);
 }
 
-/* Wants a call of the library to be done. */
+/* Ends the program if a call of the library did not succeed. */
 static inline void need(const char *what, uint32_t code) {
     if (code != MOLD_DONE) {
         mold_bytes text = MOLD_NO_BYTES;
@@ -39,7 +39,7 @@ static inline void need(const char *what, uint32_t code) {
     }
 }
 
-/* The value of the option at words[*at], which is the next word. */
+/* The value of the option at words[*at]: the next argument. */
 static inline const char *value_of(int count, char **words, int *at) {
     if (*at + 1 >= count)
         fail(words[*at], "an option without a value");
@@ -56,7 +56,7 @@ static inline uint64_t number_of(const char *text, uint64_t least, uint64_t most
     return number;
 }
 
-/* A session of 1 to 10 characters, with spaces behind them. */
+/* A session of 1 to 10 characters, padded with spaces. */
 static inline void session_of(const char *text, uint8_t session[10]) {
     size_t length = strlen(text);
     if (length < 1 || length > 10)
@@ -65,7 +65,7 @@ static inline void session_of(const char *text, uint8_t session[10]) {
     memcpy(session, text, length);
 }
 
-/* An address of IPv4 and a port, as 127.0.0.1:9000. */
+/* An IPv4 address and a port, such as 127.0.0.1:9000. */
 static inline struct sockaddr_in address_of(const char *text) {
     struct sockaddr_in address;
     char host[INET_ADDRSTRLEN] = {0};
@@ -85,18 +85,18 @@ static inline bool is_group(const struct sockaddr_in *address) {
     return IN_MULTICAST(ntohl(address->sin_addr.s_addr));
 }
 
-/* A socket whose calls don't wait, with room for a burst. */
+/* Opens a nonblocking socket with a large receive buffer. */
 static inline int open_socket(void) {
     int made = socket(AF_INET, SOCK_DGRAM | SOCK_NONBLOCK | SOCK_CLOEXEC, 0);
     int room = 4 << 20;
     if (made < 0)
         fail("socket", strerror(errno));
-    /* The system may give less. */
+    /* The system may grant less. */
     (void)setsockopt(made, SOL_SOCKET, SO_RCVBUF, &room, sizeof room);
     return made;
 }
 
-/* A socket that hears an address, and joins it on a network interface where it is a multicast group. */
+/* Opens a socket that receives at an address. If that is a multicast group, it joins the group on an interface. */
 static inline int open_line(const struct sockaddr_in *address, const char *interface) {
     int made = open_socket(), yes = 1;
     struct ip_mreq member;
@@ -113,7 +113,7 @@ static inline int open_line(const struct sockaddr_in *address, const char *inter
     return made;
 }
 
-/* The time in milliseconds, of a clock that is never set. */
+/* The time in milliseconds, by a clock that is never set. */
 static inline int64_t now(void) {
     struct timespec time;
     if (clock_gettime(CLOCK_MONOTONIC, &time) != 0)
@@ -121,7 +121,7 @@ static inline int64_t now(void) {
     return (int64_t)time.tv_sec * 1000 + time.tv_nsec / 1000000;
 }
 
-/* Writes a message as the line of its number and bytes, a hyphen where it has none. */
+/* Prints a line with the number of a message and its bytes as hexadecimal digits; a hyphen if it has none. */
 static inline void print_message(uint64_t number, mold_bytes message) {
     static const char digits[] = "0123456789abcdef";
     static char line[2 * GREATEST];
