@@ -1,4 +1,4 @@
--- What a handle holds as the box of it: the rows at which the steps of boxes are used.
+-- What a handle holds, as a box: the rows at which the steps of boxes are used.
 use Rattle.std.proofs.Common.{◌≡◌, [], Option, None, Some, true, true≢false, is_some, refl, sym}
 use mir.Syntax.{impl, tnil, dnil}
 use denote.Signature.{Slot, plain}
@@ -12,7 +12,7 @@ use Rattle.mold_ffi.specs.contracts.handle.box_parts.BoxParts as parts
 use Rattle.mold_ffi.specs.contracts.handle.Handle as handle
 use Rattle.mold_ffi.specs.declared.handle.held.Held.{Held}
 
--- the box: its element, and the allocator
+-- The box: its element, and the allocator.
 abbrev pub E : Bx
 E = record {
   row = held.the_row;
@@ -29,7 +29,7 @@ FromAllocator = plain (λ _. heap.the_row)
 abbrev pub FromHandle : Slot 0
 FromHandle = plain (λ _. handle.the_row)
 
--- a handle that holds something holds one thing
+-- A handle that is not empty holds exactly one value.
 pub has : (value : Option Held) → is_some value ≡ true → (held : Held) × (value ≡ Some held)
 has None told = absurd (true≢false (sym told))
 has (Some held) told = (held, refl)

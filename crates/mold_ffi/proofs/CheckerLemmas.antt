@@ -1,4 +1,4 @@
--- What is said by datagrams that are taken one after the other.
+-- What a checker knows from datagrams that it takes one after the other.
 use Rattle.std.proofs.Common.{◌≡◌, ℕ, suc, arith, List, [], ◌∷◌, ◌++◌, None, sym, ap, ◌∙◌, subst, append_assoc, append-nil, All}
 use Rattle.mold_wire.specs.Block.{IsBytes}
 use Rattle.mold_capture.specs.Consistent.{Consistent}
@@ -8,7 +8,7 @@ use Rattle.mold_ffi.specs.Laws.{AreTaken, said}
 
 module _ (accepted : (list : List (List ℕ)) (bytes : List ℕ) → Consistent list → IsBytes bytes → reason list bytes ≡ None → Consistent (list ++ bytes ∷ []))
     (told : (list : List (List ℕ)) (bytes : List ℕ) → Consistent (list ++ bytes ∷ []) → seen_of (list ++ bytes ∷ []) ≡ after (seen_of list) bytes) where
-  -- those that are taken join those before them
+  -- A datagram that is taken joins those before it.
   pub all_joined : (list before : List (List ℕ)) → Consistent before → All IsBytes list → AreTaken (seen_of before) list
       → Consistent (before ++ list) × (said (seen_of before) list ≡ seen_of (before ++ list))
   all_joined [] before consistent bytes taken =

@@ -1,4 +1,4 @@
--- What an arbiter and its batch do is what a listener does.
+-- A listener does what its arbiter and batch do.
 use Rattle.std.proofs.Common.{◌≡◌, ap, ◌∙◌, inl, inr, List, ℕ, Result, Ok, Err, IfOk, IfErr, OnErr}
 use Rattle.mold_receiver.specs.Arbiter.{HasArbitrated, HasRefused, arbitrated}
 use Rattle.mold_receiver.specs.Origin.{line_of}
@@ -7,7 +7,7 @@ use Rattle.mold_receiver.specs.declared.taken.Taken.{Taken}
 use Rattle.mold_rule.specs.declared.refusal.Refusal.{Refusal}
 use Rattle.mold_ffi.specs.Listener.BatchedArbiter.{BatchedArbitration, HasReceived}
 
--- a datagram that was taken
+-- For a datagram that was taken.
 taken_received : (origin : Origin) (bytes : List ℕ) (old new : BatchedArbitration) (taken : Taken)
     → HasArbitrated (line_of origin) old.arbitration bytes old.batch new.arbitration new.batch taken
     → HasReceived origin bytes old new (Ok taken)
@@ -21,7 +21,7 @@ taken_received origin bytes old new taken h = (
   },
 )
 
--- one that was refused
+-- For a datagram that was refused.
 refused_received : (origin : Origin) (bytes : List ℕ) (old new : BatchedArbitration) (refused : Refusal)
     → HasRefused (line_of origin) old.arbitration bytes new.arbitration refused → new.batch ≡ old.batch
     → HasReceived origin bytes old new (Err refused)
@@ -36,7 +36,7 @@ refused_received origin bytes old new refused (inr found) same =
       },
     )
 
--- either
+-- For any datagram.
 pub datagram_received : (origin : Origin) (bytes : List ℕ) (old new : BatchedArbitration) (result : Result Taken Refusal)
     → IfOk result (λ taken. HasArbitrated (line_of origin) old.arbitration bytes old.batch new.arbitration new.batch taken)
     → IfErr result (λ refused. HasRefused (line_of origin) old.arbitration bytes new.arbitration refused)

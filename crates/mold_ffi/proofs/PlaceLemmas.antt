@@ -1,4 +1,4 @@
--- How an array is filled with what was found, one after the other.
+-- How an array is filled with places, one after the other.
 use Rattle.std.specs.Option.{unwrap_or}
 use Rattle.std.proofs.Common.{Option, Some, slice_get, length-append}
 use Rattle.std.proofs.Common.{◌≡◌, ℕ, zero, suc, ◌+◌, ◌≤◌, ◌<◌, List, [], ◌∷◌, ◌++◌, length, take, drop, slice_set, refl, sym, ap}
@@ -11,7 +11,7 @@ use Rattle.mold_wire.specs.declared.header.TheConstants.{HEADER_LENGTH}
 use Rattle.mold_ffi.specs.declared.packets.mold_place.MoldPlace.{MoldPlace}
 use Rattle.mold_ffi.specs.Packets.MoldPlace.{places_of, written_front}
 
--- an array with what is still found written from a place on
+-- The array with the places `found` written from an index on.
 abbrev pub written_from : ℕ → List MoldPlace → List MoldPlace → List MoldPlace
 written_from index found places = take index places ++ written_front found (drop index places)
 
@@ -44,7 +44,8 @@ none_left zero places = ap (λ (t : List MoldPlace). t ++ places) (take_none (le
 none_left (suc index) [] = refl
 none_left (suc index) (old ∷ places) = ap (λ (t : List MoldPlace). old ∷ t) (none_left index places)
 
--- what was written so far and what is still found are all the places; and where the blocks that are left begin
+-- The invariant of the loop: after the remaining places are written, the array has all places; and where the remaining
+-- blocks begin.
 pub record HasFilled (at filled : ℕ) (left : List (List ℕ)) (places : List MoldPlace) (blocks : List (List ℕ)) (old : List MoldPlace) : Type 0 where
   pub told : written_from filled (places_of at left) places ≡ written_front (places_of HEADER_LENGTH blocks) old
   pub room : filled ≤ length places
@@ -88,7 +89,7 @@ pub filled_all :
 unfolding places_of
 filled_all at filled places blocks old has = sym (none_left filled places) ∙ has.told
 
--- where nothing was found nothing is written
+-- If there are no places, the array stays.
 pub no_places : (old : List MoldPlace) → written_front (places_of HEADER_LENGTH []) old ≡ old
 unfolding places_of
 no_places old = none_left 0 old
@@ -101,7 +102,7 @@ length-places at (message ∷ messages) = ap suc (length-places (at + (2 + lengt
 abbrev place_at : ℕ → ℕ → MoldPlace
 place_at offset len = record { offset = offset; length = len }
 
--- the place of a message, as it is found
+-- The place of a message among all places.
 place_found :
     (at : ℕ) (before behind : List (List ℕ)) (message : List ℕ) →
     slice_get (places_of at (before ++ message ∷ behind)) (length before)
@@ -115,7 +116,7 @@ place_found at (first ∷ before) behind message =
     ∙ ap (λ (p : MoldPlace). Some p)
     (ap (λ (n : ℕ). place_at n (length message)) (omega (arith, sum_by-cons (λ m. 2 + length m) first before)))
 
--- what is written over the front is found there, and behind it what stood there
+-- After `written_front` the first elements are the new ones, and the others are the old ones.
 get_written :
     (i : ℕ) (found old : List MoldPlace) → i < length found → i < length old →
     slice_get (written_front found old) i ≡ slice_get found i
@@ -131,7 +132,7 @@ get_kept i (place ∷ found) [] behind = refl
 get_kept zero (place ∷ found) (first ∷ old) behind = absurd (omega arith)
 get_kept (suc i) (place ∷ found) (first ∷ old) behind = get_kept i found old (omega arith)
 
--- a packet's messages have their places in the array, as far as it goes
+-- The messages of a packet have their places in the array, as far as it has room.
 pub placed :
     (messages before behind : List (List ℕ)) (message : List ℕ) (old : List MoldPlace) →
     messages ≡ before ++ message ∷ behind → length before < length old →

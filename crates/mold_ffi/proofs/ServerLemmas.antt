@@ -1,4 +1,4 @@
--- Bytes that are no journal's file, and servers by what holds them.
+-- Bytes that are not a journal file, and servers of both kinds of handles.
 use Rattle.std.proofs.Common.{◌≡◌, ◌⊎◌, ℕ, ◌-◌, List, Some, inl, inr, ap, subst}
 use Rattle.mold_session.specs.FileFault.{JournalFault}
 use Rattle.mold_session.specs.Journal.{JournalState}
@@ -14,7 +14,7 @@ use Rattle.mold_ffi.specs.Server.Answering.{Answers, Plans}
 use Rattle.mold_ffi.specs.Server.Serving.{IsFault}
 use Rattle.mold_ffi.specs.declared.server.mold_plan.MoldPlan.{MoldPlan}
 
--- a load from memory is refused for the bytes' fault, or since memory was refused, and never since a read failed
+-- A load from memory is refused for a fault of the bytes, or because an allocation failed, and never for a read error.
 told_fault : (limit : ℕ) (bytes : List ℕ) (error : FileError) (code number : ℕ) →
     Refuses (JournalFault (limit - MESSAGE_OVERHEAD)) (Some bytes) error → CountsLoadFault 0 0 error → code ≡ file_error_code error →
     number ≡ file_error_number error → IsFault limit bytes code number ⊎ ((code ≡ codes.MEMORY) × (number ≡ 0))
@@ -46,7 +46,7 @@ file_fault limit most bytes known error code number bound lent fault count by_co
     (subst (λ (n : ℕ). Refuses (JournalFault n) (Some known) error) bound fault))
     count by_code by_number
 
--- an answer and a plan of a server by itself are those of what holds it
+-- The response and the plan of a server are those of the value that holds it.
 pub answers_held : (T : Type 0) (server one : ServerState) (journal lent : JournalState) (request old new : List ℕ)
     (before code number : ℕ) (holding : ServerState → T) (after : ServerState) → one ≡ server → lent ≡ journal →
     Answers ServerState one lent request old new before code number (λ s. s) after →

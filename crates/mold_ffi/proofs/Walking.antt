@@ -1,4 +1,4 @@
--- The names that the walks cite, passed on from one place. Declares nothing.
+-- Reexports the names that the walks cite. It declares nothing.
 pub use mathlib.Core.Path.{◌≡◌, refl, sym, subst, ap, ◌∙◌}
 pub use mathlib.Core.List.{List, [], ◌∷◌, ◌++◌}
 pub use lib.Dec.{T}

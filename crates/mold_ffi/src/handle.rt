@@ -1,4 +1,4 @@
-//! The handle by which a program in C holds what the library made.
+//! The handle through which a program in C holds what the library made.
 
 ghost use Rattle.std.specs.Prelude.{◌≡◌, Option, None, Some, is_some, true};
 ghost use Rattle.std.specs.Coded.{coded_option};
@@ -17,7 +17,7 @@ use std::alloc::{AllocError, Global};
 use std::marker::Model;
 use std::ptr::null_mut;
 
-/// What a handle holds, if anything: a box of it, as a pointer that crosses to C. Only `into_box` frees it.
+/// What a handle holds, if anything: a box, as a pointer that may cross to C. Only `into_box` gives the box back.
 #[repr(C)]
 #[derive(Drop)]
 pub struct Handle {
@@ -46,7 +46,7 @@ impl Handle {
         }
     }
 
-    // A handle of what the parts hold.
+    // A handle of the box with these parts.
     fn of_parts(parts: BoxParts<Held, Global>) -> Handle
         ensures { result.value ≡ Some parts.value }
     {
@@ -69,7 +69,7 @@ impl Handle {
         }
     }
 
-    /// What the handle holds, to be changed in place.
+    /// Borrows what the handle holds, to change it in place.
     pub(crate) fn lend(&mut self) -> &mut Held
         requires { is_some self.old.value ≡ true }
         ensures* writes_back { sem 𝓛 (LendsHeld self.entry result) }
@@ -85,7 +85,7 @@ impl Handle {
         Handle::of_parts(BoxParts::of(boxed))
     }
 
-    /// The box of what the handle holds.
+    /// Returns what the handle holds, as a box.
     pub(crate) fn into_box(self) -> Box<Held>
         requires { is_some self.value ≡ true }
         ensures { Some result.value ≡ self.value }

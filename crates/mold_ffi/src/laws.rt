@@ -1,4 +1,4 @@
-//! What holds of the calls' definitions. Each law is a function that does nothing: its contract is the law.
+//! Theorems about the definitions of the calls. A law is a function that does nothing; its contract is the theorem.
 
 ghost use Rattle.std.specs.Prelude.{◌≡◌, [], List, ℕ, length, ◌+◌, ◌<◌, ◌≤◌, ◌++◌, ◌∷◌, Some, take, drop, slice_get};
 ghost use Rattle.std.specs.List.{All};
@@ -18,9 +18,8 @@ ghost use Rattle.mold_wire.specs.declared.packet.Packet.{Packet};
 use mold_capture::laws::{after_law, reason_law, whole_is_one_law};
 use mold_wire::laws::{message_place_law, reading_law};
 
-/// What the verdict of a checker says of the datagrams that it took, from its first on: they are consistent. If the
-/// verdict is a whole session, they are whole, with that number of messages. If it is that something is missing, they
-/// are not whole.
+/// The datagrams that a checker took, from its first on, are consistent. If its verdict is a whole session, they are
+/// whole, with that number of messages. If its verdict is that something is missing, they are not whole.
 pub fn checked_law()
     ensures consistent { (list : List (List ℕ)) → All IsBytes list → AreTaken (seen_of []) list → Consistent list }
     ensures said { (list : List (List ℕ)) → All IsBytes list → AreTaken (seen_of []) list →
@@ -37,8 +36,8 @@ pub fn checked_law()
     whole_is_one_law();
 }
 
-/// What `mold_read` writes is where the messages lie. Each message has a place, as far as the array has room: after the
-/// header, the blocks before it and the two bytes of its own length. The bytes there are the message. The other
+/// `mold_read` writes where the messages are. Each message has a place, as far as the array has room: after the header,
+/// the blocks before it, and the two bytes of its own length. The bytes at the place are the message. The other
 /// elements of the array stay.
 pub fn places_law()
     ensures placed { (packet : Packet) (bytes : List ℕ) (before behind : List (List ℕ)) (message : List ℕ)

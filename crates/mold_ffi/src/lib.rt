@@ -1,5 +1,5 @@
-//! The library for programs in C, C++ and Rust: each call of its header is an export here, whose contract cites
-//! what is proved of the crates below.
+//! The library for programs in C, C++ and Rust. Each call of its header is an export here, and the contracts cite the
+//! definitions of the crates below.
 #![tactic(auto)]
 
 mod buffer;

@@ -1,4 +1,4 @@
-//! A listener: its calls, and what it reports.
+//! A listener: its calls, and the structs that it writes.
 pub(crate) mod batch;
 pub(crate) mod batched_arbiter;
 pub(crate) mod calls;

@@ -1,4 +1,4 @@
-//! Packets and requests, with no handle.
+//! Packets and requests: calls without a handle.
 pub(crate) mod mold_packet;
 pub(crate) mod mold_place;
 pub(crate) mod packer;

@@ -1,3 +1,3 @@
-//! A publisher: its calls, and the server beside it.
+//! A publisher: its calls, and its server.
 pub(crate) mod calls;
 pub(crate) mod exchange;

@@ -1,4 +1,4 @@
-//! A server: its calls, and the journal or publisher that it answers from.
+//! A server: its calls, and the journal or publisher from which it responds.
 pub(crate) mod answering;
 pub(crate) mod calls;
 pub(crate) mod mold_plan;

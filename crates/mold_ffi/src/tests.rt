@@ -1,4 +1,4 @@
-//! The calls on their happy path, as a program in C makes them.
+//! Tests of the calls on their happy path, as a program in C makes them.
 
 mod checker;
 mod exchange;
@@ -7,10 +7,10 @@ mod packets;
 
 use std::process::Abort;
 
-/// Messages 1, which is `AB`, and 2, which is empty.
+/// A packet of message 1, which is `AB`, and message 2, which is empty.
 pub(crate) const DATA: &[u8] = b"SESSION001\0\0\0\0\0\0\0\x01\0\x02\0\x02AB\0\0";
 
-/// The end behind two messages.
+/// The end packet after two messages.
 pub(crate) const END: &[u8] = b"SESSION001\0\0\0\0\0\0\0\x03\xff\xff";
 
 pub(crate) fn same_number(rt: &impl Abort, found: u64, wanted: u64) {

@@ -4,14 +4,15 @@ use Rattle.mold_capture.specs.Seen.{Seen}
 use Rattle.mold_capture.specs.Verdict.{IsWholeSeen, missing_in}
 use Rattle.mold_ffi.specs.declared.checker.mold_verdict.MoldVerdict.{MoldVerdict}
 
--- the verdict is a whole session, with the number of its messages
+-- The verdict is a whole session, with the number of its messages.
 pub record IsWholeVerdict (seen : Seen) (verdict : MoldVerdict) : Type 0 where
   pub told : verdict.whole ≡ 1
   pub whole : IsWholeSeen seen (verdict.messages + 1)
   pub no_end : verdict.end ≡ 0
   pub no_ranges : verdict.ranges ≡ 0
 
--- the verdict is that something is missing, with the end if it is known, and the number of missing ranges
+-- The verdict is that the session is not whole, with its end, or 0 if that is not known, and the number of missing
+-- ranges.
 pub record IsMissingVerdict (seen : Seen) (verdict : MoldVerdict) : Type 0 where
   pub told : verdict.whole ≡ 0
   pub not_whole : (number : ℕ) → IsWholeSeen seen number → ⊥
@@ -19,5 +20,6 @@ pub record IsMissingVerdict (seen : Seen) (verdict : MoldVerdict) : Type 0 where
   pub by_end : verdict.end ≡ unwrap_or seen.ended 0
   pub by_ranges : verdict.ranges ≡ length (missing_in seen)
 
+-- The verdict of a checker: the session is whole or not.
 abbrev pub IsVerdictOf : Seen → MoldVerdict → Type 0
 IsVerdictOf seen verdict = IsWholeVerdict seen verdict ⊎ IsMissingVerdict seen verdict

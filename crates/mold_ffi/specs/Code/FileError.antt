@@ -1,11 +1,12 @@
--- The code of bytes that are not a journal's file, and the number that goes with it; 0 if the error has none. Bytes in
--- memory are never badly read or written.
+-- The code of bytes that are not a journal file, and the number that goes with it. Bytes in memory have no read or
+-- write error.
 use Rattle.std.specs.Prelude.{ℕ}
 use Rattle.mold_session.specs.declared.error.FileError.{FileError}
 use Rattle.mold_session.specs.declared.error.FileError.TheVariants.{TooLong, Memory, BadMagic, Short, BlockCut, Read}
 use Rattle.mold_session.specs.declared.error.FileError.TheVariants.{Write, Full, CountDiffers, BadFlag}
 use Rattle.mold_ffi.specs.declared.code.TheConstants as codes
 
+-- The code for bytes that are not a journal file.
 abbrev pub file_error_code : FileError → ℕ
 file_error_code (Short len) = codes.FILE_SHORT
 file_error_code BadMagic = codes.BAD_MAGIC
@@ -18,6 +19,7 @@ file_error_code Read = codes.BROKEN
 file_error_code Write = codes.BROKEN
 file_error_code Memory = codes.MEMORY
 
+-- The number that goes with the fault of a journal file; 0 if it has none.
 abbrev pub file_error_number : FileError → ℕ
 file_error_number (Short len) = len
 file_error_number BadMagic = 0

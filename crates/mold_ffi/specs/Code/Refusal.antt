@@ -1,4 +1,4 @@
--- The code of a refused datagram, and the number that goes with it; 0 if the refusal has none.
+-- The code of a refused datagram, and the number that goes with it.
 use Rattle.std.specs.Prelude.{ℕ}
 use Rattle.mold_rule.specs.declared.refusal.Refusal.{Refusal}
 use Rattle.mold_rule.specs.declared.refusal.Refusal.TheVariants.{Malformed, WrongSession, SequenceZero, PastLast}
@@ -6,6 +6,7 @@ use Rattle.mold_rule.specs.declared.refusal.Refusal.TheVariants.{EndConflict, En
 use Rattle.mold_ffi.specs.Code.DecodeError.{decode_error_code, decode_error_number}
 use Rattle.mold_ffi.specs.declared.code.TheConstants as codes
 
+-- The code for a refused datagram.
 abbrev pub refusal_code : Refusal → ℕ
 refusal_code (Malformed error) = decode_error_code error
 refusal_code WrongSession = codes.WRONG_SESSION
@@ -17,6 +18,7 @@ refusal_code (PastEnd end) = codes.PAST_END
 refusal_code (Conflict number) = codes.CONFLICT
 refusal_code Memory = codes.MEMORY
 
+-- The number that goes with the refusal of a datagram; 0 if it has none.
 abbrev pub refusal_number : Refusal → ℕ
 refusal_number (Malformed error) = decode_error_number error
 refusal_number WrongSession = 0

@@ -12,11 +12,12 @@ use Rattle.mold_rule.specs.declared.refusal.Refusal.{Refusal}
 use Rattle.mold_rule.specs.declared.refusal.Refusal.TheVariants.{Memory}
 use Rattle.mold_wire.specs.declared.session.Session.{Session}
 
+-- A listener: the arbitration of its two lines, and the batch of the messages that it delivered since the last clear.
 pub record BatchedArbitration : Type 0 where
   pub arbitration : Arbitration
   pub batch : Handed
 
--- it is stored as the tuple of its parts
+-- A listener is stored as the tuple of its parts.
 abbrev pub batched_code : Coded BatchedArbitration
 batched_code = code_by (Arbitration × (ℕ × List (List ℕ)))
     (coded× arbitration_code (coded× coded_ℕ (coded_list (coded_list coded_ℕ))))
@@ -24,16 +25,17 @@ batched_code = code_by (Arbitration × (ℕ × List (List ℕ)))
     (λ p. record { arbitration = p.0; batch = record { first = p.1.0; messages = p.1.1 } })
     (λ _. refl)
 
--- the message that is delivered next follows the batch
+-- The batch is empty, or the next message to deliver follows its last message.
 abbrev pub IsFollowed : BatchedArbitration → Type 0
 IsFollowed batched = Follows batched.batch batched.arbitration.view.next
 
--- a listener that begins at a sequence number: nothing was received on either line, and nothing was delivered
+-- A listener that begins at sequence number `next`: nothing was received on either line, and nothing was delivered.
 abbrev pub begun : Session → ℕ → ℕ → BatchedArbitration
 begun session next window =
     record { arbitration = fresh_arbitration session next window; batch = record { first = 0; messages = [] } }
 
--- a listener after a datagram, by what the receiving rule makes of it: the delivered messages join the batch
+-- The listener after a datagram, by the result of the receiving rule. Delivered messages join the batch. A refusal only
+-- changes the report of the line.
 abbrev pub received : Origin → List ℕ → BatchedArbitration → Result Reception Refusal → BatchedArbitration
 received origin bytes old (Ok reception) = record {
   arbitration = arbitrated (line_of origin) bytes old.arbitration (Ok reception);
@@ -44,7 +46,8 @@ received origin bytes old (Err refusal) = record {
   batch = old.batch;
 }
 
--- a datagram was taken or refused as the receiving rule says; or memory for a copy was refused, and nothing changed
+-- What a listener returns and becomes when it takes a datagram. It takes or refuses the datagram as the receiving rule
+-- does; or an allocation for a copy failed, and nothing changed.
 abbrev pub HasReceived : Origin → List ℕ → BatchedArbitration → BatchedArbitration → Result Taken Refusal → Type 0
 HasReceived origin bytes old new (Ok taken) =
     (reception : Reception) × (receive old.arbitration.view bytes ≡ Ok reception)
@@ -53,6 +56,6 @@ HasReceived origin bytes old new (Err refusal) =
     ((refusal ≡ Memory) × IsCopied old.arbitration.view bytes × (new ≡ old))
     ⊎ ((receive old.arbitration.view bytes ≡ Err refusal) × (new ≡ received origin bytes old (Err refusal)))
 
--- the batch without its messages
+-- The same listener with an empty batch.
 abbrev pub cleared : BatchedArbitration → BatchedArbitration
 cleared old = record { arbitration = old.arbitration; batch = record { first = 0; messages = [] } }

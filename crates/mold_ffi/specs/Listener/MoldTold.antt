@@ -1,11 +1,12 @@
--- What the receiving rule makes of a datagram, as the fields of a struct.
+-- The result of the receiving rule as the fields of a struct.
 use Rattle.std.specs.Prelude.{ℕ, Result, Ok, Err}
 use Rattle.mold_receiver.specs.Receive.{Reception}
 use Rattle.mold_rule.specs.declared.refusal.Refusal.{Refusal}
 use Rattle.mold_ffi.specs.Code.Refusal.{refusal_number}
 use Rattle.mold_ffi.specs.declared.listener.mold_told.MoldTold.{MoldTold}
 
--- three counts, or the number that goes with the refusal; `unused` stays
+-- The fields of a result of the receiving rule: the three counts, or the number that goes with the refusal. The padding
+-- `unused` stays.
 abbrev pub taking_fields : Result Reception Refusal → ℕ → MoldTold
 taking_fields (Ok reception) unused = record {
   detail = 0;

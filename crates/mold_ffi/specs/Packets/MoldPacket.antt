@@ -1,4 +1,4 @@
--- What a datagram's bytes read as, as a code and the fields of a struct.
+-- The result of decoding a datagram, as a code and the fields of a struct.
 use Rattle.std.specs.Prelude.{ℕ, length, Result, Ok, Err}
 use Rattle.mold_wire.specs.Packet.{messages_of}
 use Rattle.mold_wire.specs.declared.error.DecodeError.{DecodeError}
@@ -10,17 +10,18 @@ use Rattle.mold_ffi.specs.declared.code.TheConstants as codes
 use Rattle.mold_ffi.specs.declared.packets.mold_packet.MoldPacket.{MoldPacket}
 use Rattle.mold_ffi.specs.declared.packets.mold_packet.TheConstants.{DATA, HEARTBEAT, END}
 
--- the number of a packet's kind
+-- The number of the kind of a packet.
 abbrev pub kind_of : Body → ℕ
 kind_of (Data messages) = DATA
 kind_of Heartbeat = HEARTBEAT
 kind_of End = END
 
+-- The code for the result of decoding a packet.
 abbrev pub code_read : Result Packet DecodeError → ℕ
 code_read (Ok packet) = codes.DONE
 code_read (Err error) = decode_error_code error
 
--- all fields of a packet; after a fault only `detail` changes
+-- The fields after decoding a packet. A packet sets all of them; a fault sets only `detail`.
 abbrev pub packet_read : Result Packet DecodeError → MoldPacket → MoldPacket
 packet_read (Ok packet) old = record {
   sequence = packet.sequence;

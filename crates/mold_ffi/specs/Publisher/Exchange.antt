@@ -17,29 +17,31 @@ use Rattle.mold_ffi.specs.declared.publisher.exchange.Exchange.{Exchange}
 use Rattle.mold_ffi.specs.declared.handle.held.Held.{Held}
 use Rattle.mold_ffi.specs.declared.handle.held.Held.TheVariants.{Publisher}
 
--- the publisher of an open session without messages, and no server
+-- The publisher of an open session without messages, and no server.
 abbrev pub opened : Session → ℕ → Exchange
 opened session limit = record { publisher = fresh_publisher session limit; server = None }
 
--- what a handle holds: an exchange, the same with another publisher, and the same with this server
+-- What a handle of this exchange holds.
 abbrev pub holding : Exchange → Option Held
 holding exchange = Some (Publisher exchange)
 
+-- What a handle holds after its exchange got this publisher.
 abbrev pub with_publisher : Exchange → PublisherState → Option Held
 with_publisher exchange publisher = holding (record { publisher = publisher; server = exchange.server })
 
+-- What a handle holds after its exchange got this server.
 abbrev pub with_server : Exchange → ServerState → Option Held
 with_server exchange server = holding (record { publisher = exchange.publisher; server = Some server })
 
--- a server with the limit of the publisher and for its journal, that has answered no request
+-- A server with the publisher's limit, for the publisher's journal, that has answered no request.
 abbrev pub server_beside : PublisherState → ℕ → ServerState
 server_beside publisher burst = fresh_server publisher.limit publisher.journal.max_message burst
 
--- the greatest number of datagrams that answer a request
+-- A valid greatest number of datagrams of a response.
 abbrev pub IsBurst : ℕ → Type 0
 IsBurst burst = (1 ≤ burst) × (burst ≤ MAX_BURST)
 
--- a message is published, or memory for it was refused; or it is refused for the first reason that applies
+-- A message is published, or an allocation for it failed; or it is refused for the first reason that applies.
 pub record Publishes (exchange : Exchange) (message : List ℕ) (code number : ℕ) (held : Option Held) : Type 0 where
   pub taken : append_refusal exchange.publisher.journal message ≡ None →
       ((code ≡ codes.DONE) × (number ≡ length exchange.publisher.journal.messages + 1)
@@ -48,7 +50,7 @@ pub record Publishes (exchange : Exchange) (message : List ℕ) (code number : �
   pub refused : (error : AppendError) → append_refusal exchange.publisher.journal message ≡ Some error →
       (code ≡ append_error_code error) × (number ≡ append_error_number error) × (held ≡ holding exchange)
 
--- the next packet, if there is one, is written to a buffer with room for the limit
+-- The packet `next`, if there is one, is written to a buffer that has at least as many bytes as the limit.
 pub record Sends (exchange : Exchange) (next : Option Packet) (after : PublisherState) (old new : List ℕ)
     (code size : ℕ) (held : Option Held) : Type 0 where
   pub room : length old < exchange.publisher.limit →
@@ -58,7 +60,7 @@ pub record Sends (exchange : Exchange) (next : Option Packet) (after : Publisher
   pub put : (packet : Packet) → exchange.publisher.limit ≤ length old → next ≡ Some packet →
       (code ≡ codes.DONE) × PutsPacket packet old new size × (held ≡ with_publisher exchange after)
 
--- the session is closed if every message was sent in a datagram; otherwise the number of unsent messages is returned
+-- If every message was sent in a datagram, the session is closed. Otherwise the number of unsent messages is returned.
 pub record Closes (exchange : Exchange) (code number : ℕ) (held : Option Held) : Type 0 where
   pub done : exchange.publisher.sent ≡ length exchange.publisher.journal.messages →
       (code ≡ codes.DONE) × (number ≡ 0) × (held ≡ with_publisher exchange (closed exchange.publisher))
@@ -66,14 +68,14 @@ pub record Closes (exchange : Exchange) (code number : ℕ) (held : Option Held)
       (code ≡ codes.UNSENT) × (number ≡ length exchange.publisher.journal.messages - exchange.publisher.sent)
       × (held ≡ holding exchange)
 
--- the journal's file is written to a buffer that has room for it
+-- The journal's file is written to a buffer that has room for it. Its length is written in each case.
 pub record Saves (journal : JournalState) (old new : List ℕ) (code size : ℕ) : Type 0 where
   pub sized : size ≡ file_length journal.messages
   pub room : length old < file_length journal.messages → (code ≡ codes.ROOM) × (new ≡ old)
   pub put : file_length journal.messages ≤ length old →
       (code ≡ codes.DONE) × PutsFile old new journal.session journal.messages journal.closed size
 
--- a publisher without a server gets one, or memory for it was refused
+-- A publisher without a server gets one, unless an allocation failed. A publisher that has a server keeps it.
 pub record GivesServer (exchange : Exchange) (burst code : ℕ) (held : Option Held) : Type 0 where
   pub had : is_some exchange.server ≡ true → (code ≡ codes.BROKEN) × (held ≡ holding exchange)
   pub burst_fault : exchange.server ≡ None → (IsBurst burst → ⊥) → (code ≡ codes.BURST) × (held ≡ holding exchange)

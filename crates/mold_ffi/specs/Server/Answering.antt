@@ -12,19 +12,20 @@ use Rattle.mold_ffi.specs.Server.MoldPlan.{plan_of, plan_fields}
 use Rattle.mold_ffi.specs.declared.code.TheConstants as codes
 use Rattle.mold_ffi.specs.declared.server.mold_plan.MoldPlan.{MoldPlan}
 
--- the server may answer from the journal: it allows the longest message that the journal allows
+-- The server may respond from the journal: it allows messages as long as the journal does.
 abbrev pub Suits : ServerState → JournalState → Type 0
 Suits server journal = journal.max_message ≤ server.max_message
 
--- the buffer begins with the first packet of the answer to a request, and its other bytes stay
+-- The buffer begins with the first packet of the response to a request, which is `size` bytes long. Its other bytes
+-- stay.
 pub record PutsAnswer (server : ServerState) (journal : JournalState) (request old new : List ℕ)
     (size : ℕ) : Type 0 where
   pub bytes : List ℕ
   pub spelled : SpellsAnswer journal server request bytes
   pub put : Puts old new bytes size
 
--- the first packet of the answer is written to a buffer with room for the limit, or the request is refused for the
--- first reason that applies; `holding` gives what then holds the server
+-- The first packet of the response is written to a buffer that has at least as many bytes as the limit. Or the request
+-- is refused for the first reason that applies. `holding` gives what then holds the server.
 pub record Answers (T : Type 0) (server : ServerState) (journal : JournalState) (request old new : List ℕ)
     (before code number : ℕ) (holding : ServerState → T) (held : T) : Type 0 where
   pub foreign : (Suits server journal → ⊥) →
@@ -38,7 +39,8 @@ pub record Answers (T : Type 0) (server : ServerState) (journal : JournalState) 
       asking journal request ≡ Ok asked →
       (code ≡ codes.DONE) × PutsAnswer server journal request old new number × (held ≡ holding (counted server))
 
--- the answer to a request is planned, or the request is refused for the first reason that applies
+-- The response to a request is planned, or the request is refused for the first reason that applies. `holding` gives
+-- what then holds the server.
 pub record Plans (T : Type 0) (server : ServerState) (journal : JournalState) (request : List ℕ) (old new : MoldPlan)
     (before code number : ℕ) (holding : ServerState → T) (held : T) : Type 0 where
   pub foreign : (Suits server journal → ⊥) →
@@ -48,7 +50,7 @@ pub record Plans (T : Type 0) (server : ServerState) (journal : JournalState) (r
   pub planned : (plan : PlanState) → Suits server journal → planning journal server.burst request ≡ Ok plan →
       (code ≡ codes.DONE) × (number ≡ 0) × (new ≡ plan_fields plan) × (held ≡ holding (counted server))
 
--- a plan that the server may have made for this journal
+-- A plan that the server may have made for this journal.
 pub record MayServe (server : ServerState) (journal : JournalState) (plan : PlanState) : Type 0 where
   pub suits : Suits server journal
   pub first : 1 ≤ plan.from
@@ -56,7 +58,8 @@ pub record MayServe (server : ServerState) (journal : JournalState) (plan : Plan
   pub within : plan.to ≤ length journal.messages + 1
   pub session : plan.session ≡ journal.session
 
--- the next packet of a plan is written to a buffer with room for the limit, and the plan moves past its messages
+-- The next packet of a plan is written to a buffer that has at least as many bytes as the limit, and the plan moves
+-- past its messages.
 pub record Serves (server : ServerState) (journal : JournalState) (fields after : MoldPlan) (old new : List ℕ)
     (before code size : ℕ) : Type 0 where
   pub broken : (MayServe server journal (plan_of fields) → ⊥) →

@@ -1,4 +1,4 @@
--- What `mold_server_new` returns and leaves.
+-- What `mold_server_new` returns and writes.
 use Rattle.std.specs.Prelude.{◌≡◌, ◌⊎◌, ℕ, List, Option, None, Some}
 use Rattle.mold_ffi.specs.Server.Serving.{IsFault, IsOfFile}
 use Rattle.mold_ffi.specs.declared.code.TheConstants as codes
@@ -6,7 +6,7 @@ use Rattle.mold_ffi.specs.declared.handle.held.Held.{Held}
 use Rattle.mold_ffi.specs.declared.handle.held.Held.TheVariants.{Server}
 use Rattle.mold_ffi.specs.declared.server.serving.Serving.{Serving}
 
--- a handle that was empty holds a server of a journal's file
+-- A handle that was empty holds a server of the journal file.
 pub record HasLoaded (limit burst : ℕ) (bytes : List ℕ) (code number : ℕ) (held : Option Held) : Type 0 where
   pub serving : Serving
   pub made : IsOfFile limit burst bytes serving
@@ -14,7 +14,8 @@ pub record HasLoaded (limit burst : ℕ) (bytes : List ℕ) (code number : ℕ) 
   pub by_number : number ≡ 0
   pub held_is : held ≡ Some (Server serving)
 
--- it does, or the bytes are not such a file, or memory was refused
+-- The handle holds a server of the journal file; or the bytes are not such a file, or an allocation failed, and the
+-- handle is empty.
 abbrev pub Loads : ℕ → ℕ → List ℕ → ℕ → ℕ → Option Held → Type 0
 Loads limit burst bytes code number held =
     HasLoaded limit burst bytes code number held

@@ -1,4 +1,4 @@
--- A server with the journal that it answers from.
+-- A server with the journal from which it responds.
 use Rattle.std.specs.Prelude.{◌≡◌, ◌⊎◌, ℕ, ◌-◌, false, List, Option, Some}
 use Rattle.mold_session.specs.File.{SpellsJournal, SpellsJournal2}
 use Rattle.mold_session.specs.FileFault.{JournalFault}
@@ -11,11 +11,11 @@ use Rattle.mold_ffi.specs.declared.handle.held.Held.{Held}
 use Rattle.mold_ffi.specs.declared.handle.held.Held.TheVariants.{Server}
 use Rattle.mold_ffi.specs.declared.server.serving.Serving.{Serving}
 
--- what a handle holds: the same journal with another server
+-- What a handle holds after its server got this state; the journal is the same.
 abbrev pub with_serving : Serving → ServerState → Option Held
 with_serving serving server = Some (Server (record { server = server; journal = serving.journal }))
 
--- a server that has answered no request, and the journal whose file the bytes are
+-- The bytes are the file of the journal, and the server has answered no request.
 pub record IsOfFile (limit burst : ℕ) (bytes : List ℕ) (serving : Serving) : Type 0 where
   pub server : serving.server ≡ fresh_server limit (limit - MESSAGE_OVERHEAD) burst
   pub bound : serving.journal.max_message ≡ limit - MESSAGE_OVERHEAD
@@ -24,7 +24,7 @@ pub record IsOfFile (limit burst : ℕ) (bytes : List ℕ) (serving : Serving) :
       × SpellsJournal serving.journal.session serving.journal.messages bytes)
       ⊎ SpellsJournal2 serving.journal.session serving.journal.messages serving.journal.closed bytes
 
--- the bytes are not a journal's file, for the reason that code and number give
+-- The bytes are not a journal file, for the reason that `code` and `number` give.
 pub record IsFault (limit : ℕ) (bytes : List ℕ) (code number : ℕ) : Type 0 where
   pub error : FileError
   pub fault : JournalFault (limit - MESSAGE_OVERHEAD) bytes error

@@ -7,15 +7,18 @@ ghost use Rattle.mold_rule.specs.Ranges.{range as numbers};
 
 use mold_capture::Range;
 
-/// The sequence numbers from the first to the last, inclusive.
+/// The sequence numbers from `first` to `last`, inclusive.
 #[repr(C)]
 #[derive(Clone, Copy)]
 pub struct MoldRange {
+    /// The first number.
     pub first: u64,
+    /// The last number, at least `first`.
     pub last: u64,
 }
 
 impl MoldRange {
+    /// The fields of a range.
     pub(crate) fn of(range: Range) -> MoldRange
         ensures { range_of result ≡ numbers range.first range.last }
     {
@@ -26,7 +29,7 @@ impl MoldRange {
     }
 }
 
-/// Writes the first ranges, as many as the array has room for.
+/// Writes the first ranges to the array, as many as it has room for.
 pub(crate) fn fill_places(missing: &[Range], places: &mut [MoldRange])
     ensures { AreFilled (ranges_of missing.now) places.old places.new }
 {

@@ -25,7 +25,7 @@ pub struct MoldVerdict {
 }
 
 impl MoldVerdict {
-    /// Writes a verdict.
+    /// Writes the fields of a verdict.
     pub(crate) fn write(&mut self, verdict: &Verdict)
         ensures tells { (seen : Seen) → IsVerdict verdict.now seen → IsVerdictOf seen self.new }
         ensures unused { self.new.unused ≡ self.old.unused }

@@ -1,4 +1,4 @@
-//! The code of a fault of a packet.
+//! The code of a decode fault.
 
 ghost use Rattle.std.specs.Prelude.{◌≡◌};
 ghost use Rattle.mold_ffi.specs.Code.DecodeError.{decode_error_code, decode_error_number};
@@ -6,7 +6,7 @@ ghost use Rattle.mold_ffi.specs.Code.DecodeError.{decode_error_code, decode_erro
 use crate::code;
 use mold_wire::DecodeError;
 
-/// The code of the error, and the number that goes with it.
+/// The code of the fault, and the number that goes with it.
 pub(crate) fn code_of_decode_error(error: DecodeError) -> (u32, u64)
     ensures code { result.0 ≡ decode_error_code error }
     ensures number { result.1 ≡ decode_error_number error }

@@ -1,4 +1,4 @@
-//! The code of bytes that are not a journal's file.
+//! The code of bytes that are not a journal file.
 
 ghost use Rattle.std.specs.Prelude.{◌≡◌};
 ghost use Rattle.mold_ffi.specs.Code.FileError.{file_error_code, file_error_number};

@@ -1,4 +1,4 @@
-//! What a handle holds, borrowed for reading. The handle stays as it is.
+//! Borrows what a handle holds for reading. The handle stays as it is.
 
 ghost use Rattle.std.specs.Prelude.{◌≡◌, None, Some};
 ghost use Rattle.std.specs.Borrow.{sem};
@@ -15,7 +15,7 @@ use crate::handle::mold_handle::MoldHandle;
 use crate::listener::batched_arbiter::BatchedArbiter;
 use mold_capture::Checker;
 
-/// The listener that the handle holds, if any.
+/// Returns the listener that the handle holds, if it holds one.
 pub(crate) fn lend_listener(handle: &mut MoldHandle) -> Option<&BatchedArbiter>
     ensures* after { sem 𝓛 (Rests the_row handle.entry (λ new. new.handle.value ≡ handle.old.handle.value)) }
     ensures lent { (batched : BatchedArbitration) → handle.old.handle.value ≡ Some (AListener batched) →
@@ -31,7 +31,7 @@ pub(crate) fn lend_listener(handle: &mut MoldHandle) -> Option<&BatchedArbiter>
     Some(held)
 }
 
-/// The checker that the handle holds, if any.
+/// Returns the checker that the handle holds, if it holds one.
 pub(crate) fn lend_checker(handle: &mut MoldHandle) -> Option<&Checker>
     ensures* after { sem 𝓛 (Rests the_row handle.entry (λ new. new.handle.value ≡ handle.old.handle.value)) }
     ensures lent { (seen : Seen) → handle.old.handle.value ≡ Some (AChecker seen) →

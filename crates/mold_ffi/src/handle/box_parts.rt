@@ -8,7 +8,9 @@ use std::marker::Model;
 
 /// The pointer and the allocator of a box. It owns what the box owned.
 pub(crate) struct BoxParts<T, A: Allocator> {
+    /// The pointer to the value.
     pub(crate) pointer: *mut T,
+    /// The allocator of the box.
     pub(crate) alloc: A,
     pub(crate) ghost value: { T },
 }
@@ -18,7 +20,7 @@ impl<T, A: Allocator> Model for BoxParts<T, A> {
 }
 
 impl<T, A: Allocator> BoxParts<T, A> {
-    /// Takes a box apart.
+    /// Takes a box apart without freeing it.
     pub(crate) fn of(boxed: Box<T, A>) -> BoxParts<T, A>
     where
         T: Drop,
@@ -28,7 +30,7 @@ impl<T, A: Allocator> BoxParts<T, A> {
         BoxParts { pointer, alloc }
     }
 
-    /// The box again.
+    /// Returns the box.
     pub(crate) fn into_box(self) -> Box<T, A>
         ensures { result.value ≡ self.value }
     {

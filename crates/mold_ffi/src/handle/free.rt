@@ -5,7 +5,7 @@ ghost use Rattle.std.specs.Prelude.{◌≡◌, None};
 use crate::handle::mold_handle::MoldHandle;
 use std::alloc::Global;
 
-/// Frees what the handle holds, if anything. The handle is then empty, and may be used for something else.
+/// Frees what the handle holds, if anything. The handle is then empty, and may be filled again.
 #[unsafe(no_mangle)]
 pub extern "C" fn mold_free(alloc: Global, held: &mut MoldHandle)
     ensures { held.new.handle.value ≡ None }
@@ -13,10 +13,10 @@ pub extern "C" fn mold_free(alloc: Global, held: &mut MoldHandle)
     *held = MoldHandle::empty(alloc);
 }
 
-// The bound that a value may move to another thread.
+// Compiles only for types whose values may move to another thread.
 fn needs_send<T: Send>() {}
 
-// A handle may be made on one thread and used on another, in one call at a time.
+// A handle may be made on one thread and used on another, one call at a time.
 fn handles_move() {
     needs_send::<MoldHandle>();
 }

@@ -8,8 +8,12 @@ use mold_capture::Checker;
 /// What a handle may hold.
 #[derive(Drop)]
 pub(crate) enum Held {
+    /// A listener.
     Listener(BatchedArbiter),
+    /// A publisher, which may have a server.
     Publisher(Exchange),
+    /// A server of a saved journal.
     Server(Serving),
+    /// A checker.
     Checker(Checker),
 }

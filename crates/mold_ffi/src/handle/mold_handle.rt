@@ -6,10 +6,11 @@ use crate::handle::Handle;
 use crate::handle::held::Held;
 use std::alloc::Global;
 
-/// A handle as a program in C declares it: `{ NULL, false }` is empty. Whoever declares it calls `mold_free` at the
-/// end.
+/// A handle as a program in C declares it: `{ NULL, false }` is empty. The program that declares it calls `mold_free`
+/// at the end.
 #[repr(C)]
 pub struct MoldHandle {
+    /// What it holds.
     pub(crate) handle: Handle,
     /// Whether it holds something.
     pub(crate) live: bool,

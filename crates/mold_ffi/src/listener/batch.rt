@@ -41,8 +41,8 @@ pub extern "C" fn mold_listener_first(listener: &mut MoldHandle) -> u64
     }
 }
 
-/// Writes a slice of the message at index `i` of the batch, from 0. It is valid until the next call on this handle.
-/// Only code 0 writes anything.
+/// Writes a slice of the message at index `i` of the batch, from 0. The slice is valid until the next call on this
+/// handle. Only code 0 writes anything.
 #[unsafe(no_mangle)]
 pub extern "C" fn mold_listener_message<'a>(
     listener: &'a mut MoldHandle,
@@ -126,7 +126,8 @@ fn lend_messages<'a>(batch: &'a Batch, messages: &mut [&'a [u8]]) -> usize
 }
 
 /// Writes slices of the first messages of the batch, as many as the array has room for, and returns how many; 0 if the
-/// handle holds no listener. They are valid until the next call on this handle. The other elements of the array stay.
+/// handle holds no listener. The slices are valid until the next call on this handle. The other elements of the array
+/// stay.
 #[unsafe(no_mangle)]
 pub extern "C" fn mold_listener_messages<'a>(
     listener: &'a mut MoldHandle,

@@ -31,8 +31,8 @@ impl Model for BatchedArbiter {
 }
 
 impl BatchedArbiter {
-    /// A listener that begins at sequence number `next` and stores messages below `next + window`. It allocates its
-    /// window here; later only messages take memory.
+    /// A listener that begins at sequence number `next` with a window of `window` messages. The window is allocated
+    /// here; later only messages take memory.
     pub(crate) fn new(
         alloc: Global,
         session: Session,
@@ -85,7 +85,7 @@ impl BatchedArbiter {
         &self.batch
     }
 
-    /// Clears the batch, and keeps its memory.
+    /// Empties the batch, and keeps its memory.
     pub(crate) fn clear(&mut self)
         ensures { self.new ≡ cleared self.old }
     {

@@ -20,8 +20,8 @@ use mold_receiver::ReceiverError;
 use mold_wire::Session;
 use std::alloc::Global;
 
-/// Makes a listener of a session that begins at sequence number `next`, and stores messages below `next + window`;
-/// the window is 1 to 65,536. The handle must be empty.
+/// Makes a listener to a session, which begins at sequence number `next`. It stores messages above a gap whose numbers
+/// are less than that of the next message to deliver plus `window`, which is 1 to 65,536. The handle must be empty.
 #[unsafe(no_mangle)]
 pub extern "C" fn mold_listener_new(
     alloc: Global,
@@ -58,8 +58,8 @@ pub extern "C" fn mold_listener_new(
     }
 }
 
-/// Takes a datagram of line A, 0, of line B, 1, or of a server's response, 2. The messages that are delivered join the
-/// batch.
+/// Takes a datagram of line A, which is number 0, of line B, number 1, or a server's response, number 2. The messages
+/// that are delivered join the batch.
 #[unsafe(no_mangle)]
 pub extern "C" fn mold_listener_take(
     listener: &mut MoldHandle,

@@ -11,10 +11,9 @@ use mold_receiver::LineReport;
 pub struct MoldReport {
     /// The number of datagrams that were taken.
     pub datagrams: u64,
-    /// The number of datagrams that were refused for any reason but memory.
+    /// The number of datagrams that were refused, except those for which an allocation failed.
     pub refused: u64,
-    /// One more than the greatest sequence number of a packet that was taken, and at least the first sequence number
-    /// of the listener.
+    /// The greatest top of a packet that was taken, and at least the first sequence number of the listener.
     pub front: u64,
 }
 

@@ -1,4 +1,4 @@
-//! What a listener made of a datagram, as the fields of a struct.
+//! The effect of a datagram on a listener, as the fields of a struct.
 
 ghost use Rattle.std.specs.Prelude.{◌≡◌};
 ghost use Rattle.mold_ffi.specs.Code.Refusal.{refusal_code, refusal_number};
@@ -6,7 +6,7 @@ ghost use Rattle.mold_ffi.specs.Code.Refusal.{refusal_code, refusal_number};
 use crate::code::refusal::code_of_refusal;
 use mold_receiver::{Refusal, Taken};
 
-/// What a listener made of a datagram. If it was taken, `detail` is 0; if it was refused, the counts are 0.
+/// The effect of a datagram on a listener. If it was taken, `detail` is 0; if it was refused, the counts are 0.
 #[repr(C)]
 #[derive(Clone, Copy)]
 pub struct MoldTold {
@@ -17,7 +17,7 @@ pub struct MoldTold {
     pub handed: u32,
     /// The number of messages of the datagram that were stored.
     pub kept: u32,
-    /// The number of messages of the datagram above the window, which are lost.
+    /// The number of messages of the datagram above the window, which are dropped.
     pub beyond: u32,
     /// Padding, which is never written.
     pub unused: u32,

@@ -1,4 +1,4 @@
-//! A packet as a program in C sees it.
+//! A packet's header as the fields of a struct.
 
 ghost use Rattle.std.specs.Prelude.{◌≡◌, Ok, Err};
 ghost use Rattle.mold_ffi.specs.Packets.MoldPacket.{code_read, packet_read};
@@ -13,17 +13,17 @@ const HEARTBEAT: u32 = 1;
 
 const END: u32 = 2;
 
-/// The header of a packet, or the fault of bytes that are not a packet.
+/// The header of a packet, or the fault of bytes that do not encode a packet.
 #[repr(C)]
 #[derive(Clone, Copy)]
 pub struct MoldPacket {
-    /// The number of the packet's first message; of a heartbeat the next number to expect; of an end packet one more
-    /// than the number of messages of the session.
+    /// The number of the packet's first message. Of a heartbeat it is that of the next message, and of an end packet
+    /// one more than the number of messages of the session.
     pub sequence: u64,
-    /// The number that goes with the fault: the datagram's length, the index of the block that is cut, or the offset
-    /// at which the packet ends; 0 without a fault.
+    /// The number that goes with the fault: the datagram's length, the index of the block that is cut short, or the
+    /// offset at which the packet ends. 0 without a fault.
     pub detail: u64,
-    /// 0 data, 1 a heartbeat, 2 the end of the session.
+    /// 0 for data, 1 for a heartbeat, 2 for an end packet.
     pub kind: u32,
     /// The number of messages; 0 for a heartbeat and for an end packet.
     pub count: u16,

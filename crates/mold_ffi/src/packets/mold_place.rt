@@ -1,4 +1,4 @@
-//! Where the messages of a packet lie.
+//! Where the messages of a packet are in its bytes.
 
 ghost use Rattle.std.specs.Prelude.{◌≡◌, ◌<◌, ◌^◌};
 ghost use Rattle.mold_ffi.specs.Packets.MoldPlace.{places_of, written_front};
@@ -7,7 +7,7 @@ ghost use Rattle.mold_wire.specs.declared.header.TheConstants.{HEADER_LENGTH};
 
 use mold_wire::{Blocks, HEADER_LENGTH, LENGTH_BYTES};
 
-/// Where a message lies in a datagram, in bytes.
+/// Where a message is in a datagram, in bytes.
 #[repr(C)]
 #[derive(Clone, Copy)]
 pub struct MoldPlace {
@@ -17,7 +17,7 @@ pub struct MoldPlace {
     pub length: usize,
 }
 
-/// Writes where the messages lie, as many as the array has room for.
+/// Writes the places of the messages, as many as the array has room for.
 pub(crate) fn put_places(blocks: &Blocks<'_>, places: &mut [MoldPlace])
     requires { packet_length blocks.now < 2 ^ 63 }
     ensures { places.new ≡ written_front (places_of HEADER_LENGTH blocks.now) places.old }

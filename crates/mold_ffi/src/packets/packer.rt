@@ -1,4 +1,4 @@
-//! Packing messages into a buffer of the caller.
+//! The calls that pack messages into a buffer of the caller.
 
 ghost use Rattle.std.specs.Prelude.{◌≡◌, ◌↔◌, ◌+◌, ◌≤◌, length, IsTrue, true, false, []};
 ghost use Rattle.mold_ffi.specs.Packets.Packer.{fields_of, CanBe, Packs};
@@ -9,22 +9,22 @@ ghost use Rattle.mold_wire.specs.Packer.{Begun, Open, Ended, IsLimit, HasRoom, w
 use crate::code::{BROKEN, DONE, FULL, LIMIT};
 use mold_wire::{Session, add_in, can_hold, end_in, fits_in, is_limit, start_in};
 
-/// A packer over the caller's memory: the packet is the first `used` bytes of `buffer`, whose length is the limit of
-/// datagrams. `{ buffer, limit, 0, 0, false }` has no packet.
+/// A packer over a buffer of the caller. The packet is the first `used` bytes of `buffer`, whose length is the datagram
+/// limit. `{ buffer, limit, 0, 0, false }` has no packet.
 #[repr(C)]
 #[derive(Drop)]
 pub struct MoldPacker<'a> {
-    /// Where packets are written: 64 to 65,507 bytes.
+    /// The buffer of 64 to 65,507 bytes to which packets are written.
     pub buffer: &'a mut [u8],
-    /// The bytes of the packet that was begun last.
+    /// The length of the packet that was begun last.
     pub used: usize,
-    /// The messages of the open packet.
+    /// The number of messages of the open packet.
     pub count: u16,
-    /// Whether a packet is open, to which messages may be added.
+    /// Whether a packet is open, so that messages may be added.
     pub is_open: bool,
 }
 
-// Whether the calls may have written these fields.
+// Whether the fields pass the test that the fields of every packer pass.
 fn can_be(packer: &MoldPacker<'_>) -> bool
     ensures exact { IsTrue result ↔ CanBe (fields_of packer.now) }
     ensures held { (begun : Begun) → Holds (fields_of packer.now) begun → IsTrue result }
@@ -47,8 +47,8 @@ fn leaves_room(packer: &MoldPacker<'_>, len: usize) -> bool
     fits_in(packer.buffer, packer.used, packer.is_open, len)
 }
 
-/// Opens a packet without messages, in place of what was there: a heartbeat, until a message is added. If the buffer's
-/// length is not a valid datagram limit, the code is 4 and nothing changes.
+/// Opens a packet without messages, in place of the previous packet. Until a message is added, it is a heartbeat. If
+/// the buffer's length is not a valid datagram limit, the code is 4 and nothing changes.
 #[unsafe(no_mangle)]
 pub extern "C" fn mold_packer_start(
     packer: &mut MoldPacker<'_>,
@@ -78,8 +78,8 @@ pub extern "C" fn mold_packer_fits(packer: &MoldPacker<'_>, len: usize) -> bool
     can_be(packer) && leaves_room(packer, len)
 }
 
-/// Adds a message after those of the open packet. The code is 5 if no packet is open that has room for it, and 6 if the
-/// fields are invalid; then nothing changes.
+/// Adds a message after those of the open packet. If no packet is open that has room for it, the code is 5. If the
+/// fields are invalid, the code is 6. In both cases nothing changes.
 #[unsafe(no_mangle)]
 pub extern "C" fn mold_packer_add(packer: &mut MoldPacker<'_>, message: &[u8]) -> u32
     ensures added { (begun : Begun) → Holds (fields_of packer.old) begun →
@@ -102,8 +102,8 @@ pub extern "C" fn mold_packer_add(packer: &mut MoldPacker<'_>, message: &[u8]) -
     DONE
 }
 
-/// Writes an end packet in place of what was there; nothing can be added to it. If the buffer's length is not a valid
-/// datagram limit, the code is 4 and nothing changes.
+/// Writes an end packet, in place of the previous packet. No message can be added to it. If the buffer's length is not
+/// a valid datagram limit, the code is 4 and nothing changes.
 #[unsafe(no_mangle)]
 pub extern "C" fn mold_packer_end(
     packer: &mut MoldPacker<'_>,

@@ -1,4 +1,4 @@
-//! Reading datagrams: what a packet is, and where its messages lie.
+//! The calls that decode datagrams and write where the messages are.
 
 ghost use Rattle.std.specs.Prelude.{◌≡◌};
 ghost use Rattle.mold_ffi.specs.Packets.MoldPacket.{code_read, packet_read};
@@ -11,8 +11,8 @@ use crate::packets::mold_place::{MoldPlace, put_places};
 use mold_wire::laws::spelling_length_law;
 use mold_wire::{Body, decode};
 
-/// Reads the packet that a datagram's bytes encode, in one pass. Code 0 writes all of `packet`, with `detail` 0. Codes
-/// 1, 2 and 3 write only `packet.detail`, the number that goes with the fault.
+/// Decodes a datagram in one pass. Code 0 writes all fields of `packet`, with `detail` 0. Codes 1, 2 and 3 write only
+/// `packet.detail`, the number that goes with the fault.
 #[unsafe(no_mangle)]
 pub extern "C" fn mold_decode(bytes: &[u8], packet: &mut MoldPacket) -> u32
     ensures code { result ≡ code_read (reading bytes.now) }
@@ -27,8 +27,8 @@ pub extern "C" fn mold_decode(bytes: &[u8], packet: &mut MoldPacket) -> u32
     }
 }
 
-/// Reads a datagram as `mold_decode` does, and writes where its messages lie, in order, as many as the array has room
-/// for. The other elements of the array stay; after a fault all of them do.
+/// Decodes a datagram as `mold_decode` does, and writes the places of its messages, in order and as many as the array
+/// has room for. The other elements of the array stay; after a fault all of them do.
 #[unsafe(no_mangle)]
 #[tactic(auto, using(crate::proofs::PlaceLemmas::no_places))]
 pub extern "C" fn mold_read(bytes: &[u8], packet: &mut MoldPacket, places: &mut [MoldPlace]) -> u32

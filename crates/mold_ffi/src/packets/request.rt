@@ -1,4 +1,4 @@
-//! Request packets.
+//! The calls that decode and encode request packets.
 
 ghost use Rattle.std.specs.Prelude.{◌≡◌};
 ghost use Rattle.mold_ffi.specs.Packets.Request.{code_asked, request_asked, request_of};
@@ -11,7 +11,7 @@ use mold_wire::{Request, Session};
 #[repr(C)]
 #[derive(Clone, Copy)]
 pub struct MoldRequest {
-    /// The sequence number of the first message. Any number is read and written.
+    /// The sequence number of the first message. The calls accept any number.
     pub sequence: u64,
     /// The number of messages, 0 to 65,535.
     pub count: u16,
@@ -19,8 +19,7 @@ pub struct MoldRequest {
     pub session: [u8; 10],
 }
 
-/// Reads the request that a datagram's bytes encode: any 20 bytes are a request. Any other length is code 24, and
-/// `request` stays.
+/// Decodes a request. Any 20 bytes are a request. For any other length the code is 24, and `request` stays.
 #[unsafe(no_mangle)]
 pub extern "C" fn mold_request_decode(bytes: &[u8], request: &mut MoldRequest) -> u32
     ensures code { result ≡ code_asked (request_reading bytes.now) }

@@ -17,8 +17,8 @@ use mold_session::PublisherError;
 use mold_wire::Session;
 use std::alloc::Global;
 
-/// Makes a publisher of an open session without messages, whose datagrams have at most `limit` bytes, 64 to 65,507,
-/// and whose messages at most 22 fewer. The handle must be empty.
+/// Makes a publisher of an open session without messages. Its datagrams have at most `limit` bytes, which is 64 to
+/// 65,507, and its messages at most 22 bytes fewer. The handle must be empty.
 #[unsafe(no_mangle)]
 pub extern "C" fn mold_publisher_new(
     alloc: Global,
@@ -51,8 +51,8 @@ pub extern "C" fn mold_publisher_new(
     }
 }
 
-/// Publishes a message and writes its sequence number. If it is too long, the number is its length; after any other
-/// refusal it is 0. A refusal changes nothing else.
+/// Publishes a message and writes its sequence number. If the message is too long, `number` is its length; after any
+/// other refusal it is 0. A refusal changes nothing else.
 #[unsafe(no_mangle)]
 pub extern "C" fn mold_publisher_publish(
     publisher: &mut MoldHandle,
@@ -73,7 +73,7 @@ pub extern "C" fn mold_publisher_publish(
     exchange.publish(message, number)
 }
 
-/// Whether the unsent messages do not all fit one datagram; false if the handle holds no publisher.
+/// Whether the unsent messages do not all fit in one datagram; false if the handle holds no publisher.
 #[unsafe(no_mangle)]
 pub extern "C" fn mold_publisher_is_full(publisher: &mut MoldHandle) -> bool
     ensures full { (exchange : AnExchange) → publisher.old.handle.value ≡ holding exchange →
@@ -90,9 +90,9 @@ pub extern "C" fn mold_publisher_is_full(publisher: &mut MoldHandle) -> bool
     exchange.is_full()
 }
 
-/// Writes a datagram of the unsent messages, as many as fit in order, and counts them as sent. The buffer must have
-/// room for the limit. `size` is the datagram's length; 0 if there is no message to send, and the limit if the buffer
-/// is shorter.
+/// Writes a datagram of the unsent messages, in order and as many as fit, and counts them as sent. The buffer must have
+/// at least as many bytes as the limit. `size` is the datagram's length, 0 if no message is unsent, or the limit if the
+/// buffer is shorter.
 #[unsafe(no_mangle)]
 pub extern "C" fn mold_publisher_datagram(
     publisher: &mut MoldHandle,
@@ -114,8 +114,8 @@ pub extern "C" fn mold_publisher_datagram(
     exchange.datagram(buffer, size)
 }
 
-/// Writes a heartbeat with the sequence number of the first unsent message; a closed session has none. Buffer and
-/// `size` are as for a datagram.
+/// Writes a heartbeat with the sequence number of the first unsent message. A closed session has no heartbeat. `buffer`
+/// and `size` are as for a datagram.
 #[unsafe(no_mangle)]
 pub extern "C" fn mold_publisher_heartbeat(
     publisher: &mut MoldHandle,
@@ -137,8 +137,8 @@ pub extern "C" fn mold_publisher_heartbeat(
     exchange.heartbeat(buffer, size)
 }
 
-/// Writes an end packet, whose sequence number is one more than the number of messages; an open session has none.
-/// Buffer and `size` are as for a datagram.
+/// Writes an end packet, whose sequence number is one more than the number of messages. An open session has no end
+/// packet. `buffer` and `size` are as for a datagram.
 #[unsafe(no_mangle)]
 pub extern "C" fn mold_publisher_end(
     publisher: &mut MoldHandle,
@@ -160,8 +160,8 @@ pub extern "C" fn mold_publisher_end(
     exchange.end(buffer, size)
 }
 
-/// Closes the session if every message was sent; otherwise `number` is the number of unsent messages, and nothing else
-/// changes. On a closed session it changes nothing.
+/// Closes the session if every message was sent; `number` is then 0. Otherwise `number` is the number of unsent
+/// messages, and nothing else changes. Closing a closed session changes nothing.
 #[unsafe(no_mangle)]
 pub extern "C" fn mold_publisher_close(publisher: &mut MoldHandle, number: &mut u64) -> u32
     ensures closes { (exchange : AnExchange) → publisher.old.handle.value ≡ holding exchange →
@@ -178,8 +178,8 @@ pub extern "C" fn mold_publisher_close(publisher: &mut MoldHandle, number: &mut 
     exchange.close(number)
 }
 
-/// Writes the file of the publisher's journal, in version 2. `size` is its length, also if the buffer is shorter and
-/// nothing is written.
+/// Writes the file of the publisher's journal, in version 2. `size` is its length. If the buffer is shorter, only
+/// `size` is written.
 #[unsafe(no_mangle)]
 pub extern "C" fn mold_publisher_save(
     publisher: &mut MoldHandle,
@@ -201,8 +201,9 @@ pub extern "C" fn mold_publisher_save(
     exchange.save(buffer, size)
 }
 
-/// Lets the publisher answer requests too, with at most `burst` datagrams each, 1 to 64, of its own limit. Its handle
-/// is then also a server's. A publisher that has a server stays as it is.
+/// Lets the publisher respond to requests too. A response has at most `burst` datagrams, 1 to 64, each of at most the
+/// publisher's limit. The handle is then also that of a server. A publisher that has a server stays as it is, and the
+/// code is 6.
 #[unsafe(no_mangle)]
 pub extern "C" fn mold_server_from_publisher(
     alloc: Global,

@@ -1,4 +1,4 @@
-//! A publisher, and the server that answers from its journal.
+//! A publisher, and the server that responds from its journal.
 
 ghost use Rattle.std.specs.Prelude.{◌≡◌, ◌↔◌, Option, None, Some, IsTrue, IfOk, IfErr, OnOk};
 ghost use Rattle.mold_ffi.specs.Publisher.Exchange.{GivesServer, with_server};
@@ -21,10 +21,12 @@ use mold_session::{Publisher, PublisherError, Server, ServerError, Unsent};
 use mold_wire::Session;
 use std::alloc::Global;
 
-/// A publisher, and the server that answers from its journal, if it has one.
+/// A publisher, and the server that responds from its journal, if it has one.
 #[derive(Drop)]
 pub struct Exchange {
+    /// The publisher.
     pub(crate) publisher: Publisher,
+    /// Its server, if it has one.
     pub(crate) server: Option<Server>,
 }
 
@@ -63,14 +65,14 @@ impl Exchange {
         }
     }
 
-    /// Whether the unsent messages do not all fit one datagram.
+    /// Whether the unsent messages do not all fit in one datagram.
     pub(crate) fn is_full(&self) -> bool
         ensures { IsTrue result ↔ (Fits self.now.publisher.limit (unsent_of self.now.publisher) → ⊥) }
     {
         self.publisher.is_full()
     }
 
-    /// Writes the next datagram at the start of the buffer.
+    /// Writes the next datagram to the start of the buffer.
     pub(crate) fn datagram(&mut self, buffer: &mut [u8], size: &mut usize) -> u32
         ensures { Sends self.old (next_datagram self.old.publisher) (after_datagram self.old.publisher)
             buffer.old buffer.new result size.new (holding self.new) }
@@ -83,7 +85,7 @@ impl Exchange {
         copy_if_some(self.publisher.datagram(), buffer, size)
     }
 
-    /// Writes a heartbeat at the start of the buffer.
+    /// Writes a heartbeat to the start of the buffer.
     pub(crate) fn heartbeat(&mut self, buffer: &mut [u8], size: &mut usize) -> u32
         ensures { Sends self.old (next_heartbeat self.old.publisher) self.old.publisher
             buffer.old buffer.new result size.new (holding self.new) }
@@ -96,7 +98,7 @@ impl Exchange {
         copy_if_some(self.publisher.heartbeat(), buffer, size)
     }
 
-    /// Writes an end packet at the start of the buffer.
+    /// Writes an end packet to the start of the buffer.
     pub(crate) fn end(&mut self, buffer: &mut [u8], size: &mut usize) -> u32
         ensures { Sends self.old (next_end self.old.publisher) self.old.publisher
             buffer.old buffer.new result size.new (holding self.new) }
@@ -125,7 +127,7 @@ impl Exchange {
         }
     }
 
-    /// Writes the journal's file at the start of the buffer, and its length.
+    /// Writes the journal's file to the start of the buffer, and its length to `size`.
     pub(crate) fn save(&self, buffer: &mut [u8], size: &mut usize) -> u32
         ensures { Saves self.now.publisher.journal buffer.old buffer.new result size.new }
     {
@@ -137,7 +139,7 @@ impl Exchange {
         }
     }
 
-    /// Gives the publisher a server, with its limit and for its journal.
+    /// Gives the publisher a server for its journal, with the publisher's limit.
     pub(crate) fn give_server(&mut self, alloc: Global, burst: u16) -> u32
         ensures { GivesServer self.old burst result (holding self.new) }
     {
@@ -157,7 +159,7 @@ impl Exchange {
         }
     }
 
-    /// Writes the first datagram of the answer to a request.
+    /// Writes the first datagram of the response to a request.
     pub(crate) fn answer(&mut self, request: &[u8], buffer: &mut [u8], number: &mut u64) -> u32
         ensures answers { (server : ServerState) → self.old.server ≡ Some server →
             Answers (Option AHeld) server self.old.publisher.journal request.now buffer.old buffer.new number.old
@@ -171,7 +173,7 @@ impl Exchange {
         }
     }
 
-    /// Plans the answer to a request.
+    /// Plans the response to a request.
     pub(crate) fn plan(&mut self, request: &[u8], fields: &mut MoldPlan, number: &mut u64) -> u32
         ensures plans { (server : ServerState) → self.old.server ≡ Some server →
             Plans (Option AHeld) server self.old.publisher.journal request.now fields.old fields.new number.old

@@ -1,4 +1,4 @@
-//! Requests answered and plans served, for a server of any handle.
+//! Responses to requests, and plans, for the server of any handle.
 
 ghost use Rattle.std.specs.Prelude.{◌≡◌};
 ghost use Rattle.mold_ffi.specs.Server.Answering.{Answers, Plans, Serves};
@@ -10,7 +10,7 @@ use crate::code::{ABSENT, BROKEN, DONE, ROOM};
 use crate::server::mold_plan::MoldPlan;
 use mold_session::{Journal, Server};
 
-/// Writes the first datagram of the answer to a request at the start of the buffer.
+/// Writes the first datagram of the response to a request to the start of the buffer.
 pub(crate) fn answer(
     server: &mut Server,
     journal: &Journal,
@@ -43,7 +43,7 @@ pub(crate) fn answer(
     }
 }
 
-/// Plans the answer to a request.
+/// Plans the response to a request.
 pub(crate) fn plan(
     server: &mut Server,
     journal: &Journal,
@@ -71,7 +71,7 @@ pub(crate) fn plan(
     }
 }
 
-/// Writes the next datagram of a plan at the start of the buffer, and moves the plan past its messages.
+/// Writes the next datagram of a plan to the start of the buffer, and moves the plan past its messages.
 pub(crate) fn datagram(
     server: &mut Server,
     journal: &Journal,

@@ -1,4 +1,4 @@
-//! The calls on a server: one of a saved journal, or that of a publisher.
+//! The calls on a server: that of a saved journal, or that of a publisher.
 
 ghost use Rattle.std.specs.Prelude.{◌≡◌, Option, None, Some, is_some, true};
 ghost use Rattle.mold_ffi.specs.Handle.Borrow.{IsNoServer};
@@ -21,10 +21,11 @@ use crate::server::mold_plan::MoldPlan;
 use crate::server::serving::Serving;
 use std::alloc::Global;
 
-/// Makes a server of a saved journal, whose file the bytes are, of version 1 or 2, and whose messages have at most 22
-/// bytes less than the limit, 64 to 65,507. It answers a request with at most `burst` datagrams, 1 to 64. `number` goes
-/// with the fault of bytes that are not a journal: their length, a message's length or sequence number, a byte, or the
-/// number of messages found; otherwise it is 0. The handle must be empty.
+/// Makes a server of the bytes of a journal file, of version 1 or 2. Its datagrams have at most `limit` bytes, which is
+/// 64 to 65,507, and the messages must have at most 22 bytes fewer. A response has at most `burst` datagrams, 1 to 64.
+/// If the bytes are not such a journal, `number` goes with the fault: the length of the bytes, the length or the
+/// sequence number of a message, a byte, or the number of messages found. Otherwise it is 0. If an allocation fails,
+/// the code is 7, also if the bytes have a fault. The handle must be empty.
 #[unsafe(no_mangle)]
 pub extern "C" fn mold_server_new(
     alloc: Global,
@@ -58,9 +59,9 @@ pub extern "C" fn mold_server_new(
     }
 }
 
-/// Writes the first datagram of the answer to a request. The buffer must have room for the limit. `number` is the
-/// datagram's length; the limit if the buffer is shorter; the request's length, or the sequence number of the
-/// journal's next message, if that is why it is refused; otherwise 0.
+/// Writes the first datagram of the response to a request. The buffer must have at least as many bytes as the limit.
+/// `number` is the datagram's length, or the limit if the buffer is shorter. If the request is refused, `number` goes
+/// with the refusal: the request's length, or the sequence number of the journal's next message, or 0.
 #[unsafe(no_mangle)]
 pub extern "C" fn mold_server_answer(
     server: &mut MoldHandle,
@@ -88,8 +89,8 @@ pub extern "C" fn mold_server_answer(
     }
 }
 
-/// Plans the answer to a request, which `mold_server_datagram` then sends. `number` is 0 if it is planned, and as for
-/// an answer if it is refused. A refusal does not change the plan.
+/// Plans the response to a request; `mold_server_datagram` then writes its datagrams. `number` is 0 if the response is
+/// planned. If the request is refused, `number` is as for `mold_server_answer`, and the plan stays.
 #[unsafe(no_mangle)]
 pub extern "C" fn mold_server_plan(
     server: &mut MoldHandle,
@@ -117,9 +118,9 @@ pub extern "C" fn mold_server_plan(
     }
 }
 
-/// Writes the next datagram of a plan, and moves the plan past its messages; a plan that is spent has none. The code is
-/// 6 for a plan of another session or of messages that the journal does not have. Buffer and `size` are as for a
-/// publisher's datagram.
+/// Writes the next datagram of a plan, and moves the plan past its messages. A plan that is spent has no datagram. For
+/// a plan of another session, or of messages that the journal does not have, the code is 6. `buffer` and `size` are as
+/// for a publisher's datagram.
 #[unsafe(no_mangle)]
 pub extern "C" fn mold_server_datagram(
     server: &mut MoldHandle,

@@ -7,7 +7,7 @@ ghost use Rattle.mold_session.specs.Answer.{IsPlan};
 use mold_session::Plan;
 use mold_wire::Session;
 
-/// The rest of the answer to a request: the messages from `from` to below `to`, in at most `left` datagrams.
+/// The rest of the response to a request: the messages from `from` to below `to`, in at most `left` datagrams.
 #[repr(C)]
 #[derive(Clone, Copy)]
 pub struct MoldPlan {
@@ -15,14 +15,14 @@ pub struct MoldPlan {
     pub from: u64,
     /// One more than the number of the last message, at least `from`.
     pub to: u64,
-    /// The most datagrams that may still be sent.
+    /// The greatest number of datagrams that remain to be sent.
     pub left: u16,
     /// The session of the messages.
     pub session: [u8; 10],
 }
 
 impl MoldPlan {
-    /// The plan with these fields; none if `from` is 0 or above `to`.
+    /// Returns the plan with these fields; `None` if `from` is 0 or above `to`.
     pub(crate) fn resumed(&self) -> Option<Plan>
         ensures some { IsSome result ↔ IsPlan (plan_of self.now) }
         ensures plan { IfSome result (λ plan. plan ≡ plan_of self.now) }

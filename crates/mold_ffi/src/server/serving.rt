@@ -1,4 +1,4 @@
-//! A server and the journal that it answers from.
+//! A server, and the journal from which it responds.
 
 ghost use Rattle.std.specs.Prelude.{◌≡◌, ◌⊎◌, Option, Some, IfOk, IfErr, OnOk};
 ghost use Rattle.mold_ffi.specs.Publisher.Exchange.{IsBurst};
@@ -17,16 +17,18 @@ use mold_session::{Journal, Server, ServerError, SliceSource};
 use mold_wire::{MAX_LIMIT, MESSAGE_OVERHEAD, MIN_LIMIT};
 use std::alloc::Global;
 
-/// A server, and the journal that it answers from.
+/// A server, and the journal from which it responds.
 #[derive(Drop)]
 pub struct Serving {
+    /// The server.
     pub(crate) server: Server,
+    /// The journal.
     pub(crate) journal: Journal,
 }
 
 impl Serving {
-    /// A server of the journal whose file the bytes are, and whose messages have at most 22 bytes less than the limit;
-    /// or the code of the refusal. `number` goes with it, or is 0.
+    /// A server of the journal file, whose messages must have at most 22 bytes less than the limit; or the code of the
+    /// refusal. `number` is the number that goes with the refusal, or 0.
     pub(crate) fn new(
         alloc: Global,
         limit: usize,
@@ -63,7 +65,7 @@ impl Serving {
         }
     }
 
-    /// Writes the first datagram of the answer to a request.
+    /// Writes the first datagram of the response to a request.
     pub(crate) fn answer(&mut self, request: &[u8], buffer: &mut [u8], number: &mut u64) -> u32
         ensures { Answers (Option AHeld) self.old.server self.old.journal request.now buffer.old buffer.new number.old
             result number.new (with_serving self.old) (Some (AServer self.new)) }
@@ -71,7 +73,7 @@ impl Serving {
         answer(&mut self.server, &self.journal, request, buffer, number)
     }
 
-    /// Plans the answer to a request.
+    /// Plans the response to a request.
     pub(crate) fn plan(&mut self, request: &[u8], fields: &mut MoldPlan, number: &mut u64) -> u32
         ensures { Plans (Option AHeld) self.old.server self.old.journal request.now fields.old fields.new number.old
             result number.new (with_serving self.old) (Some (AServer self.new)) }

@@ -1,4 +1,4 @@
-//! The calls on a checker.
+//! Tests of the calls on a checker.
 
 use crate::checker::calls::{
     mold_checker_new, mold_checker_ranges, mold_checker_take, mold_checker_verdict,

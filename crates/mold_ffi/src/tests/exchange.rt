@@ -1,4 +1,4 @@
-//! The calls on a publisher and a server on their happy path, as a program in C makes them.
+//! Tests of the calls on a publisher and a server.
 
 use crate::handle::free::mold_free;
 use crate::handle::mold_handle::MoldHandle;
@@ -13,10 +13,10 @@ use crate::server::calls::{
 use crate::server::mold_plan::MoldPlan;
 use std::process::Abort;
 
-/// Message 1, which is `AB`.
+/// A packet of message 1, which is `AB`.
 const DATA: &[u8] = b"SESSION001\0\0\0\0\0\0\0\x01\0\x01\0\x02AB";
 
-/// The heartbeat and the end behind it.
+/// The heartbeat and the end packet after message 1.
 const HEARTBEAT: &[u8] = b"SESSION001\0\0\0\0\0\0\0\x02\0\0";
 
 const END: &[u8] = b"SESSION001\0\0\0\0\0\0\0\x02\xff\xff";
@@ -24,7 +24,7 @@ const END: &[u8] = b"SESSION001\0\0\0\0\0\0\0\x02\xff\xff";
 /// The file of the closed journal.
 const FILE: &[u8] = b"MOLDJNL2SESSION001\x01\0\0\0\0\0\0\0\x01\0\x02AB";
 
-/// Asks for two messages from 1 on.
+/// A request for two messages from number 1 on.
 const REQUEST: &[u8] = b"SESSION001\0\0\0\0\0\0\0\x01\0\x02";
 
 fn done(rt: &impl Abort, code: u32) {
@@ -39,7 +39,7 @@ fn begins(rt: &impl Abort, found: &[u8], wanted: &[u8]) {
     assert_eq!(rt; found.starts_with(wanted), true);
 }
 
-// A message, its datagram, a heartbeat, the end, and the file.
+// A message, its datagram, a heartbeat, an end packet, and the file.
 fn publish(rt: &impl Abort, publisher: &mut MoldHandle) {
     let mut buffer = [7; 64];
     let mut number = 9;
@@ -65,7 +65,7 @@ fn publish(rt: &impl Abort, publisher: &mut MoldHandle) {
     same_number(rt, size as u64, 31);
 }
 
-// An answer, and a plan with one datagram.
+// A response, and a plan with one datagram.
 fn serve(rt: &impl Abort, server: &mut MoldHandle) {
     let mut buffer = [7; 64];
     let mut number = 9;

@@ -1,4 +1,4 @@
-//! The calls on a listener.
+//! Tests of the calls on a listener.
 
 use crate::handle::free::mold_free;
 use crate::handle::mold_handle::MoldHandle;
@@ -16,10 +16,10 @@ use crate::listener::status::{
 use crate::tests::{DATA, END, same_answer, same_bytes, same_code, same_number, same_size};
 use std::process::Abort;
 
-/// Asks for two messages from 1 on.
+/// A request for two messages from number 1 on.
 const REQUEST: &[u8; 20] = b"SESSION001\0\0\0\0\0\0\0\x01\0\x02";
 
-// The end on line A, an answer with what is missing.
+// An end packet on line A, then a response with the missing messages.
 fn hear(rt: &impl Abort, listener: &mut MoldHandle) {
     let mut told = MoldTold {
         detail: 9,

@@ -6,7 +6,7 @@ use crate::packets::read::mold_read;
 use std::process::Abort;
 use std::rt::HostRuntime;
 
-// A heartbeat; a packet of `AB` and an empty message; an end packet and a byte more; a packet that is cut in its
+// A heartbeat; a packet of `AB` and an empty message; an end packet and one more byte; a packet that is cut in its
 // second block; and the heartbeat without its last byte.
 #[test]
 fn datagrams_are_read(rt: HostRuntime) {
@@ -36,7 +36,7 @@ fn datagrams_are_read(rt: HostRuntime) {
     expect_read(&rt, &heartbeat[..19], SHORT, [9, 19, 9, 9], [0, 0]);
 }
 
-// What is written of a packet: sequence number, detail, kind and count; and the first place's offset and length.
+// What a call writes about a packet: sequence number, detail, kind, count, and the first place's offset and length.
 fn expect_read(rt: &impl Abort, bytes: &[u8], code: u32, packet: [u64; 4], place: [usize; 2]) {
     let mut read = MoldPacket {
         sequence: 9,
@@ -63,7 +63,7 @@ fn expect_read(rt: &impl Abort, bytes: &[u8], code: u32, packet: [u64; 4], place
     assert!(rt; [first.offset, first.length] == place);
 }
 
-// With a limit of 64 bytes two messages of 20 go in one packet of all of them, and no third.
+// With a limit of 64 bytes a packet has room for two messages of 20 bytes, and for no third one.
 #[test]
 fn messages_fill_lent_memory(rt: HostRuntime) {
     let mut buffer = [0; 64];

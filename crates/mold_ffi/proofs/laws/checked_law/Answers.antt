@@ -8,7 +8,7 @@ use Rattle.mold_wire.specs.Block.{IsBytes}
 use Rattle.mold_ffi.proofs.CheckerLemmas.{all_joined}
 use Rattle.mold_ffi.proofs.laws.checked_law.Goals as goal
 
--- from no datagram on
+-- The same for a checker that begins with no datagram.
 from_none : (c : goal.After-whole_is_one_law) (list : List (List ℕ)) → All IsBytes list → AreTaken (seen_of []) list
     → Consistent list × (said (seen_of []) list ≡ seen_of list)
 from_none c list = all_joined c.reason_law.ensures.accepted c.after_law.ensures list [] c.reason_law.ensures.none

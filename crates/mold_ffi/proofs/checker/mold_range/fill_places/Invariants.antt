@@ -3,7 +3,7 @@ use Rattle.mold_capture.specs.Verdict.{ranges_of}
 use Rattle.mold_ffi.specs.Checker.MoldRange.{range_of}
 use Rattle.mold_ffi.proofs.checker.mold_range.fill_places.Given as goal
 
--- as many places are written as ranges were read
+-- As many elements are written as ranges were read.
 abbrev pub invariant-loop-range : goal.invariant-loop-range
 invariant-loop-range l = record {
   counted : l.filled ≡ l.range-index;

@@ -16,7 +16,7 @@ use Rattle.mold_ffi.specs.contracts.handle.held.Held as held
 use Rattle.mold_ffi.proofs.handle.held.Held.TheSendSync.{the_send as held_send}
 use Rattle.mold_ffi.specs.contracts.handle.Handle.{the_row, the_type}
 
--- what a handle owns is bound to no thread
+-- What a handle owns is not bound to a thread.
 keyless : (alloc : Global) (at : Ptr) (value : Option Held) → Keyless (handle_owns alloc at value)
 keyless alloc at None = tt
 keyless alloc at (Some x) = (lies held.the_row held_send at x, crossing.frees.frees alloc (raw (lone held.the_row.mir)) at)

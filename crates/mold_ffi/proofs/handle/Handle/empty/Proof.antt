@@ -1,4 +1,4 @@
--- `empty` puts the null pointer beside the allocator, and owns nothing else.
+-- `empty` makes a handle of the null pointer and the allocator, which owns nothing else.
 use Rattle.mold_ffi.proofs.Walking.{refl, sym, subst, List, [], ◌∷◌, ◌++◌, Ura, Val, vstruct, vcons, vnil, SProp, ent, emp, ftrue, fsep, Fun, tables}
 use Rattle.mold_ffi.proofs.Walking.{tables_of, Memory, Routine, WpFn, Tables, Logic, WpFn-mono, Item, ‵, raw, ◌⊛◌, ◌$◌, ◌∵◌, !, qed, by, move, drop, join}
 use Rattle.mold_ffi.proofs.Walking.{split, fsplit, fjoin, feq_i, fpack, suffices, done, agg, no_more, and_then, lit, returns, enter, alloc_all, pass_all}
@@ -36,7 +36,7 @@ module _ {M : Type 1} {𝓤 : Ura M} (𝓛 : Logic 𝓤) (memory : Memory → SP
       alloc_all ! (λ locals. pass_all ! refl (fits, tt) $
       sets ! (agg ! (and_then ! (lit ! tt) (and_then ! (get ! refl) (no_more !)))) refl (and_tt _ fits.0, (record { fits = lit< tt }, (fits.1, tt))) $
       returns ! (look_at ! 0 refl) $ free_all ! refl $
-      -- [nothing; the allocator]: the fields, and beside them nothing is owned
+      -- [nothing; the allocator]: the fields; nothing else is owned.
       nothing ! $ move ! (1 ∷ 0 ∷ []) $ fjoin ! $
       feq_i ! (List Val) (ptr_val null_ptr ∷ []) (ptr_val null_ptr ∷ []) refl $ fjoin ! $
       feq_i ! (List Val) (null_word bits ∷ []) (null_word bits ∷ []) refl $ fjoin ! $

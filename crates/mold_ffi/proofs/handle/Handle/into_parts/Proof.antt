@@ -1,4 +1,4 @@
--- `into_parts` moves a pointer and an allocator, and what the handle owns goes with them.
+-- `into_parts` moves the pointer and the allocator, and the parts own what the handle owned.
 use Rattle.mold_ffi.proofs.Walking.{◌≡◌, refl, sym, subst, List, [], ◌∷◌, ◌++◌, Ura, Val, SProp, ent, id⊢, ftrue, fsep, Fun, fact, tables, tables_of}
 use Rattle.mold_ffi.proofs.Walking.{Memory, Routine, WpFn, Tables, Logic, WpFn-mono, Item, ‵, raw, ◌⊛◌, ◌$◌, ◌∵◌, !, qed, by, move, drop, use1, join}
 use Rattle.mold_ffi.proofs.Walking.{split, rewrite, fsplit, fjoin, suffices, done, whole, sub, agg, stop, fld, no_more, and_then, of_opd, returns, enter}
@@ -31,7 +31,7 @@ module _ {M : Type 1} {𝓤 : Ura M} (𝓛 : Logic 𝓤) (memory : Memory → SP
       let Made = type_at (this_one.signature).result tt in
       let made : Made.Denot = record { pointer = given.at; alloc = given.alloc; value = found.0 } in
       rewrite ! 0 (λ (value : Option Held). ‵ (handle.the_row.own_val (record { at = given.at; alloc = given.alloc; value = value }) z.0.4.0)) found.1 refl $
-      -- what a handle of something owns is what a box owns
+      -- A handle that is not empty owns what a box owns.
       use1 𝓛 (‵ ((B E).own_val boxed z.0.4.0)) (id⊢ 𝓤 _) $
       box_out E ! boxed z.0.4.0 (λ block offset bits there as_word fits.
       let word_there = word E bits block offset in

@@ -1,4 +1,4 @@
--- `lend` makes a reference of the handle's pointer, and the handle follows what is written through it.
+-- `lend` makes a reference of the handle's pointer. The handle then holds what is written through it.
 use Rattle.mold_ffi.proofs.Walking.{◌≡◌, refl, sym, ℕ, List, [], ◌∷◌, Ura, full_share, named, Val, vptr, SProp, ent, sep, Lft, GName, Share, Fml, ftrue}
 use Rattle.mold_ffi.proofs.Walking.{flft, fsep, Env, Calls, Loops, WpFn, Tables, Logic, sem, fact, tables, tables_of, Memory, Routine, Fun, WpFn-mono, id⊢}
 use Rattle.mold_ffi.proofs.Walking.{‵, ◌⊛◌, some, at_ret, ◌$◌, ◌∵◌, !, qed, by, move, keep, use1, drop, split, join, pick, rewrite, fsplit, fsplit3, fjoin}
@@ -19,7 +19,7 @@ use Rattle.mold_ffi.proofs.handle.Handle.lend.Code as code
 abbrev stays : Stays (this_one.ended).signature.params (this_one.ended).kept
 stays = (stay_dropped (mut_ref_to (0 ∷ []) tt (plain (λ _. H))) no, tt)
 
--- the handle, once this was written through the loan
+-- The handle after a value was written through the borrow.
 abbrev with_held : H.Denot → Held → H.Denot
 with_held handle new = record { at = handle.at; alloc = handle.alloc; value = Some new }
 
@@ -37,7 +37,7 @@ module _ {M : Type 1} {𝓤 : Ura M} (𝓛 : Logic 𝓤) (memory : Memory → SP
   boxed x = record { ptr = handle.at; alloc = handle.alloc; value = x }
 
   module _ (found : (x : Held) × (handle.value ≡ Some x)) (block offset : ℕ) (bits : Val) where
-    -- all that the handle owns but what it holds
+    -- What the handle owns apart from the value that it holds.
     abbrev Rest : Fml
     Rest = fsep (fsep (token E.al handle.alloc (bare (τ E)) (block_ptr block offset)) (allocator_owns E handle.alloc bits))
         (cell_at full_share H.mir (word E bits block offset ∷ []) rb ro)
@@ -78,7 +78,7 @@ module _ {M : Type 1} {𝓤 : Ura M} (𝓛 : Logic 𝓤) (memory : Memory → SP
         move ! (1 ∷ []) $ fsplit ! $ fsplit3 ! $ drop ! $ move ! (3 ∷ []) $ split ! $ move ! (2 ∷ 3 ∷ 0 ∷ []) $
         opens ! tt H {h = handle} rb ro (λ words. move ! (1 ∷ []) $
         rewrite ! 0 (λ (value : Option Held). ‵ (H.own_val (record { at = handle.at; alloc = handle.alloc; value = value }) words)) found.1 refl $
-        -- what a handle of something owns is what a box owns
+        -- A handle that is not empty owns what a box owns.
         use1 𝓛 (‵ ((B E).own_val (boxed found.0) words)) (id⊢ 𝓤 _) $
         box_out E ! (boxed found.0) words (λ block offset bits there as_word fits.
         move ! (1 ∷ 2 ∷ []) $ fjoin ! $ move ! (1 ∷ []) $

@@ -1,4 +1,4 @@
--- `of_parts` moves a pointer and an allocator, and what the parts own goes with them.
+-- `of_parts` moves the pointer and the allocator, and the handle owns what the parts owned.
 use Rattle.mold_ffi.proofs.Walking.{refl, sym, subst, List, [], ◌∷◌, ◌++◌, Ura, Val, SProp, ent, emp, id⊢, ftrue, fsep, Fun, tables, tables_of, Memory}
 use Rattle.mold_ffi.proofs.Walking.{Routine, WpFn, Tables, Logic, WpFn-mono, Item, ‵, raw, ◌⊛◌, ◌$◌, ◌∵◌, !, qed, by, move, drop, use1, join, split}
 use Rattle.mold_ffi.proofs.Walking.{fsplit, fjoin, suffices, done, whole, sub, agg, stop, fld, no_more, and_then, of_opd, returns, enter, alloc_all, pass_all}
@@ -29,7 +29,7 @@ module _ {M : Type 1} {𝓤 : Ura M} (𝓛 : Logic 𝓤) (memory : Memory → SP
       qed 𝓛 ((‵ ftrue ⊛ ‵ (fsep ((B E).own_val boxed z.0.4.0) ftrue)) ∷ raw (emp 𝓤) ∷ []) ∵ split ! $ drop ! $ fsplit ! $
       box_out E ! boxed z.0.4.0 (λ block offset bits there as_word fits.
       let word_there = word E bits block offset in
-      -- what a box owns is what a handle of something owns
+      -- A box owns what a handle that is not empty owns.
       box_in E ! boxed block offset boxed.value there refl $ use1 𝓛 (‵ (Made.own_val made (word_there ∷ []))) (id⊢ 𝓤 _) $
       move ! (1 ∷ 2 ∷ []) $ drop ! $ drop ! $
       let Context : List (Item 𝓤) = ‵ (Made.own_val made (word_there ∷ [])) ∷ [] in

@@ -1,7 +1,7 @@
 use Rattle.std.proofs.Common.{◌≡◌, ◌+◌, ◌≤◌, length, take, drop, map}
 use Rattle.mold_ffi.proofs.listener.batch.lend_messages.Given as goal
 
--- as many places are written as messages were read
+-- As many elements are written as messages were read.
 abbrev pub invariant-loop-bytes : goal.invariant-loop-bytes
 invariant-loop-bytes l = record {
   left : drop l.filled l.batch.messages ≡ l.bytes-iterator;

@@ -1,4 +1,4 @@
--- `into_box` calls for a box at the pointer, and passes on what the parts own.
+-- `into_box` makes a box of the pointer, which gets what the parts own.
 use Rattle.mold_ffi.proofs.Walking.{◌≡◌, refl, sym, subst, ap, List, [], ◌∷◌, ◌++◌, T, Ura, Fn, Body, place, copy, assign, rv_opd, seq, return, inst_fn}
 use Rattle.mold_ffi.proofs.Walking.{Val, vptr, has_ty, WT, SProp, ent, id⊢, ftrue, fsep, flft, ◌⊑◌, Fun, fact, tables, tables_of, Memory, Routine, WpFn}
 use Rattle.mold_ffi.proofs.Walking.{Tables, Logic, fm_of, WpFn-mono, Item, at_ret, ‵, raw, ◌⊛◌, some, later, ◌$◌, ◌∵◌, !, qed, by, move, drop, use1, join}
@@ -16,7 +16,7 @@ use Rattle.mold_ffi.specs.contracts.handle.box_parts.BoxParts.into_box.Key.{name
 use Rattle.mold_ffi.proofs.handle.box_parts.BoxParts.into_box.Statement.{statement}
 use Rattle.mold_ffi.proofs.handle.box_parts.BoxParts.into_box.Code as code
 
--- what is left behind the call
+-- What remains after the call.
 abbrev rest : Body
 rest = seq (assign (place 0 []) (rv_opd (copy (place 4 [])))) return
 

@@ -1,4 +1,4 @@
--- `of` calls for the box's pointer and allocator, and the parts made of these own what the box owned.
+-- `of` takes the pointer and the allocator of the box, and the parts own what the box owned.
 use Rattle.mold_ffi.proofs.Walking.{◌≡◌, refl, sym, subst, ap, ◌∙◌, List, [], ◌∷◌, ◌++◌, Ura, Fn, Args, Dict, a_type, dcons, dnil, inst_fn, bare, Val}
 use Rattle.mold_ffi.proofs.Walking.{vstruct, of_list, SProp, ent, id⊢, never, fst∗, ftrue, fsep, flft, ◌⊑◌, Fun, fact, tables, tables_of, Memory, Routine}
 use Rattle.mold_ffi.proofs.Walking.{WpFn, Tables, Logic, sem, fm_of, WpFn-mono, Item, ‵, raw, ◌⊛◌, some, later, ◌$◌, ◌∵◌, !, qed, by, move, drop, use1, join}
@@ -58,7 +58,7 @@ module _ (E : Bx) (dropping : Dict) where
         alloc_all ! (λ locals. pass_all ! refl (box_typed E bits block offset fits, tt) $
         sets ! (of_opd ! (get ! refl)) refl (box_typed E bits block offset fits) $
         fjoin ! $ move ! (1 ∷ 0 ∷ []) $ join ! $ join ! $ use1 𝓛 (raw (Taken.pre call)) (id⊢ 𝓤 _) $
-        -- the call, and what it answers: a pointer in a block, and the allocator
+        -- The call, and what it returns: a pointer in a block, and the allocator.
         calls_at ! (fm_of 𝓤 H 𝓛.laws 𝓣) Taken known call (and_then ! (get ! refl) (no_more !)) (λ answer.
         use1 𝓛 (later (some (λ (r : Ptr × E.al.row.Denot). (alive ⊛ ‵ ((Tuple (RawPtr ∷ P E ∷ [])).own_val r (answer ∷ [])))
         ⊛ some (λ (_ : (Unit {0} × (Unit {0} × Unit {0})) × Unit {0}). ‵ (fsep (fsep ftrue (fsep ftrue ftrue)) ftrue)
