@@ -6,6 +6,7 @@ pub(crate) mod decode_error;
 pub(crate) mod file_error;
 pub(crate) mod refusal;
 mod text;
+mod texts;
 
 /// The call succeeded.
 pub const DONE: u32 = 0;

@@ -1,44 +1,45 @@
 -- The text of each code, as `mold_text` returns it.
-use Rattle.std.specs.Prelude.{ℕ, List, [], ◌∷◌, codes, get_or}
+use Rattle.std.specs.Prelude.{ℕ, List, [], ◌∷◌, get_or}
+use Rattle.mold_ffi.specs.declared.code.texts.TheConstants as text
 
 -- The texts of the codes, from code 0 on.
 abbrev pub texts : List (List ℕ)
 texts =
-    codes "done" ∷
-    codes "a packet has at least 20 bytes" ∷
-    codes "a message block is cut short" ∷
-    codes "bytes follow the end of the packet" ∷
-    codes "a datagram limit is 64 to 65,507 bytes" ∷
-    codes "the packet has no room for the message" ∷
-    codes "the call cannot use this handle or these fields" ∷
-    codes "out of memory" ∷
-    codes "another session" ∷
-    codes "the sequence number is 0" ∷
-    codes "a message has a number above 18446744073709551614" ∷
-    codes "the packet states another end of the session" ∷
-    codes "the packet ends the session below what is known" ∷
-    codes "the packet goes past the end of the session" ∷
-    codes "a message differs from the one received before" ∷
-    codes "there is no such line" ∷
-    codes "a listener cannot begin at sequence number 0" ∷
-    codes "a window is 1 to 65,536 messages" ∷
-    codes "there is nothing to return" ∷
-    codes "the session is closed" ∷
-    codes "the message is too long" ∷
-    codes "no sequence number is left for a message" ∷
-    codes "some messages are not yet in a datagram" ∷
-    codes "the buffer is too small" ∷
-    codes "a request has 20 bytes" ∷
-    codes "the request is for no message" ∷
-    codes "the request begins above the last message" ∷
-    codes "a burst is 1 to 64 datagrams" ∷
-    codes "too few bytes for a journal" ∷
-    codes "not a journal of version 1 or 2" ∷
-    codes "the journal's flag is neither open nor closed" ∷
-    codes "the journal ends within a message" ∷
-    codes "the journal does not have as many messages as it states" ∷
+    text.DONE.now ∷
+    text.SHORT.now ∷
+    text.BLOCK_CUT.now ∷
+    text.TRAILING.now ∷
+    text.LIMIT.now ∷
+    text.FULL.now ∷
+    text.BROKEN.now ∷
+    text.MEMORY.now ∷
+    text.WRONG_SESSION.now ∷
+    text.SEQUENCE_ZERO.now ∷
+    text.PAST_LAST.now ∷
+    text.END_CONFLICT.now ∷
+    text.END_BELOW.now ∷
+    text.PAST_END.now ∷
+    text.CONFLICT.now ∷
+    text.LINE.now ∷
+    text.NEXT_ZERO.now ∷
+    text.WINDOW.now ∷
+    text.ABSENT.now ∷
+    text.CLOSED.now ∷
+    text.TOO_LONG.now ∷
+    text.NUMBERS.now ∷
+    text.UNSENT.now ∷
+    text.ROOM.now ∷
+    text.REQUEST_LENGTH.now ∷
+    text.EMPTY_REQUEST.now ∷
+    text.AHEAD.now ∷
+    text.BURST.now ∷
+    text.FILE_SHORT.now ∷
+    text.BAD_MAGIC.now ∷
+    text.BAD_FLAG.now ∷
+    text.FILE_CUT.now ∷
+    text.COUNT_DIFFERS.now ∷
     []
 
 -- The text of any number: of a code its text, otherwise `unknown code`.
 abbrev pub text_of : ℕ → List ℕ
-text_of code = get_or texts code (codes "unknown code")
+text_of code = get_or texts code text.UNKNOWN.now
