@@ -317,7 +317,7 @@ const WHOLE: Case = Case {
 };
 
 #[test]
-fn a_refused_growth_dumps_a_beginning(rt: HostRuntime) -> Result<(), Fail> {
+fn out_of_memory_dumps_a_prefix(rt: HostRuntime) -> Result<(), Fail> {
     expect_again(&rt, &WHOLE)?;
     expect_again(&rt, &CUT)
 }

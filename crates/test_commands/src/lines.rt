@@ -95,11 +95,11 @@ fn each_write_that_fails_leaves_a_prefix(rt: HostRuntime) {
 }
 
 #[test]
-fn a_refused_growth_leaves_a_beginning(rt: HostRuntime) -> Result<(), Fail> {
+fn out_of_memory_leaves_a_prefix(rt: HostRuntime) -> Result<(), Fail> {
     expect_again(&rt, Command::CheckLines, &TWO_MISSING)
 }
 
 #[test]
-fn a_refused_growth_leaves_a_beginning_of_a_refused_line(rt: HostRuntime) -> Result<(), Fail> {
+fn out_of_memory_leaves_a_prefix_of_a_refused_line(rt: HostRuntime) -> Result<(), Fail> {
     expect_again(&rt, Command::CheckLines, &SHORT)
 }

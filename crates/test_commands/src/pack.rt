@@ -144,6 +144,6 @@ fn each_write_that_fails_leaves_a_prefix_of_the_packets(rt: HostRuntime) {
 }
 
 #[test]
-fn a_refused_growth_packs_a_beginning(rt: HostRuntime) -> Result<(), Fail> {
+fn out_of_memory_packs_a_prefix(rt: HostRuntime) -> Result<(), Fail> {
     expect_again(&rt, Command::Pack, &TWO_AND_END)
 }

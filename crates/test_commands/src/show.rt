@@ -242,6 +242,6 @@ fn each_write_that_fails_leaves_a_prefix(rt: HostRuntime) {
 }
 
 #[test]
-fn a_refused_growth_shows_a_beginning(rt: HostRuntime) -> Result<(), Fail> {
+fn out_of_memory_shows_a_prefix(rt: HostRuntime) -> Result<(), Fail> {
     expect_again(&rt, Command::Show, &TWO)
 }

@@ -61,6 +61,6 @@ fn each_write_that_fails_leaves_a_prefix_of_the_script(rt: HostRuntime) {
 }
 
 #[test]
-fn a_refused_growth_runs_a_beginning(rt: HostRuntime) -> Result<(), Fail> {
+fn out_of_memory_runs_a_prefix(rt: HostRuntime) -> Result<(), Fail> {
     expect_again(&rt, Command::Sim, &SCRIPT)
 }

@@ -344,6 +344,6 @@ fn expect_with_allocations(rt: &(impl Abort + AllocGlobal), case: &Case) -> Resu
 
 /// `tests/out-of-memory` makes each allocation fail in turn.
 #[test]
-fn a_refused_growth_publishes_beginnings(rt: HostRuntime) -> Result<(), Fail> {
+fn out_of_memory_publishes_prefixes(rt: HostRuntime) -> Result<(), Fail> {
     expect_with_allocations(&rt, &EXAMPLE)
 }

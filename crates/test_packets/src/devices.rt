@@ -189,7 +189,7 @@ fn write_two(rt: &impl Abort, sink: &mut MemorySink) -> Result<(), DeviceFault> 
 }
 
 #[test]
-fn a_refused_growth_is_a_failed_write(rt: HostRuntime) -> Result<(), Fail> {
+fn out_of_memory_is_a_failed_write(rt: HostRuntime) -> Result<(), Fail> {
     let mut sink = MemorySink::new(rt.alloc());
     match write_two(&rt, &mut sink) {
         Ok(()) => Ok(()),

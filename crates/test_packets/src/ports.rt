@@ -119,7 +119,7 @@ fn send_three(rt: &impl Abort, port: &mut MemoryPort) -> Result<(), DeviceFault>
 }
 
 #[test]
-fn a_refused_growth_is_a_failed_send(rt: HostRuntime) -> Result<(), Fail> {
+fn out_of_memory_is_a_failed_send(rt: HostRuntime) -> Result<(), Fail> {
     let mut port = MemoryPort::new(rt.alloc(), Vec::new(rt.alloc()));
     match send_three(&rt, &mut port) {
         Ok(()) => Ok(()),

@@ -140,7 +140,7 @@ fn responses_belong_to_no_line(rt: HostRuntime) -> Result<(), Fail> {
 
 /// Out of memory is in no line's report.
 #[test]
-fn a_refused_growth_is_not_reported(rt: HostRuntime) -> Result<(), Fail> {
+fn out_of_memory_is_not_reported(rt: HostRuntime) -> Result<(), Fail> {
     let mut arbitration = Arbitration::new(rt.alloc())?;
     arbitration.take_again(&rt)?;
     arbitration.expect_lines(&rt, (1, 0, 4), (0, 0, 1));
@@ -165,7 +165,7 @@ const NO_NEWS: &[Step] = &[
 
 /// A response that brings nothing new allocates nothing.
 #[test]
-fn no_growth_of_an_answer_of_nothing_new(rt: HostRuntime) -> Result<(), Fail> {
+fn no_allocation_of_a_response_with_nothing_new(rt: HostRuntime) -> Result<(), Fail> {
     expect_no_news(&rt, rt.alloc(), NO_NEWS)
 }
 
@@ -180,6 +180,6 @@ const NO_NEWS_OF_LINES: &[Step] = &[
 
 /// Nor does a datagram of a line that brings nothing new or is refused.
 #[test]
-fn no_growth_of_lines_of_nothing_new(rt: HostRuntime) -> Result<(), Fail> {
+fn no_allocation_of_lines_of_nothing_new(rt: HostRuntime) -> Result<(), Fail> {
     expect_no_news(&rt, rt.alloc(), NO_NEWS_OF_LINES)
 }

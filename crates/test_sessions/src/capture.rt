@@ -319,7 +319,7 @@ fn expect_added(rt: &impl Abort, checker: &mut Checker) -> Result<(), Memory> {
 }
 
 #[test]
-fn a_refused_growth_adds_nothing(rt: HostRuntime) -> Result<(), Fail> {
+fn out_of_memory_adds_nothing(rt: HostRuntime) -> Result<(), Fail> {
     let mut checker = Checker::new(rt.alloc());
     expect_added(&rt, &mut checker)?;
     Ok(())
@@ -340,7 +340,7 @@ fn expect_memory(rt: &impl Abort, index: usize, refusal: Refusal) {
 
 /// Out of memory is reported at the datagram that brings something new, or after the last one.
 #[test]
-fn a_refused_growth_is_told_by_a_check(rt: HostRuntime) -> Result<(), Fail> {
+fn out_of_memory_is_reported_by_a_check(rt: HostRuntime) -> Result<(), Fail> {
     if let Err((index, refusal)) = expect_check(&rt, rt.alloc()) {
         expect_memory(&rt, index, refusal);
         expect_check(&rt, rt.alloc())?;
@@ -385,7 +385,7 @@ fn expect_nothing_new(rt: &impl Abort, checker: &mut Checker) -> Result<(), Memo
 /// A datagram that brings nothing new allocates nothing, nor does one that is refused. So neither is ever refused as
 /// `Memory`.
 #[test]
-fn a_refused_growth_is_of_something_new(rt: HostRuntime) -> Result<(), Fail> {
+fn out_of_memory_only_for_something_new(rt: HostRuntime) -> Result<(), Fail> {
     let mut checker = Checker::new(rt.alloc());
     expect_nothing_new(&rt, &mut checker)?;
     Ok(())
@@ -401,7 +401,7 @@ const WITHOUT_MESSAGES: &[(&[u8], Result<(), Refusal>)] = &[
 
 /// A new checker allocates nothing, nor does a packet without messages.
 #[test]
-fn no_growth_without_messages(rt: HostRuntime) {
+fn no_allocation_without_messages(rt: HostRuntime) {
     let mut checker = Checker::new(rt.alloc());
     expect_results(&rt, &mut checker, WITHOUT_MESSAGES);
 }

@@ -124,7 +124,7 @@ fn expect_awaited(rt: &impl Abort, journal: &Journal) {
 }
 
 #[test]
-fn no_growth_of_save(rt: HostRuntime) -> Result<(), Fail> {
+fn no_allocation_of_save(rt: HostRuntime) -> Result<(), Fail> {
     let journal = two_messages(rt.alloc())?;
     expect_awaited(&rt, &journal);
     Ok(())
@@ -301,7 +301,7 @@ fn load_again(rt: &impl Abort, alloc: Global, file: &[u8], closed: bool) -> Resu
 }
 
 #[test]
-fn a_refused_growth_loads_nothing(rt: HostRuntime) -> Result<(), Fail> {
+fn out_of_memory_loads_nothing(rt: HostRuntime) -> Result<(), Fail> {
     load_again(&rt, rt.alloc(), &FIRST, false)?;
     load_again(&rt, rt.alloc(), &CLOSED, true)?;
     Ok(())

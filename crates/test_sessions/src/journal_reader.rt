@@ -105,7 +105,7 @@ fn read_two(alloc: Global, source: &mut MemorySource<'_>) -> Result<(), FileErro
 
 /// If an allocation fails, the file is read again from a new source.
 #[test]
-fn a_refused_growth_ends_a_reading(rt: HostRuntime) -> Result<(), Fail> {
+fn out_of_memory_ends_a_reading(rt: HostRuntime) -> Result<(), Fail> {
     if let Err(error) = read_two(rt.alloc(), &mut MemorySource::new(&CLOSED)) {
         same_refusal(&rt, error, FileError::Memory);
         read_two(rt.alloc(), &mut MemorySource::new(&CLOSED))?;

@@ -283,7 +283,7 @@ fn receiver_again(rt: &impl Abort, alloc: Global) -> Result<Receiver, Fail> {
 
 /// A new receiver allocates: if it did not, this test would handle no failed allocation.
 #[test]
-fn a_refused_growth_makes_no_receiver(rt: HostRuntime) -> Result<(), Fail> {
+fn out_of_memory_makes_no_receiver(rt: HostRuntime) -> Result<(), Fail> {
     let receiver = receiver_again(&rt, rt.alloc())?;
     expect_session_and_window(&rt, &receiver, 4);
     same_number(&rt, receiver.next(), 1);
@@ -292,7 +292,7 @@ fn a_refused_growth_makes_no_receiver(rt: HostRuntime) -> Result<(), Fail> {
 
 /// `receiver-backwards`: messages 3 and 2 are stored, and message 1 delivers all three, or nothing.
 #[test]
-fn a_refused_growth_takes_nothing(rt: HostRuntime) -> Result<(), Fail> {
+fn out_of_memory_takes_nothing(rt: HostRuntime) -> Result<(), Fail> {
     let receiver = receiver_again(&rt, rt.alloc())?;
     let mut reception = Reception::of(rt.alloc(), receiver);
     take_backwards(&rt, &mut reception)?;
@@ -331,7 +331,7 @@ const NEVER_EMPTY: [(u64, (u32, u32, u32), State); 8] = [
 
 /// When message 8 arrives, the store has 80,006 bytes of delivered messages, and is compacted.
 #[test]
-fn a_refused_growth_of_a_packed_store(rt: HostRuntime) -> Result<(), Fail> {
+fn out_of_memory_of_a_packed_store(rt: HostRuntime) -> Result<(), Fail> {
     let message = long_message(rt.alloc())?;
     let mut packer = Packer::new(rt.alloc(), 65507)?;
     let mut reception = Reception::new(rt.alloc(), 1, 8)?;
@@ -390,7 +390,7 @@ const NOTHING_NEW: &[Step] = &[
 /// A packet of which nothing is delivered or stored allocates nothing, nor do the calls that shorten a batch or read a
 /// receiver.
 #[test]
-fn no_growth_where_nothing_comes(rt: HostRuntime) -> Result<(), Fail> {
+fn no_allocation_if_nothing_comes(rt: HostRuntime) -> Result<(), Fail> {
     let mut reception = Reception::new(rt.alloc(), 1, 4)?;
     expect_after_five(&rt, &mut reception, NOTHING_NEW)?;
     expect_session_and_window(&rt, &reception.receiver, 4);
@@ -407,7 +407,7 @@ fn expect_emptied(rt: &impl Abort, batch: &mut Batch) {
 
 /// A packet that is refused allocates nothing.
 #[test]
-fn no_growth_of_what_is_refused(rt: HostRuntime) -> Result<(), Fail> {
+fn no_allocation_of_what_is_refused(rt: HostRuntime) -> Result<(), Fail> {
     let mut reception = Reception::new(rt.alloc(), 1, 4)?;
     expect_after_five(&rt, &mut reception, REFUSED)?;
     Ok(())

@@ -223,7 +223,7 @@ fn expect_going_on_after(rt: &impl Abort, parts: &mut Parts) -> Result<(), Memor
 }
 
 #[test]
-fn a_refused_growth_stops_in_a_round(rt: HostRuntime) -> Result<(), Fail> {
+fn out_of_memory_stops_in_a_round(rt: HostRuntime) -> Result<(), Fail> {
     let mut parts = make_parts(rt.alloc(), 8, 1)?;
     take_all(&rt, &mut parts, &[THIRD])?;
     expect_going_on(&rt, &mut parts)?;

@@ -88,7 +88,7 @@ const EMPTY: &[JournalStep] = &[
 
 /// To make and to read a journal allocates nothing, nor does a message that is refused.
 #[test]
-fn no_growth_of_an_empty_journal(rt: HostRuntime) {
+fn no_allocation_of_an_empty_journal(rt: HostRuntime) {
     expect_journal(&rt, rt.alloc(), 42, EMPTY);
 }
 
@@ -121,7 +121,7 @@ fn append_three(rt: &impl Abort, journal: &mut Journal) -> Result<(), AppendErro
 }
 
 #[test]
-fn a_refused_growth_appends_nothing(rt: HostRuntime) -> Result<(), Fail> {
+fn out_of_memory_appends_nothing(rt: HostRuntime) -> Result<(), Fail> {
     let mut journal = Journal::new(rt.alloc(), SESSION, 42);
     append_three(&rt, &mut journal)?;
     Ok(())
@@ -138,7 +138,7 @@ fn append_thousand(rt: &impl Abort, journal: &mut Journal) -> Result<(), AppendE
 
 /// A thousand messages, so that the journal's buffers grow several times, but far fewer than 500 times.
 #[test]
-fn a_refused_growth_of_a_thousand_appends(rt: HostRuntime) -> Result<(), Fail> {
+fn out_of_memory_of_a_thousand_appends(rt: HostRuntime) -> Result<(), Fail> {
     let mut journal = Journal::new(rt.alloc(), SESSION, 1);
     append_thousand(&rt, &mut journal)?;
     Ok(())
@@ -343,7 +343,7 @@ fn publish_four(rt: &impl Abort, publisher: &mut Publisher) -> Result<(), Append
 
 /// `publisher-limit-64`: messages of 20 and 20 bytes, and of 20 and 21.
 #[test]
-fn a_refused_growth_publishes_nothing(rt: HostRuntime) -> Result<(), Fail> {
+fn out_of_memory_publishes_nothing(rt: HostRuntime) -> Result<(), Fail> {
     let mut publisher = Publisher::new(rt.alloc(), SESSION, 64)?;
     publish_four(&rt, &mut publisher)?;
     Ok(())

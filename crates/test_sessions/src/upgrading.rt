@@ -77,7 +77,7 @@ fn expect_upgraded(rt: &impl Abort, sink: &mut MemorySink, alloc: Global) -> Res
 
 /// If an allocation fails, the file is upgraded again into a new sink.
 #[test]
-fn a_refused_growth_upgrades_nothing(rt: HostRuntime) -> Result<(), Fail> {
+fn out_of_memory_upgrades_nothing(rt: HostRuntime) -> Result<(), Fail> {
     if expect_upgraded(&rt, &mut MemorySink::new(rt.alloc()), rt.alloc()).is_err() {
         expect_upgraded(&rt, &mut MemorySink::new(rt.alloc()), rt.alloc())?;
     }

@@ -320,16 +320,16 @@ fn expect_again(rt: &(impl Abort + AllocGlobal), folder: &Folder) -> Result<(), 
 // `tests/out-of-memory` makes each allocation of these tests fail in turn.
 
 #[test]
-fn a_refused_growth_leaves_a_beginning_of_a_refusal(rt: HostRuntime) -> Result<(), Fail> {
+fn out_of_memory_leaves_a_prefix_of_a_refusal(rt: HostRuntime) -> Result<(), Fail> {
     expect_again(&rt, &REFUSED)
 }
 
 #[test]
-fn a_refused_growth_leaves_a_beginning_of_ranges(rt: HostRuntime) -> Result<(), Fail> {
+fn out_of_memory_leaves_a_prefix_of_ranges(rt: HostRuntime) -> Result<(), Fail> {
     expect_again(&rt, &INCOMPLETE)
 }
 
 #[test]
-fn a_refused_growth_leaves_a_beginning_of_whole(rt: HostRuntime) -> Result<(), Fail> {
+fn out_of_memory_leaves_a_prefix_of_whole(rt: HostRuntime) -> Result<(), Fail> {
     expect_again(&rt, &WHOLE)
 }

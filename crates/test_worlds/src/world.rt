@@ -209,14 +209,14 @@ fn a_run_skips_what_is_refused(rt: HostRuntime) -> Result<(), Fail> {
 
 /// These events and all reads of a world allocate nothing.
 #[test]
-fn no_growth_of_close_and_noise(rt: HostRuntime) -> Result<(), Fail> {
+fn no_allocation_of_close_and_noise(rt: HostRuntime) -> Result<(), Fail> {
     tell_once(&rt, Story::CloseAndNoise)?;
     Ok(())
 }
 
 /// Nor does a close that is refused because a message was not sent yet.
 #[test]
-fn no_growth_of_a_refused_close(rt: HostRuntime) -> Result<(), Fail> {
+fn no_allocation_of_a_refused_close(rt: HostRuntime) -> Result<(), Fail> {
     tell_once(&rt, Story::RefusedClose)?;
     Ok(())
 }
