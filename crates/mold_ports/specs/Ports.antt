@@ -62,7 +62,7 @@ offered false to bytes port = record {
   failures = port.failures;
 }
 
--- The receipt that a receive's result and its buffer stand for.
+-- The receipt of a receive, from its result and its buffer.
 abbrev pub receipt_of : {P E : Type 0} → Result (Option (ℕ × P)) E → List ℕ → Receipt P
 receipt_of (Ok (Some found)) buffer = Datagram found.1 (take found.0 buffer)
 receipt_of (Ok None) buffer = Quiet

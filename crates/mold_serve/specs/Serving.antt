@@ -22,7 +22,7 @@ pub record Service : Type 0 where
   pub journal : JournalState
   -- the most bytes of a datagram
   pub limit : ℕ
-  -- the most datagrams that answer one request
+  -- the greatest number of datagrams for one request
   pub burst : ℕ
 
 -- What a server with this journal answers from.

@@ -89,7 +89,7 @@ pub record MayPublish (publisher : PublisherState) (message : List ℕ) : Type 0
   pub short : length message ≤ publisher.journal.max_message
   pub number : length publisher.journal.messages ≡ MAX_MESSAGES → ⊥
 
--- The returned bytes are the encoding of the packet. No bytes are returned if there is no packet.
+-- The returned bytes are the encoding of the packet. Without a packet, no bytes are returned.
 abbrev pub Lends : Option Packet → Option (List ℕ) → Type 0
 Lends None None = Unit {0}
 Lends None (Some bytes) = ⊥
