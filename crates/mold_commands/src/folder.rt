@@ -1,7 +1,11 @@
 //! `mold check`: reads and checks the entries of a folder.
 
-ghost use Rattle.std.specs.Prelude.{◌≡◌, IfErr, IfOk};
-ghost use Rattle.mold_commands.specs.Folder.{CountsFolder, PrintsEntries};
+ghost use Rattle.std.specs.Prelude.{◌≡◌, ◌++◌, ◌∷◌, [], false, IfErr, IfOk, OnOk};
+ghost use Rattle.std.specs.Fs.{dir_entry_name};
+ghost use Rattle.std.specs.IoError.{error_kind};
+ghost use Rattle.mold_check.specs.Entries.{names_datagram};
+ghost use Rattle.mold_check.specs.declared.entry.Entry.{Entry};
+ghost use Rattle.mold_commands.specs.Folder.{CountsFolder, IsReadAs, PrintsEntries, PrintsReport, read_fault};
 
 use mold_check::{Entry, check_entries, names_datagram};
 use mold_devices::{CommandFault, Sink};
@@ -9,28 +13,79 @@ use std::alloc::Global;
 use std::fs::{self, DirEntry, Files};
 use std::io::{self, ErrorKind};
 
-// Reads an entry. If it is not a datagram, only its name is read.
-fn read_entry<R: Files + AllocGlobal>(rt: &R, found: &DirEntry<R, Global>) -> io::Result<Entry> {
-    let name = String::from_str(rt.alloc(), found.file_name())?;
-    let bytes = if names_datagram(name.as_str()) {
-        fs::read(rt, found.path())?
+// Reads the bytes of an entry if it is a datagram. The contract does not specify them: `fs::read` has no contract.
+fn read_bytes<R: Files + AllocGlobal>(rt: &R, found: &DirEntry<R, Global>) -> io::Result<Vec<u8>>
+    ensures { IfOk result (λ bytes. names_datagram (dir_entry_name found.now) ≡ false → bytes.items ≡ []) }
+{
+    if names_datagram(found.file_name()) {
+        fs::read(rt, found.path())
     } else {
-        Vec::new(rt.alloc())
-    };
+        Ok(Vec::new(rt.alloc()))
+    }
+}
+
+// Reads an entry. If it is not a datagram, only its name is read.
+fn read_entry<R: Files + AllocGlobal>(rt: &R, found: &DirEntry<R, Global>) -> io::Result<Entry>
+    ensures { IfOk result (IsReadAs (dir_entry_name found.now)) }
+{
+    let name = String::from_str(rt.alloc(), found.file_name())?;
+    let bytes = read_bytes(rt, found)?;
     Ok(Entry { name, bytes })
 }
 
+// Reads an entry, and appends it to the entries.
+fn add_entry<R: Files + AllocGlobal>(
+    rt: &R,
+    found: &DirEntry<R, Global>,
+    entries: &mut Vec<Entry>,
+) -> io::Result<()>
+    ensures { OnOk result ((entry : Entry) × (IsReadAs (dir_entry_name found.now) entry
+        × (entries.new.items ≡ entries.old.items ++ entry ∷ []))) }
+{
+    entries.push(read_entry(rt, found)?)?;
+    Ok(())
+}
+
 // Reads the entries of the folder, in the order in which the system lists them. It fails if a name is not UTF-8 or a
-// datagram can't be read. A folder with the name of a datagram can't be read.
+// datagram can't be read. A folder with the name of a datagram can't be read. No contract states which entries the
+// system lists.
 fn read_entries<R: Files + AllocGlobal + Clone + Drop>(
     rt: &R,
     folder: &str,
 ) -> io::Result<Vec<Entry>> {
     let mut entries = Vec::new(rt.alloc());
     for found in fs::read_dir(rt, folder)? {
-        entries.push(read_entry(rt, &found?)?)?;
+        add_entry(rt, &found?, &mut entries)?;
     }
     Ok(entries)
+}
+
+// Returns the fault of a folder that can't be read.
+fn fault_of(error: &io::Error) -> CommandFault
+    ensures { result ≡ read_fault (error_kind error.now) }
+{
+    match error.kind() {
+        ErrorKind::OutOfMemory => CommandFault::Memory,
+        _ => CommandFault::Read,
+    }
+}
+
+// Writes the report of exactly the entries that were read, and returns its status. If they can't be read, it returns
+// the fault and writes nothing.
+fn check_read<K: Sink>(
+    alloc: Global,
+    read: io::Result<Vec<Entry>>,
+    sink: &mut K,
+) -> Result<u8, CommandFault>
+    ensures told { IfOk read (λ entries. IfOk result (PrintsReport entries.items (K.held sink.old) (K.held sink.new))) }
+    ensures unread { IfErr read (λ error. (result ≡ Err (read_fault (error_kind error))) × (sink.new ≡ sink.old)) }
+    ensures fault { IfErr result (λ fault. fault ≡ CommandFault.Read → sink.new ≡ sink.old) }
+    ensures failures { CountsFolder (K.failed sink.old) (K.failed sink.new) result }
+{
+    match read {
+        Ok(entries) => check_entries(alloc, entries.as_slice(), sink),
+        Err(error) => Err(fault_of(&error)),
+    }
 }
 
 /// Reads the folder, writes the report of `check_entries` to the sink, and returns the status of that function.
@@ -46,9 +101,5 @@ pub fn check_folder<R: Files + AllocGlobal + Clone + Drop, K: Sink>(
     ensures unread { IfErr result (λ fault. fault ≡ CommandFault.Read → sink.new ≡ sink.old) }
     ensures failures { CountsFolder (K.failed sink.old) (K.failed sink.new) result }
 {
-    match read_entries(rt, folder) {
-        Ok(entries) => check_entries(rt.alloc(), entries.as_slice(), sink),
-        Err(error) if error.kind() == ErrorKind::OutOfMemory => Err(CommandFault::Memory),
-        Err(_) => Err(CommandFault::Read),
-    }
+    check_read(rt.alloc(), read_entries(rt, folder), sink)
 }

@@ -1,24 +1,23 @@
-use Rattle.std.proofs.Common.{◌≡◌, ℕ, List}
-use Rattle.std.specs.Prelude.{Option, Result, Ok, Err, IfOk}
-use Rattle.std.specs.Io.KnownBytes.{Appends}
-use Rattle.mold_check.specs.Report.{Checked, outcome_status, report}
+use Rattle.std.proofs.Common.{◌≡◌, ℕ, List, subst}
+use Rattle.std.specs.Prelude.{Option, Result, Ok, Err, IfOk, IfErr, ⊤}
 use Rattle.mold_check.specs.declared.entry.Entry.{Entry}
-use Rattle.mold_commands.specs.Folder.{PrintsEntries}
+use Rattle.mold_commands.specs.Folder.{PrintsEntries, PrintsReport}
 use Rattle.mold_devices.specs.declared.fault.CommandFault.{CommandFault}
 use Rattle.mold_commands.proofs.folder.check_folder.Goals as goal
 
--- the report of these entries was written
-told_of : (entries : List Entry) (old new : Option (List ℕ)) (answer : Result ℕ CommandFault)
-    → IfOk answer (λ status. (checked : Checked entries)
-    × (Appends old new (report checked) × (status ≡ outcome_status checked.outcome)))
-    → IfOk answer (PrintsEntries old new)
-told_of entries old new (Ok status) whole = record {
-  entries = entries;
-  checked = whole.0;
-  written = whole.1.0;
-  answered = whole.1.1;
-}
-told_of entries old new (Err fault) whole = tt
+abbrev HasStatus : Result ℕ CommandFault → Type 0
+HasStatus (Ok status) = ⊤
+HasStatus (Err fault) = ⊥
 
-pub returns-in-Ok-clause-told : goal.returns-in-Ok-clause-told
-returns-in-Ok-clause-told g c = told_of _ _ _ _ c.check_entries.ensures.whole
+-- the report was written of the entries that were read
+prints_of : {V E : Type 0} (items : V → List Entry) (read : Result V E) (why : E → CommandFault) (P : Type 0)
+    (old new : Option (List ℕ)) (answer : Result ℕ CommandFault)
+    → IfOk read (λ v. IfOk answer (PrintsReport (items v) old new))
+    → IfErr read (λ e. (answer ≡ Err (why e)) × P) → IfOk answer (PrintsEntries old new)
+prints_of items (Ok v) why P old new (Ok status) told unread = record { entries = items v; printed = told }
+prints_of items (Err e) why P old new (Ok status) told unread = absurd (subst HasStatus unread.0 tt)
+prints_of items read why P old new (Err fault) told unread = tt
+
+pub returns-clause-told : goal.returns-clause-told
+returns-clause-told g c =
+    prints_of _ _ _ _ _ _ _ c.check_read.ensures.told c.check_read.ensures.unread
