@@ -24,7 +24,8 @@ use Rattle.mold_loop.specs.Looping.{Pass, goes_out, after_line_if, after_routes,
 use Rattle.mold_loop.specs.Looping.{received_if, outgoing_after, routed_by, sent_by, text_front}
 use Rattle.mold_loop.specs.Passing.{routed, routes_of}
 use Rattle.mold_send.specs.PublishLoop.{spelled_some}
-use Rattle.mold_turns.specs.Runs.{Begins, Loop, Moves, run}
+use Rattle.mold_devices.specs.Writing.{Moves}
+use Rattle.mold_turns.specs.Runs.{Begins, Loop, run}
 use Rattle.mold_loop.specs.declared.loop_parts.Drops.{Drops}
 use Rattle.mold_loop.specs.declared.loop_parts.Routes.{Routes}
 

@@ -17,7 +17,8 @@ use Rattle.mold_turns.proofs.RunLemmas.{begins_more, none_answered, none_ok}
 use Rattle.mold_loop.specs.Looping.{BeginsData, HasPassed, ReceivesLines, IsData, LineState, text_front}
 use Rattle.mold_loop.specs.Passing.{routed}
 use Rattle.mold_send.specs.PublishLoop.{spelled_some}
-use Rattle.mold_turns.specs.Runs.{Begins, Moves}
+use Rattle.mold_devices.specs.Writing.{Moves}
+use Rattle.mold_turns.specs.Runs.{Begins}
 use Rattle.mold_loop.specs.declared.loop_parts.Drops.{Drops}
 use Rattle.mold_loop.specs.declared.loop_parts.Routes.{Routes}
 

@@ -95,7 +95,8 @@ impl<'a, 'p, D: Datagrams + Drop> LocalFeed<'a, 'p, D> {
     }
 
     // Publishes the lines of the source. Passes a datagram each time the publisher is full, and the rest after the
-    // last line. Returns why a line is refused, if one is.
+    // last line. Returns why a line is refused, if one is. If reading the lines fails, writes the text of the datagrams
+    // passed so far.
     fn pass_lines<S: Source, K: Sink>(
         &mut self,
         publisher: &mut Publisher,
@@ -121,13 +122,19 @@ impl<'a, 'p, D: Datagrams + Drop> LocalFeed<'a, 'p, D> {
         let mut message = Vec::new(self.alloc);
         let mut number = 0;
         'passing: loop {
-            match fill(publisher, &mut lines, source, &mut message)? {
-                Filled::Full => self.pass_next(publisher, &mut number)?,
-                Filled::End => {
+            match fill(publisher, &mut lines, source, &mut message) {
+                Ok(Filled::Full) => self.pass_next(publisher, &mut number)?,
+                Ok(Filled::End) => {
                     self.pass_next(publisher, &mut number)?;
                     return Ok(None);
                 }
-                Filled::Refused { why } => return Ok(Some(why)),
+                Ok(Filled::Refused { why }) => return Ok(Some(why)),
+                Err(fault) => {
+                    let met = CommandFault::from(fault);
+                    let outgoing = &mut self.listener.printer.outgoing;
+                    let len = outgoing.unwritten();
+                    return Err(outgoing.end_with(len, met, sink));
+                }
             }
             self.listener.printer.outgoing.send_large(sink)?;
         }

@@ -1,11 +1,19 @@
-use Rattle.std.proofs.Common.{◌∙◌, ◌+◌, ap, arith, refl}
+use Rattle.std.proofs.Common.{◌∙◌, ◌+◌, ℕ, Err, List, Option, Result, ap, arith, refl, subst, sym}
+use Rattle.std.proofs.lemmas.List.{take_all}
+use Rattle.mold_devices.specs.Devices.{AppendsPrefix}
+use Rattle.mold_devices.specs.Faults.{CountsFault, CountsReadFault, from_read_fault}
+use Rattle.mold_devices.specs.declared.fault.ReadFault.{ReadFault}
+use Rattle.mold_devices.specs.declared.fault.ReadFault.TheVariants.{Memory, Read}
+use Rattle.mold_devices.proofs.WritingLemmas.{ends_command, ends_front}
+use Rattle.mold_devices.specs.declared.fault.CommandFault.{CommandFault}
+use Rattle.mold_publish.specs.declared.line_refusal.LineRefusal.{LineRefusal}
 use Rattle.mold_publish.proofs.DatagramLemmas.{PackingLaws, all_sent}
 use Rattle.mold_session.specs.Publisher.{PublisherState, next_datagram}
 use Rattle.mold_loop.specs.LocalFeed.{lines}
 use Rattle.mold_loop.specs.Looping.{line_state}
 use Rattle.mold_send.specs.PublishLoop.{spelled_some}
 use Rattle.mold_loop.proofs.HeardLemmas.{lines_moved}
-use Rattle.mold_loop.proofs.HearsLemmas.{hears_end, hears_full, hears_last, hears_none, hears_refused, hears_still}
+use Rattle.mold_loop.proofs.HearsLemmas.{hears_end, hears_full, hears_last, hears_none, hears_refused}
 use Rattle.mold_loop.proofs.HearsLemmas.{hears_unwritten, so_far_begun, so_far_full, so_far_moved}
 use Rattle.mold_loop.proofs.LocalFeedLemmas.{next_passed, passes_at_first, passes_twice}
 use Rattle.mold_send.proofs.SendingLemmas.{full_went}
@@ -42,7 +50,7 @@ pub passing-preserved : goal.passing-preserved
 passing-preserved g c =
     let port = g.D.Datagrams.port in
     let feed = c.args.self.now in
-    let filled = rw c.in-Full.is at c.in_ok-fill.ensures.filled in
+    let filled = rw c.in-Ok-Full.field-0-is at c.in-Ok-Full.ensures.filled in
     let known = laws g (goal.at.passing-preserved g c).After-packing_law in
     let went = full_went known c.passing.publisher c.fill.new.publisher c.pass_next.new.publisher c.passing.number _
     filled.room filled.sent c.passing.invariant.few c.pass_next.ensures.sent c.pass_next.ensures.counted in
@@ -54,13 +62,13 @@ passing-preserved g c =
           let made = lines port c.pass_next.new.self in
           let after = line_state made.publisher made.a made.b made.progress.arbitration c.send_large.new.self in
           let has = next_passed port (c.passing.number + 1) (spelled_some (next_datagram c.fill.new.publisher)) _
-          c.pass_next.new.self c.passing.invariant.only.same (c.in_ok-pass_next-in-Full.ensures.passed modeled) in
+          c.pass_next.new.self c.passing.invariant.only.same (c.in_ok-pass_next-in-Ok-Full.ensures.passed modeled) in
           let moves = c.in_ok-send_large.ensures.moved in
           so_far_moved feed.options.now.drops feed.options.now.peers.a feed.options.now.peers.b c.args.publisher.now c.pass_next.new.publisher
           _ _ _ made _ _ _ c.pass_next.new.number _ after
           (so_far_full known feed.options.now.drops feed.options.now.peers.a feed.options.now.peers.b c.args.publisher.now c.passing.publisher
           c.fill.new.publisher c.pass_next.new.publisher _ _ _ _ _ made _ _ c.passing.number c.pass_next.new.number
-          c.in_ok-pass_next-in-Full.field-0 (c.passing.invariant.received modeled) filled c.pass_next.ensures.sent
+          c.in_ok-pass_next-in-Ok-Full.field-0 (c.passing.invariant.received modeled) filled c.pass_next.ensures.sent
           has c.pass_next.ensures.counted)
           moves
           (lines_moved _ _ _ _ c.pass_next.new.self.listener.now.printer.outgoing c.send_large.new.self moves.front
@@ -78,15 +86,15 @@ passing-preserved g c =
         b = only.b;
       };
       limit = ap (λ (p : PublisherState). p.limit) c.pass_next.ensures.sent ∙ filled.limit ∙ c.passing.invariant.limit;
-      source = c.in_ok-fill.ensures.failures ∙ c.passing.invariant.source;
+      source = c.in-Ok-Full.ensures.failures ∙ c.passing.invariant.source;
       sink = c.in_ok-send_large.ensures.sink ∙ c.passing.invariant.sink;
     }
 
-pub returns-in-End-clause-all : goal.returns-in-End-clause-all
-returns-in-End-clause-all g c none =
-    let filled = rw c.in-End.is at c.in_ok-fill.ensures.filled in
-    rw c.pass_next-in-End.ensures.sent
-    (all_sent (laws g (goal.at.returns-in-End-clause-all g c).After-packing_law) c.fill.new.publisher filled.room)
+pub returns-in-Ok-End-clause-all : goal.returns-in-Ok-End-clause-all
+returns-in-Ok-End-clause-all g c none =
+    let filled = rw c.in-Ok-End.field-0-is at c.in-Ok-End.ensures.filled in
+    rw c.pass_next-in-Ok-End.ensures.sent
+    (all_sent (laws g (goal.at.returns-in-Ok-End-clause-all g c).After-packing_law) c.fill.new.publisher filled.room)
 
 pub returns-in_err-lines-clause-received : goal.returns-in_err-lines-clause-received
 returns-in_err-lines-clause-received g c modeled =
@@ -94,85 +102,121 @@ returns-in_err-lines-clause-received g c modeled =
     hears_none feed.options.now.drops feed.options.now.peers.a feed.options.now.peers.b c.args.publisher.now c.args.publisher.now _
     c.from_residual.result _ _ c.from_residual.ensures.0
 
-pub returns-in_err-fill-clause-received : goal.returns-in_err-fill-clause-received
-returns-in_err-fill-clause-received g c modeled =
+pub returns-in-Err-clause-received : goal.returns-in-Err-clause-received
+returns-in-Err-clause-received g c modeled =
     let feed = c.args.self.now in
-    hears_still feed.options.now.drops feed.options.now.peers.a feed.options.now.peers.b c.args.publisher.now c.passing.publisher
-    c.fill.new.publisher _ _
-    c.from_residual-in_err-fill.result _ _ _ _ c.passing.number (c.passing.invariant.received modeled)
-    c.from_residual-in_err-fill.ensures.0
+    let here = lines g.D.Datagrams.port c.passing.self in
+    let result : Result (Option LineRefusal) CommandFault = Err c.end_with.result in
+    hears_unwritten feed.options.now.drops feed.options.now.peers.a feed.options.now.peers.b c.args.publisher.now
+    c.passing.publisher c.fill.new.publisher _ _ result _ here _ _ _ _ c.passing.number
+    (c.passing.invariant.received modeled) refl
+    (subst (λ (text : List ℕ). AppendsPrefix (g.K.Sink.held c.passing.sink) (g.K.Sink.held c.end_with.new.sink) text)
+    (take_all c.unwritten-len.result here.progress.outgoing.text (omega (arith, c.unwritten-len.ensures)))
+    (ends_front c.end_with.ensures.ends))
+    refl
 
-pub returns-in_err-pass_next-in-Full-clause-received : goal.returns-in_err-pass_next-in-Full-clause-received
-returns-in_err-pass_next-in-Full-clause-received g c modeled =
+-- reading failed, and the sink did not
+read_counts : (fault : ReadFault) (old new sink : ℕ) → CountsReadFault old new fault →
+    CountsFault old new sink sink (from_read_fault fault)
+read_counts Read old new sink counts = (counts, refl)
+read_counts Memory old new sink counts = (counts, refl)
+
+pub returns-in-Err-clause-failures : goal.returns-in-Err-clause-failures
+returns-in-Err-clause-failures g c =
+    let source_old = g.S.Source.failed c.args.source.now in
+    let source_new = g.S.Source.failed c.fill.new.source in
+    let sink = g.K.Sink.failed c.passing.sink in
+    let met = subst (λ (fault : CommandFault). CountsFault source_old source_new sink sink fault) (sym c.from-met.ensures)
+    (read_counts c.in-Err.fault source_old source_new sink
+    (subst (λ (n : ℕ). CountsReadFault n source_new c.in-Err.fault) c.passing.invariant.source
+    c.in-Err.ensures.failures)) in
+    subst (λ (n : ℕ). CountsFault source_old source_new n (g.K.Sink.failed c.end_with.new.sink) c.end_with.result)
+    c.passing.invariant.sink (ends_command source_old source_new met c.end_with.ensures.ends)
+
+pub returns-in_err-pass_next-in-Ok-Full-clause-received : goal.returns-in_err-pass_next-in-Ok-Full-clause-received
+returns-in_err-pass_next-in-Ok-Full-clause-received g c modeled =
     let feed = c.args.self.now in
-    hears_full (laws g (goal.at.returns-in_err-pass_next-in-Full-clause-received g c).After-packing_law) feed.options.now.drops
+    hears_full (laws g (goal.at.returns-in_err-pass_next-in-Ok-Full-clause-received g c).After-packing_law) feed.options.now.drops
     feed.options.now.peers.a feed.options.now.peers.b c.args.publisher.now c.passing.publisher c.fill.new.publisher
     c.pass_next.new.publisher _ _ _ _ _ _ _ _ c.passing.number c.pass_next.result
-    c.from_residual-in_err-pass_next-in-Full.result (c.passing.invariant.received modeled)
-    (rw c.in-Full.is at c.in_ok-fill.ensures.filled)
+    c.from_residual-in_err-pass_next-in-Ok-Full.result (c.passing.invariant.received modeled)
+    (rw c.in-Ok-Full.field-0-is at c.in-Ok-Full.ensures.filled)
     (next_passed g.D.Datagrams.port (c.passing.number + 1) (spelled_some (next_datagram c.fill.new.publisher)) _
     c.pass_next.new.self c.passing.invariant.only.same (c.pass_next.ensures.passed modeled))
-    c.from_residual-in_err-pass_next-in-Full.ensures.0
+    c.from_residual-in_err-pass_next-in-Ok-Full.ensures.0
 
 pub returns-in_err-send_large-clause-received : goal.returns-in_err-send_large-clause-received
 returns-in_err-send_large-clause-received g c modeled =
     let feed = c.args.self.now in
     let port = g.D.Datagrams.port in
-    let filled = rw c.in-Full.is at c.in_ok-fill.ensures.filled in
+    let filled = rw c.in-Ok-Full.field-0-is at c.in-Ok-Full.ensures.filled in
     let known = laws g (goal.at.returns-in_err-send_large-clause-received g c).After-packing_law in
     let made = lines port c.pass_next.new.self in
     let has = next_passed port (c.passing.number + 1) (spelled_some (next_datagram c.fill.new.publisher)) _
-    c.pass_next.new.self c.passing.invariant.only.same (c.in_ok-pass_next-in-Full.ensures.passed modeled) in
+    c.pass_next.new.self c.passing.invariant.only.same (c.in_ok-pass_next-in-Ok-Full.ensures.passed modeled) in
     hears_unwritten feed.options.now.drops feed.options.now.peers.a feed.options.now.peers.b c.args.publisher.now c.pass_next.new.publisher
     c.pass_next.new.publisher _ _ c.from_residual-in_err-send_large.result _ made _ _ _ _ c.pass_next.new.number
     (so_far_full known feed.options.now.drops feed.options.now.peers.a feed.options.now.peers.b c.args.publisher.now c.passing.publisher
     c.fill.new.publisher c.pass_next.new.publisher _ _ _ _ _ made _ _ c.passing.number c.pass_next.new.number
-    c.in_ok-pass_next-in-Full.field-0 (c.passing.invariant.received modeled) filled c.pass_next.ensures.sent
+    c.in_ok-pass_next-in-Ok-Full.field-0 (c.passing.invariant.received modeled) filled c.pass_next.ensures.sent
     has c.pass_next.ensures.counted)
     refl c.send_large.ensures.front c.from_residual-in_err-send_large.ensures.0
 
-pub returns-in_err-pass_next-in-End-clause-received : goal.returns-in_err-pass_next-in-End-clause-received
-returns-in_err-pass_next-in-End-clause-received g c modeled =
+pub returns-in_err-pass_next-in-Ok-End-clause-received : goal.returns-in_err-pass_next-in-Ok-End-clause-received
+returns-in_err-pass_next-in-Ok-End-clause-received g c modeled =
     let feed = c.args.self.now in
-    hears_last (laws g (goal.at.returns-in_err-pass_next-in-End-clause-received g c).After-packing_law) feed.options.now.drops
+    hears_last (laws g (goal.at.returns-in_err-pass_next-in-Ok-End-clause-received g c).After-packing_law) feed.options.now.drops
     feed.options.now.peers.a feed.options.now.peers.b c.args.publisher.now c.passing.publisher c.fill.new.publisher
-    c.pass_next-in-End.new.publisher _ _ _ _ _ _ _ _ c.passing.number c.pass_next-in-End.result
-    c.from_residual-in_err-pass_next-in-End.result (c.passing.invariant.received modeled)
-    (rw c.in-End.is at c.in_ok-fill.ensures.filled)
+    c.pass_next-in-Ok-End.new.publisher _ _ _ _ _ _ _ _ c.passing.number c.pass_next-in-Ok-End.result
+    c.from_residual-in_err-pass_next-in-Ok-End.result (c.passing.invariant.received modeled)
+    (rw c.in-Ok-End.field-0-is at c.in-Ok-End.ensures.filled)
     (next_passed g.D.Datagrams.port (c.passing.number + 1) (spelled_some (next_datagram c.fill.new.publisher)) _
-    c.pass_next-in-End.new.self c.passing.invariant.only.same (c.pass_next-in-End.ensures.passed modeled))
-    c.from_residual-in_err-pass_next-in-End.ensures.0
+    c.pass_next-in-Ok-End.new.self c.passing.invariant.only.same (c.pass_next-in-Ok-End.ensures.passed modeled))
+    c.from_residual-in_err-pass_next-in-Ok-End.ensures.0
 
-pub returns-in-End-clause-received : goal.returns-in-End-clause-received
-returns-in-End-clause-received g c modeled =
+pub returns-in-Ok-End-clause-received : goal.returns-in-Ok-End-clause-received
+returns-in-Ok-End-clause-received g c modeled =
     let feed = c.args.self.now in
-    hears_end (laws g (goal.at.returns-in-End-clause-received g c).After-packing_law) feed.options.now.drops
+    hears_end (laws g (goal.at.returns-in-Ok-End-clause-received g c).After-packing_law) feed.options.now.drops
     feed.options.now.peers.a feed.options.now.peers.b c.args.publisher.now c.passing.publisher c.fill.new.publisher
-    c.pass_next-in-End.new.publisher _ _ _ _ _ _ _ _ c.passing.number c.in_ok-pass_next-in-End.field-0
-    (c.passing.invariant.received modeled) (rw c.in-End.is at c.in_ok-fill.ensures.filled)
+    c.pass_next-in-Ok-End.new.publisher _ _ _ _ _ _ _ _ c.passing.number c.in_ok-pass_next-in-Ok-End.field-0
+    (c.passing.invariant.received modeled) (rw c.in-Ok-End.field-0-is at c.in-Ok-End.ensures.filled)
     (next_passed g.D.Datagrams.port (c.passing.number + 1) (spelled_some (next_datagram c.fill.new.publisher)) _
-    c.pass_next-in-End.new.self c.passing.invariant.only.same (c.in_ok-pass_next-in-End.ensures.passed modeled))
-    c.pass_next-in-End.ensures.sent
+    c.pass_next-in-Ok-End.new.self c.passing.invariant.only.same (c.in_ok-pass_next-in-Ok-End.ensures.passed modeled))
+    c.pass_next-in-Ok-End.ensures.sent
 
-pub returns-in-Refused-clause-received : goal.returns-in-Refused-clause-received
-returns-in-Refused-clause-received g c modeled =
+pub returns-in-Ok-Refused-clause-received : goal.returns-in-Ok-Refused-clause-received
+returns-in-Ok-Refused-clause-received g c modeled =
     let feed = c.args.self.now in
-    hears_refused (laws g (goal.at.returns-in-Refused-clause-received g c).After-packing_law) feed.options.now.drops
+    hears_refused (laws g (goal.at.returns-in-Ok-Refused-clause-received g c).After-packing_law) feed.options.now.drops
     feed.options.now.peers.a feed.options.now.peers.b c.args.publisher.now c.passing.publisher c.fill.new.publisher _ _ _
-    c.in-Refused.why _ _ _ _ c.passing.number (c.passing.invariant.received modeled)
-    (rw c.in-Refused.is at c.in_ok-fill.ensures.filled)
+    c.in-Ok-Refused.why _ _ _ _ c.passing.number (c.passing.invariant.received modeled)
+    (rw c.in-Ok-Refused.field-0-is at c.in-Ok-Refused.ensures.filled)
 
-pub returns-in_err-fill-clause-only : goal.returns-in_err-fill-clause-only
-returns-in_err-fill-clause-only g c = c.passing.invariant.only
+pub returns-in-Err-clause-only : goal.returns-in-Err-clause-only
+returns-in-Err-clause-only g c =
+    let only = c.passing.invariant.only in
+    record {
+      same = record {
+        ports = only.same.ports;
+        options = only.same.options;
+        buffer = only.same.buffer;
+        listener = only.same.listener;
+      };
+      server = only.server;
+      requests = only.requests;
+      a = only.a;
+      b = only.b;
+    }
 
-pub returns-in-Refused-clause-only : goal.returns-in-Refused-clause-only
-returns-in-Refused-clause-only g c = c.passing.invariant.only
+pub returns-in-Ok-Refused-clause-only : goal.returns-in-Ok-Refused-clause-only
+returns-in-Ok-Refused-clause-only g c = c.passing.invariant.only
 
-pub returns-in_err-pass_next-in-Full-clause-only : goal.returns-in_err-pass_next-in-Full-clause-only
-returns-in_err-pass_next-in-Full-clause-only g c = passes_twice c.passing.invariant.only c.pass_next.ensures.only
+pub returns-in_err-pass_next-in-Ok-Full-clause-only : goal.returns-in_err-pass_next-in-Ok-Full-clause-only
+returns-in_err-pass_next-in-Ok-Full-clause-only g c = passes_twice c.passing.invariant.only c.pass_next.ensures.only
 
-pub returns-in_err-pass_next-in-End-clause-only : goal.returns-in_err-pass_next-in-End-clause-only
-returns-in_err-pass_next-in-End-clause-only g c = passes_twice c.passing.invariant.only c.pass_next-in-End.ensures.only
+pub returns-in_err-pass_next-in-Ok-End-clause-only : goal.returns-in_err-pass_next-in-Ok-End-clause-only
+returns-in_err-pass_next-in-Ok-End-clause-only g c = passes_twice c.passing.invariant.only c.pass_next-in-Ok-End.ensures.only
 
-pub returns-in-End-clause-only : goal.returns-in-End-clause-only
-returns-in-End-clause-only g c = passes_twice c.passing.invariant.only c.pass_next-in-End.ensures.only
+pub returns-in-Ok-End-clause-only : goal.returns-in-Ok-End-clause-only
+returns-in-Ok-End-clause-only g c = passes_twice c.passing.invariant.only c.pass_next-in-Ok-End.ensures.only
