@@ -28,7 +28,7 @@ pub use denote.Exit.{yes, no}
 pub use denote.Param.{bounded}
 pub use denote.RawPtr.{Ptr, RawPtr, block_ptr, null_ptr, ptr_val, in_a_block}
 pub use denote.Signature.{plain, type_at}
-pub use denote.Steps.{received, nothing, only}
+pub use denote.Steps.{heard, nothing, only}
 pub use denote.Struct.Tuple.{Tuple}
 pub use denote.Triple.Call.{calls_at, calls_at_last}
 pub use denote.Triple.Clauses.{Ended, Clauses}

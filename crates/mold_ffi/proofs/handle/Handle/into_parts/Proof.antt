@@ -2,7 +2,7 @@
 use Rattle.mold_ffi.proofs.Walking.{◌≡◌, refl, sym, subst, List, [], ◌∷◌, ◌++◌, Ura, Val, SProp, ent, id⊢, ftrue, fsep, Fun, fact, tables, tables_of}
 use Rattle.mold_ffi.proofs.Walking.{Memory, Routine, WpFn, Tables, Logic, WpFn-mono, Item, ‵, raw, ◌⊛◌, ◌$◌, ◌∵◌, !, qed, by, move, drop, use1, join}
 use Rattle.mold_ffi.proofs.Walking.{split, rewrite, fsplit, fjoin, suffices, done, whole, sub, agg, stop, fld, no_more, and_then, of_opd, returns, enter}
-use Rattle.mold_ffi.proofs.Walking.{alloc_all, pass_all, free_all, look_at, get, get_in, sets, yes, type_at, received, nothing, triple_of, entered, says, Stays}
+use Rattle.mold_ffi.proofs.Walking.{alloc_all, pass_all, free_all, look_at, get, get_in, sets, yes, type_at, heard, nothing, triple_of, entered, says, Stays}
 use Rattle.mold_ffi.proofs.Walking.{stay_dropped, walk_of, ends_at, Goes-dropped, walk_Meets, D, B, word, box_typed, box_out, box_in, Option, is_some, true}
 use Rattle.mold_ffi.proofs.AsBox.{E, FromHandle, has}
 use Rattle.mold_ffi.specs.declared.handle.held.Held.{Held}
@@ -25,7 +25,7 @@ module _ {M : Type 1} {𝓤 : Ura M} (𝓛 : Logic 𝓤) (memory : Memory → SP
       let After = (walk_of 𝓛 this_one.ended stays (this_one.clauses 𝓛 memory run)).post z in
       let given = z.0.3.0 in
       qed 𝓛 ((‵ ftrue ⊛ ‵ (fsep (handle.the_row.own_val given z.0.4.0) ftrue)) ∷ raw (fact 𝓤 (is_some given.value ≡ true)) ∷ []) ∵
-      split ! $ drop ! $ fsplit ! $ move ! (2 ∷ []) $ received ! (is_some given.value ≡ true) (λ holds.
+      split ! $ drop ! $ fsplit ! $ move ! (2 ∷ []) $ heard ! (is_some given.value ≡ true) (λ holds.
       let found = has given.value holds in
       let boxed : D E = record { ptr = given.at; alloc = given.alloc; value = found.0 } in
       let Made = type_at (this_one.signature).result tt in

@@ -4,7 +4,7 @@ use Rattle.mold_ffi.proofs.Walking.{flft, fsep, Env, Calls, Loops, WpFn, Tables,
 use Rattle.mold_ffi.proofs.Walking.{‵, ◌⊛◌, some, at_ret, ◌$◌, ◌∵◌, !, qed, by, move, keep, use1, drop, split, join, pick, rewrite, fsplit, fsplit3, fjoin}
 use Rattle.mold_ffi.proofs.Walking.{suffices, frame, done, raw, later, await, group, fpack, whole, sub, look_in, stop, fld, load, of_opd, first, blocks, exec}
 use Rattle.mold_ffi.proofs.Walking.{returns, enter, addr, alloc_all, pass_all, free_all, look_at, get, through, sets, env, sets_last, owns, part_at, mem}
-use Rattle.mold_ffi.proofs.Walking.{cell_at, part_of, block_ptr, MutRef, mut_vals, mut_Tells, plain, mut_ref_to, received, nothing, opens, triple_of, entered}
+use Rattle.mold_ffi.proofs.Walking.{cell_at, part_of, block_ptr, MutRef, mut_vals, mut_Tells, plain, mut_ref_to, heard, nothing, opens, triple_of, entered}
 use Rattle.mold_ffi.proofs.Walking.{Stays, stay_dropped, walk_of, ends_at, walked, walk_Meets, Goes-spent_ref, token, bare, no, follows, Part, lends_Part}
 use Rattle.mold_ffi.proofs.Walking.{D, R, B, τ, word, allocator_owns, box_out, box_in, Option, Some, is_some, true, after, says}
 use Rattle.mold_ffi.proofs.AsBox.{E, has}
@@ -70,7 +70,7 @@ module _ {M : Type 1} {𝓤 : Ura M} (𝓛 : Logic 𝓤) (memory : Memory → SP
         qed 𝓛 (((‵ (flft κ q) ⊛ ‵ ftrue)
         ⊛ ‵ (owns (MutRef (named 0) κ H ∷ []) (record { ref_ptr = (rb, ro); ghost_name = γ; now = handle }, tt) (vptr rb ro ∷ [], tt)))
         ∷ raw (fact 𝓤 (is_some handle.value ≡ true)) ∷ []) ∵
-        move ! (1 ∷ []) $ received ! (is_some handle.value ≡ true) (λ holds. let found = has handle.value holds in
+        move ! (1 ∷ []) $ heard ! (is_some handle.value ≡ true) (λ holds. let found = has handle.value holds in
         split ! $
         enter ! C Λ code.function (vptr rb ro ∷ []) _ $
         alloc_all ! (λ locals. pass_all ! refl ((tt, tt), tt) $

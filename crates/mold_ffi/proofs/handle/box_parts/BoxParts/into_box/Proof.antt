@@ -4,7 +4,7 @@ use Rattle.mold_ffi.proofs.Walking.{Val, vptr, has_ty, WT, SProp, ent, id⊢, ft
 use Rattle.mold_ffi.proofs.Walking.{Tables, Logic, fm_of, WpFn-mono, Item, at_ret, ‵, raw, ◌⊛◌, some, later, ◌$◌, ◌∵◌, !, qed, by, move, drop, use1, join}
 use Rattle.mold_ffi.proofs.Walking.{split, split3, pick, rewrite, await, fsplit, fjoin, feq_i, suffices, done, whole, sub, stop, fld, no_more, and_then}
 use Rattle.mold_ffi.proofs.Walking.{of_opd, returns, enter, first, blocks, exec, alloc_all, pass_all, free_all, look_at, get, get_in, sets, lands_last, env}
-use Rattle.mold_ffi.proofs.Walking.{RattleType, no, block_ptr, plain, received, nothing, only, calls_at_last, Ended, Clauses, triple_of, Triple, Contract}
+use Rattle.mold_ffi.proofs.Walking.{RattleType, no, block_ptr, plain, heard, nothing, only, calls_at_last, Ended, Clauses, triple_of, Triple, Contract}
 use Rattle.mold_ffi.proofs.Walking.{entered, says, Stays, stay_dropped, walk_of, ends_at, walk_Meets, token, Goes-blank, box_owns, Bx, D, R, P, B, args}
 use Rattle.mold_ffi.proofs.Walking.{box_ty, word, box_typed, box_out, box_in}
 use Rattle.mold_ffi.specs.contracts.handle.box_parts.BoxParts as parts
@@ -70,7 +70,7 @@ module _ (E : Bx) where
         use1 𝓛 (later (some (λ (r : D E). (alive ⊛ ‵ ((B E).own_val r (answer ∷ [])))
         ⊛ some (λ (_ : Unit {0} × (Unit {0} × Unit {0})). ‵ (fsep ftrue (fsep ftrue ftrue))
         ⊛ (raw (fact 𝓤 (r.value ≡ value)) ⊛ raw (fact 𝓤 (r.alloc ≡ alloc))))))) (id⊢ 𝓤 _) $
-        await ! tt $ pick ! (λ r. split ! $ move ! (1 ∷ []) $ pick ! (λ _. split3 ! $ drop ! $ received ! (r.value ≡ value) (λ same_value. drop ! $
+        await ! tt $ pick ! (λ r. split ! $ move ! (1 ∷ []) $ pick ! (λ _. split3 ! $ drop ! $ heard ! (r.value ≡ value) (λ same_value. drop ! $
         split ! $ move ! (1 ∷ []) $
         box_out E ! r (answer ∷ []) (λ block' offset' bits' there as_answer fits'. box_in E ! r block' offset' r.value there refl $
         rewrite ! 0 (λ (words : List Val). ‵ ((B E).own_val r words)) (sym as_answer) refl $

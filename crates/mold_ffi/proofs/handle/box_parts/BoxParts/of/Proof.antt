@@ -4,7 +4,7 @@ use Rattle.mold_ffi.proofs.Walking.{vstruct, of_list, SProp, ent, id⊢, never, 
 use Rattle.mold_ffi.proofs.Walking.{WpFn, Tables, Logic, sem, fm_of, WpFn-mono, Item, ‵, raw, ◌⊛◌, some, later, ◌$◌, ◌∵◌, !, qed, by, move, drop, use1, join}
 use Rattle.mold_ffi.proofs.Walking.{split, split3, pick, rewrite, await, fsplit, fjoin, fpick, feq_l, suffices, done, whole, sub, agg, stop, fld, no_more}
 use Rattle.mold_ffi.proofs.Walking.{and_then, of_opd, returns, enter, alloc_all, pass_all, free_all, look_at, get, get_in, sets, lands_as, RattleType, no}
-use Rattle.mold_ffi.proofs.Walking.{bounded, Ptr, RawPtr, block_ptr, null_ptr, ptr_val, in_a_block, plain, received, nothing, only, Tuple, calls_at, Ended}
+use Rattle.mold_ffi.proofs.Walking.{bounded, Ptr, RawPtr, block_ptr, null_ptr, ptr_val, in_a_block, plain, heard, nothing, only, Tuple, calls_at, Ended}
 use Rattle.mold_ffi.proofs.Walking.{Clauses, triple_of, Triple, Contract, entered, says, Stays, stay_dropped, walk_of, ends_at, walk_Meets, token, handle_tells}
 use Rattle.mold_ffi.proofs.Walking.{Goes-blank, box_owns, Bx, D, τ, R, P, B, word, box_typed, box_out, box_in}
 use Rattle.mold_ffi.specs.contracts.handle.box_parts.BoxParts as parts
@@ -63,7 +63,7 @@ module _ (E : Bx) (dropping : Dict) where
         use1 𝓛 (later (some (λ (r : Ptr × E.al.row.Denot). (alive ⊛ ‵ ((Tuple (RawPtr ∷ P E ∷ [])).own_val r (answer ∷ [])))
         ⊛ some (λ (_ : (Unit {0} × (Unit {0} × Unit {0})) × Unit {0}). ‵ (fsep (fsep ftrue (fsep ftrue ftrue)) ftrue)
         ⊛ (raw (fact 𝓤 (r.1 ≡ alloc)) ⊛ ‵ (box_owns (token E.al alloc) (R E) r.0 boxed.value)))))) (id⊢ 𝓤 _) $
-        await ! tt $ pick ! (λ r. split ! $ move ! (1 ∷ []) $ pick ! (λ _. split3 ! $ drop ! $ received ! (r.1 ≡ alloc) (λ same_alloc.
+        await ! tt $ pick ! (λ r. split ! $ move ! (1 ∷ []) $ pick ! (λ _. split3 ! $ drop ! $ heard ! (r.1 ≡ alloc) (λ same_alloc.
         in_a_block ! r.0 (λ p. box_owns (token E.al alloc) (R E) p boxed.value) (fst∗ 𝓤 (never 𝓤) (sem 𝓛 (token E.al alloc (bare (τ E)) null_ptr)))
         (λ block' offset' there.
         move ! (1 ∷ []) $ split ! $ move ! (1 ∷ []) $ fpick ! (λ both. fsplit ! $ feq_l ! (λ as_pair. fsplit ! $ feq_l ! (λ as_pointer. fsplit ! $
