@@ -28,4 +28,4 @@ pub returns-clause-missing : goal.returns-clause-missing
 returns-clause-missing c = λ list verdict bytes taken tells messages whole.
     let found = from_none c list bytes taken in
     tells.not_whole (length messages + 1)
-    (subst (λ (s : Seen). IsWholeSeen s (length messages + 1)) (sym found.1) (c.whole_is_one_law.ensures.heard list messages whole))
+    (subst (λ (s : Seen). IsWholeSeen s (length messages + 1)) (sym found.1) (c.whole_is_one_law.ensures.received list messages whole))
