@@ -7,9 +7,10 @@
  *
  * THE CALLER'S DUTIES. Nothing checks them. Everything stated below holds only if they are kept.
  *
- *   1. A pointer is valid for the length that goes with it: that many bytes or elements may be read, and written if the
- *      call writes them. A pointer without a length is valid for one value of its type; session[10], request[20] and
- *      bytes[20] for that many bytes. NULL is allowed only if the length is 0.
+ *   1. A pointer is valid for the length that goes with it: all of these bytes or elements may be read, and also
+ *      written if the call writes them. A pointer without a length is valid for one value of its type. The parameters
+ *      session[10], request[20] and bytes[20] are valid for their declared sizes. NULL is allowed only if the length
+ *      is 0.
  *   2. A pointer has the alignment of its type.
  *   3. Everything that a call writes was initialized before, with any value: an output, a buffer, an array, a handle.
  *   4. A length is below 2^63.
@@ -29,7 +30,7 @@
  * code then returns 0 or false.
  *
  * SLICES. A mold_bytes that a listener returns is a slice of the listener's memory. It is valid until the next call on
- * that handle, and the caller never frees it. If its length is 0, its address may be invalid: do not read it or
+ * that handle, and the caller never frees it. If its length is 0, its address may no longer be valid: do not read it or
  * compute with it. All other results are written to memory of the caller. The library keeps copies, so whatever is
  * passed to a call may be freed when the call returns. The exception is a packer's buffer, which the packer keeps.
  *
@@ -116,8 +117,8 @@ enum {
 };
 
 typedef struct mold_packet {
-    uint64_t sequence;   /* the number of the first message; of a heartbeat that of the next message; of an end packet
-                            one more than the number of messages of the session */
+    uint64_t sequence;   /* the number of the first message. A heartbeat has that of the next message. An end packet
+                            has one more than the number of messages of the session */
     uint64_t detail;     /* the number that goes with a refusal; otherwise 0 */
     uint32_t kind;       /* MOLD_DATA, MOLD_HEARTBEAT or MOLD_END */
     uint16_t count;      /* the number of messages; 0 for a heartbeat and for an end packet */
@@ -138,10 +139,10 @@ typedef struct mold_request {
 
 /* Decodes a datagram, and writes its header to *packet.
  *
- *   MOLD_DONE       the bytes are the encoding of this packet and of no other
- *   MOLD_SHORT      packet->detail is the length of the datagram
- *   MOLD_BLOCK_CUT  packet->detail is the number of whole message blocks before the one that is cut short
- *   MOLD_TRAILING   packet->detail is the offset of the first byte after the packet
+ *   MOLD_DONE       the bytes are the encoding of this packet and of no other.
+ *   MOLD_SHORT      `packet->detail` is the length of the datagram.
+ *   MOLD_BLOCK_CUT  `packet->detail` is the number of whole message blocks before the one that is cut short.
+ *   MOLD_TRAILING   `packet->detail` is the offset of the first byte after the packet.
  *
  * A refusal keeps the other fields of *packet. */
 uint32_t mold_decode(const uint8_t *bytes, size_t length, mold_packet *packet);
@@ -153,7 +154,7 @@ uint32_t mold_read(const uint8_t *bytes, size_t length, mold_packet *packet, mol
 
 /* Decodes a request packet. Any 20 bytes are one, also with sequence number 0 or count 0.
  *
- *   MOLD_REQUEST_LENGTH  the length is not 20; writes nothing */
+ *   MOLD_REQUEST_LENGTH  the length is not 20; writes nothing. */
 uint32_t mold_request_decode(const uint8_t *bytes, size_t length, mold_request *request);
 
 /* Writes the 20 bytes of a request packet. */
@@ -174,7 +175,7 @@ typedef struct mold_packer {
 
 /* Begins a packet without messages, in place of the previous packet. Until a message is added, it is a heartbeat.
  *
- *   MOLD_LIMIT  the limit is not 64 to 65,507 bytes */
+ *   MOLD_LIMIT  the limit is not 64 to 65,507 bytes. */
 uint32_t mold_packer_start(mold_packer *packer, const uint8_t session[10], uint64_t sequence);
 
 /* Whether mold_packer_add would add a message of `length` bytes. */
@@ -182,14 +183,15 @@ bool mold_packer_fits(const mold_packer *packer, size_t length);
 
 /* Adds a message to the packet.
  *
- *   MOLD_BROKEN  the fields are invalid. Not all invalid fields are detected
+ *   MOLD_BROKEN  the fields are invalid. The call does not read the packet in the buffer, so it accepts some invalid
+ *                fields.
  *   MOLD_FULL    no packet was begun, or it is an end packet, or the message does not fit: with its two bytes of length
- *                the packet would be longer than the limit */
+ *                the packet would be longer than the limit. */
 uint32_t mold_packer_add(mold_packer *packer, const uint8_t *message, size_t length);
 
 /* Writes an end packet in place of the previous packet. No message can be added to it.
  *
- *   MOLD_LIMIT  the limit is not 64 to 65,507 bytes */
+ *   MOLD_LIMIT  the limit is not 64 to 65,507 bytes. */
 uint32_t mold_packer_end(mold_packer *packer, const uint8_t session[10], uint64_t sequence);
 
 /* ---- Handles ---- */
@@ -226,7 +228,7 @@ void mold_free(void *handle);
 /* What a datagram brought. */
 typedef struct mold_told {
     uint64_t detail; /* the number that goes with a refusal; otherwise 0. After a refusal the counts are 0 */
-    uint32_t handed; /* the number of messages that were delivered, its own and stored ones: the last of the batch */
+    uint32_t handed; /* the number of delivered messages, its own and stored ones. They are the last of the batch */
     uint32_t kept;   /* the number of its messages that were stored above a gap */
     uint32_t beyond; /* the number of its messages above the window: they are dropped and must be received again */
     uint32_t unused; /* padding, which is never written */
@@ -250,29 +252,29 @@ enum {
 /* Makes a listener to a session. It delivers the messages from number `next` on. It stores a message above a gap if the
  * message's number is less than that of the next message to deliver plus `window`.
  *
- *   MOLD_BROKEN     the handle is not empty
- *   MOLD_NEXT_ZERO  next is 0
- *   MOLD_WINDOW     window is not 1 to 65,536
- *   MOLD_MEMORY     an allocation failed; the handle is empty */
+ *   MOLD_BROKEN     the handle is not empty.
+ *   MOLD_NEXT_ZERO  next is 0.
+ *   MOLD_WINDOW     window is not 1 to 65,536.
+ *   MOLD_MEMORY     an allocation failed; the handle is empty. */
 uint32_t mold_listener_new(mold_listener *listener, const uint8_t session[10], uint64_t next, uint32_t window);
 
 /* Takes a datagram of a line, or a server's response. Messages that are next in order join the batch: those of the
  * datagram, and then stored ones. Messages above a gap are stored. Messages that were delivered or stored before are
  * ignored.
  *
- *   MOLD_DONE           *told states what it brought
- *   MOLD_BROKEN         the handle does not hold a listener
- *   MOLD_LINE           line is not MOLD_LINE_A, MOLD_LINE_B or MOLD_ANSWER
+ *   MOLD_DONE           `*told` states what it brought.
+ *   MOLD_BROKEN         the handle does not hold a listener.
+ *   MOLD_LINE           line is not MOLD_LINE_A, MOLD_LINE_B or MOLD_ANSWER.
  *   MOLD_SHORT, MOLD_BLOCK_CUT, MOLD_TRAILING
- *                       the bytes do not encode a packet; told->detail is as packet->detail of mold_decode
- *   MOLD_WRONG_SESSION  the packet belongs to another session
- *   MOLD_SEQUENCE_ZERO  its sequence number is 0
- *   MOLD_PAST_LAST      it has a message with a number above 18446744073709551614
- *   MOLD_END_CONFLICT   it states another end of the session than the known one, told->detail
- *   MOLD_END_BELOW      it ends the session below told->detail, the greatest known top
- *   MOLD_PAST_END       its top is above told->detail, the known end
- *   MOLD_CONFLICT       it has another message than the one stored under number told->detail, the least such number
- *   MOLD_MEMORY         an allocation failed, or the store would reach 4 GiB
+ *                       the bytes do not encode a packet; `told->detail` is as `packet->detail` of mold_decode.
+ *   MOLD_WRONG_SESSION  the packet belongs to another session.
+ *   MOLD_SEQUENCE_ZERO  its sequence number is 0.
+ *   MOLD_PAST_LAST      it has a message with a number above 18446744073709551614.
+ *   MOLD_END_CONFLICT   it states another end of the session than the known one, `told->detail`.
+ *   MOLD_END_BELOW      it ends the session below `told->detail`, the greatest known top.
+ *   MOLD_PAST_END       its top is above `told->detail`, the known end.
+ *   MOLD_CONFLICT       it has another message than the one stored under number `told->detail`, the least such number.
+ *   MOLD_MEMORY         an allocation failed, or the store would reach 4 GiB.
  *
  * After a refusal the listener is as before, except that the line's report counts the datagram as refused. MOLD_MEMORY
  * is not counted. */
@@ -291,8 +293,8 @@ uint64_t mold_listener_first(mold_listener *listener);
 
 /* Returns a slice of the message at index i of the batch, i from 0.
  *
- *   MOLD_BROKEN  the handle does not hold a listener
- *   MOLD_ABSENT  the batch has no message at this index; writes nothing */
+ *   MOLD_BROKEN  the handle does not hold a listener.
+ *   MOLD_ABSENT  the batch has no message at this index; writes nothing. */
 uint32_t mold_listener_message(mold_listener *listener, size_t i, mold_bytes *message);
 
 /* Writes slices of the first messages of the batch, as many as the array has room for, and returns how many. The other
@@ -302,9 +304,9 @@ size_t mold_listener_messages(mold_listener *listener, mold_bytes *messages, siz
 /* Copies the message at index i of the batch to the start of a buffer, and writes its length to *size. The other bytes
  * of the buffer keep their values.
  *
- *   MOLD_BROKEN  the handle does not hold a listener
- *   MOLD_ABSENT  the batch has no message at this index; writes nothing
- *   MOLD_ROOM    the message is longer than the buffer: *size is its length, and the buffer keeps its bytes */
+ *   MOLD_BROKEN  the handle does not hold a listener.
+ *   MOLD_ABSENT  the batch has no message at this index; writes nothing.
+ *   MOLD_ROOM    the message is longer than the buffer: *size is its length, and the buffer keeps its bytes. */
 uint32_t mold_listener_copy(mold_listener *listener, size_t i, uint8_t *buffer, size_t room, size_t *size);
 
 /* Whether messages are missing. If so, `request` is the request packet to send to the re-request server. It asks for
@@ -321,15 +323,15 @@ uint64_t mold_listener_known(mold_listener *listener);
 /* Whether the end of the session is known and all messages below it were delivered. */
 bool mold_listener_finished(mold_listener *listener);
 
-/* Writes the report of line MOLD_LINE_A or MOLD_LINE_B. The lag of a line is mold_listener_known minus its front.
+/* Writes the report of line MOLD_LINE_A or MOLD_LINE_B. The lag of a line is mold_listener_known minus its `front`.
  *
- *   MOLD_BROKEN  the handle does not hold a listener
- *   MOLD_LINE    line is neither of them */
+ *   MOLD_BROKEN  the handle does not hold a listener.
+ *   MOLD_LINE    line is neither of them. */
 uint32_t mold_listener_report(mold_listener *listener, uint32_t line, mold_report *report);
 
 /* Empties the batch, and keeps its memory for later messages. Slices of the batch are no longer valid.
  *
- *   MOLD_BROKEN  the handle does not hold a listener */
+ *   MOLD_BROKEN  the handle does not hold a listener. */
 uint32_t mold_listener_clear(mold_listener *listener);
 
 /* ---- Publisher: messages in datagrams, and their journal ---- */
@@ -337,18 +339,18 @@ uint32_t mold_listener_clear(mold_listener *listener);
 /* Makes a publisher of a session without messages. Its datagrams have at most `limit` bytes, and its messages at most
  * 22 bytes fewer.
  *
- *   MOLD_BROKEN  the handle is not empty
- *   MOLD_LIMIT   limit is not 64 to 65,507
- *   MOLD_MEMORY  an allocation failed; the handle is empty */
+ *   MOLD_BROKEN  the handle is not empty.
+ *   MOLD_LIMIT   limit is not 64 to 65,507.
+ *   MOLD_MEMORY  an allocation failed; the handle is empty. */
 uint32_t mold_publisher_new(mold_publisher *publisher, const uint8_t session[10], size_t limit);
 
 /* Publishes a message: it gets the next sequence number, *number, and the journal keeps its bytes.
  *
- *   MOLD_BROKEN    the handle does not hold a publisher
- *   MOLD_CLOSED    the session is closed
- *   MOLD_TOO_LONG  the message is longer than the limit allows; *number is its length
- *   MOLD_NUMBERS   18446744073709551614 messages were published
- *   MOLD_MEMORY    an allocation failed */
+ *   MOLD_BROKEN    the handle does not hold a publisher.
+ *   MOLD_CLOSED    the session is closed.
+ *   MOLD_TOO_LONG  the message is longer than the limit allows; *number is its length.
+ *   MOLD_NUMBERS   18446744073709551614 messages were published.
+ *   MOLD_MEMORY    an allocation failed. */
 uint32_t mold_publisher_publish(mold_publisher *publisher, const uint8_t *message, size_t length, uint64_t *number);
 
 /* Whether the unsent messages do not all fit in one datagram. A message is unsent until mold_publisher_datagram has
@@ -359,37 +361,37 @@ bool mold_publisher_is_full(mold_publisher *publisher);
 /* Writes a datagram of the unsent messages, in order and as many as fit, to the start of a buffer. *size is its length.
  * The buffer must have at least as many bytes as the limit.
  *
- *   MOLD_BROKEN  the handle does not hold a publisher
- *   MOLD_ROOM    the buffer is shorter than the limit; *size is the limit
- *   MOLD_ABSENT  no message is unsent; *size is 0 */
+ *   MOLD_BROKEN  the handle does not hold a publisher.
+ *   MOLD_ROOM    the buffer is shorter than the limit; *size is the limit.
+ *   MOLD_ABSENT  no message is unsent; *size is 0. */
 uint32_t mold_publisher_datagram(mold_publisher *publisher, uint8_t *buffer, size_t room, size_t *size);
 
 /* Writes a heartbeat, which has 20 bytes. Its number is that of the first unsent message.
  *
- *   MOLD_BROKEN  the handle does not hold a publisher
- *   MOLD_ROOM    the buffer is shorter than the limit; *size is the limit
- *   MOLD_ABSENT  the session is closed; *size is 0 */
+ *   MOLD_BROKEN  the handle does not hold a publisher.
+ *   MOLD_ROOM    the buffer is shorter than the limit; *size is the limit.
+ *   MOLD_ABSENT  the session is closed; *size is 0. */
 uint32_t mold_publisher_heartbeat(mold_publisher *publisher, uint8_t *buffer, size_t room, size_t *size);
 
 /* Closes the session: no more messages can be published. Closing a closed session succeeds and changes nothing. *number
  * is then 0.
  *
- *   MOLD_BROKEN  the handle does not hold a publisher
- *   MOLD_UNSENT  *number messages are unsent */
+ *   MOLD_BROKEN  the handle does not hold a publisher.
+ *   MOLD_UNSENT  *number messages are unsent. */
 uint32_t mold_publisher_close(mold_publisher *publisher, uint64_t *number);
 
 /* Writes an end packet, which has 20 bytes. Its number is one more than the number of messages.
  *
- *   MOLD_BROKEN  the handle does not hold a publisher
- *   MOLD_ROOM    the buffer is shorter than the limit; *size is the limit
- *   MOLD_ABSENT  the session is not closed; *size is 0 */
+ *   MOLD_BROKEN  the handle does not hold a publisher.
+ *   MOLD_ROOM    the buffer is shorter than the limit; *size is the limit.
+ *   MOLD_ABSENT  the session is not closed; *size is 0. */
 uint32_t mold_publisher_end(mold_publisher *publisher, uint8_t *buffer, size_t room, size_t *size);
 
 /* Writes the journal to the start of a buffer, as a journal file of version 2, which `mold serve` and mold_server_new
  * read. Its length, *size, is 27 bytes plus 2 bytes and the message for each message.
  *
- *   MOLD_BROKEN  the handle does not hold a publisher
- *   MOLD_ROOM    the buffer is too small: *size is the length of the journal, and the buffer keeps its bytes */
+ *   MOLD_BROKEN  the handle does not hold a publisher.
+ *   MOLD_ROOM    the buffer is too small: *size is the length of the journal, and the buffer keeps its bytes. */
 uint32_t mold_publisher_save(mold_publisher *publisher, uint8_t *buffer, size_t room, size_t *size);
 
 /* ---- Server: responses to requests, from a journal ---- */
@@ -406,9 +408,9 @@ typedef struct mold_plan {
  * most the publisher's limit. For the calls below the publisher's handle is then also that of a server:
  * mold_server_of(&publisher).
  *
- *   MOLD_BROKEN  the handle does not hold a publisher, or the publisher responds to requests already
- *   MOLD_BURST   burst is not 1 to 64
- *   MOLD_MEMORY  an allocation failed */
+ *   MOLD_BROKEN  the handle does not hold a publisher, or the publisher responds to requests already.
+ *   MOLD_BURST   burst is not 1 to 64.
+ *   MOLD_MEMORY  an allocation failed. */
 uint32_t mold_server_from_publisher(mold_publisher *publisher, uint16_t burst);
 
 /* Returns a publisher's handle as that of its server. */
@@ -424,17 +426,17 @@ static inline mold_server *mold_server_of(mold_publisher *publisher) {
 /* Makes a server of the bytes of a journal file of version 1 or 2. Its datagrams have at most `limit` bytes, and a
  * response at most `burst` datagrams. *number is 0 if the call succeeds.
  *
- *   MOLD_BROKEN         the handle is not empty
- *   MOLD_LIMIT          limit is not 64 to 65,507
- *   MOLD_BURST          burst is not 1 to 64
- *   MOLD_FILE_SHORT     the bytes end before the messages begin; *number is the number of bytes
- *   MOLD_BAD_MAGIC      the bytes are not a journal
- *   MOLD_BAD_FLAG       the flag, *number, is neither open nor closed
- *   MOLD_NUMBERS        there are more messages than sequence numbers
- *   MOLD_TOO_LONG       a message is longer than the limit allows; *number is its length
- *   MOLD_FILE_CUT       the bytes end within message *number
- *   MOLD_COUNT_DIFFERS  the journal has *number messages, and states another number
- *   MOLD_MEMORY         an allocation failed; the handle is empty
+ *   MOLD_BROKEN         the handle is not empty.
+ *   MOLD_LIMIT          limit is not 64 to 65,507.
+ *   MOLD_BURST          burst is not 1 to 64.
+ *   MOLD_FILE_SHORT     the bytes end before the messages begin; *number is the number of bytes.
+ *   MOLD_BAD_MAGIC      the bytes are not a journal.
+ *   MOLD_BAD_FLAG       the flag, *number, is neither open nor closed.
+ *   MOLD_NUMBERS        there are more messages than sequence numbers.
+ *   MOLD_TOO_LONG       a message is longer than the limit allows; *number is its length.
+ *   MOLD_FILE_CUT       the bytes end within message *number.
+ *   MOLD_COUNT_DIFFERS  the journal has *number messages, and states another number.
+ *   MOLD_MEMORY         an allocation failed; the handle is empty.
  *
  * If an allocation fails, MOLD_MEMORY may be returned in place of any code listed after MOLD_BURST. */
 uint32_t mold_server_new(mold_server *server, size_t limit, uint16_t burst, const uint8_t *journal, size_t length,
@@ -443,13 +445,13 @@ uint32_t mold_server_new(mold_server *server, size_t limit, uint16_t burst, cons
 /* Writes the first datagram of the response to a request to the start of a buffer. *number is its length. For a
  * response of several datagrams use mold_server_plan and mold_server_datagram instead.
  *
- *   MOLD_BROKEN          the handle does not hold a server
- *   MOLD_ROOM            the buffer is shorter than the limit; *number is the limit
- *   MOLD_REQUEST_LENGTH  the length of the request, *number, is not 20
- *   MOLD_WRONG_SESSION   the request is for another session
- *   MOLD_SEQUENCE_ZERO   its sequence number is 0
- *   MOLD_EMPTY_REQUEST   its count is 0
- *   MOLD_AHEAD           its sequence number is at least *number, one more than that of the last message */
+ *   MOLD_BROKEN          the handle does not hold a server.
+ *   MOLD_ROOM            the buffer is shorter than the limit; *number is the limit.
+ *   MOLD_REQUEST_LENGTH  the length of the request, *number, is not 20.
+ *   MOLD_WRONG_SESSION   the request is for another session.
+ *   MOLD_SEQUENCE_ZERO   its sequence number is 0.
+ *   MOLD_EMPTY_REQUEST   its count is 0.
+ *   MOLD_AHEAD           its sequence number is at least *number, one more than that of the last message. */
 uint32_t mold_server_answer(mold_server *server, const uint8_t *request, size_t length, uint8_t *buffer, size_t room,
                             uint64_t *number);
 
@@ -463,9 +465,9 @@ uint32_t mold_server_plan(mold_server *server, const uint8_t *request, size_t le
  * length.
  *
  *   MOLD_BROKEN  the handle does not hold a server, or the plan is not one of this server: its session is another one,
- *                or the journal does not have its messages
- *   MOLD_ROOM    the buffer is shorter than the limit; *size is the limit
- *   MOLD_ABSENT  the plan has no remaining datagram; *size is 0 */
+ *                or the journal does not have its messages.
+ *   MOLD_ROOM    the buffer is shorter than the limit; *size is the limit.
+ *   MOLD_ABSENT  the plan has no remaining datagram; *size is 0. */
 uint32_t mold_server_datagram(mold_server *server, mold_plan *plan, uint8_t *buffer, size_t room, size_t *size);
 
 /* ---- Checker: whether captured datagrams are one whole session ---- */
@@ -486,39 +488,39 @@ typedef struct mold_verdict {
 
 /* Makes a checker that has taken no datagram.
  *
- *   MOLD_BROKEN  the handle is not empty
- *   MOLD_MEMORY  an allocation failed; the handle is empty */
+ *   MOLD_BROKEN  the handle is not empty.
+ *   MOLD_MEMORY  an allocation failed; the handle is empty. */
 uint32_t mold_checker_new(mold_checker *checker);
 
 /* Takes a datagram. Datagrams may come in any order. The session is that of the first datagram taken. Except for
  * MOLD_BROKEN and MOLD_MEMORY, a datagram is refused exactly when no session explains it together with those taken
  * before. A refusal changes nothing. If the datagram is taken, *number is 0.
  *
- *   MOLD_BROKEN         the handle does not hold a checker
+ *   MOLD_BROKEN         the handle does not hold a checker.
  *   MOLD_SHORT, MOLD_BLOCK_CUT, MOLD_TRAILING
- *                       the bytes do not encode a packet; *number is as packet->detail of mold_decode
- *   MOLD_WRONG_SESSION  the packet belongs to another session
- *   MOLD_SEQUENCE_ZERO  its sequence number is 0
- *   MOLD_PAST_LAST      it has a message with a number above 18446744073709551614
- *   MOLD_END_CONFLICT   it states another end of the session than the known one, *number
- *   MOLD_END_BELOW      it ends the session below *number, the greatest known top
- *   MOLD_PAST_END       its top is above *number, the known end
- *   MOLD_CONFLICT       it has another message than an earlier datagram under *number, the least such number
- *   MOLD_MEMORY         an allocation failed */
+ *                       the bytes do not encode a packet; *number is as `packet->detail` of mold_decode.
+ *   MOLD_WRONG_SESSION  the packet belongs to another session.
+ *   MOLD_SEQUENCE_ZERO  its sequence number is 0.
+ *   MOLD_PAST_LAST      it has a message with a number above 18446744073709551614.
+ *   MOLD_END_CONFLICT   it states another end of the session than the known one, *number.
+ *   MOLD_END_BELOW      it ends the session below *number, the greatest known top.
+ *   MOLD_PAST_END       its top is above *number, the known end.
+ *   MOLD_CONFLICT       it has another message than an earlier datagram under *number, the least such number.
+ *   MOLD_MEMORY         an allocation failed. */
 uint32_t mold_checker_take(mold_checker *checker, const uint8_t *bytes, size_t length, uint64_t *number);
 
 /* Writes whether the datagrams are one whole session: its end is known, and each message below the end was taken.
  *
- *   MOLD_BROKEN  the handle does not hold a checker
- *   MOLD_MEMORY  an allocation failed; writes nothing */
+ *   MOLD_BROKEN  the handle does not hold a checker.
+ *   MOLD_MEMORY  an allocation failed; writes nothing. */
 uint32_t mold_checker_verdict(mold_checker *checker, mold_verdict *verdict);
 
 /* Writes the missing ranges below the greatest known top, ascending, as many as the array has room for. No two of them
  * adjoin. *count is the number of all of them, as in the verdict. The other elements of the array keep their values.
  * `room` is the number of elements.
  *
- *   MOLD_BROKEN  the handle does not hold a checker
- *   MOLD_MEMORY  an allocation failed; writes nothing */
+ *   MOLD_BROKEN  the handle does not hold a checker.
+ *   MOLD_MEMORY  an allocation failed; writes nothing. */
 uint32_t mold_checker_ranges(mold_checker *checker, mold_range *ranges, size_t room, size_t *count);
 
 #ifdef __cplusplus
