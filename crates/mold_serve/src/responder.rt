@@ -1,10 +1,12 @@
 //! The server at work: the requests that it receives on a port, and the responses that it sends.
 
-ghost use Rattle.std.specs.Prelude.{◌≡◌, ◌+◌, ◌≤◌, ◌<◌, true, List, Bool, length, IfOk, MatchResult, OnOk};
+ghost use Rattle.std.specs.Prelude.{◌≡◌, ◌+◌, ◌≤◌, ◌<◌, true, List, Bool, length, IfErr, IfOk, MatchResult};
+ghost use Rattle.std.specs.Prelude.{OnOk};
+ghost use Rattle.std.specs.Io.KnownBytes.{Appends};
 ghost use Rattle.mold_devices.specs.Faults.{CountsSink};
 ghost use Rattle.mold_serve.specs.Answering.{OffersNext, OffersOne, Reaches, left_of};
 ghost use Rattle.mold_turns.specs.Outgoing.{IsBounded};
-ghost use Rattle.mold_turns.specs.Runs.{Ran, Rests, TurnRests};
+ghost use Rattle.mold_turns.specs.Runs.{Begins, Ran, Rests, TurnRests};
 ghost use Rattle.mold_serve.specs.Serving.{IsSame, MayAnswer, behind, offer_all, replied, reply, serve_turn, service};
 ghost use Rattle.mold_serve.specs.Serving.{served_by, serving, state};
 ghost use Rattle.mold_serve.specs.Tally.{served_line};
@@ -47,6 +49,7 @@ impl<'a, D: Datagrams> Responder<'a, D> {
         ensures less { IfOk result (λ more. more ≡ true → plan.new.left < plan.old.left) }
         ensures session { plan.new.session ≡ plan.old.session }
         ensures to { plan.new.to ≡ plan.old.to }
+        ensures prints { Begins self.old.tally.now.outgoing.text self.new.tally.now.outgoing.text }
         ensures same { IsSame self.old self.new }
     {
         planned_law();
@@ -69,6 +72,7 @@ impl<'a, D: Datagrams> Responder<'a, D> {
         requires to { plan.old.to ≤ length self.old.journal.now.messages + 1 }
         ensures offered { D.modeled ≡ true → (fails : List Bool) × Reaches result (state D.port self.new)
             (offer_all to (left_of (service self.old) plan.old) fails (state D.port self.old)) }
+        ensures prints { Begins self.old.tally.now.outgoing.text self.new.tally.now.outgoing.text }
         ensures same { IsSame self.old self.new }
     {
         'packets: while self.offer_next(plan, to)? {}
@@ -82,6 +86,7 @@ impl<'a, D: Datagrams> Responder<'a, D> {
         requires { MayAnswer self.old }
         ensures replied { D.modeled ≡ true → (fails : List Bool) × Reaches result (state D.port self.new)
             (replied from fails (reply (service self.old) request.now) (state D.port self.old)) }
+        ensures prints { Begins self.old.tally.now.outgoing.text self.new.tally.now.outgoing.text }
         ensures same { IsSame self.old self.new }
     {
         answered_law();
@@ -98,6 +103,7 @@ impl<'a, D: Datagrams> Responder<'a, D> {
         requires buffer { length buffer.old ≡ MAX_LIMIT }
         ensures turn { D.modeled ≡ true → (fails : List Bool) × Reaches result (state D.port self.new)
             (serve_turn (service self.old) fails (state D.port self.old)) }
+        ensures prints { Begins self.old.tally.now.outgoing.text self.new.tally.now.outgoing.text }
         ensures same { IsSame self.old self.new }
     {
         match self.port.receive(buffer) {
@@ -113,18 +119,28 @@ impl<'a, D: Datagrams> Responder<'a, D> {
         }
     }
 
-    // Makes one turn. Then writes the text if it has at least 65,536 bytes or the sink is live.
+    // Makes one turn. Then writes the text if it has at least 65,536 bytes or the sink is live. If the turn fails, writes
+    // the text of the turns before it.
     fn write_turn<K: Sink>(&mut self, buffer: &mut [u8], sink: &mut K) -> Result<(), CommandFault>
         requires longest { MayAnswer self.old }
         requires buffer { length buffer.old ≡ MAX_LIMIT }
         ensures rests { D.modeled ≡ true → TurnRests (serving (service self.old)) behind (state D.port self.old)
             result (K.held sink.old) (K.held sink.new) (state D.port self.new) }
         ensures bounded { OnOk result (IsBounded (K.live sink.old) self.new.tally.now.outgoing.text) }
+        ensures kept { IfErr result (λ fault. fault ≡ CommandFault.Memory →
+            Appends (K.held sink.old) (K.held sink.new) self.old.tally.now.outgoing.text) }
         ensures live { K.live sink.new ≡ K.live sink.old }
         ensures same { IsSame self.old self.new }
         ensures sink { CountsSink (K.failed sink.old) (K.failed sink.new) result }
     {
-        self.take_turn(buffer)?;
+        let told = self.tally.outgoing.unwritten();
+        let Ok(()) = self.take_turn(buffer) else {
+            return Err(
+                self.tally
+                    .outgoing
+                    .end_with(told, CommandFault::Memory, sink),
+            );
+        };
         self.tally.outgoing.send_large(sink)?;
         Ok(())
     }
@@ -170,7 +186,14 @@ impl<'a, D: Datagrams> Responder<'a, D> {
         ensures sink { CountsSink (K.failed sink.old) (K.failed sink.new) result }
     {
         self.take_turns(turns, buffer, sink)?;
-        self.tally.push_last()?;
+        let told = self.tally.outgoing.unwritten();
+        let Ok(()) = self.tally.push_last() else {
+            return Err(
+                self.tally
+                    .outgoing
+                    .end_with(told, CommandFault::Memory, sink),
+            );
+        };
         self.tally.outgoing.send(sink)?;
         Ok(0)
     }

@@ -48,7 +48,8 @@ pub fn answer_request<D: Datagrams>(
 ///
 /// A failed receive or send is counted, and the loop continues. The status is 0. The longest message that the journal
 /// allows must not be longer than the server allows. Text is written when 65,536 bytes have accumulated, and at the
-/// end. To a live sink it is written after each turn. After a fault, text that is not written yet is lost.
+/// end. To a live sink it is written after each turn. If memory runs out in a turn or for the last line, the text of the
+/// turns before is written first. After a fault of the sink, a prefix of the text is written.
 pub fn serve_loop<D: Datagrams, K: Sink>(
     alloc: Global,
     port: &mut D,

@@ -1,8 +1,9 @@
 //! What a server has printed and counted.
 
-ghost use Rattle.std.specs.Prelude.{◌≡◌, OnOk};
+ghost use Rattle.std.specs.Prelude.{◌≡◌, length, take, OnErr, OnOk};
 ghost use Rattle.mold_devices.specs.Devices.{one_more};
 ghost use Rattle.mold_turns.specs.Outgoing.{with_more};
+ghost use Rattle.mold_turns.specs.Runs.{Begins};
 ghost use Rattle.mold_serve.specs.Tally.{served_line, no_tally, with_answered, with_failed, with_outgoing};
 ghost use Rattle.mold_serve.specs.Tally.{request_refused_text, with_quiet, with_refused};
 
@@ -40,7 +41,8 @@ impl Tally {
 
     // Prints and counts a response that was sent, with the sequence number and the message count of its header.
     pub(crate) fn add_answered(&mut self, sequence: u64, count: u64) -> Result<(), AllocError>
-        ensures { OnOk result (self.new ≡ with_answered sequence count self.old) }
+        ensures answered { OnOk result (self.new ≡ with_answered sequence count self.old) }
+        ensures prints { Begins self.old.outgoing.text self.new.outgoing.text }
     {
         let words = [
             Word::Text(b"answered"),
@@ -54,7 +56,8 @@ impl Tally {
 
     // Prints and counts a refused request.
     pub(crate) fn add_refused(&mut self, why: AnswerError) -> Result<(), AllocError>
-        ensures { OnOk result (self.new ≡ with_refused why self.old) }
+        ensures refused { OnOk result (self.new ≡ with_refused why self.old) }
+        ensures prints { Begins self.old.outgoing.text self.new.outgoing.text }
     {
         push_request_refused(&mut self.outgoing, why)?;
         add_one(&mut self.refused);
@@ -77,7 +80,8 @@ impl Tally {
 
     // Prints the last line.
     pub(crate) fn push_last(&mut self) -> Result<(), AllocError>
-        ensures { OnOk result (self.new ≡ with_outgoing (with_more (served_line self.old) self.old.outgoing) self.old) }
+        ensures line { OnOk result (self.new ≡ with_outgoing (with_more (served_line self.old) self.old.outgoing) self.old) }
+        ensures prints { Begins self.old.outgoing.text self.new.outgoing.text }
     {
         let words = [
             Word::Text(b"answered"),
@@ -95,7 +99,8 @@ impl Tally {
 
 // Appends the line of a refused request.
 fn push_request_refused(outgoing: &mut Outgoing, why: AnswerError) -> Result<(), AllocError>
-    ensures { OnOk result (outgoing.new ≡ with_more (request_refused_text why) outgoing.old) }
+    ensures text { OnOk result (outgoing.new ≡ with_more (request_refused_text why) outgoing.old) }
+    ensures kept { OnErr result (take (length outgoing.old.text) outgoing.new.text ≡ outgoing.old.text) }
 {
     push_answer_refusal(&mut outgoing.text, &[Word::Text(b"refused")], why)
 }

@@ -20,5 +20,5 @@ pub returns-in-Err-clause-replied : goal.returns-in-Err-clause-replied
 returns-in-Err-clause-replied g c modeled = (
   [],
   refused_so c.add_refused.result c.args.from c.args.self.now.journal.now c.args.request.now c.in-Err.why _ c.args.self.now.tally.now _
-      c.args.self.now.server.now _ c.in-Err.ensures.planned c.in-Err.ensures.counted c.add_refused.ensures,
+      c.args.self.now.server.now _ c.in-Err.ensures.planned c.in-Err.ensures.counted c.add_refused.ensures.refused,
 )

@@ -1,4 +1,5 @@
 use Rattle.std.proofs.Common.{refl, ◌∙◌, ◌++◌, [], ◌∷◌, true, false}
+use Rattle.mold_turns.proofs.RunLemmas.{begins_trans}
 use Rattle.mold_serve.proofs.AnsweringLemmas.{offering_cut, offering_done, offering_step, offers_of}
 use Rattle.mold_serve.proofs.ServingLemmas.{may_answer, same_twice, service_is}
 use Rattle.mold_serve.proofs.responder.Responder.offer_all.Goals as goal
@@ -22,6 +23,7 @@ packets-preserved g c = record {
       (service_is c.packets.invariant.same) c.if-branch.true (c.in_ok-offer_next.ensures.offered modeled));
   session = c.in_ok-offer_next.ensures.session ∙ c.packets.invariant.session;
   to = c.in_ok-offer_next.ensures.to ∙ c.packets.invariant.to;
+  prints = begins_trans c.packets.invariant.prints c.in_ok-offer_next.ensures.prints;
   same = same_twice c.packets.invariant.same c.in_ok-offer_next.ensures.same;
 }
 
@@ -32,3 +34,10 @@ returns-clause-offered g c modeled =
     offers_of _ _ c.in_ok-offer_next.field-0 false _ _ c.packets.plan c.offer_next.new.plan _ _
     (service_is c.packets.invariant.same) c.if-branch.false (c.in_ok-offer_next.ensures.offered modeled) in
     (offering.fails ++ [], offering_done _ offering none.0 none.1)
+
+pub returns-in_err-offer_next-clause-prints : goal.returns-in_err-offer_next-clause-prints
+returns-in_err-offer_next-clause-prints g c =
+    begins_trans c.packets.invariant.prints c.in_err-offer_next.ensures.prints
+
+pub returns-clause-prints : goal.returns-clause-prints
+returns-clause-prints g c = begins_trans c.packets.invariant.prints c.in_ok-offer_next.ensures.prints

@@ -1,6 +1,7 @@
 use Rattle.std.proofs.Common.{◌≡◌, true}
 use Rattle.mold_serve.specs.Answering.{left_of}
 use Rattle.mold_serve.specs.Serving.{IsSame, service, state}
+use Rattle.mold_turns.specs.Runs.{Begins}
 use Rattle.mold_serve.proofs.AnsweringLemmas.{Offering}
 use Rattle.mold_serve.proofs.responder.Responder.offer_all.Given as goal
 
@@ -16,6 +17,7 @@ invariant-packets g l = record {
       (state g.D.Datagrams.port l.self);
   session : l.plan.session ≡ l.fn.plan.session;
   to : l.plan.to ≡ l.fn.plan.to;
+  prints : Begins l.fn.self.tally.now.outgoing.text l.self.tally.now.outgoing.text;
   same : IsSame l.fn.self l.self;
 }
 

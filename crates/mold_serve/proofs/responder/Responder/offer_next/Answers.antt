@@ -1,4 +1,8 @@
+use Rattle.std.proofs.Common.{subst, sym}
 use Rattle.std.proofs.lemmas.Result.{MatchResult-from_err}
+use Rattle.mold_turns.specs.Runs.{Begins}
+use Rattle.mold_turns.proofs.RunLemmas.{begins_whole}
+use Rattle.mold_serve.specs.declared.tally.Tally.{Tally}
 use Rattle.mold_serve.specs.Serving.{service}
 use Rattle.mold_session.specs.Answer.{SendsNext}
 use Rattle.mold_serve.proofs.AnsweringLemmas.{offered_in_vain, offered_unprinted, offered_well}
@@ -42,7 +46,7 @@ returns-in_ok-add_answered-in-Ok-clause-offered g c modeled =
     c.from-sequence.ensures.value
     c.from.ensures.value
     (c.in-Ok.ensures.sent modeled)
-    c.in_ok-add_answered-in-Ok.ensures
+    c.in_ok-add_answered-in-Ok.ensures.answered
 
 pub returns-in-Err-clause-offered : goal.returns-in-Err-clause-offered
 returns-in-Err-clause-offered g c modeled =
@@ -55,3 +59,11 @@ returns-in-Err-clause-offered g c modeled =
     c.datagram.follows.holds-at-none
     (c.in-Err.ensures.sent modeled)
     c.add_failed.ensures
+
+pub returns-in_err-add_answered-in-Ok-clause-prints : goal.returns-in_err-add_answered-in-Ok-clause-prints
+returns-in_err-add_answered-in-Ok-clause-prints g c = c.in_err-add_answered-in-Ok.ensures.prints
+
+pub returns-in-Err-clause-prints : goal.returns-in-Err-clause-prints
+returns-in-Err-clause-prints g c =
+    subst (λ (tally : Tally). Begins c.args.self.now.tally.now.outgoing.text tally.outgoing.text) (sym c.add_failed.ensures)
+    (begins_whole _)

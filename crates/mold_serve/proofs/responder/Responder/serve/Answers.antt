@@ -1,10 +1,15 @@
-use Rattle.std.proofs.Common.{◌≡◌, ℕ, ap, refl, List}
+use Rattle.std.proofs.Common.{◌≡◌, ◌∙◌, ℕ, Err, List, Result, ap, refl, subst, take}
+use Rattle.mold_devices.specs.Devices.{AppendsPrefix}
+use Rattle.mold_devices.specs.Faults.{CountsSinkFault}
+use Rattle.mold_devices.specs.declared.fault.CommandFault.{CommandFault}
+use Rattle.mold_devices.proofs.WritingLemmas.{ends_front, ends_sink}
 use Rattle.mold_ports.specs.Ports.{Port}
 use Rattle.mold_serve.specs.Serving.{ResponderState, served_by, service, state}
 use Rattle.mold_serve.specs.Tally.{served_line}
 use Rattle.mold_serve.specs.declared.tally.Tally.{Tally}
 use Rattle.mold_serve.proofs.ServingLemmas.{serving_is}
 use Rattle.mold_session.specs.Server.{ServerState}
+use Rattle.mold_turns.proofs.PrintingLemmas.{front_more, kept_begins}
 use Rattle.mold_turns.proofs.RunLemmas.{ran_cut, ran_front, ran_whole}
 use Rattle.mold_serve.proofs.responder.Responder.serve.Goals as goal
 
@@ -22,12 +27,27 @@ returns-in_err-take_turns-clause-run g c modeled =
     c.take_turns.result c.from_residual.result
     (c.take_turns.ensures.rests modeled) c.from_residual.ensures.0
 
-pub returns-in_err-push_last-clause-run : goal.returns-in_err-push_last-clause-run
-returns-in_err-push_last-clause-run g c modeled =
-    ran_cut (serving_is (service c.args.self.now)) c.args.turns
+pub returns-in_default-clause-run : goal.returns-in_default-clause-run
+returns-in_default-clause-run g c modeled =
+    let before = c.take_turns.new.self.tally.now.outgoing.text in
+    let result : Result ℕ CommandFault = Err c.end_with.result in
+    ran_front (serving_is (service c.args.self.now)) c.args.turns
     (state g.D.Datagrams.port c.args.self.now) last (λ responder. 0) _
-    c.take_turns.result c.from_residual-in_err-push_last.result
-    (c.take_turns.ensures.rests modeled) c.from_residual-in_err-push_last.ensures.0
+    (λ front responder. refl) tt
+    (state g.D.Datagrams.port c.take_turns.new.self)
+    (c.in_ok-take_turns.ensures.rests modeled)
+    result _ refl
+    (front_more _ _ before _
+    (subst (λ (text : List ℕ). AppendsPrefix (g.K.Sink.held c.take_turns.new.sink) (g.K.Sink.held c.end_with.new.sink) text)
+    (ap (λ (n : ℕ). take n c.push_last.new.self.outgoing.text) c.unwritten-told.ensures
+    ∙ kept_begins before _ c.push_last.ensures.prints)
+    (ends_front c.end_with.ensures.ends)))
+    refl
+
+pub returns-in_default-clause-sink : goal.returns-in_default-clause-sink
+returns-in_default-clause-sink g c =
+    subst (λ (n : ℕ). CountsSinkFault n (g.K.Sink.failed c.end_with.new.sink) c.end_with.result)
+    c.in_ok-take_turns.ensures.sink (ends_sink c.end_with.ensures.ends)
 
 pub returns-in_err-send-clause-run : goal.returns-in_err-send-clause-run
 returns-in_err-send-clause-run g c modeled =
@@ -37,7 +57,7 @@ returns-in_err-send-clause-run g c modeled =
     (state g.D.Datagrams.port c.take_turns.new.self)
     (c.in_ok-take_turns.ensures.rests modeled)
     c.from_residual-in_err-send.result c.push_last.new.self.outgoing.text
-    (ap (λ (tally : Tally). tally.outgoing.text) c.in_ok-push_last.ensures)
+    (ap (λ (tally : Tally). tally.outgoing.text) c.in-Ok.ensures.line)
     c.in_err-send.ensures.front c.from_residual-in_err-send.ensures.0
 
 pub returns-clause-run : goal.returns-clause-run
@@ -49,5 +69,5 @@ returns-clause-run g c modeled =
     (state g.D.Datagrams.port c.take_turns.new.self)
     (c.in_ok-take_turns.ensures.rests modeled)
     0 c.push_last.new.self.outgoing.text
-    (ap (λ (tally : Tally). tally.outgoing.text) c.in_ok-push_last.ensures)
+    (ap (λ (tally : Tally). tally.outgoing.text) c.in-Ok.ensures.line)
     c.in_ok-send.ensures.whole refl (refl, c.in_ok-take_turns.ensures.same.limits)
