@@ -7,6 +7,7 @@ use Rattle.std.proofs.Common.{⊎_elim}
 use Rattle.std.specs.Io.KnownBytes.{Appends}
 use Rattle.std.proofs.KnownBytes.{Appends-nil, Appends-trans}
 use Rattle.mold_devices.specs.Devices.{AppendsPrefix}
+use Rattle.mold_devices.specs.Writing.{Moves}
 use Rattle.mold_session.specs.Contents.{FileContents, Gives, IsFront}
 use Rattle.mold_session.specs.Loading.{CountsLoadFault, Refuses}
 use Rattle.mold_session.specs.Reader.{ReaderState, HasRead, ReadsNext, EndsWith, RestFault}
@@ -104,23 +105,23 @@ dumping_more laws from count known left after old now reader next text more so_f
       };
     }
 
--- The gathered text was sent.
-pub dumping_sent : (from count : ℕ) (known left old mid now : Option (List ℕ)) (reader : ReaderState)
-    (text none : List ℕ) → Dumping from count known left old mid reader text → Appends mid now text → none ≡ [] →
-    Dumping from count known left old now reader none
-dumping_sent from count known left old mid now reader text none so_far sends empty =
+-- A prefix of the gathered text was sent, and the rest is still gathered.
+pub dumping_moved : (from count : ℕ) (known left old mid now : Option (List ℕ)) (reader : ReaderState)
+    (text rest : List ℕ) → Dumping from count known left old mid reader text → Moves mid now text rest →
+    Dumping from count known left old now reader rest
+dumping_moved from count known left old mid now reader text rest so_far moves =
     let gathered = so_far.gathered in
     record {
       messages = so_far.messages;
       read = so_far.read;
       gathered = record {
         first = gathered.first;
-        written = gathered.written ++ text;
-        sent = Appends-trans old mid now gathered.written text gathered.sent sends;
+        written = gathered.written ++ moves.front;
+        sent = Appends-trans old mid now gathered.written moves.front gathered.sent moves.appended;
         parts =
             gathered.parts
-            ∙ sym (append-nil (gathered.written ++ text))
-            ∙ ap (λ (t : List ℕ). (gathered.written ++ text) ++ t) (sym empty);
+            ∙ ap (λ (t : List ℕ). gathered.written ++ t) moves.parts
+            ∙ sym (append_assoc gathered.written moves.front rest);
       };
     }
 

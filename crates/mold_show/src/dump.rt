@@ -1,6 +1,6 @@
 //! `mold dump`: prints the messages of a journal's file as lines of hexadecimal digits.
 
-ghost use Rattle.std.specs.Prelude.{◌≡◌, ◌<◌, ◌++◌, ℕ, IfErr, IfOk, IfSome, IsErr, OnErr, OnOk, Some};
+ghost use Rattle.std.specs.Prelude.{◌≡◌, ◌<◌, ◌++◌, ◌⊎◌, ℕ, IfErr, IfOk, IfSome, IsErr, OnErr, OnOk, Some};
 ghost use Rattle.std.specs.Bool.{OnFalse, OnTrue};
 ghost use Rattle.std.specs.Io.KnownBytes.{Appends, prepend_known};
 ghost use Rattle.mold_devices.specs.Devices.{AppendsPrefix};
@@ -14,7 +14,7 @@ ghost use Rattle.mold_show.specs.Dump.{CountsEnd, IsTold, dump_status, dump_text
 ghost use Rattle.mold_show.specs.Dump.{is_dumped, message_line, next_line};
 ghost use Rattle.mold_text.specs.Text.{refused_line};
 
-use mold_devices::{CommandFault, LARGE, Sink, Source, send};
+use mold_devices::{CommandFault, Sink, Source, send, send_large};
 use mold_refusals::push_file_refusal;
 use mold_session::laws::{contents_law, reader_law};
 use mold_session::{FileError, JournalReader};
@@ -76,7 +76,7 @@ fn dump_next<S: Source>(
     Ok(true)
 }
 
-// Sends the text and returns the fault that ended the command.
+// Sends the text and returns the fault that ended the command, or `Write` if the text could not be sent.
 fn end_with<K: Sink>(
     text: &mut Vec<u8>,
     fault: CommandFault,
@@ -84,6 +84,8 @@ fn end_with<K: Sink>(
 ) -> Result<u8, CommandFault>
     ensures fails { IsErr result }
     ensures front { AppendsPrefix (K.held sink.old) (K.held sink.new) text.old.items }
+    ensures kept { IfErr result (λ last. (last ≡ CommandFault.Write)
+        ⊎ Appends (K.held sink.old) (K.held sink.new) text.old.items) }
     ensures failures { (old new : ℕ) → CountsFault old new (K.failed sink.old) (K.failed sink.old) fault →
         CountsCommand old new (K.failed sink.old) (K.failed sink.new) result }
 {
@@ -101,6 +103,8 @@ fn print_refusal<K: Sink>(
         (text.old.items ++ refused_line (file_fault_words error)) × (status ≡ 2)) }
     ensures front { AppendsPrefix (K.held sink.old) (K.held sink.new)
         (text.old.items ++ refused_line (file_fault_words error)) }
+    ensures kept { IfErr result (λ last. (last ≡ CommandFault.Write)
+        ⊎ Appends (K.held sink.old) (K.held sink.new) text.old.items) }
     ensures failures { (count : ℕ) → CountsCommand count count (K.failed sink.old) (K.failed sink.new) result }
 {
     let told = text.len();
@@ -123,6 +127,8 @@ fn end_refused<K: Sink>(
         (text.old.items ++ ended_line (Some error)) × (status ≡ 2)) }
     ensures told { OnOk result (IsTold (Some error)) }
     ensures front { AppendsPrefix (K.held sink.old) (K.held sink.new) (text.old.items ++ ended_line (Some error)) }
+    ensures kept { IfErr result (λ last. (last ≡ CommandFault.Write)
+        ⊎ Appends (K.held sink.old) (K.held sink.new) text.old.items) }
     ensures failures { (old new : ℕ) → CountsLoadFault old new error →
         CountsCommand old new (K.failed sink.old) (K.failed sink.new) result }
 {
@@ -144,6 +150,8 @@ fn end_dump<K: Sink>(
         (text.old.items ++ ended_line ended) × (status ≡ fault_status ended)) }
     ensures told { OnOk result (IsTold ended) }
     ensures front { AppendsPrefix (K.held sink.old) (K.held sink.new) (text.old.items ++ ended_line ended) }
+    ensures kept { IfErr result (λ last. (last ≡ CommandFault.Write)
+        ⊎ Appends (K.held sink.old) (K.held sink.new) text.old.items) }
     ensures failures { (old new : ℕ) → CountsEnd old new ended →
         CountsCommand old new (K.failed sink.old) (K.failed sink.new) result }
 {
@@ -164,8 +172,9 @@ fn end_dump<K: Sink>(
 /// status is 0 for a valid file, otherwise 2.
 ///
 /// It holds no more than the longest message, the bytes of one read, and the text that it gathers. It writes
-/// the text when this has 65,536 bytes or more. After a fault, a prefix of the text was written. `Read` and
-/// `Write` are returned only if the source or the sink failed, `Memory` only if an allocation failed.
+/// the text when this has 65,536 bytes or more. If a read or an allocation fails, the lines gathered so far are
+/// written first. After a fault, a prefix of the text was written. `Read` and `Write` are returned only if the
+/// source or the sink failed, `Memory` only if an allocation failed.
 pub fn dump_file<S: Source, K: Sink>(
     alloc: Global,
     source: &mut S,
@@ -194,8 +203,6 @@ pub fn dump_file<S: Source, K: Sink>(
             Ok(false) => return end_dump(&mut text, None, sink),
             Err(error) => return end_dump(&mut text, Some(error), sink),
         }
-        if text.len() >= LARGE {
-            send(sink, &mut text)?;
-        }
+        send_large(sink, &mut text)?;
     }
 }

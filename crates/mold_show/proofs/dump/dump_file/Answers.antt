@@ -3,7 +3,7 @@ use Rattle.std.specs.Prelude.{None, Some}
 use Rattle.std.specs.Io.KnownBytes.{prepend_known}
 use Rattle.mold_devices.specs.Faults.{CountsCommand}
 use Rattle.mold_session.specs.Loading.{CountsLoadFault}
-use Rattle.mold_show.proofs.DumpLemmas.{Dumping, ReaderLaws, dumping_more, dumping_none, dumping_sent}
+use Rattle.mold_show.proofs.DumpLemmas.{Dumping, ReaderLaws, dumping_more, dumping_none, dumping_moved}
 use Rattle.mold_show.proofs.DumpLemmas.{ended_front, ended_whole, gathered_front, gathered_none, gathered_same}
 use Rattle.mold_show.proofs.dump.dump_file.Given.{Over}
 use Rattle.mold_show.proofs.dump.dump_file.Goals.{After-reader_law, In-Ok-true}
@@ -149,26 +149,18 @@ more g c laws =
     (rw c.in-Ok-true.field-0-test at c.in-Ok-true.ensures.next)
     (rw c.in-Ok-true.field-0-test at c.in-Ok-true.ensures.line)
 
-pub messages-preserved-in-Continue-1 : goal.messages-preserved-in-Continue-1
-messages-preserved-in-Continue-1 g c = record {
-  dumping = dumping_sent _ _ _ _ _ _ _ _ _ _ (more g (goal.at.messages-preserved-in-Continue-1 g c).In-Ok-true
-      (laws_of g (goal.at.messages-preserved-in-Continue-1 g c).After-reader_law))
-      c.in_ok-send.ensures.whole c.in_ok-send.ensures.empty;
-  source = c.in-Ok-true.ensures.failures ∙ c.messages.invariant.source;
-  sink = c.in_ok-send.ensures.failures ∙ c.messages.invariant.sink;
-}
-
-pub returns-in_err-send-clause-front : goal.returns-in_err-send-clause-front
-returns-in_err-send-clause-front g c =
-    let so_far = more g (goal.at.returns-in_err-send-clause-front g c).In-Ok-true
-    (laws_of g (goal.at.returns-in_err-send-clause-front g c).After-reader_law) in
-    gathered_front c.args.from c.args.count (g.S.Source.left c.args.source.now) _ _ _ so_far.messages
-    c.dump_next.new.text.items so_far.gathered c.send.ensures.front
-
 pub messages-preserved : goal.messages-preserved
 messages-preserved g c = record {
-  dumping = more g (goal.at.messages-preserved g c).In-Ok-true
-      (laws_of g (goal.at.messages-preserved g c).After-reader_law);
+  dumping = dumping_moved _ _ _ _ _ _ _ _ _ _ (more g (goal.at.messages-preserved g c).In-Ok-true
+      (laws_of g (goal.at.messages-preserved g c).After-reader_law))
+      c.in_ok-send_large.ensures.moved;
   source = c.in-Ok-true.ensures.failures ∙ c.messages.invariant.source;
-  sink = c.messages.invariant.sink;
+  sink = c.in_ok-send_large.ensures.failures ∙ c.messages.invariant.sink;
 }
+
+pub returns-in_err-send_large-clause-front : goal.returns-in_err-send_large-clause-front
+returns-in_err-send_large-clause-front g c =
+    let so_far = more g (goal.at.returns-in_err-send_large-clause-front g c).In-Ok-true
+    (laws_of g (goal.at.returns-in_err-send_large-clause-front g c).After-reader_law) in
+    gathered_front c.args.from c.args.count (g.S.Source.left c.args.source.now) _ _ _ so_far.messages
+    c.dump_next.new.text.items so_far.gathered c.send_large.ensures.front

@@ -29,6 +29,7 @@ returns-in_default g c =
       told = whatever c.print_refusal.result _ is.told;
       front = subst (λ (line : List ℕ). AppendsPrefix old new (c.args.text.now.items ++ line)) (sym is.line)
           c.print_refusal.ensures.front;
+      kept = c.print_refusal.ensures.kept;
       failures = λ before after counts.
           subst
           (λ (n : ℕ).
