@@ -1,8 +1,8 @@
 /* The allocator of libmold: three functions over malloc, realloc and free. A program that has its own allocator defines
  * these three functions itself.
  *
- * A call returns two registers: whether the allocation succeeded, and the address. After an allocation that fails, the
- * call of the library returns MOLD_MEMORY; the process goes on. */
+ * An allocation returns two registers: whether it succeeded, and the address. If it fails, the library's call returns
+ * MOLD_MEMORY, and the process continues. */
 #include <stddef.h>
 #include <stdint.h>
 #include <stdlib.h>
@@ -26,12 +26,12 @@ static memory answer(void *at) {
     return made;
 }
 
-/* A size other than 0. */
+/* The size to pass to malloc, which is never 0. */
 static size_t asked(size_t size, size_t align) {
     return size != 0 ? size : align;
 }
 
-/* The library never asks for an alignment above that of malloc. It would be refused. */
+/* The library never asks for a greater alignment than malloc gives. Such an allocation would fail. */
 memory rattle_alloc(size_t size, size_t align) {
     return answer(align <= ALIGNED ? malloc(asked(size, align)) : NULL);
 }

@@ -4,13 +4,13 @@
 //
 //     c++ -O2 -std=c++17 library/bench/bench.cpp library/out/libmold.a -pthread -o bench && ./bench
 //
-// Each row of the table is one kind of work. The receivers do it in alternation, each the same number of times. The
-// table has the least time of a round, in nanoseconds a datagram. The plain receiver has two stores; the faster one
-// counts. With --brief there are only a few rounds, and the times are rough. Each receiver reads the length and the
-// first byte of every delivered message, and the sums are compared.
+// Each row of the first table is one kind of work. In each round every receiver does it once. The table has the least
+// time of a round, in nanoseconds a datagram. The plain receiver has two stores; the faster one counts. With --brief
+// there are only a few rounds, and the times are rough. For each receiver the program sums the lengths and the first
+// bytes of the delivered messages. It stops if the sums differ.
 //
-// The last lines are the datagrams a second of one, two and four threads, each with its own listener. They are measured
-// by the clock, which needs an idle machine, and by the processor time of the threads.
+// The second table has the datagrams a second of one, two and four threads, each with its own listener. They are
+// measured by the clock, which needs an idle machine, and by the processor time of the threads.
 #include "plain.hpp"
 
 #include <atomic>
@@ -70,7 +70,7 @@ Work in_order(std::size_t count) {
 /// The same, but the batch is read after 20 datagrams, as after one `recvmmsg`.
 Work in_order_at_once(std::size_t count) {
     Work work = in_order(count);
-    work.name += ", by 20 datagrams";
+    work.name += ", read after 20";
     work.at_once = 20;
     return work;
 }
@@ -83,21 +83,21 @@ Work heartbeats() {
 }
 
 Work repeated() {
-    Work work{"the same again, 10 x 40", {}};
+    Work work{"repeated, 10 x 40", {}};
     for (int i = 0; i < 1000; i++)
         work.arrivals.push_back({datagram(1, 10, 40), MOLD_LINE_A});
     return work;
 }
 
 Work two_lines() {
-    Work work{"two lines, 10 x 40, a call", {}};
+    Work work{"two lines, 10 x 40, for each call", {}};
     for (std::uint64_t i = 0; i < 500; i++)
         for (std::uint32_t line : {MOLD_LINE_A, MOLD_LINE_B})
             work.arrivals.push_back({datagram(1 + i * 10, 10, 40), line});
     return work;
 }
 
-/// Nine of ten datagrams are above a gap, and then the response that fills it comes.
+/// Nine datagrams arrive above a gap, and then the response that fills the gap.
 Work stored() {
     Work work{"9 of 10 stored, 10 x 40", {}};
     for (std::uint64_t gap = 0; gap < 100; gap++) {
@@ -119,9 +119,9 @@ Work never_empty() {
     return work;
 }
 
-/// A store of many messages: 64 datagrams above a gap, then 64 above the next gap before the first one is filled.
+/// A store of many messages: 64 datagrams arrive above a gap, and 64 above the next gap before the first is filled.
 Work never_empty_behind() {
-    Work work{"never empty, 64 behind, 1 x 1,400", {}};
+    Work work{"never empty, 64 stored, 1 x 1,400", {}};
     for (std::uint64_t i = 2; i <= 65; i++)
         work.arrivals.push_back({datagram(i, 1, 1400), MOLD_LINE_A});
     for (std::uint64_t gap = 0; gap < 14; gap++) {
@@ -175,7 +175,7 @@ class Library {
 public:
     Library() {
         if (mold_listener_new(&listener_, session, 1, window) != MOLD_DONE)
-            stop("no listener");
+            stop("the listener cannot be made");
     }
 
     Library(const Library &) = delete;
@@ -201,7 +201,8 @@ struct Plain : plain::Listener<keeps_memory> {
     Plain() : plain::Listener<keeps_memory>(session, 1, window) {}
 };
 
-/// The time of a round in which one call returns all messages, and the batch is then cleared.
+/// The time of a round in which one call returns all messages of the batch, which is then cleared. The batch is read
+/// after `at_once` datagrams.
 template <class Listener>
 double by_batch(const Work &work, Sum &sum) {
     Listener listener;
@@ -211,14 +212,14 @@ double by_batch(const Work &work, Sum &sum) {
     const Clock::time_point began = Clock::now();
     for (const Arrival &arrival : work.arrivals) {
         if (listener.take(arrival.line, arrival.bytes.data(), arrival.bytes.size(), told) != MOLD_DONE)
-            stop("a datagram is refused");
+            stop("a datagram was refused");
         handed += told.handed;
         if (handed == 0 || ++taken < work.at_once)
             continue;
         if (handed > room.size())
             room.resize(handed);
         if (listener.messages(room.data(), room.size()) != handed)
-            stop("fewer messages than there are");
+            stop("the batch has another number of messages than were delivered");
         for (std::size_t i = 0; i < handed; i++)
             sum.add(room[i].at, room[i].length);
         listener.clear();
@@ -241,7 +242,7 @@ void run_row(const Work &work, int rounds) {
             double &best = least[columns[who]];
             best = std::min(best, rounds_of[who](work, sums[who]));
             if (!(sums[who] == sums[0]))
-                stop("they hand on something else");
+                stop("the receivers delivered different messages");
         }
     }
     const double count = static_cast<double>(work.arrivals.size());
@@ -259,11 +260,11 @@ struct Rates {
 double processor_time() {
     timespec time{};
     if (clock_gettime(CLOCK_THREAD_CPUTIME_ID, &time) != 0)
-        stop("no processor time");
+        stop("the processor time cannot be read");
     return 1e9 * static_cast<double>(time.tv_sec) + static_cast<double>(time.tv_nsec);
 }
 
-/// The rates of threads that begin together, each with its own listener.
+/// The rates of threads that start together, each with its own listener.
 Rates in_threads(const Work &work, unsigned threads, int rounds) {
     std::atomic<unsigned> ready{0};
     std::atomic<bool> go{false};
@@ -294,7 +295,8 @@ Rates in_threads(const Work &work, unsigned threads, int rounds) {
     return rates;
 }
 
-/// Of many short runs the fastest counts, since on a busy machine the processors are seldom all free.
+/// Prints the rates of one, two and four threads. The fastest of many short runs counts, because on a busy machine all
+/// processors are seldom free at once.
 void run_threads(int runs) {
     const Work work = in_order(10);
     Rates alone;

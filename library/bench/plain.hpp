@@ -1,7 +1,7 @@
-// A plain receiver in C++, for comparison, written for speed. It does the work of the library's listener, with the same
-// refusals in the same order, the same window, and the same counts of lines. Nothing is proved of it. It passes
-// delivered messages to a function, one by one. Its store is a ring of vectors. A vector whose message leaves either
-// keeps its memory or frees it; which is faster depends on the work.
+// A plain receiver in C++, written for speed, to compare the library's listener with. It has the same refusals in the
+// same order, the same window, and the same counts of each line. Nothing about it is proved. It passes each delivered
+// message to a function. Its store is a ring of vectors. When a message leaves the store, its vector either keeps its
+// memory (`keeps_memory`) or frees it. Which is faster depends on the work.
 #ifndef PLAIN_HPP
 #define PLAIN_HPP
 
@@ -40,7 +40,7 @@ struct Packet {
     const std::uint8_t *blocks = nullptr;
 };
 
-/// Copies of messages in one buffer, which can be returned as an array of slices.
+/// Copies of messages in one buffer. Index i gives a slice of message i.
 class Batch {
 public:
     void push(const std::uint8_t *message, std::size_t length) {
@@ -74,7 +74,8 @@ public:
         reports_[0].front = reports_[1].front = next;
     }
 
-    /// Takes a datagram of a line, and passes the number, bytes and length of each delivered message to `hand`.
+    /// Takes a datagram of a line, or a response. Calls `hand` with the number, the bytes and the length of each
+    /// delivered message.
     template <class Hand>
     std::uint32_t take(std::uint32_t line, const std::uint8_t *bytes, std::size_t length, mold_told &told,
                        Hand &&hand) {
@@ -118,6 +119,7 @@ private:
         bool is_held = false;
     };
 
+    /// The least power of two that is not below the window.
     static std::size_t power_above(std::size_t window) {
         std::size_t size = 1;
         while (size < window)
@@ -267,8 +269,8 @@ private:
     Report reports_[2];
 };
 
-/// A plain receiver with the calls of the library. It copies messages into a batch, and its calls are not inlined, like
-/// those of a library that is compiled separately.
+/// A plain receiver with the calls of the library. It copies messages into a batch. Its calls are never inlined, like
+/// the calls of a library that is compiled separately.
 template <bool keeps_memory>
 class Listener {
 public:

@@ -1,5 +1,5 @@
-/* Reports whether captures have one whole session, as `mold check` does. It reads classic pcap files, and passes the
- * payload of each UDP datagram to the checker.
+/* Reports whether captures have one whole session, as `mold check` does. It reads classic pcap files, and passes each
+ * datagram (the payload of UDP) to the checker.
  *
  *     cc -O2 library/examples/check.c library/out/libmold.a -o check
  *     ./check [--port PORT] [--to ADDRESS] FILE..
@@ -9,10 +9,12 @@
  * tags, raw IP, or Linux cooked capture of either version. A datagram that was captured only in part, or that IP
  * fragmented, is skipped. The number of skipped datagrams is reported on standard error.
  *
- * It prints `datagrams N` and a verdict. The verdict is `whole MESSAGES`; or `incomplete end END`, and a line `missing
- * FIRST LAST` for each missing range. If a datagram is refused, it only prints `refused datagram K WHY NUMBER`. The
- * status is 0 if the session is whole, 1 if something is missing, 2 if a datagram was refused, and 3 if a file cannot
- * be read. */
+ * It prints `datagrams N` and then the verdict. If the session is whole, the verdict is `whole MESSAGES`. Otherwise it
+ * is `incomplete end END`, with `none` if no end is known, and a line `missing FIRST LAST` for each missing range. If a
+ * datagram is refused, the program prints only `refused datagram K WHY NUMBER`.
+ *
+ * The status is 0 if the session is whole, and 1 if something is missing. It is 2 if a datagram was refused, and 3
+ * after any other error. */
 #include "udp.h"
 
 struct options {
@@ -56,7 +58,7 @@ static uint32_t four(const struct capture *capture, const uint8_t *at) {
     return capture->is_swapped ? little : big;
 }
 
-/* Opens a file and reads its head: a magic number, which shows the byte order, versions, and the kind of link. */
+/* Opens a file and reads its header. The magic number shows the byte order. The last field is the kind of link. */
 static struct capture open_capture(const char *name) {
     struct capture capture = {fopen(name, "rb"), name, false, 0};
     uint8_t head[24];
@@ -68,12 +70,12 @@ static struct capture open_capture(const char *name) {
     capture.is_swapped = magic == 0xd4c3b2a1 || magic == 0x4d3cb2a1;
     magic = four(&capture, head);
     if (magic != 0xa1b2c3d4 && magic != 0xa1b23c4d)
-        fail(name, "no classic pcap file; editcap -F pcap makes one of a newer one");
+        fail(name, "not a classic pcap file; editcap -F pcap converts a newer one");
     capture.link = four(&capture, head + 20) & 0xffff;
     return capture;
 }
 
-/* Reads the next frame; false at the end of the file. *whole: whether all of the frame was captured. */
+/* Reads the next frame. Returns false at the end of the file. *whole is whether all of the frame was captured. */
 static bool next_frame(struct capture *capture, uint8_t *frame, size_t *length, bool *whole) {
     uint8_t head[16];
     size_t came = fread(head, 1, sizeof head, capture->file);
@@ -92,7 +94,7 @@ static bool next_frame(struct capture *capture, uint8_t *frame, size_t *length, 
 
 /* ---- Frames ---- */
 
-/* Skips a header of `bytes` bytes; false if there are fewer. */
+/* Skips a header of `bytes` bytes. Returns false if fewer bytes remain. */
 static bool skip(struct part *part, size_t bytes) {
     if (part->length < bytes)
         return false;
@@ -101,7 +103,7 @@ static bool skip(struct part *part, size_t bytes) {
     return true;
 }
 
-/* Skips the header of the link; false if IPv4 does not follow it. */
+/* Skips the header of the link. Returns false if IPv4 does not follow it. */
 static bool skip_link(uint32_t link, struct part *part) {
     uint16_t type = 0x0800;
     if (link == RAW || link == RAW_OLD || link == RAW_BSD || link == IPV4)
@@ -121,8 +123,9 @@ static bool skip_link(uint32_t link, struct part *part) {
     return type == 0x0800;
 }
 
-/* Skips the headers of IPv4 and UDP, so that the payload remains. False if it is not such a datagram, or not a selected
- * one. *whole is false if IP fragmented the datagram, or if a part of it was not captured. */
+/* Skips the headers of IPv4 and UDP, so that the payload remains. Returns false if the frame is not UDP over IPv4, or
+ * if the options do not select it. *whole becomes false if IP fragmented the datagram, or if only a part of it was
+ * captured. The port of such a datagram may stay unchecked. */
 static bool skip_headers(const struct options *options, struct part *part, bool *whole) {
     if (part->length < 20 || part->at[0] >> 4 != 4 || part->at[9] != 17)
         return false;
@@ -147,7 +150,7 @@ static bool skip_headers(const struct options *options, struct part *part, bool 
     return true;
 }
 
-/* Passes the datagram of a frame, if it has one, to the checker; false if the datagram is refused. */
+/* Passes the datagram of a frame, if it has one, to the checker. Returns false if the datagram is refused. */
 static bool check_frame(struct check *check, uint32_t link, struct part part, bool whole) {
     mold_bytes text = MOLD_NO_BYTES;
     uint64_t number = 0;
@@ -176,7 +179,7 @@ static void check_file(struct check *check, const char *name) {
                                capture.link == RAW || capture.link == RAW_OLD || capture.link == RAW_BSD ||
                                capture.link == IPV4;
     if (!known)
-        fail(name, "another kind of link than Ethernet, raw IP and Linux cooked");
+        fail(name, "the kind of link is not Ethernet, raw IP or Linux cooked capture");
     while (!check->refused && next_frame(&capture, frame, &part.length, &whole))
         check_frame(check, capture.link, part, whole);
     fclose(capture.file);

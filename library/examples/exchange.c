@@ -1,23 +1,25 @@
-/* An exchange: a publisher and its re-request server in one process, over a live session.
+/* An exchange: the publisher of a live session and its re-request server, in one process.
  *
  *     cc -O2 library/examples/exchange.c library/out/libmold.a -o exchange
  *     ./exchange --session DEMO --a 239.192.1.1:26477 --b 239.192.1.2:26477 --bind 0.0.0.0:26400 --journal day.journal
  *
- * It reads messages as lines of hexadecimal digits from standard input, as `mold publish` does, and sends them on both
- * lines at once. Messages that were read together share datagrams, as far as they fit. It sends a heartbeat after each
- * second without a datagram, and responds to requests meanwhile. At the end of the input it closes the session. Then it
- * sends end packets, four a second, until no request came for the time of --linger. The other options, with defaults:
+ * It reads messages as lines of hexadecimal digits from standard input, as `mold publish` does, and sends them at once
+ * on both lines. Messages that were read together share datagrams, as far as they fit. After each second without a
+ * datagram it sends a heartbeat. It responds to requests at any time. At the end of the input it closes the session.
+ * Then it sends four end packets a second, until no request has arrived for the time of --linger. The other options,
+ * with their defaults:
  *
  *   --limit L             the limit of a datagram, in bytes (1400)
  *   --burst B             the greatest number of datagrams of a response (4)
- *   --save N              after how many messages the journal is saved each time (1000000)
- *   --linger MS           see above (2000)
- *   --interface ADDRESS   the interface by which it sends to multicast groups (chosen by the system)
+ *   --save N              the journal is saved after every N messages (1000000)
+ *   --linger MS           after the end of the input, the time without a request after which it ends (2000)
+ *   --interface ADDRESS   the interface on which it sends to multicast groups (chosen by the system)
  *
  * The journal is also saved at the end. It is written to a new file, which then replaces the old one.
  *
- * The last line is `published MESSAGES datagrams D answered R failed F`. A refused input line is reported on standard
- * error, and the session goes on. The status is 0, or 2 after a refused line, or 3 after an error of the system. */
+ * The last line is `published MESSAGES datagrams D answered R failed F`. D counts data packets, R the requests that got
+ * a response, and F the sends and receives that failed. A refused input line is reported on standard error, and the
+ * session goes on. The status is 0, or 2 if an input line was refused, or 3 after any other error. */
 #include "udp.h"
 
 enum { INPUT = 1 << 16, LONGEST = 1 << 18 };
@@ -42,7 +44,7 @@ struct exchange {
     int64_t last_sent, last_asked;
 };
 
-/* The datagram to send, and the part of an input line that was read. */
+/* The datagram to send, and the part of an input line that was read so far. */
 static uint8_t datagram[GREATEST];
 static char line[LONGEST];
 static size_t line_length;
@@ -103,7 +105,7 @@ static void send_on_lines(struct exchange *exchange, size_t size) {
     exchange->last_sent = now();
 }
 
-/* Sends unsent messages: all of them, or only while they do not fit in one datagram. */
+/* Sends unsent messages: all of them, or, if `all` is false, only while they do not all fit in one datagram. */
 static void send_messages(struct exchange *exchange, bool all) {
     size_t size = 0;
     while ((all || mold_publisher_is_full(&exchange->publisher)) &&
@@ -137,12 +139,12 @@ static void write_all(const char *name, int file, const uint8_t *bytes, size_t l
     }
 }
 
-/* Writes a new file, and renames it to the old one when its bytes are on disk. */
+/* Writes a new file. When its bytes are on disk, it is renamed and replaces the old file. */
 static void replace_file(const char *name, const uint8_t *bytes, size_t length) {
     char new_name[4096];
     int size = snprintf(new_name, sizeof new_name, "%s.new", name);
     if (size < 0 || (size_t)size >= sizeof new_name)
-        fail(name, "too long a name");
+        fail(name, "the name is too long");
     int file = open(new_name, O_WRONLY | O_CREAT | O_TRUNC | O_CLOEXEC, 0666);
     if (file < 0)
         fail(new_name, strerror(errno));
@@ -173,7 +175,7 @@ static int digit_of(char text) {
     return text >= 'a' && text <= 'f' ? text - 'a' + 10 : -1;
 }
 
-/* Decodes the digits of a line; false if it is not an even number of hexadecimal digits. */
+/* Decodes the digits of a line. Returns false if the line is not an even number of hexadecimal digits. */
 static bool unhex(uint8_t *bytes) {
     for (size_t i = 0; i + 1 < line_length; i += 2) {
         int high = digit_of(line[i]), low = digit_of(line[i + 1]);
@@ -244,7 +246,7 @@ static void read_input(struct exchange *exchange) {
 
 /* ---- Requests ---- */
 
-/* Responds to the requests that arrived; a refused one gets no response. */
+/* Responds to the requests that have arrived. A refused request gets no response. */
 static void answer_requests(struct exchange *exchange) {
     mold_server *server = mold_server_of(&exchange->publisher);
     struct sockaddr_in from;
@@ -301,7 +303,7 @@ static void open_exchange(struct exchange *exchange) {
     exchange->requests = open_line(&exchange->options.bind, "0.0.0.0");
     if (exchange->options.interface != NULL) {
         if (inet_pton(AF_INET, exchange->options.interface, &interface) != 1)
-            fail(exchange->options.interface, "no address of an interface");
+            fail(exchange->options.interface, "not an address of an interface");
         if (setsockopt(exchange->out, IPPROTO_IP, IP_MULTICAST_IF, &interface, sizeof interface) != 0)
             fail("IP_MULTICAST_IF", strerror(errno));
     }

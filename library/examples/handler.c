@@ -1,5 +1,5 @@
-/* A feed handler. It receives the two lines of a feed, requests messages that both lost from a re-request server, and
- * prints the messages in order, one on each line, as `mold listen` does.
+/* A feed handler. It receives the two lines of a feed, and requests from a re-request server the messages that both
+ * lost. It prints the messages in order, one on each line of text, as `mold listen` does.
  *
  *     cc -O2 library/examples/handler.c library/out/libmold.a -o handler
  *     ./handler --session DEMO --a 239.192.1.1:26477 --b 239.192.1.2:26477 --interface 10.0.0.7 --server 10.0.0.9:26400
@@ -9,12 +9,12 @@
  *
  *   --next N        the sequence number of the first message (1)
  *   --window W      the window of the listener, in messages (1024)
- *   --patience MS   how long a gap lasts before it is requested, since the other line may fill it (2)
- *   --timeout MS    after how long a gap is requested again (50)
- *   --quiet MS      after how long without a datagram the handler gives up (10000)
+ *   --patience MS   how long the handler waits before it requests a gap, because the other line may fill it (2)
+ *   --timeout MS    how long the handler waits before it requests a gap again (50)
+ *   --quiet MS      the handler gives up after this time without a datagram (10000)
  *
- * Its status is 0 if it delivered the whole session, and 1 if it gave up. At the end it prints a report of each line.
- * It reports refused datagrams on standard error. */
+ * At the end it prints a report of each line. It reports refused datagrams on standard error. The status is 0 if it
+ * delivered the whole session, 1 if it gave up, and 3 after an error. */
 #include "udp.h"
 
 enum { LINES = 3, AT_ONCE = 32 };
@@ -34,7 +34,7 @@ struct handler {
     mold_listener listener;
     /* The sockets of line A, of line B, and of responses. */
     int sockets[LINES];
-    /* The first number of the last gap, and when it is requested. */
+    /* The first missing number of the last gap, and the time at which it is requested. */
     uint64_t gap;
     int64_t due;
     int64_t last_came;
@@ -103,7 +103,7 @@ static void tell_refused(uint32_t line, uint32_t code, uint64_t detail) {
             (unsigned long long)detail);
 }
 
-/* Takes a datagram of a line. If an allocation fails, the datagram is lost, as on the network. */
+/* Takes a datagram of a line, or a response. If an allocation fails, the datagram is lost, like one that never came. */
 static void take(struct handler *handler, uint32_t line, const uint8_t *bytes, size_t length) {
     mold_told told = {0, 0, 0, 0, 0};
     uint32_t code = mold_listener_take(&handler->listener, line, bytes, length, &told);
@@ -111,7 +111,7 @@ static void take(struct handler *handler, uint32_t line, const uint8_t *bytes, s
         tell_refused(line, code, told.detail);
 }
 
-/* Takes datagrams of a line, many by one system call, and returns how many there were. */
+/* Takes datagrams of a line, or responses, with one system call. Returns how many there were. */
 static int hear(struct handler *handler, uint32_t line) {
     struct mmsghdr heads[AT_ONCE];
     struct iovec places[AT_ONCE];
@@ -154,7 +154,7 @@ static void ask(struct handler *handler, bool answered) {
     handler->due = time + handler->options.timeout;
 }
 
-/* How long to wait for datagrams, in milliseconds: until a request is due, or the handler gives up. */
+/* How long to wait for datagrams, in milliseconds: until a request is due or the handler gives up. */
 static int waiting(struct handler *handler) {
     uint8_t request[20] = {0};
     int64_t until = handler->last_came + handler->options.quiet;
@@ -193,7 +193,7 @@ static void tell_line(mold_listener *listener, uint32_t line) {
            (unsigned long long)(mold_listener_known(listener) - report.front));
 }
 
-/* Prints the reports and how it ended, and returns the status. */
+/* Prints the report of each line and how the run ended, and returns the status. */
 static int tell_end(struct handler *handler) {
     unsigned long long next = mold_listener_next(&handler->listener), failed = handler->failed;
     tell_line(&handler->listener, MOLD_LINE_A);

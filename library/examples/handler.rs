@@ -1,11 +1,11 @@
-//! A feed handler in Rust, without cargo. It receives two lines, requests messages that both lost from a re-request
-//! server, and prints the messages in order, as `handler.c` does.
+//! A feed handler in Rust, without cargo. It receives two lines, and requests from a re-request server the messages
+//! that both lost. It prints the messages in order, as `handler.c` does.
 //!
 //!     rustc -O --edition 2021 library/examples/handler.rs -L library/out -l static=mold -o handler-rs
 //!     ./handler-rs DEMO 127.0.0.1:26477 127.0.0.1:26478 127.0.0.1:26400
 //!
 //! The arguments are the session and the addresses of line A, line B and the server. The status is 0 if it delivered
-//! the whole session, and 1 if no datagram came for ten seconds.
+//! the whole session, 1 if no datagram arrived for ten seconds, and 3 after an error.
 
 use std::io::{self, ErrorKind, Write};
 use std::net::UdpSocket;
@@ -13,7 +13,8 @@ use std::os::raw::c_void;
 use std::process::ExitCode;
 use std::time::{Duration, Instant};
 
-/// The declarations of mold.h that are used here. The safe type `Listener` below keeps the duties of mold.h.
+/// The declarations of mold.h that are used here. The type `Listener` below is safe: it keeps the caller's duties that
+/// mold.h states.
 mod sys {
     use super::c_void;
 
@@ -91,7 +92,7 @@ impl std::fmt::Display for Refused {
     }
 }
 
-/// A listener. Each call takes `&mut self`, so only one call at a time runs, and a slice ends before the next call.
+/// A listener. Each call takes `&mut self`. So only one call at a time runs, and no slice outlives the next call.
 struct Listener(sys::Listener);
 
 impl Listener {
@@ -158,7 +159,7 @@ fn print_message(out: &mut impl Write, number: u64, message: &[u8]) -> io::Resul
     writeln!(out)
 }
 
-/// Takes the datagrams that arrived at a socket, and returns whether there were any.
+/// Takes the datagrams that have arrived at a socket, and returns whether there were any.
 fn hear(listener: &mut Listener, socket: &UdpSocket, from: Origin, out: &mut impl Write) -> io::Result<bool> {
     let mut room = [0; 65507];
     let mut came = false;
@@ -175,7 +176,7 @@ fn hear(listener: &mut Listener, socket: &UdpSocket, from: Origin, out: &mut imp
                 }
             }
             Err(error) if error.kind() == ErrorKind::WouldBlock => return Ok(came),
-            // For example, if nobody listens at the server's port.
+            // An error, for example because no process receives at the server's port.
             Err(_) => return Ok(came),
         }
     }

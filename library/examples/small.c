@@ -1,5 +1,5 @@
-/* A minimal feed handler: two lines and a server, all at ports of this machine. For each message it prints the sequence
- * number and the length.
+/* A minimal feed handler. The two lines and the server are at ports of this machine. For each message it prints the
+ * sequence number and the length.
  *
  *     cc -O2 -I library library/examples/small.c library/out/libmold.a -o small
  *     ./small "DEMO      " 26477 26478 26400 */
@@ -10,7 +10,7 @@
 #include <stdlib.h>
 #include <string.h>
 
-/* Opens a socket, and writes the address of a port of this machine. */
+/* Opens a socket, and sets *address to a port of this machine. */
 static int socket_at(const char *port, struct sockaddr_in *address) {
     int made = socket(AF_INET, SOCK_DGRAM, 0);
     memset(address, 0, sizeof *address);
@@ -20,6 +20,7 @@ static int socket_at(const char *port, struct sockaddr_in *address) {
     return made;
 }
 
+/* Opens a socket that receives at a port of this machine. */
 static int listening_at(const char *port) {
     struct sockaddr_in address;
     int made = socket_at(port, &address);

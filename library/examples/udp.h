@@ -39,10 +39,10 @@ static inline void need(const char *what, uint32_t code) {
     }
 }
 
-/* The value of the option at words[*at]: the next argument. */
+/* The value of the option at words[*at], which is the next argument. */
 static inline const char *value_of(int count, char **words, int *at) {
     if (*at + 1 >= count)
-        fail(words[*at], "an option without a value");
+        fail(words[*at], "the option has no value");
     return words[++*at];
 }
 
@@ -52,7 +52,7 @@ static inline uint64_t number_of(const char *text, uint64_t least, uint64_t most
     errno = 0;
     unsigned long long number = strtoull(text, &end, 10);
     if (*text < '0' || *text > '9' || *end != 0 || errno != 0 || number < least || number > most)
-        fail(text, "no such number");
+        fail(text, "not a valid number");
     return number;
 }
 
@@ -96,14 +96,14 @@ static inline int open_socket(void) {
     return made;
 }
 
-/* Opens a socket that receives at an address. If that is a multicast group, it joins the group on an interface. */
+/* Opens a socket that receives at an address. If the address is a multicast group, joins it on the interface. */
 static inline int open_line(const struct sockaddr_in *address, const char *interface) {
     int made = open_socket(), yes = 1;
     struct ip_mreq member;
     memset(&member, 0, sizeof member);
     member.imr_multiaddr = address->sin_addr;
     if (inet_pton(AF_INET, interface, &member.imr_interface) != 1)
-        fail(interface, "no address of an interface");
+        fail(interface, "not an address of an interface");
     if (is_group(address) && setsockopt(made, SOL_SOCKET, SO_REUSEADDR, &yes, sizeof yes) != 0)
         fail("SO_REUSEADDR", strerror(errno));
     if (bind(made, (const struct sockaddr *)address, sizeof *address) != 0)
@@ -121,7 +121,7 @@ static inline int64_t now(void) {
     return (int64_t)time.tv_sec * 1000 + time.tv_nsec / 1000000;
 }
 
-/* Prints a line with the number of a message and its bytes as hexadecimal digits; a hyphen if it has none. */
+/* Prints a line with the number of a message and its bytes as hexadecimal digits. An empty message is a hyphen. */
 static inline void print_message(uint64_t number, mold_bytes message) {
     static const char digits[] = "0123456789abcdef";
     static char line[2 * GREATEST];

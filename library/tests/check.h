@@ -1,5 +1,5 @@
-/* What the tests of the library have in common: checks that are counted, datagrams that are written byte by byte, and
- * codes that are noted. */
+/* Functions that the tests of the library share. They count checks, write datagrams byte by byte, and record which
+ * codes the calls returned. */
 #ifndef CHECK_H
 #define CHECK_H
 
@@ -11,16 +11,17 @@
 
 #define CODES 33
 
+/* The number of checks, the number of failed checks, and whether a call has returned each code. */
 extern unsigned long checks, faults;
 extern bool answered[CODES];
 
-/* Counts a check, and tells it where it fails. */
+/* Counts a check. If it fails, prints its file, line and condition. */
 #define CHECK(condition) check_at((condition), #condition, __FILE__, __LINE__)
 
-/* Checks which code a call answers, and notes it. */
+/* Checks that a call returns the wanted code, and records the code. */
 #define CODE(call, wanted) check_code((call), (wanted), #call, __FILE__, __LINE__)
 
-/* Checks that so many bytes are those of a text of hexadecimal digits. */
+/* Checks that the `length` bytes at `at` are those that the hexadecimal digits encode. */
 #define HEX(at, length, digits) check_hex((at), (length), (digits), __FILE__, __LINE__)
 
 static inline void check_at(bool holds, const char *what, const char *file, int line) {
@@ -37,7 +38,7 @@ static inline void check_code(uint32_t code, uint32_t wanted, const char *call, 
         answered[code] = true;
     if (code != wanted) {
         faults++;
-        printf("FAILED  %s:%d: %s answers %u and not %u\n", file, line, call, (unsigned)code, (unsigned)wanted);
+        printf("FAILED  %s:%d: %s returned %u instead of %u\n", file, line, call, (unsigned)code, (unsigned)wanted);
     }
 }
 
@@ -45,7 +46,7 @@ static inline unsigned digit(char text) {
     return (unsigned)(text <= '9' ? text - '0' : text - 'a' + 10);
 }
 
-/* The bytes of a text of lower-case hexadecimal digits. */
+/* Decodes lower-case hexadecimal digits, and returns the number of bytes. */
 static inline size_t unhex(const char *digits, uint8_t *bytes) {
     size_t length = strlen(digits) / 2;
     for (size_t i = 0; i < length; i++)
@@ -59,7 +60,7 @@ static inline void check_hex(const uint8_t *at, size_t length, const char *digit
     check_at(size == length && memcmp(at, wanted, size) == 0, digits, file, line);
 }
 
-/* A datagram in memory of just its length, so that a tool sees each access beyond it. */
+/* A datagram in an allocation of exactly its length, so that tools such as valgrind detect each access beyond it. */
 typedef struct datagram {
     uint8_t *at;
     size_t length;
@@ -89,7 +90,7 @@ static inline void put_number(uint8_t *at, uint64_t number, size_t bytes) {
 
 static const uint8_t *const session = (const uint8_t *)SESSION;
 
-/* A packet of `count` messages, message i of which is `length` bytes of the value of its number, and 255 for none. */
+/* A packet of `count` messages of `length` bytes. Each byte of a message is the low byte of its sequence number. */
 static inline datagram packet_of(uint64_t sequence, uint16_t count, size_t length) {
     datagram made = of_length(20 + (size_t)count * (2 + length));
     memcpy(made.at, SESSION, 10);
@@ -103,13 +104,14 @@ static inline datagram packet_of(uint64_t sequence, uint16_t count, size_t lengt
     return made;
 }
 
+/* An end packet. */
 static inline datagram end_of(uint64_t sequence) {
     datagram made = packet_of(sequence, 0, 0);
     put_number(made.at + 18, 65535, 2);
     return made;
 }
 
-/* The front of a datagram, which goes. */
+/* The first `length` bytes of a datagram, as a new datagram. Frees the whole one. */
 static inline datagram cut(datagram whole, size_t length) {
     datagram made = of_length(length);
     memcpy(made.at, whole.at, length);
@@ -117,7 +119,7 @@ static inline datagram cut(datagram whole, size_t length) {
     return made;
 }
 
-/* Takes a datagram and throws it away. */
+/* Passes a datagram to a listener, and frees it. */
 static inline uint32_t take(mold_listener *listener, uint32_t line, datagram given, mold_told *told) {
     uint32_t code = mold_listener_take(listener, line, given.at, given.length, told);
     free(given.at);
@@ -134,7 +136,7 @@ static inline bool is_told(const mold_told *told, uint32_t handed, uint32_t kept
     return told->handed == handed && told->kept == kept && told->beyond == beyond;
 }
 
-/* Whether message i of the batch has so many bytes of one value, lent and copied. */
+/* Whether the message at index i of the batch is `length` bytes of one value, both as a slice and as a copy. */
 static inline bool is_message(mold_listener *listener, size_t i, int value, size_t length) {
     uint8_t copy[64], wanted[64];
     size_t size = 99;
@@ -153,14 +155,14 @@ static inline mold_publisher publisher_of(size_t limit) {
     return made;
 }
 
-/* Publishes so many bytes of one value. */
+/* Publishes a message of `length` bytes, at most 64, all of one value. */
 static inline uint32_t publish(mold_publisher *publisher, int value, size_t length, uint64_t *number) {
     uint8_t bytes[64];
     memset(bytes, value, sizeof bytes);
     return mold_publisher_publish(publisher, bytes, length, number);
 }
 
-/* A journal of version 1 of five messages, message k being twenty bytes of value k. */
+/* A journal file of version 1 with five messages. Message k is 20 bytes of value k. */
 static inline datagram five_messages(void) {
     datagram made = of_length(18 + 5 * 22);
     memcpy(made.at, "MOLDJNL1" SESSION, 18);
@@ -200,7 +202,7 @@ static inline uint32_t plan(mold_server *server, const char *digits, mold_plan *
     return code;
 }
 
-/* Tells the count, and whether nothing failed. */
+/* Prints the counts, and returns the exit status. */
 static inline int told_checks(void) {
     printf("%lu checks, %lu failed\n", checks, faults);
     return faults == 0 ? 0 : 1;

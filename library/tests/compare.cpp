@@ -1,11 +1,11 @@
-// The library's listener beside the plain receiver of the benchmark: both take the same random datagrams, and have to
-// answer the same of each.
+// Passes random datagrams to the library's listener and to the plain receiver of the benchmark, and compares all that
+// they return.
 //
 //     cd library/tests && c++ -std=c++17 -O2 compare.cpp ../out/libmold.a -o compare && ./compare 300000 1
 //
-// The words are how many datagrams there are, and the seed. Datagrams are of a session of drawn messages: data packets
-// of any front of it, heartbeats, ends, also false ones, other messages at a number, other sessions, cut and changed
-// bytes.
+// The arguments are the number of datagrams and the seed. Most datagrams are valid data packets and heartbeats of a
+// random session. The others are true and wrong end packets, packets with invalid sequence numbers, and datagrams that
+// were truncated, extended or changed.
 #include "../bench/plain.hpp"
 
 #include <cstdio>
@@ -38,7 +38,7 @@ private:
     std::mt19937_64 engine_;
 };
 
-/// Message `number` of the session: its length and bytes hang on its number.
+/// Message `number` of the session. Its length and bytes depend only on its number.
 Bytes message_of(std::uint64_t number) {
     std::mt19937 engine(static_cast<std::uint32_t>(number));
     Bytes made(engine() % 4 == 0 ? 0 : engine() % 50);
@@ -68,7 +68,7 @@ Bytes packet_of(std::uint64_t sequence, std::uint16_t count) {
     return made;
 }
 
-/// A datagram near the number that comes next, most likely a true one.
+/// A random datagram with a sequence number near `next`, in most cases a valid one.
 Bytes draw(Chance &chance, std::uint64_t next, std::uint64_t messages) {
     const std::uint64_t back = chance.below(20), sequence = (next > back ? next - back : 1) + chance.below(30);
     const std::uint64_t left = sequence <= messages ? messages + 1 - sequence : 0;
@@ -93,11 +93,11 @@ Bytes draw(Chance &chance, std::uint64_t next, std::uint64_t messages) {
     }
 }
 
-/// A session that both follow.
+/// A listener and a plain receiver that receive the same session.
 class Pair {
 public:
     Pair(std::uint64_t next, std::uint32_t window) : plain_(session, next, window) {
-        check(mold_listener_new(&listener_, session, next, window) == MOLD_DONE, "a listener is made", 0);
+        check(mold_listener_new(&listener_, session, next, window) == MOLD_DONE, "a listener cannot be made", 0);
     }
 
     Pair(const Pair &) = delete;
@@ -113,9 +113,9 @@ public:
             [&batch](std::uint64_t, const std::uint8_t *at, std::size_t length) { batch.push(at, length); });
         const std::uint32_t code = mold_listener_take(&listener_, line, bytes.data(), bytes.size(), &told);
         codes[code % 33]++;
-        check(code == wanted && told.detail == other.detail, "the code and its number", place);
-        check(told.handed == other.handed && told.kept == other.kept && told.beyond == other.beyond, "the counts",
-              place);
+        check(code == wanted && told.detail == other.detail, "the codes or their numbers differ", place);
+        check(told.handed == other.handed && told.kept == other.kept && told.beyond == other.beyond,
+              "the counts differ", place);
         compare_batch(batch, first, place);
         compare_state(place);
     }
@@ -125,27 +125,28 @@ public:
 private:
     void compare_batch(const plain::Batch &batch, std::uint64_t first, unsigned long place) {
         const std::size_t count = mold_listener_count(&listener_);
-        check(count == batch.size() && mold_listener_first(&listener_) == (count > 0 ? first : 0), "the batch", place);
+        check(count == batch.size() && mold_listener_first(&listener_) == (count > 0 ? first : 0), "the batches differ",
+              place);
         for (std::size_t i = 0; i < count && i < batch.size(); i++) {
             mold_bytes message = MOLD_NO_BYTES;
-            check(mold_listener_message(&listener_, i, &message) == MOLD_DONE, "a message", place);
+            check(mold_listener_message(&listener_, i, &message) == MOLD_DONE, "a message is absent", place);
             check(message.length == batch[i].length &&
                       (message.length == 0 || std::memcmp(message.at, batch[i].at, message.length) == 0),
-                  "a message's bytes", place);
+                  "the bytes of a message differ", place);
         }
-        check(mold_listener_clear(&listener_) == MOLD_DONE, "the batch is cleared", place);
+        check(mold_listener_clear(&listener_) == MOLD_DONE, "the batch cannot be cleared", place);
     }
 
     void compare_state(unsigned long place) {
         check(mold_listener_next(&listener_) == plain_.next() && mold_listener_known(&listener_) == plain_.known() &&
                   mold_listener_finished(&listener_) == plain_.finished(),
-              "how far it is", place);
+              "the progress differs", place);
         for (std::uint32_t line = 0; line < 2; line++) {
             mold_report report{};
             const plain::Report &other = plain_.report(line);
             check(mold_listener_report(&listener_, line, &report) == MOLD_DONE && report.datagrams == other.datagrams &&
                       report.refused == other.refused && report.front == other.front,
-                  "the report of a line", place);
+                  "the reports of a line differ", place);
         }
     }
 
@@ -167,7 +168,7 @@ int main(int count, char **words) {
             pair.take(static_cast<std::uint32_t>(chance.below(3)), draw(chance, pair.next(), messages), ++place);
     }
     for (std::uint32_t code : {0, 1, 2, 3, 8, 9, 10, 11, 12, 13, 14})
-        check(codes[code] > 0, "a code never came", code);
+        check(codes[code] > 0, "the code with this number was never returned", code);
     std::printf("%lu checks, %lu failed\n", checks, faults);
     return faults == 0 ? 0 : 1;
 }

@@ -1,9 +1,10 @@
-/* Memory that is refused: each allocation in turn, and all from one on. A call that wants memory then answers
- * MOLD_MEMORY and leaves everything as it was; called again with memory it goes through. What is taken is given back.
+/* Tests the calls when allocations fail: each allocation once alone, and once together with all later ones. The call
+ * then returns MOLD_MEMORY and changes nothing. If it is made again with memory, it succeeds. At the end all memory is
+ * freed.
  *
  *     cd library/tests && cc -std=c99 failing.c ../out/libmold.a -o failing && ./failing
  *
- * The three functions here take the place of those of alloc.c, as in a program that has memory of its own. */
+ * The three allocation functions here replace those of alloc.c, as in a program that has its own allocator. */
 #define CHECK_MAIN
 #include "check.h"
 
@@ -12,7 +13,7 @@ typedef struct memory {
     void *at;
 } memory;
 
-/* What stands in front of each piece of memory: 32 bytes, so that the piece is aligned to 16. */
+/* The header of each allocation. It has 32 bytes, so that the memory after it is aligned to 16. */
 typedef union front {
     struct {
         size_t size, align;
@@ -20,9 +21,10 @@ typedef union front {
     uint8_t room[32];
 } front;
 
-/* How many more allocations go through, whether later ones go through again, and what was counted. */
+/* How many more allocations succeed before one fails, and whether all later ones fail too. */
 static unsigned long left;
 static bool all_fail;
+/* The numbers of failed allocations, of allocations that are not freed, and of successful allocations. */
 static unsigned long refused, live, taken;
 
 memory rattle_alloc(size_t size, size_t align);
@@ -73,7 +75,7 @@ memory rattle_realloc(void *old, size_t used, size_t size, size_t align) {
     return made;
 }
 
-/* ---- What a handle holds, as a sum over all that can be read of it ---- */
+/* ---- The state of a handle, as a hash of everything that can be read from it ---- */
 
 static uint64_t mixed(uint64_t sum, const void *bytes, size_t length) {
     for (size_t i = 0; i < length; i++)
@@ -109,13 +111,14 @@ static uint64_t sum_of_publisher(mold_publisher *publisher) {
     return mixed(mixed(mold_publisher_is_full(publisher), journal, size), heartbeat, length);
 }
 
-/* Whether memory was refused in a call that answers this code; then the call has to be made again. */
+/* Checks that a call returned MOLD_MEMORY exactly when an allocation failed in it. `before` is the number of failed
+ * allocations before the call. Returns whether to make the call again. */
 static bool again(uint32_t code, unsigned long before) {
     CHECK((code == MOLD_MEMORY) == (refused > before));
     return code == MOLD_MEMORY && !all_fail;
 }
 
-/* ---- Calls that want memory ---- */
+/* ---- Calls that allocate ---- */
 
 static uint32_t try_listener(mold_listener *listener) {
     unsigned long before = refused;
@@ -161,15 +164,15 @@ static uint32_t try_check(mold_checker *checker, datagram given) {
     return code;
 }
 
-/* ---- Runs in which memory is refused somewhere ---- */
+/* ---- Runs in which allocations fail ---- */
 
-/* Whether a call was done; where all memory is refused from one call on, it may want memory. */
+/* Whether a call succeeded. It may return MOLD_MEMORY only in a run in which all later allocations fail. */
 static bool done(uint32_t code) {
     CHECK(code == MOLD_DONE || (all_fail && code == MOLD_MEMORY));
     return code == MOLD_DONE;
 }
 
-/* A packet of messages of many lengths, which their numbers tell. */
+/* A packet of messages of different lengths. The length of a message depends only on its number. */
 static datagram varied(uint64_t sequence, uint16_t count) {
     datagram made = of_length(20 + (size_t)count * 62);
     size_t at = 20;
@@ -265,7 +268,7 @@ static void run_checker(void) {
     mold_free(&checker);
 }
 
-/* Runs with the allocation behind so many failing, and answers whether there was one. */
+/* Runs with a failing allocation after `place` successful ones, and returns whether there was such an allocation. */
 static bool fails_at(void (*run)(void), unsigned long place, bool and_all_after) {
     left = place;
     all_fail = and_all_after;
@@ -275,6 +278,7 @@ static bool fails_at(void (*run)(void), unsigned long place, bool and_all_after)
     return refused > 0;
 }
 
+/* Runs with each allocation failing, alone and with all later ones, and finally with none failing. */
 static void each_in_turn(const char *name, void (*run)(void)) {
     unsigned long places = 0;
     while (fails_at(run, places, false) && places < 100000)
@@ -284,7 +288,7 @@ static void each_in_turn(const char *name, void (*run)(void)) {
     left = 100000;
     taken = refused = 0;
     run();
-    printf("%s: %lu allocations, each refused in turn\n", name, taken);
+    printf("%s: each of %lu allocations failed once alone and once with all later ones\n", name, taken);
     CHECK(taken > 0 && refused == 0 && live == 0);
 }
 

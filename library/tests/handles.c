@@ -1,4 +1,4 @@
-/* The checker; handles of each kind, empty, of another kind, and freed; and the texts of codes. */
+/* Tests of the checker, of the texts of codes, and of handles that are empty, freed or of another kind. */
 #include "check.h"
 #include "test.h"
 
@@ -86,6 +86,7 @@ static void captures_are_refused(void) {
     mold_free(&checker);
 }
 
+/* Checks each call of a listener on a handle that does not hold a listener. */
 static void no_listener(mold_listener *handle) {
     mold_told told = {9, 9, 9, 9, 9};
     mold_report report = {9, 9, 9};
@@ -105,6 +106,7 @@ static void no_listener(mold_listener *handle) {
     CODE(mold_listener_clear(handle), MOLD_BROKEN);
 }
 
+/* Checks each call of a publisher on a handle that does not hold a publisher. */
 static void no_publisher(mold_publisher *handle) {
     uint8_t room[64] = {7};
     uint64_t number = 99;
@@ -120,6 +122,7 @@ static void no_publisher(mold_publisher *handle) {
     CHECK(room[0] == 7);
 }
 
+/* Checks each call of a server on a handle that does not hold a server. */
 static void no_server(mold_server *handle) {
     datagram room = of_length(64);
     mold_plan made = {1, 2, 1, {0}};
@@ -132,6 +135,7 @@ static void no_server(mold_server *handle) {
     free(room.at);
 }
 
+/* Checks each call of a checker on a handle that does not hold a checker. */
 static void no_checker(mold_checker *handle) {
     mold_verdict verdict = {9, 9, 9, 9, 9};
     mold_range range = {9, 9};
@@ -158,7 +162,7 @@ static void empty_handles(void) {
     mold_free(&checker);
 }
 
-/* Each kind of handle, given as each other kind, and freed twice. */
+/* A handle of each kind is passed to the calls of every other kind, and then freed twice. */
 static void handles_of_another_kind(void) {
     mold_listener listener = listener_at(1, 4);
     mold_publisher publisher = publisher_of(64);
@@ -186,7 +190,7 @@ static void handles_of_another_kind(void) {
     mold_free(&listener);
 }
 
-/* A handle is freed with messages in its store and its batch, and made again. */
+/* Handles are freed while they hold messages, and then made again. */
 static void full_handles_are_freed(void) {
     mold_told told = {0, 0, 0, 0, 0};
     uint64_t number = 0;
@@ -207,7 +211,8 @@ static void full_handles_are_freed(void) {
     }
 }
 
-/* What a publisher sends, a listener hands on, and its request is answered. */
+/* A listener receives two of every three data packets of a publisher. It requests the missing messages from the
+ * publisher's server. */
 static void from_publisher_to_listener(void) {
     mold_publisher publisher = publisher_of(200);
     mold_listener listener = listener_at(1, 16);
@@ -251,7 +256,8 @@ static void codes_have_texts(void) {
     }
 }
 
-/* All codes came but that of refused memory, which failing.c sees, and that of numbers that no session runs out of. */
+/* Every code was returned except two: MOLD_MEMORY, which failing.c tests, and MOLD_NUMBERS, which takes more messages
+ * than a test can publish. */
 static void each_code_came(void) {
     for (uint32_t code = 0; code < CODES; code++)
         CHECK(answered[code] == (code != MOLD_MEMORY && code != MOLD_NUMBERS));

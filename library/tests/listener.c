@@ -1,4 +1,4 @@
-/* The listener. */
+/* Tests of the listener. */
 #include "check.h"
 #include "test.h"
 
@@ -25,7 +25,7 @@ static void listeners_that_cannot_be(void) {
     mold_free(&listener);
 }
 
-/* Messages 3, 2 and 1: the first two are stored. */
+/* Messages 3, 2 and 1 arrive in this order. The first two are stored. */
 static void messages_come_backwards(void) {
     mold_listener listener = listener_at(1, 4);
     mold_told told = {0, 9, 9, 9, 0};
@@ -103,7 +103,7 @@ static void two_lines_are_reported(void) {
     mold_free(&listener);
 }
 
-/* Of messages 2 to 9 a window of 4 stores three. */
+/* With a window of 4, messages 2 to 4 of messages 2 to 9 are stored. */
 static void messages_behind_the_window(void) {
     mold_listener listener = listener_at(1, 4);
     mold_told told = {0, 0, 0, 0, 0};
@@ -120,7 +120,7 @@ static void messages_behind_the_window(void) {
     mold_free(&listener);
 }
 
-/* The window at its greatest, filled from behind, and a gap of more messages than a request may ask for. */
+/* The greatest window is filled backwards. Then a gap has more messages than one request can ask for. */
 static void the_greatest_window(void) {
     mold_listener listener = listener_at(1, 65536);
     mold_told told = {0, 0, 0, 0, 0};

@@ -1,4 +1,4 @@
-/* Packets, requests and the packer: what needs no handle. */
+/* Tests of the calls without a handle: packets, requests and the packer. */
 #include "check.h"
 #include "test.h"
 
@@ -64,7 +64,7 @@ static void places_are_read(void) {
     free(given.at);
 }
 
-/* As many messages as a packet may have, and the longest that a block may have. */
+/* A packet with the greatest number of messages, and one with messages of the greatest length. */
 static void the_greatest_packets_are_read(void) {
     mold_packet packet = {0, 0, 0, 0, {0}};
     mold_place last[1] = {{0, 0}};
@@ -147,7 +147,7 @@ static void limits_of_packers(void) {
     free(room.at);
 }
 
-/* Fields that no packer has are refused, and nothing is written. */
+/* A packer with invalid fields is refused, and nothing is written. */
 static void packers_that_cannot_be(void) {
     uint8_t byte[1] = {1};
     datagram room = of_length(64);

@@ -1,9 +1,9 @@
-/* Random datagrams, read by the library and by a decoder that is written apart from it: valid ones, cut ones, longer
- * ones, changed ones, and bytes that are no datagram. Both have to answer the same of each.
+/* Decodes random datagrams with the library and with an independent decoder, and compares the results. Some datagrams
+ * are valid. Others are truncated, extended or changed, or are random bytes.
  *
  *     cd library/tests && cc -std=c99 -O2 random.c ../out/libmold.a -o random && ./random 1000000 1
  *
- * The words are how many datagrams there are, and the seed. */
+ * The arguments are the number of datagrams and the seed. */
 #define CHECK_MAIN
 #include "check.h"
 
@@ -19,7 +19,7 @@ static uint64_t below(uint64_t bound) {
     return (state >> 11) % bound;
 }
 
-/* What the decoder here says. */
+/* What the decoder in this file returns. */
 typedef struct reading {
     uint32_t code;
     uint64_t detail;
@@ -39,7 +39,7 @@ static void refuse(reading *said, uint32_t code, uint64_t detail) {
     said->detail = detail;
 }
 
-/* By the rules of docs/PROTOCOL.md. */
+/* Decodes a datagram by the rules of docs/PROTOCOL.md, without the library. */
 static void read_apart(const uint8_t *bytes, size_t length, reading *said) {
     refuse(said, MOLD_DONE, 0);
     said->count = 0;
@@ -63,7 +63,7 @@ static void read_apart(const uint8_t *bytes, size_t length, reading *said) {
         refuse(said, MOLD_TRAILING, at);
 }
 
-/* Writes a datagram that spells a packet, and answers its length. */
+/* Writes a random datagram that encodes a packet, and returns its length. */
 static size_t draw_packet(uint8_t *bytes) {
     size_t at = 20, count = below(3) == 0 ? 0 : (size_t)below(40);
     for (size_t i = 0; i < 20; i++)
@@ -79,7 +79,8 @@ static size_t draw_packet(uint8_t *bytes) {
     return at;
 }
 
-/* Writes a datagram, most likely one that spells no packet or that did until a few bytes changed. */
+/* Writes a random datagram, and returns its length. One in six is valid. The others are truncated, extended, changed or
+ * random, so most of them do not encode a packet. */
 static size_t draw(uint8_t *bytes) {
     size_t length = draw_packet(bytes);
     switch (below(6)) {
@@ -112,7 +113,8 @@ static bool is_same_header(const mold_packet *packet, const uint8_t *bytes, size
            memcmp(packet->session, bytes, 10) == 0;
 }
 
-/* Compares what is said of a datagram, which lies in memory of just its length. */
+/* Decodes a datagram with both decoders, and compares their results. The datagram is in an allocation of exactly its
+ * length. */
 static void compare(const uint8_t *bytes, size_t length, mold_place *places, reading *apart) {
     mold_packet packet = {0, 0, 0, 0, {0}}, alone = {0, 0, 0, 0, {0}};
     read_apart(bytes, length, apart);

@@ -1,4 +1,4 @@
-/* The publisher, and the server of a journal or of a publisher. */
+/* Tests of the publisher, and of the server, which reads from a journal or from a publisher. */
 #include "check.h"
 #include "test.h"
 
@@ -258,7 +258,7 @@ static void plans_that_cannot_be(void) {
     free(room.at);
 }
 
-/* A publisher answers from what it has published, within its session and behind it. */
+/* The server of a publisher responds with the messages published so far, also after the session is closed. */
 static void a_publisher_serves(void) {
     mold_publisher publisher = publisher_of(64);
     mold_server *server = mold_server_of(&publisher);

@@ -1,4 +1,4 @@
-/* Every call of the library and every code, by values that are written by hand.
+/* Tests every call of the library, and every code, with expected values that were written by hand.
  *
  *     cd library/tests
  *     cc -std=c99 test.c packets.c listener.c sessions.c handles.c ../out/libmold.a -o test && ./test */

@@ -6,7 +6,7 @@ void test_packets(void);
 void test_listener(void);
 void test_sessions(void);
 
-/* The last one: it also wants each code to have come. */
+/* Runs last: it also checks that each code was returned. */
 void test_handles(void);
 
 #endif

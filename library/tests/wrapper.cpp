@@ -1,4 +1,4 @@
-// The classes of mold.hpp: each call, what is moved, and what is freed.
+// Tests of the classes of mold.hpp: each call, and moving and freeing of handles.
 //
 //     cd library/tests && c++ -std=c++17 wrapper.cpp ../out/libmold.a -o wrapper && ./wrapper
 #include "../mold.hpp"
@@ -38,7 +38,7 @@ bool is_bytes(mold::Bytes bytes, const std::string &wanted) {
     return std::string(bytes.begin(), bytes.end()) == wanted;
 }
 
-/// What a publisher of limit 64 sends of some messages, and the end.
+/// Opens a session with limit 64, publishes the messages and closes it. Returns the data packets and the end packet.
 std::vector<Datagram> session_of(mold::Publisher &publisher, const std::vector<std::string> &messages) {
     std::vector<Datagram> sent;
     std::uint64_t number = 0;
