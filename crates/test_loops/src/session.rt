@@ -58,6 +58,9 @@ const ON_LINE_B: [Given; 3] = [
     Given::Bytes(END),
 ];
 
+/// A read gives at most three lines of `LINES`.
+const THREE_LINES: usize = 123;
+
 /// The request for messages 3 and 4.
 const REQUEST: &[u8] = b"SESSION001\0\0\0\0\0\0\0\x03\0\x02";
 
@@ -106,7 +109,9 @@ struct Case {
     turns: u32,
     reporting: bool,
     lines: &'static [u8],
-    status: u8,
+    /// The number of the read that fails. If it is 0, no read fails.
+    read_fails: u64,
+    outcome: Result<u8, CommandFault>,
     text: &'static [u8],
     /// What the publisher, the port of the requests and the server send.
     published: Sent,
@@ -161,6 +166,8 @@ fn run(
     };
     let mut parts = new_parts(alloc)?;
     let mut source = MemorySource::new(case.lines);
+    source.at_most(THREE_LINES);
+    source.fail_at(case.read_fails);
     Ok(session_loop(ports, &options, &mut parts, &mut source, sink))
 }
 
@@ -181,7 +188,7 @@ fn expect_run(
 ) -> Result<(), Fail> {
     let mut sink = MemorySink::new(rt.alloc());
     let outcome = run(rt.alloc(), ports, case, &mut sink)?;
-    same_outcome(rt, outcome, Ok(case.status), at);
+    same_outcome(rt, outcome, case.outcome, at);
     same_bytes(rt, sink.bytes(), case.text, at);
     expect_ports(rt, ports, case, at);
     Ok(())
@@ -264,7 +271,8 @@ const EXAMPLE: Case = Case {
     turns: 9,
     reporting: false,
     lines: LINES,
-    status: 0,
+    read_fails: 0,
+    outcome: Ok(0),
     text: ALL,
     published: &ON_BOTH,
     requested: &[ASKED],
@@ -323,7 +331,7 @@ const FAILED_REQUESTS: &[Case] = &[
     Case {
         sends_fail: [0, 1, 0],
         turns: 1,
-        status: 1,
+        outcome: Ok(1),
         text: TWO,
         published: &ON_BOTH,
         requested: &[],
@@ -349,7 +357,7 @@ const FAILED_RESPONSES: &[Case] = &[
     Case {
         sends_fail: [0, 0, 1],
         turns: 1,
-        status: 1,
+        outcome: Ok(1),
         text: TWO,
         published: &ON_BOTH,
         requested: &[ASKED],
@@ -374,11 +382,29 @@ fn a_response_that_fails_is_not_waited_for(rt: HostRuntime) -> Result<(), Fail> 
     expect_all(&rt, FAILED_RESPONSES)
 }
 
+// The first read gives three lines. Messages 1 and 2 are passed, and the second read fails.
+const FAILED_READ: Case = Case {
+    read_fails: 2,
+    outcome: Err(CommandFault::Read),
+    text: b"1 0101010101010101010101010101010101010101\n\
+        2 0202020202020202020202020202020202020202\n",
+    published: &[(1, ONE_AND_TWO), (2, ONE_AND_TWO)],
+    requested: &[],
+    responded: &[],
+    left: [2, 2, 1],
+    ..EXAMPLE
+};
+
+#[test]
+fn text_before_a_failed_read_is_written(rt: HostRuntime) -> Result<(), Fail> {
+    expect(&rt, &FAILED_READ, 0)
+}
+
 const REFUSED_LINE: Case = Case {
     a: &[],
     reporting: true,
     lines: b"4142\nx\n",
-    status: 2,
+    outcome: Ok(2),
     text: b"refused line 2 NotHex\n",
     published: &[],
     requested: &[],
