@@ -192,21 +192,50 @@ hears_all {P} drops a b start now known front refused first here old new with_re
   all = all;
 }
 
+-- the last datagram is passed
+heard_end : {P T E : Type 0} (drops : Drops) (a b : P) (start before now : PublisherState)
+    (known left : Option (List ℕ)) (first here there : LineState P) (old new : Option (List ℕ)) (count : ℕ) (value : T) →
+    (so_far : HeardSoFar drops a b start before known left first here old new count) →
+    HasPassed {T = T} {E = E} a b (routed drops (count + 1) (spelled_some (next_datagram now))) (Ok value) here there →
+    Heard a b (routed drops 1 (so_far.front ++ spelled_some (next_datagram now))) first there old new
+heard_end drops a b start before now known left first here there old new count value so_far has =
+    subst (λ (l : List (Routes × List ℕ)). Heard a b l first there old new)
+    (routed_next drops so_far.front (spelled_some (next_datagram now)) count so_far.counted)
+    (received_more a b value so_far.received has)
+
+-- all data are passed, and some text is written
 pub hears_end : {P T E F : Type 0} → PackingLaws → (drops : Drops) (a b : P) (start before now after : PublisherState)
-    (known left behind : Option (List ℕ)) (first here there : LineState P) (old new : Option (List ℕ)) (count : ℕ)
-    (value : T) → HeardSoFar drops a b start before known left first here old new count →
+    (known left behind : Option (List ℕ)) (first here there last : LineState P) (old mid new : Option (List ℕ))
+    (count : ℕ) (value : T) (rest : List ℕ) → HeardSoFar drops a b start before known left first here old mid count →
     Fills before now left behind End →
     HasPassed {T = T} {E = F} a b (routed drops (count + 1) (spelled_some (next_datagram now))) (Ok value) here there →
     after ≡ after_datagram now →
-    ReceivesLines {E = E} drops a b start after known (Ok None) first there old new
-hears_end {P} {T} {E} laws drops a b start before now after known left behind first here there old new count value so_far filled has sent =
+    (moves : Moves mid new there.progress.outgoing.text rest) → there ≡ text_front moves.front last →
+    ReceivesLines {E = E} drops a b start after known (Ok None) first last old new
+hears_end {P} {T} {E} laws drops a b start before now after known left behind first here there last old mid new count value rest so_far filled has sent moves same =
     let front = so_far.front ++ spelled_some (next_datagram now) in
-    subst (λ (p : PublisherState). ReceivesLines {E = E} drops a b start p known (Ok None) first there old new) (sym sent)
-    (hears_all drops a b start (after_datagram now) known front None first there old new
-    (subst (λ (l : List (Routes × List ℕ)). Heard a b l first there old new)
-    (routed_next drops so_far.front (spelled_some (next_datagram now)) count so_far.counted)
-    (received_more a b value so_far.received has))
+    subst (λ (p : PublisherState). ReceivesLines {E = E} drops a b start p known (Ok None) first last old new) (sym sent)
+    (hears_all drops a b start (after_datagram now) known front None first last old new
+    (received_moved a b last
+    (heard_end drops a b start before now known left first here there old mid count value so_far has) moves same)
     (left_end laws start before now known left behind so_far.front so_far.behind filled))
+
+-- a fault while text is written after the last datagram
+pub hears_end_unwritten : {P T E F : Type 0} → PackingLaws → (drops : Drops) (a b : P)
+    (start before now after : PublisherState) (known left behind : Option (List ℕ)) (first here there last : LineState P)
+    (old mid new : Option (List ℕ)) (count : ℕ) (value : T) (result : Result (Option LineRefusal) E) →
+    HeardSoFar drops a b start before known left first here old mid count → Fills before now left behind End →
+    HasPassed {T = T} {E = F} a b (routed drops (count + 1) (spelled_some (next_datagram now))) (Ok value) here there →
+    last.publisher ≡ there.publisher → AppendsPrefix mid new there.progress.outgoing.text → IsErr result →
+    ReceivesLines drops a b start after known result first last old new
+hears_end_unwritten laws drops a b start before now after known left behind first here there last old mid new count value result so_far filled has same cut failed =
+    let front = so_far.front ++ spelled_some (next_datagram now) in
+    hears_cut drops a b start after known front result first last old new
+    (received_cut a b last same
+    (heard_end drops a b start before now known left first here there old mid count value so_far has) cut)
+    (begun_all start now.journal None known front
+    (left_end laws start before now known left behind so_far.front so_far.behind filled))
+    failed
 
 -- a line is refused
 pub hears_refused : {P E : Type 0} → PackingLaws → (drops : Drops) (a b : P) (start before now : PublisherState)

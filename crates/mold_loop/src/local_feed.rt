@@ -10,6 +10,7 @@ ghost use Rattle.mold_loop.specs.Looping.{ReceivesLines, LoopRun, after_routes};
 ghost use Rattle.mold_loop.specs.Passing.{routed, routed_end};
 ghost use Rattle.mold_send.specs.PublishLoop.{left_journal, spelled_some};
 ghost use Rattle.mold_loop.specs.Repairing.{HasRepaired, answers_sent, repaired, repairing, requested, text_before};
+ghost use Rattle.mold_turns.specs.Outgoing.{IsBounded};
 ghost use Rattle.mold_turns.specs.Runs.{RestsOfTwo};
 ghost use Rattle.mold_serve.specs.Serving.{service_of};
 ghost use Rattle.mold_publish.specs.Publishing.{HasRoom, lines_published};
@@ -95,8 +96,8 @@ impl<'a, 'p, D: Datagrams + Drop> LocalFeed<'a, 'p, D> {
     }
 
     // Publishes the lines of the source. Passes a datagram each time the publisher is full, and the rest after the
-    // last line. Returns why a line is refused, if one is. If reading the lines fails, writes the text of the datagrams
-    // passed so far.
+    // last line. After each datagram, writes the text if it has at least 65,536 bytes or the sink is live. Returns why
+    // a line is refused, if one is. If reading the lines fails, writes the text of the datagrams passed so far.
     fn pass_lines<S: Source, K: Sink>(
         &mut self,
         publisher: &mut Publisher,
@@ -113,6 +114,9 @@ impl<'a, 'p, D: Datagrams + Drop> LocalFeed<'a, 'p, D> {
         ensures all { IfOk result (λ refused. refused ≡ None →
             publisher.new.sent ≡ length publisher.new.journal.messages) }
         ensures limit { OnOk result (publisher.new.limit ≡ publisher.old.limit) }
+        ensures bounded { OnOk result (IsBounded (K.live sink.old) self.old.listener.now.printer.outgoing.text →
+            IsBounded (K.live sink.old) self.new.listener.now.printer.outgoing.text) }
+        ensures live { K.live sink.new ≡ K.live sink.old }
         ensures failures { CountsCommand (S.failed source.old) (S.failed source.new)
             (K.failed sink.old) (K.failed sink.new) result }
     {
@@ -126,6 +130,7 @@ impl<'a, 'p, D: Datagrams + Drop> LocalFeed<'a, 'p, D> {
                 Ok(Filled::Full) => self.pass_next(publisher, &mut number)?,
                 Ok(Filled::End) => {
                     self.pass_next(publisher, &mut number)?;
+                    self.listener.printer.outgoing.send_large(sink)?;
                     return Ok(None);
                 }
                 Ok(Filled::Refused { why }) => return Ok(Some(why)),
@@ -242,6 +247,9 @@ impl<'a, 'p, D: Datagrams + Drop> LocalFeed<'a, 'p, D> {
             (rounds D.port server.new self.new) }
         ensures server { server.new ≡ record server.old { answered = server.new.answered } }
         ensures only { OnlyRepairs self.old self.new }
+        ensures bounded { OnOk result (IsBounded (K.live sink.old) self.old.listener.now.printer.outgoing.text →
+            IsBounded (K.live sink.old) self.new.listener.now.printer.outgoing.text) }
+        ensures live { K.live sink.new ≡ K.live sink.old }
         ensures sink { CountsSink (K.failed sink.old) (K.failed sink.new) result }
     {
         for _turn in 0..self.options.turns {

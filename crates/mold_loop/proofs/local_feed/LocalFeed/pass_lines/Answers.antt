@@ -1,4 +1,4 @@
-use Rattle.std.proofs.Common.{◌∙◌, ◌+◌, ℕ, Err, List, Option, Result, ap, arith, refl, subst, sym}
+use Rattle.std.proofs.Common.{◌∙◌, ◌+◌, Bool, ℕ, Err, List, Option, Result, ap, arith, refl, subst, sym}
 use Rattle.std.proofs.lemmas.List.{take_all}
 use Rattle.mold_devices.specs.Devices.{AppendsPrefix}
 use Rattle.mold_devices.specs.Faults.{CountsFault, CountsReadFault, from_read_fault}
@@ -9,11 +9,12 @@ use Rattle.mold_devices.specs.declared.fault.CommandFault.{CommandFault}
 use Rattle.mold_publish.specs.declared.line_refusal.LineRefusal.{LineRefusal}
 use Rattle.mold_publish.proofs.DatagramLemmas.{PackingLaws, all_sent}
 use Rattle.mold_session.specs.Publisher.{PublisherState, next_datagram}
+use Rattle.mold_turns.specs.Outgoing.{IsBounded}
 use Rattle.mold_loop.specs.LocalFeed.{lines}
 use Rattle.mold_loop.specs.Looping.{line_state}
 use Rattle.mold_send.specs.PublishLoop.{spelled_some}
 use Rattle.mold_loop.proofs.HeardLemmas.{lines_moved}
-use Rattle.mold_loop.proofs.HearsLemmas.{hears_end, hears_full, hears_last, hears_none, hears_refused}
+use Rattle.mold_loop.proofs.HearsLemmas.{hears_end, hears_end_unwritten, hears_full, hears_last, hears_none, hears_refused}
 use Rattle.mold_loop.proofs.HearsLemmas.{hears_unwritten, so_far_begun, so_far_full, so_far_moved}
 use Rattle.mold_loop.proofs.LocalFeedLemmas.{next_passed, passes_at_first, passes_twice}
 use Rattle.mold_send.proofs.SendingLemmas.{full_went}
@@ -42,6 +43,8 @@ passing-init g c = record {
       (g.S.Source.left c.args.source.now) c.in_ok-lines.lines.rest _ _ c.in_ok-lines.ensures;
   only = passes_at_first g.D.Datagrams.modeled g.D.Datagrams.port c.args.self.now;
   limit = refl;
+  bounded = λ bounded. bounded;
+  live = refl;
   source = refl;
   sink = refl;
 }
@@ -60,7 +63,7 @@ passing-preserved g c =
       few = went.1;
       received = λ modeled.
           let made = lines port c.pass_next.new.self in
-          let after = line_state made.publisher made.a made.b made.progress.arbitration c.send_large.new.self in
+          let after = line_state made.publisher made.a made.b made.progress.arbitration c.send_large-in-passing.new.self in
           let has = next_passed port (c.passing.number + 1) (spelled_some (next_datagram c.fill.new.publisher)) _
           c.pass_next.new.self c.passing.invariant.only.same (c.in_ok-pass_next-in-Ok-Full.ensures.passed modeled) in
           let moves = c.in_ok-send_large.ensures.moved in
@@ -71,7 +74,7 @@ passing-preserved g c =
           c.in_ok-pass_next-in-Ok-Full.field-0 (c.passing.invariant.received modeled) filled c.pass_next.ensures.sent
           has c.pass_next.ensures.counted)
           moves
-          (lines_moved _ _ _ _ c.pass_next.new.self.listener.now.printer.outgoing c.send_large.new.self moves.front
+          (lines_moved _ _ _ _ c.pass_next.new.self.listener.now.printer.outgoing c.send_large-in-passing.new.self moves.front
           moves.parts c.in_ok-send_large.ensures.failures);
       only = record {
         same = record {
@@ -86,6 +89,10 @@ passing-preserved g c =
         b = only.b;
       };
       limit = ap (λ (p : PublisherState). p.limit) c.pass_next.ensures.sent ∙ filled.limit ∙ c.passing.invariant.limit;
+      bounded = λ bounded.
+          subst (λ (live : Bool). IsBounded live c.send_large-in-passing.new.self.text)
+          c.passing.invariant.live c.in_ok-send_large.ensures.bounded;
+      live = c.in_ok-send_large.ensures.live ∙ c.passing.invariant.live;
       source = c.in-Ok-Full.ensures.failures ∙ c.passing.invariant.source;
       sink = c.in_ok-send_large.ensures.sink ∙ c.passing.invariant.sink;
     }
@@ -160,7 +167,7 @@ returns-in_err-send_large-clause-received g c modeled =
     c.fill.new.publisher c.pass_next.new.publisher _ _ _ _ _ made _ _ c.passing.number c.pass_next.new.number
     c.in_ok-pass_next-in-Ok-Full.field-0 (c.passing.invariant.received modeled) filled c.pass_next.ensures.sent
     has c.pass_next.ensures.counted)
-    refl c.send_large.ensures.front c.from_residual-in_err-send_large.ensures.0
+    refl c.send_large-in-passing.ensures.front c.from_residual-in_err-send_large.ensures.0
 
 pub returns-in_err-pass_next-in-Ok-End-clause-received : goal.returns-in_err-pass_next-in-Ok-End-clause-received
 returns-in_err-pass_next-in-Ok-End-clause-received g c modeled =
@@ -174,16 +181,34 @@ returns-in_err-pass_next-in-Ok-End-clause-received g c modeled =
     c.pass_next-in-Ok-End.new.self c.passing.invariant.only.same (c.pass_next-in-Ok-End.ensures.passed modeled))
     c.from_residual-in_err-pass_next-in-Ok-End.ensures.0
 
-pub returns-in-Ok-End-clause-received : goal.returns-in-Ok-End-clause-received
-returns-in-Ok-End-clause-received g c modeled =
+pub returns-in_err-send_large-in-Ok-End-clause-received : goal.returns-in_err-send_large-in-Ok-End-clause-received
+returns-in_err-send_large-in-Ok-End-clause-received g c modeled =
     let feed = c.args.self.now in
-    hears_end (laws g (goal.at.returns-in-Ok-End-clause-received g c).After-packing_law) feed.options.now.drops
+    let made = lines g.D.Datagrams.port c.pass_next-in-Ok-End.new.self in
+    hears_end_unwritten (laws g (goal.at.returns-in_err-send_large-in-Ok-End-clause-received g c).After-packing_law) feed.options.now.drops
     feed.options.now.peers.a feed.options.now.peers.b c.args.publisher.now c.passing.publisher c.fill.new.publisher
-    c.pass_next-in-Ok-End.new.publisher _ _ _ _ _ _ _ _ c.passing.number c.in_ok-pass_next-in-Ok-End.field-0
+    c.pass_next-in-Ok-End.new.publisher _ _ _ _ _ made _ _ _ _ c.passing.number c.in_ok-pass_next-in-Ok-End.field-0
+    c.from_residual-in_err-send_large-in-Ok-End.result
     (c.passing.invariant.received modeled) (rw c.in-Ok-End.field-0-is at c.in-Ok-End.ensures.filled)
     (next_passed g.D.Datagrams.port (c.passing.number + 1) (spelled_some (next_datagram c.fill.new.publisher)) _
     c.pass_next-in-Ok-End.new.self c.passing.invariant.only.same (c.in_ok-pass_next-in-Ok-End.ensures.passed modeled))
-    c.pass_next-in-Ok-End.ensures.sent
+    refl c.send_large.ensures.front c.from_residual-in_err-send_large-in-Ok-End.ensures.0
+
+pub returns-in-Ok-End-clause-received : goal.returns-in-Ok-End-clause-received
+returns-in-Ok-End-clause-received g c modeled =
+    let feed = c.args.self.now in
+    let made = lines g.D.Datagrams.port c.pass_next-in-Ok-End.new.self in
+    let after = line_state made.publisher made.a made.b made.progress.arbitration c.send_large.new.self in
+    let moves = c.in_ok-send_large-in-Ok-End.ensures.moved in
+    hears_end (laws g (goal.at.returns-in-Ok-End-clause-received g c).After-packing_law) feed.options.now.drops
+    feed.options.now.peers.a feed.options.now.peers.b c.args.publisher.now c.passing.publisher c.fill.new.publisher
+    c.pass_next-in-Ok-End.new.publisher _ _ _ _ _ made after _ _ _ c.passing.number c.in_ok-pass_next-in-Ok-End.field-0 _
+    (c.passing.invariant.received modeled) (rw c.in-Ok-End.field-0-is at c.in-Ok-End.ensures.filled)
+    (next_passed g.D.Datagrams.port (c.passing.number + 1) (spelled_some (next_datagram c.fill.new.publisher)) _
+    c.pass_next-in-Ok-End.new.self c.passing.invariant.only.same (c.in_ok-pass_next-in-Ok-End.ensures.passed modeled))
+    c.pass_next-in-Ok-End.ensures.sent moves
+    (lines_moved _ _ _ _ c.pass_next-in-Ok-End.new.self.listener.now.printer.outgoing c.send_large.new.self moves.front
+    moves.parts c.in_ok-send_large-in-Ok-End.ensures.failures)
 
 pub returns-in-Ok-Refused-clause-received : goal.returns-in-Ok-Refused-clause-received
 returns-in-Ok-Refused-clause-received g c modeled =
@@ -219,4 +244,46 @@ pub returns-in_err-pass_next-in-Ok-End-clause-only : goal.returns-in_err-pass_ne
 returns-in_err-pass_next-in-Ok-End-clause-only g c = passes_twice c.passing.invariant.only c.pass_next-in-Ok-End.ensures.only
 
 pub returns-in-Ok-End-clause-only : goal.returns-in-Ok-End-clause-only
-returns-in-Ok-End-clause-only g c = passes_twice c.passing.invariant.only c.pass_next-in-Ok-End.ensures.only
+returns-in-Ok-End-clause-only g c =
+    let only = passes_twice c.passing.invariant.only c.pass_next-in-Ok-End.ensures.only in
+    record {
+      same = record {
+        ports = only.same.ports;
+        options = only.same.options;
+        buffer = only.same.buffer;
+        listener = only.same.listener;
+      };
+      server = only.server;
+      requests = only.requests;
+      a = only.a;
+      b = only.b;
+    }
+
+pub returns-in_err-send_large-in-Ok-End-clause-only : goal.returns-in_err-send_large-in-Ok-End-clause-only
+returns-in_err-send_large-in-Ok-End-clause-only g c =
+    let only = passes_twice c.passing.invariant.only c.pass_next-in-Ok-End.ensures.only in
+    record {
+      same = record {
+        ports = only.same.ports;
+        options = only.same.options;
+        buffer = only.same.buffer;
+        listener = only.same.listener;
+      };
+      server = only.server;
+      requests = only.requests;
+      a = only.a;
+      b = only.b;
+    }
+
+pub returns-in-Ok-Refused-clause-bounded : goal.returns-in-Ok-Refused-clause-bounded
+returns-in-Ok-Refused-clause-bounded g c = c.passing.invariant.bounded
+
+pub returns-in-Ok-End-clause-bounded : goal.returns-in-Ok-End-clause-bounded
+returns-in-Ok-End-clause-bounded g c = λ bounded.
+    subst (λ (live : Bool). IsBounded live c.send_large.new.self.text) c.passing.invariant.live c.in_ok-send_large-in-Ok-End.ensures.bounded
+
+pub returns-in-Ok-Refused-clause-live : goal.returns-in-Ok-Refused-clause-live
+returns-in-Ok-Refused-clause-live g c = c.passing.invariant.live
+
+pub returns-in-Ok-End-clause-live : goal.returns-in-Ok-End-clause-live
+returns-in-Ok-End-clause-live g c = c.in_ok-send_large-in-Ok-End.ensures.live ∙ c.passing.invariant.live

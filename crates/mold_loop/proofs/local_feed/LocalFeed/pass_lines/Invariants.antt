@@ -2,6 +2,7 @@ use Rattle.std.proofs.Common.{◌≡◌, ◌≤◌, true}
 use Rattle.std.specs.Io.KnownBytes.{prepend_known}
 use Rattle.mold_devices.specs.Lines.{work_left}
 use Rattle.mold_publish.specs.Publishing.{HasRoom}
+use Rattle.mold_turns.specs.Outgoing.{IsBounded}
 use Rattle.mold_loop.specs.LocalFeed.{OnlyPasses, lines}
 use Rattle.mold_loop.proofs.HearsLemmas.{HeardSoFar}
 use Rattle.mold_loop.proofs.local_feed.LocalFeed.pass_lines.Given as goal
@@ -20,6 +21,10 @@ invariant-passing g l = record {
       (g.K.Sink.held l.fn.sink) (g.K.Sink.held l.sink) l.number;
   only : OnlyPasses g.D.Datagrams.modeled g.D.Datagrams.port l.fn.self l.self;
   limit : l.publisher.limit ≡ l.fn.publisher.limit;
+  bounded :
+      IsBounded (g.K.Sink.live l.fn.sink) l.fn.self.listener.now.printer.outgoing.text →
+      IsBounded (g.K.Sink.live l.fn.sink) l.self.listener.now.printer.outgoing.text;
+  live : g.K.Sink.live l.sink ≡ g.K.Sink.live l.fn.sink;
   source : g.S.Source.failed l.source ≡ g.S.Source.failed l.fn.source;
   sink : g.K.Sink.failed l.sink ≡ g.K.Sink.failed l.fn.sink;
 }

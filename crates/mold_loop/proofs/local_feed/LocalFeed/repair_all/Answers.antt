@@ -1,6 +1,7 @@
-use Rattle.std.proofs.Common.{arith, ◌≡◌, ◌≤◌, ◌∙◌, ℕ, Some, ap, refl, subst, sym}
+use Rattle.std.proofs.Common.{arith, ◌≡◌, ◌≤◌, ◌∙◌, Bool, ℕ, Some, ap, refl, subst, sym}
 use Rattle.mold_loop.specs.LocalFeed.{rounds}
 use Rattle.mold_loop.specs.Repairing.{answers_sent, repair_state, round}
+use Rattle.mold_turns.specs.Outgoing.{IsBounded}
 use Rattle.mold_turns.specs.Runs.{Begins}
 use Rattle.mold_serve.specs.Serving.{Service, service_of}
 use Rattle.mold_receiver.specs.Wanted.{wanted}
@@ -18,6 +19,8 @@ loop-turn-init g c = record {
       (g.K.Sink.held c.args.sink.now);
   server = refl;
   only = repairs_at_first c.args.self.now;
+  bounded = λ bounded. bounded;
+  live = refl;
   sink = refl;
 }
 
@@ -66,6 +69,10 @@ loop-turn-preserved g c = record {
         a = only.a;
         b = only.b;
       };
+  bounded = λ bounded.
+      subst (λ (live : Bool). IsBounded live c.send_large.new.self.text)
+      c.loop-turn.invariant.live c.in_ok-send_large.ensures.bounded;
+  live = c.in_ok-send_large.ensures.live ∙ c.loop-turn.invariant.live;
   sink = c.in_ok-send_large.ensures.sink ∙ c.loop-turn.invariant.sink;
 }
 
@@ -129,3 +136,21 @@ returns-clause-rests g c = λ t.
 
 pub returns-clause-only : goal.returns-clause-only
 returns-clause-only g c = c.loop-turn.invariant.only
+
+pub returns-in_err-round-clause-live : goal.returns-in_err-round-clause-live
+returns-in_err-round-clause-live g c = c.loop-turn.invariant.live
+
+pub returns-in_err-send_large-clause-live : goal.returns-in_err-send_large-clause-live
+returns-in_err-send_large-clause-live g c = c.send_large.ensures.live ∙ c.loop-turn.invariant.live
+
+pub returns-in_default-clause-bounded : goal.returns-in_default-clause-bounded
+returns-in_default-clause-bounded g c = c.loop-turn.invariant.bounded
+
+pub returns-in_default-clause-live : goal.returns-in_default-clause-live
+returns-in_default-clause-live g c = c.loop-turn.invariant.live
+
+pub returns-clause-bounded : goal.returns-clause-bounded
+returns-clause-bounded g c = c.loop-turn.invariant.bounded
+
+pub returns-clause-live : goal.returns-clause-live
+returns-clause-live g c = c.loop-turn.invariant.live

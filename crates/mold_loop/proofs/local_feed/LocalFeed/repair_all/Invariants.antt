@@ -2,6 +2,7 @@ use Rattle.std.proofs.Common.{◌≡◌, true}
 use Rattle.mold_loop.specs.LocalFeed.{OnlyRepairs, rounds}
 use Rattle.mold_loop.specs.Repairing.{repairing, text_before}
 use Rattle.mold_serve.specs.Serving.{service_of}
+use Rattle.mold_turns.specs.Outgoing.{IsBounded}
 use Rattle.mold_turns.proofs.RunLemmas.{Going}
 use Rattle.mold_loop.proofs.local_feed.LocalFeed.repair_all.Given as goal
 
@@ -17,5 +18,9 @@ invariant-loop-turn g l =
           (rounds known l.server l.self);
       server : l.server ≡ record l.fn.server { answered = l.server.answered };
       only : OnlyRepairs l.fn.self l.self;
+      bounded :
+          IsBounded (g.K.Sink.live l.fn.sink) l.fn.self.listener.now.printer.outgoing.text →
+          IsBounded (g.K.Sink.live l.fn.sink) l.self.listener.now.printer.outgoing.text;
+      live : g.K.Sink.live l.sink ≡ g.K.Sink.live l.fn.sink;
       sink : g.K.Sink.failed l.sink ≡ g.K.Sink.failed l.fn.sink;
     }
