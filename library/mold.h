@@ -38,7 +38,8 @@
  * first reason that applies, in the order in which the call lists them; mold_server_new states an exception. After a
  * code other than 0 the handle holds what it held before, except that a line's report counts a refused datagram.
  * If a call has an output for a number, it then writes the number that goes with the refusal, or 0 if there is none.
- * All other outputs keep their values. MOLD_BROKEN and MOLD_LINE write nothing; other codes that write nothing say so.
+ * All other outputs keep their values. A call that returns MOLD_BROKEN or MOLD_LINE writes nothing at all. Other codes
+ * of which this is true are listed with "writes nothing".
  * The meaning of a code never changes.
  *
  * MOLD_MEMORY means that an allocation failed. mold_listener_take also returns it if the store would reach 4 GiB. The
@@ -152,7 +153,7 @@ uint32_t mold_decode(const uint8_t *bytes, size_t length, mold_packet *packet);
  * array keep their values; after a refusal all of them do. `room` is the number of elements. */
 uint32_t mold_read(const uint8_t *bytes, size_t length, mold_packet *packet, mold_place *places, size_t room);
 
-/* Decodes a request packet. Any 20 bytes are one, also with sequence number 0 or count 0.
+/* Decodes a request packet. Any 20 bytes are a request packet, even with sequence number 0 or count 0.
  *
  *   MOLD_REQUEST_LENGTH  the length is not 20; writes nothing. */
 uint32_t mold_request_decode(const uint8_t *bytes, size_t length, mold_request *request);
@@ -228,7 +229,7 @@ void mold_free(void *handle);
 /* What a datagram brought. */
 typedef struct mold_told {
     uint64_t detail; /* the number that goes with a refusal; otherwise 0. After a refusal the counts are 0 */
-    uint32_t handed; /* the number of delivered messages, its own and stored ones. They are the last of the batch */
+    uint32_t handed; /* the number of messages that it added to the end of the batch: its own and stored ones */
     uint32_t kept;   /* the number of its messages that were stored above a gap */
     uint32_t beyond; /* the number of its messages above the window: they are dropped and must be received again */
     uint32_t unused; /* padding, which is never written */
@@ -249,8 +250,8 @@ enum {
     MOLD_ANSWER = 2 /* a server's response, which no line's report counts */
 };
 
-/* Makes a listener to a session. It delivers the messages from number `next` on. It stores a message above a gap if the
- * message's number is less than that of the next message to deliver plus `window`.
+/* Makes a listener for a session. It delivers the messages from number `next` on. A message above a gap is stored if
+ * its number is less than N + `window`, where N is the number of the next message to deliver.
  *
  *   MOLD_BROKEN     the handle is not empty.
  *   MOLD_NEXT_ZERO  next is 0.
@@ -270,10 +271,10 @@ uint32_t mold_listener_new(mold_listener *listener, const uint8_t session[10], u
  *   MOLD_WRONG_SESSION  the packet belongs to another session.
  *   MOLD_SEQUENCE_ZERO  its sequence number is 0.
  *   MOLD_PAST_LAST      it has a message with a number above 18446744073709551614.
- *   MOLD_END_CONFLICT   it states another end of the session than the known one, `told->detail`.
+ *   MOLD_END_CONFLICT   it states an end of the session other than the known end, `told->detail`.
  *   MOLD_END_BELOW      it ends the session below `told->detail`, the greatest known top.
  *   MOLD_PAST_END       its top is above `told->detail`, the known end.
- *   MOLD_CONFLICT       it has another message than the one stored under number `told->detail`, the least such number.
+ *   MOLD_CONFLICT       its message number `told->detail`, the least such number, differs from the stored one.
  *   MOLD_MEMORY         an allocation failed, or the store would reach 4 GiB.
  *
  * After a refusal the listener is as before, except that the line's report counts the datagram as refused. MOLD_MEMORY
@@ -287,8 +288,8 @@ uint32_t mold_listener_take(mold_listener *listener, uint32_t line, const uint8_
 /* Returns the number of messages of the batch. */
 size_t mold_listener_count(mold_listener *listener);
 
-/* Returns the number of the first message of the batch; 0 if the batch is empty. The message at index i has this number
- * plus i. */
+/* Returns the number of the first message of the batch; 0 if the batch is empty. Add i to it for the number
+ * of the message at index i. */
 uint64_t mold_listener_first(mold_listener *listener);
 
 /* Returns a slice of the message at index i of the batch, i from 0.
@@ -316,8 +317,8 @@ bool mold_listener_wanted(mold_listener *listener, uint8_t request[20]);
 /* Returns the number of the next message to deliver. */
 uint64_t mold_listener_next(mold_listener *listener);
 
-/* Returns the greatest known top: one more than the greatest number known from packets. It is at least the number at
- * which the listener began. */
+/* Returns the greatest known top: the greatest top of a packet that was taken, at least the number at which the
+ * listener began. All messages that are known to exist have numbers below it. */
 uint64_t mold_listener_known(mold_listener *listener);
 
 /* Whether the end of the session is known and all messages below it were delivered. */
@@ -336,8 +337,8 @@ uint32_t mold_listener_clear(mold_listener *listener);
 
 /* ---- Publisher: messages in datagrams, and their journal ---- */
 
-/* Makes a publisher of a session without messages. Its datagrams have at most `limit` bytes, and its messages at most
- * 22 bytes fewer.
+/* Makes a publisher of a session without messages. A datagram has at most `limit` bytes, and a message at most
+ * `limit` - 22 bytes.
  *
  *   MOLD_BROKEN  the handle is not empty.
  *   MOLD_LIMIT   limit is not 64 to 65,507.
@@ -354,8 +355,8 @@ uint32_t mold_publisher_new(mold_publisher *publisher, const uint8_t session[10]
 uint32_t mold_publisher_publish(mold_publisher *publisher, const uint8_t *message, size_t length, uint64_t *number);
 
 /* Whether the unsent messages do not all fit in one datagram. A message is unsent until mold_publisher_datagram has
- * written it. To fill datagrams, take them after each message, but only while this is true. To send without delay, take
- * a datagram after each message. */
+ * written it. To fill datagrams, take datagrams after each message while this is true. To send without delay, take a
+ * datagram after each message. */
 bool mold_publisher_is_full(mold_publisher *publisher);
 
 /* Writes a datagram of the unsent messages, in order and as many as fit, to the start of a buffer. *size is its length.
@@ -388,7 +389,7 @@ uint32_t mold_publisher_close(mold_publisher *publisher, uint64_t *number);
 uint32_t mold_publisher_end(mold_publisher *publisher, uint8_t *buffer, size_t room, size_t *size);
 
 /* Writes the journal to the start of a buffer, as a journal file of version 2, which `mold serve` and mold_server_new
- * read. Its length, *size, is 27 bytes plus 2 bytes and the message for each message.
+ * read. *size is its length: 27 bytes, and for each message 2 bytes and the message's bytes.
  *
  *   MOLD_BROKEN  the handle does not hold a publisher.
  *   MOLD_ROOM    the buffer is too small: *size is the length of the journal, and the buffer keeps its bytes. */
@@ -400,12 +401,12 @@ uint32_t mold_publisher_save(mold_publisher *publisher, uint8_t *buffer, size_t 
 typedef struct mold_plan {
     uint64_t from; /* the number of its next message */
     uint64_t to;   /* one more than the number of its last message */
-    uint16_t left; /* the greatest number of its remaining datagrams */
+    uint16_t left; /* the maximum number of datagrams that remain */
     uint8_t session[10];
 } mold_plan;
 
 /* Lets the publisher respond to requests too, from its journal. A response has at most `burst` datagrams, each of at
- * most the publisher's limit. For the calls below the publisher's handle is then also that of a server:
+ * most the publisher's limit. The calls below then also accept the publisher's handle, as
  * mold_server_of(&publisher).
  *
  *   MOLD_BROKEN  the handle does not hold a publisher, or the publisher responds to requests already.
@@ -423,7 +424,7 @@ static inline mold_server *mold_server_of(mold_publisher *publisher) {
 #endif
 }
 
-/* Makes a server of the bytes of a journal file of version 1 or 2. Its datagrams have at most `limit` bytes, and a
+/* Makes a server from the bytes of a journal file of version 1 or 2. Its datagrams have at most `limit` bytes, and a
  * response at most `burst` datagrams. *number is 0 if the call succeeds.
  *
  *   MOLD_BROKEN         the handle is not empty.
@@ -464,8 +465,8 @@ uint32_t mold_server_plan(mold_server *server, const uint8_t *request, size_t le
 /* Writes the next datagram of a plan to the start of a buffer, and moves the plan past its messages. *size is its
  * length.
  *
- *   MOLD_BROKEN  the handle does not hold a server, or the plan is not one of this server: its session is another one,
- *                or the journal does not have its messages.
+ *   MOLD_BROKEN  the handle does not hold a server, or the plan does not fit this server: it has another session, or
+ *                messages that the journal does not have.
  *   MOLD_ROOM    the buffer is shorter than the limit; *size is the limit.
  *   MOLD_ABSENT  the plan has no remaining datagram; *size is 0. */
 uint32_t mold_server_datagram(mold_server *server, mold_plan *plan, uint8_t *buffer, size_t room, size_t *size);
@@ -493,8 +494,8 @@ typedef struct mold_verdict {
 uint32_t mold_checker_new(mold_checker *checker);
 
 /* Takes a datagram. Datagrams may come in any order. The session is that of the first datagram taken. Except for
- * MOLD_BROKEN and MOLD_MEMORY, a datagram is refused exactly when no session explains it together with those taken
- * before. A refusal changes nothing. If the datagram is taken, *number is 0.
+ * MOLD_BROKEN and MOLD_MEMORY, a datagram is refused exactly when no single session agrees with it and with all
+ * those taken before. A refusal changes nothing. If the datagram is taken, *number is 0.
  *
  *   MOLD_BROKEN         the handle does not hold a checker.
  *   MOLD_SHORT, MOLD_BLOCK_CUT, MOLD_TRAILING
@@ -502,10 +503,10 @@ uint32_t mold_checker_new(mold_checker *checker);
  *   MOLD_WRONG_SESSION  the packet belongs to another session.
  *   MOLD_SEQUENCE_ZERO  its sequence number is 0.
  *   MOLD_PAST_LAST      it has a message with a number above 18446744073709551614.
- *   MOLD_END_CONFLICT   it states another end of the session than the known one, *number.
+ *   MOLD_END_CONFLICT   it states an end of the session other than the known end, *number.
  *   MOLD_END_BELOW      it ends the session below *number, the greatest known top.
  *   MOLD_PAST_END       its top is above *number, the known end.
- *   MOLD_CONFLICT       it has another message than an earlier datagram under *number, the least such number.
+ *   MOLD_CONFLICT       its message number *number, the least such number, differs from that of an earlier datagram.
  *   MOLD_MEMORY         an allocation failed. */
 uint32_t mold_checker_take(mold_checker *checker, const uint8_t *bytes, size_t length, uint64_t *number);
 
@@ -516,8 +517,8 @@ uint32_t mold_checker_take(mold_checker *checker, const uint8_t *bytes, size_t l
 uint32_t mold_checker_verdict(mold_checker *checker, mold_verdict *verdict);
 
 /* Writes the missing ranges below the greatest known top, ascending, as many as the array has room for. No two of them
- * adjoin. *count is the number of all of them, as in the verdict. The other elements of the array keep their values.
- * `room` is the number of elements.
+ * adjoin. *count is the number of all missing ranges, as in the verdict. The other elements of the array keep their
+ * values. `room` is the number of elements.
  *
  *   MOLD_BROKEN  the handle does not hold a checker.
  *   MOLD_MEMORY  an allocation failed; writes nothing. */

@@ -173,7 +173,7 @@ public:
     std::uint32_t clear() noexcept { return mold_listener_clear(&handle_); }
 };
 
-/// Responds to requests: the server of a journal, or that of a publisher.
+/// A re-request server, which responds to requests. It belongs to a Server or to a Publisher.
 class Answering {
 public:
     explicit Answering(mold_server *server) noexcept : server_(server) {}
@@ -237,7 +237,7 @@ public:
     Answering server() noexcept { return Answering(mold_server_of(&handle_)); }
 };
 
-/// Responds to requests from the bytes of a journal file.
+/// A re-request server over the bytes of a journal file.
 class Server : public Owned<mold_server> {
 public:
     [[nodiscard]] std::uint32_t open(std::size_t limit, std::uint16_t burst, Bytes journal,
