@@ -1,7 +1,7 @@
 -- What `mold sim` prints for an event and for a receiver.
 use Rattle.std.specs.Prelude.{ℕ, ◌+◌, ◌-◌, List, [], ◌∷◌, ◌++◌, length, codes, decimal, Bool, nat_lt, if◌then◌else◌}
 use Rattle.std.specs.Prelude.{Option, None, Some}
-use Rattle.mold_refusals.specs.EventWords.{answer_words, append_words}
+use Rattle.mold_refusals.specs.Words.{answer_words, append_words}
 use Rattle.mold_session.specs.declared.error.SessionError.{SessionError}
 use Rattle.mold_session.specs.declared.error.SessionError.TheVariants as session
 use Rattle.mold_text.specs.Line.{line_of}

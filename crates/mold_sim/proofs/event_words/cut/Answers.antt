@@ -1,5 +1,5 @@
 use Rattle.mold_sim.proofs.WordLemmas.{five_words}
-use Rattle.mold_sim.proofs.words.cut.Goals as goal
+use Rattle.mold_sim.proofs.event_words.cut.Goals as goal
 
 pub returns-in-Some-split_word-3 : goal.returns-in-Some-split_word-3
 returns-in-Some-split_word-3 c =

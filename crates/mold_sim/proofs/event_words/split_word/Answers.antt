@@ -2,7 +2,7 @@ use Rattle.std.proofs.Common.{◌∙◌, ◌∷◌, ap, sym, take, List, ℕ, �
 use Rattle.std.proofs.lemmas.List.{take_rest}
 use Rattle.mold_sim.specs.Script.{words_of}
 use Rattle.mold_sim.proofs.WordLemmas.{one_word, first_word}
-use Rattle.mold_sim.proofs.words.split_word.Goals as goal
+use Rattle.mold_sim.proofs.event_words.split_word.Goals as goal
 
 pub returns-in_default : goal.returns-in_default
 returns-in_default c = one_word c.args.line.now c.in_default.ensures
