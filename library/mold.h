@@ -374,8 +374,8 @@ uint32_t mold_publisher_datagram(mold_publisher *publisher, uint8_t *buffer, siz
  *   MOLD_ABSENT  the session is closed; *size is 0. */
 uint32_t mold_publisher_heartbeat(mold_publisher *publisher, uint8_t *buffer, size_t room, size_t *size);
 
-/* Closes the session: no more messages can be published. Closing a closed session succeeds and changes nothing. *number
- * is then 0.
+/* Closes the session: no more messages can be published. Closing it again succeeds and changes nothing. *number is 0
+ * on success.
  *
  *   MOLD_BROKEN  the handle does not hold a publisher.
  *   MOLD_UNSENT  *number messages are unsent. */
