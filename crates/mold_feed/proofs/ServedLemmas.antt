@@ -10,7 +10,7 @@ use Rattle.mold_serve.specs.Serving.{serve_turn, serving}
 use Rattle.mold_ports.specs.Ports.{Receipt, Datagram, Quiet, Failure, cut, next_of, received}
 use Rattle.mold_session.specs.Answer.{IsPlan, PlanState, answer, plan_for, planned}
 use Rattle.mold_session.specs.Journal.{JournalState}
-use Rattle.mold_session.specs.Server.{IsAnswerable, asking}
+use Rattle.mold_session.specs.Server.{IsAnswerable, checked_request}
 use Rattle.mold_session.specs.Truthful.{MayAnswer, IsTrueDatagram}
 use Rattle.mold_session.specs.declared.error.AnswerError.{AnswerError}
 use Rattle.mold_wire.specs.Packet.{spelling_of}
@@ -21,7 +21,7 @@ use Rattle.mold_wire.specs.declared.limits.TheConstants.{MAX_LIMIT}
 -- the laws of the session about responses
 pub record ServingLaws : Type 0 where
   pub answerable : (journal : JournalState) (request : Request) (bytes : List ℕ) →
-      asking journal bytes ≡ Ok request → IsAnswerable journal request
+      checked_request journal bytes ≡ Ok request → IsAnswerable journal request
   pub plan : (journal : JournalState) (burst : ℕ) (request : Request) → IsAnswerable journal request →
       IsPlan (plan_for journal burst request)
   pub within : (journal : JournalState) (burst : ℕ) (request : Request) →
@@ -96,7 +96,7 @@ module _ (laws : ServingLaws) (service : Service) (may : MayAnswer service.journ
       laws.told service.journal service.limit plan index packet may (laws.plan service.journal service.burst request is)
       (laws.within service.journal service.burst request) refl found))
 
-  reply_tells_to : (bytes : List ℕ) (asked : Result Request AnswerError) → asking service.journal bytes ≡ asked →
+  reply_tells_to : (bytes : List ℕ) (asked : Result Request AnswerError) → checked_request service.journal bytes ≡ asked →
       RepliesOnly (IsTrueDatagram service.journal) (reply_to service asked)
   reply_tells_to bytes (Ok request) asks = answer_tells request (laws.answerable service.journal request bytes asks)
   reply_tells_to bytes (Err why) asks = tt
@@ -106,7 +106,7 @@ module _ (laws : ServingLaws) (service : Service) (may : MayAnswer service.journ
       AllSent (IsTrueDatagram service.journal) (met service fails receipt responder).port.sent
   met_tells fails (Datagram from bytes) responder so =
       replied_sends_only (IsTrueDatagram service.journal) from fails (reply service bytes) responder
-      (reply_tells_to bytes (asking service.journal bytes) refl) so
+      (reply_tells_to bytes (checked_request service.journal bytes) refl) so
   met_tells fails Quiet responder so = so
   met_tells fails Failure responder so = so
 

@@ -15,7 +15,7 @@ use Rattle.mold_rounds.specs.Rounds.{rounds}
 use Rattle.mold_rounds.specs.Taking.{IsAhead, IsRound, TakesNone, TakesOne}
 use Rattle.mold_session.specs.Answer.{FitAlone, HasFirst, IsPlan, PlanState, answer, plan_for, planned}
 use Rattle.mold_session.specs.Journal.{JournalState}
-use Rattle.mold_session.specs.Server.{IsAnswerable, IsServer, ServerState, asking, counted, planning}
+use Rattle.mold_session.specs.Server.{IsAnswerable, IsServer, ServerState, checked_request, counted, planning}
 use Rattle.mold_session.specs.declared.error.AnswerError.{AnswerError}
 use Rattle.mold_wire.specs.Request.{SpellsRequest}
 use Rattle.mold_wire.specs.declared.request.Request.{Request}
@@ -24,9 +24,9 @@ use Rattle.mold_wire.specs.declared.session.Session.{Session}
 -- The laws on responses.
 pub record AnswersRequests : Type 0 where
   pub asked : (journal : JournalState) (request : Request) (bytes : List ℕ) →
-      SpellsRequest request bytes → IsAnswerable journal request → asking journal bytes ≡ Ok request
+      SpellsRequest request bytes → IsAnswerable journal request → checked_request journal bytes ≡ Ok request
   pub planned_so : (journal : JournalState) (burst : ℕ) (request : Request) (bytes : List ℕ) →
-      asking journal bytes ≡ Ok request → planning journal burst bytes ≡ Ok (plan_for journal burst request)
+      checked_request journal bytes ≡ Ok request → planning journal burst bytes ≡ Ok (plan_for journal burst request)
   pub plan_is : (journal : JournalState) (burst : ℕ) (request : Request) →
       IsAnswerable journal request → IsPlan (plan_for journal burst request)
   pub answers : (journal : JournalState) (limit burst : ℕ) (request : Request) →

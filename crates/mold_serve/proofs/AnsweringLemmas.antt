@@ -10,7 +10,7 @@ use Rattle.mold_serve.specs.declared.tally.Tally.{Tally}
 use Rattle.mold_serve.proofs.ServingLemmas.{offer_all_sends}
 use Rattle.mold_session.specs.Answer.{PlanState, SendsNext, answer, moved, next_packet, next_part, plan_for, planned}
 use Rattle.mold_session.specs.Journal.{JournalState}
-use Rattle.mold_session.specs.Server.{IsAnswerable, ServerState, asking, counted, plan_of, planning}
+use Rattle.mold_session.specs.Server.{IsAnswerable, ServerState, checked_request, counted, plan_of, planning}
 use Rattle.mold_session.specs.declared.error.AnswerError.{AnswerError}
 use Rattle.mold_turns.specs.Runs.{Begins}
 use Rattle.mold_turns.proofs.RunLemmas.{begins_whole, none_ok, on_ok}
@@ -198,7 +198,7 @@ pub refused_so : {P E : Type 0} (result : Result (Unit {0}) E) (to : P) (journal
 refused_so {P} {E} result to journal bytes why port tally report server after planned same counted =
     let service = service_of journal server in
     let is : reply service bytes ≡ Err why =
-    refused_by service journal server.burst (asking journal bytes) why planned in
+    refused_by service journal server.burst (checked_request journal bytes) why planned in
     subst
     (λ (r : Result (List Packet) AnswerError).
     Reaches result (responder_of port report after) (replied to [] r (responder_of port tally server)))
@@ -214,11 +214,11 @@ refused_so {P} {E} result to journal bytes why port tally report server after pl
 -- a new plan sends the packets of the response
 plans : (journal : JournalState) (server : ServerState) (bytes : List ℕ) (plan : PlanState)
     (asked : Result Request AnswerError) →
-    ((request : Request) → asking journal bytes ≡ Ok request → IsAnswerable journal request) →
+    ((request : Request) → checked_request journal bytes ≡ Ok request → IsAnswerable journal request) →
     ((request : Request) → IsAnswerable journal request →
     planned journal.messages server.limit (plan_for journal server.burst request)
     ≡ answer journal.messages journal.session server.limit request.sequence request.count server.burst) →
-    asking journal bytes ≡ asked → Ok plan ≡ plan_of journal server.burst asked →
+    checked_request journal bytes ≡ asked → Ok plan ≡ plan_of journal server.burst asked →
     reply_to (service_of journal server) asked ≡ Ok (left_of (service_of journal server) plan)
 plans journal server bytes plan (Err error) answerable answers is made = let no : ⊥ = cc in absurd no
 plans journal server bytes plan (Ok request) answerable answers is made =
@@ -231,7 +231,7 @@ plans journal server bytes plan (Ok request) answerable answers is made =
 pub answered_so : {P E : Type 0} (result : Result (Unit {0}) E) (to : P) (journal : JournalState) (bytes : List ℕ)
     (plan : PlanState) (fails : List Bool) (port : Port P) (tally : Tally) (server after : ServerState)
     (new : ResponderState P) →
-    ((request : Request) → asking journal bytes ≡ Ok request → IsAnswerable journal request) →
+    ((request : Request) → checked_request journal bytes ≡ Ok request → IsAnswerable journal request) →
     ((request : Request) → IsAnswerable journal request →
     planned journal.messages server.limit (plan_for journal server.burst request)
     ≡ answer journal.messages journal.session server.limit request.sequence request.count server.burst) →
@@ -241,7 +241,7 @@ pub answered_so : {P E : Type 0} (result : Result (Unit {0}) E) (to : P) (journa
 answered_so {P} {E} result to journal bytes plan fails port tally server after new answerable answers made same reached =
     let service = service_of journal server in
     let is : reply service bytes ≡ Ok (left_of service plan) =
-    plans journal server bytes plan (asking journal bytes) answerable answers refl made in
+    plans journal server bytes plan (checked_request journal bytes) answerable answers refl made in
     subst (λ (r : Result (List Packet) AnswerError). Reaches result new (replied to fails r (responder_of port tally server)))
     (sym is)
     (subst

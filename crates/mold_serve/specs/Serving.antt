@@ -8,7 +8,7 @@ use Rattle.mold_serve.specs.declared.responder.Responder.{Responder}
 use Rattle.mold_serve.specs.declared.tally.Tally.{Tally}
 use Rattle.mold_session.specs.Answer.{answer}
 use Rattle.mold_session.specs.Journal.{JournalState}
-use Rattle.mold_session.specs.Server.{ServerState, asking}
+use Rattle.mold_session.specs.Server.{ServerState, checked_request}
 use Rattle.mold_session.specs.declared.error.AnswerError.{AnswerError}
 use Rattle.mold_turns.specs.Runs.{Loop}
 use Rattle.mold_wire.specs.declared.packet.Packet.{Packet}
@@ -42,7 +42,7 @@ reply_to service (Err why) = Err why
 
 -- The reply to the bytes of a received datagram: the packets of the response, or the refusal.
 abbrev pub reply : Service → List ℕ → Result (List Packet) AnswerError
-reply service bytes = reply_to service (asking service.journal bytes)
+reply service bytes = reply_to service (checked_request service.journal bytes)
 
 -- The state of a server at work: its port, what it has printed and counted, and the number of requests that it has
 -- answered.

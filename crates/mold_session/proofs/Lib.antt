@@ -1,5 +1,5 @@
 pub mod AnswerLemmas
-pub mod AskingLemmas
+pub mod RequestCheckLemmas
 pub mod ContentsLemmas
 pub mod DatagramLemmas
 pub mod FileLawLemmas

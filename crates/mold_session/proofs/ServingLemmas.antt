@@ -6,7 +6,7 @@ use Rattle.mold_wire.specs.Packet.{Spells}
 use Rattle.mold_wire.specs.Packer.{PackerState, Open, SpellsBegun}
 use Rattle.mold_wire.specs.Packing.{IsFront}
 use Rattle.mold_session.proofs.AnswerLemmas.{is_part, part_some, next_of, plan_is, plan_within, plan_unspent, planned_answer}
-use Rattle.mold_session.proofs.AskingLemmas.{planned_from}
+use Rattle.mold_session.proofs.RequestCheckLemmas.{planned_from}
 use Rattle.mold_session.proofs.FrontLemmas.{FrontIs, OnlyFront, SomeFront, Alone, fit_alone, front_of_taken, data_body}
 use Rattle.mold_session.proofs.TruthLemmas.{Piece, packet_true}
 use Rattle.mold_session.specs.Truthful.{IsTrueDatagram}

@@ -82,8 +82,8 @@ judged journal (Err (fault.RequestLength len)) = Err (RequestLength len)
 judged journal (Ok request) = unless (request_refusal journal request) request
 
 -- The request that the bytes encode, or why it is refused.
-abbrev pub asking : JournalState → List ℕ → Result Request AnswerError
-asking journal bytes = judged journal (request_reading bytes)
+abbrev pub checked_request : JournalState → List ℕ → Result Request AnswerError
+checked_request journal bytes = judged journal (request_reading bytes)
 
 -- The plan for the response to a checked request, or why the request is refused.
 abbrev pub plan_of : JournalState → ℕ → Result Request AnswerError → Result PlanState AnswerError
@@ -92,7 +92,7 @@ plan_of journal burst (Ok request) = Ok (plan_for journal burst request)
 
 -- The plan for the response to the request that the bytes encode, or why it is refused.
 abbrev pub planning : JournalState → ℕ → List ℕ → Result PlanState AnswerError
-planning journal burst bytes = plan_of journal burst (asking journal bytes)
+planning journal burst bytes = plan_of journal burst (checked_request journal bytes)
 
 -- The bytes `lent` are the encoding of the first packet of the response to the request `asked`.
 pub record SpellsAnswer (journal : JournalState) (server : ServerState) (asked lent : List ℕ) : Type 0 where
@@ -100,7 +100,7 @@ pub record SpellsAnswer (journal : JournalState) (server : ServerState) (asked l
   pub packet : Packet
   -- the further packets of the response
   pub rest : List Packet
-  pub asks : asking journal asked ≡ Ok request
+  pub asks : checked_request journal asked ≡ Ok request
   pub sent : answer journal.messages journal.session server.limit request.sequence request.count server.burst
       ≡ packet ∷ rest
   pub spelled : Spells packet lent

@@ -28,7 +28,7 @@ ghost use Rattle.mold_session.specs.Publisher.{next_datagram, next_end, next_hea
 ghost use Rattle.mold_session.specs.Truthful.{MayAnswer, IsTrueDatagram};
 ghost use Rattle.mold_session.specs.Loading.{Refuses};
 ghost use Rattle.mold_session.specs.Reader.{EndsWith, HasRead, ReaderState, ReadsNext, RestFault};
-ghost use Rattle.mold_session.specs.Server.{ServerState, IsServer, IsAnswerable, asking, planning};
+ghost use Rattle.mold_session.specs.Server.{ServerState, IsServer, IsAnswerable, checked_request, planning};
 
 use mold_wire::laws::{
     front_law, one_spelling_law, packet_length_law, reading_law, spelling_length_law,
@@ -85,11 +85,12 @@ pub fn planned_law()
 /// sends are the response to the request.
 pub fn answered_law()
     ensures asked { (journal : JournalState) (request : Request) (bytes : List ℕ) →
-        SpellsRequest request bytes → IsAnswerable journal request → asking journal bytes ≡ Ok request }
+        SpellsRequest request bytes → IsAnswerable journal request → checked_request journal bytes ≡ Ok request }
     ensures answerable { (journal : JournalState) (request : Request) (bytes : List ℕ) →
-        asking journal bytes ≡ Ok request → IsAnswerable journal request }
+        checked_request journal bytes ≡ Ok request → IsAnswerable journal request }
     ensures planned { (journal : JournalState) (burst : ℕ) (request : Request) (bytes : List ℕ) →
-        asking journal bytes ≡ Ok request → planning journal burst bytes ≡ Ok (plan_for journal burst request) }
+        checked_request journal bytes ≡ Ok request →
+        planning journal burst bytes ≡ Ok (plan_for journal burst request) }
     ensures plan { (journal : JournalState) (burst : ℕ) (request : Request) →
         IsAnswerable journal request → IsPlan (plan_for journal burst request) }
     ensures within { (journal : JournalState) (burst : ℕ) (request : Request) →

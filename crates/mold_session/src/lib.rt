@@ -2,7 +2,6 @@
 //! responds to requests for messages of the journal.
 #![tactic(auto)]
 
-mod asking;
 mod error;
 mod journal;
 pub mod laws;
@@ -14,6 +13,7 @@ mod plan;
 mod publisher;
 mod putting;
 mod reader;
+mod request_check;
 mod saving;
 mod server;
 mod upgrading;

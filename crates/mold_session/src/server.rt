@@ -6,16 +6,16 @@ ghost use Rattle.std.specs.Option.{OnSome};
 ghost use Rattle.mold_wire.specs.Packet.{Spells};
 ghost use Rattle.mold_session.specs.Answer.{IsPlan, IsSpent, next_part, next_packet, moved};
 ghost use Rattle.mold_session.specs.Journal.{IsJournal};
-ghost use Rattle.mold_session.specs.Server.{IsServer, fresh_server, server_refusal, asking, planning, SpellsAnswer};
-ghost use Rattle.mold_session.specs.Server.{counted_if};
+ghost use Rattle.mold_session.specs.Server.{IsServer, fresh_server, server_refusal, checked_request, planning};
+ghost use Rattle.mold_session.specs.Server.{SpellsAnswer, counted_if};
 ghost use Rattle.mold_session.specs.Truthful.{IsTrueDatagram};
 ghost use Rattle.mold_session.specs.declared.error.ServerError.{ServerError};
 
-use crate::asking::asked;
 use crate::error::{AnswerError, ServerError};
 use crate::journal::Journal;
 use crate::packing::pack_next;
 use crate::plan::Plan;
+use crate::request_check::check_request;
 use mold_wire::laws::{front_law, packet_length_law, true_packet_law};
 use mold_wire::{MAX_BURST, MAX_LIMIT, MESSAGE_OVERHEAD, MIN_LIMIT, Packer};
 use std::alloc::Global;
@@ -129,7 +129,7 @@ impl Server {
         ensures spelled { IfOk result (λ bytes. SpellsAnswer journal.now self.old request.now bytes.now) }
         ensures within { IfOk result (λ bytes. length bytes.now ≤ self.old.limit) }
         ensures truth { IfOk result (λ bytes. IsTrueDatagram journal.now bytes.now) }
-        ensures refused { IfErr result (λ error. asking journal.now request.now ≡ Err error) }
+        ensures refused { IfErr result (λ error. checked_request journal.now request.now ≡ Err error) }
         ensures journal { IsJournal journal.now }
         ensures server { IsServer self.old }
     {
@@ -153,7 +153,7 @@ impl Server {
         ensures server { IsServer self.old }
     {
         let burst = self.burst;
-        let request = asked(journal, request)?;
+        let request = check_request(journal, request)?;
         self.answered = self.answered.saturating_add(1);
         Ok(Plan::new(journal, &request, burst))
     }

@@ -8,7 +8,7 @@ use Rattle.mold_wire.specs.declared.request.Request.{Request as Asked}
 use Rattle.mold_receiver.specs.Wanted.{wanted}
 use Rattle.mold_session.specs.Journal.{append_refusal}
 use Rattle.mold_session.specs.Publisher.{PublisherState, after_datagram, closed, next_datagram, next_end, next_heartbeat}
-use Rattle.mold_session.specs.Server.{asking}
+use Rattle.mold_session.specs.Server.{checked_request}
 use Rattle.mold_session.specs.declared.error.AnswerError.{AnswerError}
 use Rattle.mold_session.specs.declared.error.AppendError.{AppendError}
 use Rattle.mold_world.specs.Event.{Happening}
@@ -138,7 +138,7 @@ effect_never_wants w Datagram is = send_none w (next_datagram w.publisher) (afte
 effect_never_wants w Heartbeat is = send_none w (next_heartbeat w.publisher) w.publisher is
 effect_never_wants w Close is = close_none w (ltb 0 (unsent_count w.publisher)) is
 effect_never_wants w End is = send_none w (next_end w.publisher) w.publisher is
-effect_never_wants w (Request bytes) is = request_none w (asking w.publisher.journal bytes) is
+effect_never_wants w (Request bytes) is = request_none w (checked_request w.publisher.journal bytes) is
 effect_never_wants w (Ask receiver) is = ask_none w (slice_get w.subscribers receiver) is
 effect_never_wants w (Deliver receiver way at) is =
     deliver_none w receiver way (slice_get w.subscribers receiver) (slice_get w.sent at) is

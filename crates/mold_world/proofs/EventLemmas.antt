@@ -22,7 +22,7 @@ use Rattle.mold_receiver.specs.View.{IsWellFormed, View}
 use Rattle.mold_receiver.specs.Wanted.{IsGap, gap_end, wanted}
 use Rattle.mold_rule.specs.declared.refusal.Refusal.{Refusal}
 use Rattle.mold_session.specs.Answer.{IsPlan, PlanState, answer, plan_for, planned}
-use Rattle.mold_session.specs.Server.{IsAnswerable, asking}
+use Rattle.mold_session.specs.Server.{IsAnswerable, checked_request}
 use Rattle.mold_session.specs.declared.error.AnswerError.{AnswerError}
 use Rattle.mold_session.specs.Journal.{JournalState, append_refusal}
 use Rattle.mold_session.specs.Publisher.{IsPublisher, MayPublish, PublisherState, after_datagram, closed}
@@ -278,7 +278,7 @@ restart_kept receivers w receiver next (Some subscriber) done is here same =
 
 -- The laws on responses and requests.
 pub record AnswerLaws : Type 0 where
-  pub answerable : (journal : JournalState) (request : Asked) (bytes : List ℕ) → asking journal bytes ≡ Ok request →
+  pub answerable : (journal : JournalState) (request : Asked) (bytes : List ℕ) → checked_request journal bytes ≡ Ok request →
       IsAnswerable journal request
   pub plan : (journal : JournalState) (burst : ℕ) (request : Asked) → IsAnswerable journal request →
       IsPlan (plan_for journal burst request)
@@ -332,7 +332,7 @@ answer_kept answers w request done is may same =
 
 request_kept :
     (answers : AnswerLaws) (w : WorldState) (bytes : List ℕ) (asks : Result Asked AnswerError)
-    (done : Report × WorldState) → IsWorld w → asking w.publisher.journal bytes ≡ asks →
+    (done : Report × WorldState) → IsWorld w → checked_request w.publisher.journal bytes ≡ asks →
     requested w asks ≡ Ok done → IsWorld done.1
 request_kept answers w bytes (Ok request) done is asked_now same =
     answer_kept answers w request done is (answers.answerable w.publisher.journal request bytes asked_now) same
@@ -402,7 +402,7 @@ event_kept laws w End done is same =
       told = laws.sending.end w.publisher packet is.publisher is.answers.named next;
     }) same
 event_kept laws w (Request bytes) done is same =
-    request_kept laws.answers w bytes (asking w.publisher.journal bytes) done is refl same
+    request_kept laws.answers w bytes (checked_request w.publisher.journal bytes) done is refl same
 event_kept laws w (Ask receiver) done is same =
     ask_kept laws.answers w receiver (slice_get w.subscribers receiver) done is refl same
 event_kept laws w (Deliver receiver way at) done is same =

@@ -13,7 +13,7 @@ use Rattle.mold_rule.specs.declared.refusal.Refusal.{Refusal}
 use Rattle.mold_session.specs.Journal.{append_refusal}
 use Rattle.mold_session.specs.Publisher.{closed}
 use Rattle.mold_session.specs.Publisher.{next_end, next_heartbeat}
-use Rattle.mold_session.specs.Server.{asking}
+use Rattle.mold_session.specs.Server.{checked_request}
 use Rattle.mold_session.specs.declared.error.AnswerError.{AnswerError}
 use Rattle.mold_session.specs.declared.error.AppendError.{AppendError}
 use Rattle.mold_world.proofs.SubscriberLemmas.{view_refused, view_taken}
@@ -212,7 +212,7 @@ event_far law w receiver Close done quiet stays same =
     close_far w receiver (ltb 0 (unsent_count w.publisher)) done same
 event_far law w receiver End done quiet stays same = send_far w receiver (next_end w.publisher) done same
 event_far law w receiver (Request bytes) done quiet stays same =
-    request_far w receiver (asking w.publisher.journal bytes) done same
+    request_far w receiver (checked_request w.publisher.journal bytes) done same
 event_far law w receiver (Ask other) done quiet stays same =
     ask_far w receiver (slice_get w.subscribers other) done same
 event_far law w receiver (Deliver other way at) done quiet stays same =

@@ -5,7 +5,7 @@ use Rattle.mold_wire.specs.declared.request.Request.{Request as Asked}
 use Rattle.mold_receiver.specs.Wanted.{wanted}
 use Rattle.mold_session.specs.Answer.{PlanState, answer, plan_for, planned}
 use Rattle.mold_session.specs.Journal.{JournalState}
-use Rattle.mold_session.specs.Server.{IsAnswerable, asking, plan_of, planning}
+use Rattle.mold_session.specs.Server.{IsAnswerable, checked_request, plan_of, planning}
 use Rattle.mold_session.specs.declared.error.AnswerError.{AnswerError}
 use Rattle.mold_world.specs.Effect.{Outcome, answered, asked, asked_for, bursting, effect, requested}
 use Rattle.mold_world.specs.declared.event.EventOf.TheVariants.{Ask, Request}
@@ -44,18 +44,18 @@ pub request_refused :
     Refuses w (Request bytes) (Layer (Answer cause)) × (record w { server_limit = limit; burst = burst } ≡ w)
 unfolding effect
 request_refused w bytes cause limit burst is limited bursts = (
-  inr (ap (requested w) (refused_plan w.publisher.journal w.burst (asking w.publisher.journal bytes) cause is)),
+  inr (ap (requested w) (refused_plan w.publisher.journal w.burst (checked_request w.publisher.journal bytes) cause is)),
   (λ j. record w { server_limit = limited j; burst = bursts j }),
 )
 
 requested_at :
-    (w : WorldState) (bytes : List ℕ) (request : Asked) → asking w.publisher.journal bytes ≡ Ok request →
+    (w : WorldState) (bytes : List ℕ) (request : Asked) → checked_request w.publisher.journal bytes ≡ Ok request →
     effect w (Request bytes) ≡ answered w request
 unfolding effect
 requested_at w bytes request is = ap (requested w) is
 
 pub request_applied :
-    (answerable : (journal : JournalState) (request : Asked) (bytes : List ℕ) → asking journal bytes ≡ Ok request →
+    (answerable : (journal : JournalState) (request : Asked) (bytes : List ℕ) → checked_request journal bytes ≡ Ok request →
     IsAnswerable journal request)
     (answers : (journal : JournalState) (limit burst : ℕ) (request : Asked) → IsAnswerable journal request →
     planned journal.messages limit (plan_for journal burst request)
@@ -69,7 +69,7 @@ pub request_applied :
     IfErr result (λ error. error ≡ Memory) → Applies w (Request bytes) result new
 request_applied answerable answers w new bytes plan limit burst (Ok says) is limited bursts sent same wanting =
     let journal : JournalState = w.publisher.journal in
-    let of_plan = request_of_plan journal w.burst (asking journal bytes) plan is in
+    let of_plan = request_of_plan journal w.burst (checked_request journal bytes) plan is in
     let may = answerable journal of_plan.request bytes of_plan.is in
     let packets : planned journal.messages limit plan
     ≡ answer journal.messages journal.session w.server_limit of_plan.request.sequence of_plan.request.count w.burst =
@@ -80,7 +80,7 @@ request_applied answerable answers w new bytes plan limit burst (Ok says) is lim
     ∙ sent
 request_applied answerable answers w new bytes plan limit burst (Err error) is limited bursts sent same wanting =
     let journal : JournalState = w.publisher.journal in
-    let of_plan = request_of_plan journal w.burst (asking journal bytes) plan is in (
+    let of_plan = request_of_plan journal w.burst (checked_request journal bytes) plan is in (
       inl (
         wanting,
         subst (λ (t : Outcome). IsOk t) (sym (requested_at w bytes of_plan.request of_plan.is)) refl,
@@ -109,7 +109,7 @@ ask_nothing w receiver subscriber here none = asked_at w receiver subscriber Non
 pub ask_applied :
     (w new : WorldState) (receiver : ℕ) (subscriber : SubscriberState) (request : Asked) (bytes : List ℕ)
     (result : Result Report WorldError) → slice_get w.subscribers receiver ≡ Some subscriber →
-    Some request ≡ wanted subscriber.arbitration.view → asking w.publisher.journal bytes ≡ Ok request →
+    Some request ≡ wanted subscriber.arbitration.view → checked_request w.publisher.journal bytes ≡ Ok request →
     Applies w (Request bytes) result new → Applies w (Ask receiver) result new
 ask_applied w new receiver subscriber request bytes (Ok says) here want asks applied =
     asked_at w receiver subscriber (Some request) here want ∙ sym (requested_at w bytes request asks) ∙ applied

@@ -32,7 +32,7 @@ use Rattle.mold_receiver.specs.View.{View}
 use Rattle.mold_receiver.specs.Wanted.{wanted}
 use Rattle.mold_session.specs.Journal.{JournalState}
 use Rattle.mold_session.specs.Publisher.{after_datagram, closed, next_datagram, next_end, next_heartbeat}
-use Rattle.mold_session.specs.Server.{asking}
+use Rattle.mold_session.specs.Server.{checked_request}
 use Rattle.mold_session.specs.declared.error.AnswerError.{AnswerError}
 use Rattle.mold_world.specs.Effect.{asked, asked_for, delivered, is_own, noised, publishing, restarted_at, requested}
 use Rattle.mold_world.specs.Effect.{restarted, sending, unsent_count, with_subscriber}
@@ -182,7 +182,7 @@ event_grows w Datagram done same =
 event_grows w Heartbeat done same = send_grows w (next_heartbeat w.publisher) w.publisher done refl same
 event_grows w Close done same = close_grows w (ltb 0 (unsent_count w.publisher)) done same
 event_grows w End done same = send_grows w (next_end w.publisher) w.publisher done refl same
-event_grows w (Request bytes) done same = request_grows w (asking w.publisher.journal bytes) done same
+event_grows w (Request bytes) done same = request_grows w (checked_request w.publisher.journal bytes) done same
 event_grows w (Ask receiver) done same = ask_grows w (slice_get w.subscribers receiver) done same
 event_grows w (Deliver receiver way at) done same =
     deliver_grows w receiver way (slice_get w.subscribers receiver) (slice_get w.sent at) done same

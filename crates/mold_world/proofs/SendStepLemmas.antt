@@ -11,7 +11,7 @@ use Rattle.mold_session.specs.Answer.{answer, from_number}
 use Rattle.mold_session.specs.Datagrams.{packing}
 use Rattle.mold_session.specs.Journal.{JournalState}
 use Rattle.mold_session.specs.Publisher.{PublisherState, closed}
-use Rattle.mold_session.specs.Server.{IsAnswerable, asking}
+use Rattle.mold_session.specs.Server.{IsAnswerable, checked_request}
 use Rattle.mold_session.specs.Truthful.{IsTrueDatagram}
 use Rattle.mold_session.specs.declared.error.AnswerError.{AnswerError}
 use Rattle.mold_world.proofs.EventLemmas.{AllLaws, answer_told, wanted_answerable}
@@ -127,7 +127,7 @@ answer_steps laws w request done is may same =
 
 pub request_steps :
     (laws : AllLaws) (w : WorldState) (bytes : List ℕ) (asks : Result Asked AnswerError)
-    (done : Report × WorldState) → IsWorld w → asking w.publisher.journal bytes ≡ asks →
+    (done : Report × WorldState) → IsWorld w → checked_request w.publisher.journal bytes ≡ asks →
     requested w asks ≡ Ok done → DidSend w.burst w done.1
 request_steps laws w bytes (Ok request) done is asked_now same =
     answer_steps laws w request done is (laws.answers.answerable w.publisher.journal request bytes asked_now) same

@@ -13,7 +13,7 @@ use Rattle.mold_receiver.specs.View.{View}
 use Rattle.mold_rule.specs.declared.refusal.Refusal.{Refusal}
 use Rattle.mold_session.specs.Journal.{append_refusal}
 use Rattle.mold_session.specs.Publisher.{after_datagram, closed, next_datagram, next_end, next_heartbeat}
-use Rattle.mold_session.specs.Server.{asking}
+use Rattle.mold_session.specs.Server.{checked_request}
 use Rattle.mold_session.specs.declared.error.AppendError.{AppendError}
 use Rattle.mold_world.proofs.EventLemmas.{AllLaws}
 use Rattle.mold_world.proofs.DeliveryLemmas.{noise_hands_nothing, noise_unmoved, sent_taken}
@@ -297,7 +297,7 @@ event_steps laws law w End done is same =
     (λ packet next. laws.sending.end w.publisher packet is.publisher is.answers.named next) same)
 event_steps laws law w (Request bytes) done is same =
     sent_steps w (Request bytes) w.burst done (λ steps sends. sends) refl
-    (request_steps laws w bytes (asking w.publisher.journal bytes) done is refl same)
+    (request_steps laws w bytes (checked_request w.publisher.journal bytes) done is refl same)
 event_steps laws law w (Ask receiver) done is same =
     sent_steps w (Ask receiver) w.burst done (λ steps sends. sends) refl
     (ask_steps laws w receiver (slice_get w.subscribers receiver) done is refl same)

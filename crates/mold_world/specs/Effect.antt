@@ -19,7 +19,7 @@ use Rattle.mold_session.specs.Answer.{answer}
 use Rattle.mold_session.specs.Journal.{append_refusal}
 use Rattle.mold_session.specs.Publisher.{PublisherState, after_datagram, closed, next_datagram, next_end}
 use Rattle.mold_session.specs.Publisher.{next_heartbeat, published}
-use Rattle.mold_session.specs.Server.{asking}
+use Rattle.mold_session.specs.Server.{checked_request}
 use Rattle.mold_session.specs.declared.error.AnswerError.{AnswerError}
 use Rattle.mold_session.specs.declared.error.AppendError.{AppendError}
 use Rattle.mold_world.specs.Event.{Happening, line_of}
@@ -157,7 +157,7 @@ effect w Datagram = sending w (next_datagram w.publisher) (after_datagram w.publ
 effect w Heartbeat = sending w (next_heartbeat w.publisher) w.publisher
 effect w Close = closing w
 effect w End = sending w (next_end w.publisher) w.publisher
-effect w (Request bytes) = requested w (asking w.publisher.journal bytes)
+effect w (Request bytes) = requested w (checked_request w.publisher.journal bytes)
 effect w (Ask receiver) = asked w (slice_get w.subscribers receiver)
 effect w (Deliver receiver way place) =
     delivered w receiver way (slice_get w.subscribers receiver) (slice_get w.sent place)

@@ -1,7 +1,7 @@
 //! The arbiter of line A and line B: worked examples, and its state after an allocation has failed.
 
 use crate::comparisons::same_number;
-use crate::reception::{
+use crate::receiver_steps::{
     DATA_1_3, DATA_2_3, END_4, SESSION, expect_batch, handed_kept_beyond, same_outcome,
 };
 use mold_receiver::{Arbiter, Batch, Line, Receiver, Refusal, Taken};

@@ -244,7 +244,7 @@ const REFUSALS: Cases = &[
 ];
 
 #[test]
-fn refusals_come_in_their_order(rt: HostRuntime) {
+fn refusals_of_a_checker_come_in_order(rt: HostRuntime) {
     expect_outcomes(&rt, rt.alloc(), REFUSALS);
 }
 

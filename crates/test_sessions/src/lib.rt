@@ -12,16 +12,16 @@ mod journal_file;
 #[cfg(test)]
 mod journal_reader;
 #[cfg(test)]
+mod publisher;
+#[cfg(test)]
 mod receiver;
 #[cfg(test)]
-mod reception;
+mod receiver_steps;
 #[cfg(test)]
-mod refusals;
+mod refusal_words;
 #[cfg(test)]
 mod rounds;
 #[cfg(test)]
 mod server;
-#[cfg(test)]
-mod session;
 #[cfg(test)]
 mod upgrading;

@@ -2,7 +2,7 @@
 //! `tests/out-of-memory` makes each allocation of the tests for it fail.
 
 use crate::comparisons::{same_message, same_number, same_truth};
-use crate::reception::{
+use crate::receiver_steps::{
     DATA_1, DATA_1_2, DATA_1_3, DATA_2, DATA_2_3, DATA_3, END_3, END_4, Reception, SESSION, State,
     Step, expect_batch, expect_each, expect_steps, same_maybe,
 };
@@ -181,7 +181,7 @@ const IN_ORDER: &[Step] = &[
 ];
 
 #[test]
-fn refusals_come_in_order(rt: HostRuntime) -> Result<(), Fail> {
+fn refusals_of_a_receiver_come_in_order(rt: HostRuntime) -> Result<(), Fail> {
     expect_steps(&rt, rt.alloc(), 5, 4, IN_ORDER)
 }
 

@@ -257,7 +257,7 @@ const REFUSALS: &[(&[u8], AnswerError)] = &[
 
 /// `server-refusals`, and which of two refusals comes first.
 #[test]
-fn refusals_come_in_their_order(rt: HostRuntime) -> Result<(), Fail> {
+fn server_refusals(rt: HostRuntime) -> Result<(), Fail> {
     let mut service = Service::new(rt.alloc(), 1)?;
     service.expect_refusals(&rt, REFUSALS);
     Ok(())

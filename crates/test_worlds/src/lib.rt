@@ -10,4 +10,4 @@ mod world;
 #[cfg(test)]
 mod world_checks;
 #[cfg(test)]
-mod world_events;
+mod world_constants;

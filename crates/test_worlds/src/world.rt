@@ -7,7 +7,7 @@ use crate::world_checks::{
     expect_two_standings, holds, message_of, run_again, run_whole, same_answer, same_bytes,
     same_refusal, same_size, world,
 };
-use crate::world_events::{
+use crate::world_constants::{
     A, Answer, DELIVERED, FIVE, FOUR_AND_FIVE, FROM_TWO, LACKING, LACKING_ANSWERS, MESSAGES, OWN,
     REFUSED, SENT, SESSION, SESSION_LENGTH, TWO_AND_THREE, TWO_ANSWERS, TWO_MESSAGES,
     TWO_RECEIVERS, TWO_SENT, WITHOUT_MEMORY, WITHOUT_MEMORY_ANSWERS,

@@ -1,7 +1,7 @@
 //! The comparisons of the tests of a world. If an allocation fails, they check that nothing changed, and make the call
 //! once more.
 
-use crate::world_events::{Answer, FIVE, MESSAGES, SESSION, SESSION_LENGTH, Standing};
+use crate::world_constants::{Answer, FIVE, MESSAGES, SESSION, SESSION_LENGTH, Standing};
 use mold_receiver::{Line, LineReport};
 use mold_world::{Event, Stopped, World, WorldError};
 use std::alloc::Global;

@@ -4,7 +4,7 @@ use Rattle.mold_wire.specs.declared.request.Request.{Request}
 use Rattle.mold_session.specs.Answer.{PlanState, IsSpent, next_part, next_packet, moved}
 use Rattle.mold_session.specs.Journal.{JournalState}
 use Rattle.mold_session.specs.Putting.{Puts}
-use Rattle.mold_session.specs.Server.{ServerState, SpellsAnswer, asking, planning, counted}
+use Rattle.mold_session.specs.Server.{ServerState, SpellsAnswer, checked_request, planning, counted}
 use Rattle.mold_session.specs.declared.error.AnswerError.{AnswerError}
 use Rattle.mold_ffi.specs.Buffer.{PutsPacket}
 use Rattle.mold_ffi.specs.Code.AnswerError.{answer_error_code, answer_error_number}
@@ -33,10 +33,10 @@ pub record Answers (T : Type 0) (server : ServerState) (journal : JournalState) 
   pub room : Suits server journal → length old < server.limit →
       (code ≡ codes.ROOM) × (number ≡ server.limit) × (new ≡ old) × (held ≡ holding server)
   pub refused : (error : AnswerError) → Suits server journal → server.limit ≤ length old →
-      asking journal request ≡ Err error →
+      checked_request journal request ≡ Err error →
       (code ≡ answer_error_code error) × (number ≡ answer_error_number error) × (new ≡ old) × (held ≡ holding server)
   pub answered : (asked : Request) → Suits server journal → server.limit ≤ length old →
-      asking journal request ≡ Ok asked →
+      checked_request journal request ≡ Ok asked →
       (code ≡ codes.DONE) × PutsAnswer server journal request old new number × (held ≡ holding (counted server))
 
 -- The response to a request is planned, or the request is refused for the first reason that applies. `holding` gives

@@ -2,7 +2,7 @@ use Rattle.std.proofs.Common.{ap, ◌∙◌}
 use Rattle.mold_wire.specs.Request.{request_reading}
 use Rattle.mold_session.specs.Server.{judged, plan_of}
 use Rattle.mold_session.proofs.AnswerLemmas.{plan_is, plan_within, planned_answer}
-use Rattle.mold_session.proofs.AskingLemmas.{judged_from, judged_to}
+use Rattle.mold_session.proofs.RequestCheckLemmas.{judged_from, judged_to}
 use Rattle.mold_session.proofs.laws.answered_law.Goals as goal
 
 pub returns : goal.returns

@@ -11,7 +11,7 @@ use Rattle.mold_wire.specs.declared.session.Session.{Session}
 use Rattle.mold_wire.specs.Request.{request_reading}
 use Rattle.mold_session.specs.Answer.{PlanState, plan_for}
 use Rattle.mold_session.specs.Journal.{JournalState}
-use Rattle.mold_session.specs.Server.{request_refusal, IsAnswerable, unless, judged, asking, plan_of, planning}
+use Rattle.mold_session.specs.Server.{request_refusal, IsAnswerable, unless, judged, checked_request, plan_of, planning}
 use Rattle.mold_session.specs.declared.error.AnswerError.{AnswerError}
 use Rattle.mold_session.specs.declared.error.AnswerError.TheVariants.{WrongSession, SequenceZero, EmptyRequest, Ahead}
 
@@ -93,13 +93,13 @@ judged_to journal request is =
 -- The plan is the one for a request that was accepted.
 pub record IsPlanned (journal : JournalState) (burst : ℕ) (bytes : List ℕ) (plan : PlanState) : Type 0 where
   pub request : Request
-  pub asks : asking journal bytes ≡ Ok request
+  pub asks : checked_request journal bytes ≡ Ok request
   pub answerable : IsAnswerable journal request
   pub plan_is : plan ≡ plan_for journal burst request
 
 planned_of :
     (journal : JournalState) (burst : ℕ) (bytes : List ℕ) (plan : PlanState)
-    (asked : Result Request AnswerError) → asking journal bytes ≡ asked → Ok plan ≡ plan_of journal burst asked →
+    (asked : Result Request AnswerError) → checked_request journal bytes ≡ asked → Ok plan ≡ plan_of journal burst asked →
     IsPlanned journal burst bytes plan
 planned_of journal burst bytes plan (Err error) asks is = absurd cc
 planned_of journal burst bytes plan (Ok request) asks is = record {
@@ -112,4 +112,4 @@ planned_of journal burst bytes plan (Ok request) asks is = record {
 pub planned_from :
     (journal : JournalState) (burst : ℕ) (bytes : List ℕ) (plan : PlanState) →
     Ok plan ≡ planning journal burst bytes → IsPlanned journal burst bytes plan
-planned_from journal burst bytes plan is = planned_of journal burst bytes plan (asking journal bytes) refl is
+planned_from journal burst bytes plan is = planned_of journal burst bytes plan (checked_request journal bytes) refl is

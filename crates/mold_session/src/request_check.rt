@@ -2,15 +2,15 @@
 
 ghost use Rattle.std.specs.Prelude.{◌≡◌};
 ghost use Rattle.mold_session.specs.Journal.{IsJournal};
-ghost use Rattle.mold_session.specs.Server.{asking};
+ghost use Rattle.mold_session.specs.Server.{checked_request};
 
 use crate::error::AnswerError;
 use crate::journal::Journal;
 use mold_wire::{Request, RequestError};
 
 /// Decodes a request for messages of the journal, or returns the first reason to refuse it.
-pub fn asked(journal: &Journal, request: &[u8]) -> Result<Request, AnswerError>
-    ensures asked { result ≡ asking journal.now request.now }
+pub fn check_request(journal: &Journal, request: &[u8]) -> Result<Request, AnswerError>
+    ensures checked { result ≡ checked_request journal.now request.now }
     ensures journal { IsJournal journal.now }
 {
     let next = journal.next();
