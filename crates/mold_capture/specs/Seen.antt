@@ -105,7 +105,7 @@ abbrev pub joined_read : Seen → Result Packet DecodeError → Seen
 joined_read seen (Ok packet) = joined seen packet
 joined_read seen (Err error) = seen
 
--- What is stated after a datagram.
+-- What datagrams state together, after one more of them.
 abbrev pub after : Seen → List ℕ → Seen
 after seen bytes = joined_read seen (reading bytes)
 

@@ -14,8 +14,8 @@ use std::alloc::Global;
 
 /// Checks whether the datagrams come from one whole session, and what is missing if they don't.
 ///
-/// If a datagram is refused after those before it, the error has its index, counted from 0, and the first
-/// reason. If an allocation for the verdict fails, the error has the list's length and `Memory`.
+/// If a datagram is refused, the error has the index of the first such datagram, counted from 0, and the first reason.
+/// If an allocation for the verdict fails, the error has the list's length and `Memory`.
 pub fn check(alloc: Global, list: &[&[u8]]) -> Result<Verdict, (usize, Refusal)>
     ensures verdict { IfOk result (λ verdict. IsVerdictOn verdict (map (λ bytes. bytes.now) list.now)) }
     ensures outcome { (outcome : Outcome) → IsOutcome (map (λ bytes. bytes.now) list.now) outcome →

@@ -11,7 +11,8 @@ abbrev pub CountsReadFault : ℕ → ℕ → ReadFault → Type 0
 CountsReadFault old new reading.Read = new ≡ one_more old
 CountsReadFault old new reading.Memory = new ≡ old
 
--- The same for a result: the count is unchanged if there is no fault.
+-- How a result of reading changes the source's count of failures. It increases by one with the fault `Read`, and is
+-- unchanged otherwise.
 abbrev pub CountsRead : {T : Type 0} → ℕ → ℕ → Result T ReadFault → Type 0
 CountsRead old new (Ok _) = new ≡ old
 CountsRead old new (Err fault) = CountsReadFault old new fault
@@ -23,7 +24,8 @@ CountsSinkFault old new command.Read = ⊥
 CountsSinkFault old new command.Write = new ≡ one_more old
 CountsSinkFault old new command.Memory = new ≡ old
 
--- The same for a result: the count is unchanged if there is no fault.
+-- How a result of a command that reads no input changes the sink's count of failures. It increases by one with the
+-- fault `Write`, and is unchanged otherwise. The fault `Read` does not occur.
 abbrev pub CountsSink : {T : Type 0} → ℕ → ℕ → Result T CommandFault → Type 0
 CountsSink old new (Ok _) = new ≡ old
 CountsSink old new (Err fault) = CountsSinkFault old new fault
@@ -44,7 +46,9 @@ CountsFault source_old source_new sink_old sink_new command.Write =
 CountsFault source_old source_new sink_old sink_new command.Memory =
     (source_new ≡ source_old) × (sink_new ≡ sink_old)
 
--- The same for a result: both counts are unchanged if there is no fault.
+-- How a result of a command changes the counts of failures of the source and the sink. `Read` increases the source's
+-- count by one. `Write` increases the sink's by one, and the source's too if a read failed before. Otherwise both are
+-- unchanged.
 abbrev pub CountsCommand : {T : Type 0} → ℕ → ℕ → ℕ → ℕ → Result T CommandFault → Type 0
 CountsCommand source_old source_new sink_old sink_new (Ok _) = (source_new ≡ source_old) × (sink_new ≡ sink_old)
 CountsCommand source_old source_new sink_old sink_new (Err fault) =

@@ -21,7 +21,7 @@ GoesOver before after None left added turn = ⊤
 GoesOver before after (Some input) None added turn = ⊥
 GoesOver before after (Some input) (Some left) added turn = Goes before after input left added turn
 
--- The effect of one turn: it appends text to `old`, and this is the text for the input that it read.
+-- The effect of one turn: it appends to `old` the text for the input that it read.
 pub record IsTurn (before after : Printing) (known left : Option (List ℕ)) (old new : List ℕ) (turn : Turn) :
     Type 0 where
   -- The text that the turn appends.

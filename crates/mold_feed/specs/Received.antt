@@ -37,7 +37,7 @@ IsForeign session bytes = IsBytes bytes × AreForeign session bytes
 abbrev pub IsHarmless : JournalState → List ℕ → Type 0
 IsHarmless journal bytes = IsTrueDatagram journal bytes ⊎ IsForeign journal.session bytes
 
--- What a listener may be given of the session of these lines. The bytes were sent by the session's publisher or by one
+-- A listener to the session of these lines may receive the bytes: they were sent by the session's publisher or by one
 -- of its servers, or do not encode a packet of the session.
 abbrev pub IsFed : (P : Type 0) → JournalState → ℕ → List (List ℕ) → List ℕ → Type 0
 IsFed P journal limit lines bytes = IsSent P journal limit lines bytes ⊎ IsForeign journal.session bytes

@@ -32,7 +32,7 @@ use mold_session::laws::{answered_law, publisher_law, sending_law};
 use mold_wire::laws::reading_law;
 
 /// States that everything a publisher sends is true of the journal that it leaves. This holds for all datagrams that
-/// publishing the lines offers, also if a line is refused. It holds for the datagrams that were sent, also after a
+/// publishing the lines offers, even if a line is refused. It holds for the datagrams that were sent, even after a
 /// fault, if everything that the port sent earlier is true of that journal.
 ///
 /// If no line is refused, that journal is closed and has the messages of the lines. If a line is refused, it is open
@@ -77,8 +77,8 @@ pub fn served_law<D: Datagrams>()
 /// do not encode a packet of the session. The law holds for any burst, any number of turns and any choice of which
 /// sends fail.
 ///
-/// - The listener stays honest. Its messages have consecutive numbers from its next one on, and are the published
-///   ones.
+/// - The listener stays honest. The messages that it prints have consecutive numbers from its first `next` on, and are
+///   the published ones.
 /// - What it refuses was received, and does not encode a packet of the session.
 /// - If all that its ports give is true of the session, it prints only messages.
 /// - If it has finished, it printed all messages up to the end of the session.
@@ -108,8 +108,8 @@ pub fn listened_law<D: Datagrams>()
 
 /// States that a listener prints the lines that were published. Lines are published into a new session, and any number
 /// of servers answer from copies of the journal that is left. A listener starts at a published message or at the
-/// number after the last one. Of the session, its ports give only datagrams that the publisher and the servers sent.
-/// Each of these may come any number of times, in any order, or never.
+/// number after the last one. All datagrams of the session that its ports give were sent by the publisher or the
+/// servers. Each of these may come any number of times, in any order, or never.
 ///
 /// - If no line is refused, the listener prints the published lines from its first one on, each after its number. With
 ///   status 0 it printed all of them.

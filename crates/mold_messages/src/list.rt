@@ -85,8 +85,8 @@ impl MessageList {
         Some(part(&self.bytes, start, end))
     }
 
-    /// Returns the length in bytes of all messages from index `from` to before index `to` together. It takes
-    /// constant time.
+    /// Returns the length in bytes of all messages together from index `from` up to, but not including, index `to`. It
+    /// takes constant time.
     pub fn joined_length(&self, from: usize, to: usize) -> usize
         requires ordered { from ≤ to }
         requires within { to ≤ length self.now.messages }

@@ -102,9 +102,8 @@ impl PartList {
         Ok(begin)
     }
 
-    /// Appends a message that consists of the bytes from offset `start` to before offset `end`. It must not
-    /// start before the end of the last message. The call fails if an allocation fails, and then nothing
-    /// changes.
+    /// Appends a message that consists of the bytes from offset `start` up to, but not including, offset `end`. It must
+    /// not start before the end of the last message. The call fails if an allocation fails, and then nothing changes.
     // Inlined for the same reason as `append`.
     #[inline(always)]
     pub fn mark(&mut self, start: usize, end: usize) -> Result<(), AllocError>

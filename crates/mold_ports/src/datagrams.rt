@@ -23,8 +23,8 @@ pub trait Datagrams {
         ensures failures { Counts (port self.old).failures (port self.new).failures result };
 
     /// Receives a datagram into a prefix of `buffer`. Returns its length and its sender, or `None` if nothing came
-    /// within the port's time. A datagram that is longer than `buffer` is truncated. A fault is counted; the contents
-    /// of `buffer` are then unspecified.
+    /// within the port's timeout. A datagram that is longer than `buffer` is truncated. A fault is counted; the
+    /// contents of `buffer` are then unspecified.
     fn receive(&mut self, buffer: &mut [u8]) -> Result<Option<(usize, Self::Peer)>, DeviceFault>
         ensures count { IfOk result (λ answer. IfSome answer (λ found. found.0 ≤ length buffer.new)) }
         ensures came { modeled ≡ true →

@@ -5,7 +5,7 @@ use Rattle.mold_receiver.specs.Store.{Message}
 use Rattle.mold_receiver.specs.View.{View}
 use Rattle.mold_rounds.specs.Rounds.{nameless}
 
--- A message of twenty bytes with the same value.
+-- A message of twenty bytes, each of which has this value.
 abbrev pub twenty : ℕ → Message
 twenty value = replicate 20 value
 

@@ -38,7 +38,7 @@ pub fn asks_law()
     packing_law();
 }
 
-/// A receiver needs at most as many requests as it misses messages.
+/// The number of requests that a receiver needs is at most the number of messages that it misses.
 pub fn rounds_law()
     ensures few { (v : View) (published : List Message) (limit burst : ℕ) → IsWellFormed v →
         rounds v published limit burst ≤ missing v }

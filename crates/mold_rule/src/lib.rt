@@ -1,5 +1,5 @@
-//! The rule that a receiver and a checker of captured datagrams share. It determines which downstream packets
-//! are refused, by what is known of their session, and which ranges of sequence numbers are missing.
+//! The rule that a receiver and a checker of captured datagrams share. Given what is known of a session, it determines
+//! which downstream packets are refused and which ranges of sequence numbers are missing.
 #![tactic(auto)]
 
 mod header;

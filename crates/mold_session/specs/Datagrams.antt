@@ -14,7 +14,7 @@ abbrev pub first_part : ℕ → List (List ℕ) → List (List ℕ)
 first_part limit messages = front limit messages (length messages)
 
 -- The first packets that the messages are packed into, at most as many as the second argument. Each has the
--- longest prefix that fits of the remaining messages.
+-- longest prefix of the remaining messages that fits.
 unfoldable pub packing_within : ℕ → ℕ → Session → ℕ → List (List ℕ) → List Packet
 packing_within limit zero session sequence messages = []
 packing_within limit (suc most) session sequence messages =
@@ -25,6 +25,6 @@ packing_within limit (suc most) session sequence messages =
     (drop (length (first_part limit messages)) messages)
 
 -- The messages packed into data packets, the first of which has the number `sequence`. Each packet has the
--- longest prefix that fits of the remaining messages.
+-- longest prefix of the remaining messages that fits.
 unfoldable pub packing : ℕ → Session → ℕ → List (List ℕ) → List Packet
 packing limit session sequence messages = packing_within limit (length messages) session sequence messages

@@ -58,7 +58,8 @@ pub record ReadsHead (known left : Option (List ℕ)) (head : FileHead) : Type 0
   pub said : IsStated head.closed head.stated
   pub consumed : Consumes known left (head_spelling head.session.0 head.closed head.stated)
 
--- The bytes are the file of these messages, of the version that the head shows by the number that it states.
+-- The bytes are the file of these messages and this head. The file is of version 2 if the head states a number of
+-- messages, otherwise of version 1.
 abbrev pub SpellsFile : FileHead → List (List ℕ) → Option ℕ → List ℕ → Type 0
 SpellsFile head messages None bytes = (head.closed ≡ false) × SpellsJournal head.session messages bytes
 SpellsFile head messages (Some count) bytes = SpellsJournal2 head.session messages head.closed bytes
@@ -77,7 +78,7 @@ pub record TakesBlock (most : ℕ) (known left : Option (List ℕ)) (old new : L
   pub added : new ≡ old ++ message ∷ []
   pub consumed : Consumes known left (block message)
 
--- The call may return this error: if the bytes are known, they have this fault. `Read` and `Memory` are no
+-- The call may return this error: if the bytes are known, they have this fault. `Read` and `Memory` are not
 -- faults of the bytes, and `Write` is never returned.
 abbrev pub Refuses : (List ℕ → FileError → Type 0) → Option (List ℕ) → FileError → Type 0
 Refuses Fault known Read = ⊤

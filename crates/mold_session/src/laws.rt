@@ -59,8 +59,8 @@ pub fn first_part_law()
     front_law();
 }
 
-/// What a plan still sends. A spent plan sends nothing. Any other plan sends its next packet, and then what the
-/// plan sends after it is advanced past that packet. It never sends more than `left` packets. Messages that are
+/// What a plan still sends. A spent plan sends nothing. Any other plan sends its next packet, and the
+/// others are those of the plan after that packet. It never sends more than `left` packets. Messages that are
 /// published meanwhile change nothing.
 ///
 /// So the datagrams that `Server::datagram` returns, until it returns `None`, are all packets that the plan had
@@ -198,8 +198,8 @@ pub fn reader_law()
         IfSome known (λ bytes. (contents : FileContents bytes) → IsFront messages contents.messages) }
 {}
 
-/// The properties of `IsPublisher` are kept by each step: a message is published that nothing refuses, a
-/// datagram is sent, or the publisher is closed after all messages were sent.
+/// The properties of `IsPublisher` are kept by each step: a message that nothing refuses is published, a datagram is
+/// sent, or the publisher is closed after all messages were sent.
 pub fn publisher_law()
     ensures may { (publisher : PublisherState) (message : List ℕ) →
         append_refusal publisher.journal message ≡ None → MayPublish publisher message }

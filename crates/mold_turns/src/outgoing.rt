@@ -70,7 +70,7 @@ impl Outgoing {
         self.failures = self.failures.saturating_add(count);
     }
 
-    /// Appends the words as a line. An error means out of memory; part of the line may then follow the former text.
+    /// Appends the words as a line. If an allocation fails, a part of the line may follow the earlier text.
     pub fn push_line(&mut self, words: &[Word<'_>]) -> Result<(), AllocError>
         ensures line { OnOk result (self.new ≡ with_more (line_of (map word_text words.now)) self.old) }
         ensures kept { OnErr result (take (length self.old.text) self.new.text ≡ self.old.text) }

@@ -1,4 +1,4 @@
-//! What the commands over ports are built from, as the command line orders it, and how the program ends.
+//! Makes the parts of the commands over ports from the parsed command line, and determines how the program ends.
 #![tactic(auto)]
 
 mod addresses;

@@ -125,7 +125,7 @@ pub data Arguments : Type 0 where
   upgrade_wanted : Text → Text → Bool → Arguments
   dump_wanted : DumpArguments → Arguments
 
--- The model of an order as the program holds it.
+-- The model of the program's `Order`: its command and the values of its options.
 abbrev pub view : Order → Arguments
 view (Show request) = show_wanted request
 view (Pack order) = pack_wanted order.session order.limit

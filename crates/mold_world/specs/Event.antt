@@ -12,7 +12,7 @@ use Rattle.mold_world.specs.declared.way.Way.TheVariants.{Answer, Line}
 abbrev pub Happening : Type 0
 Happening = EventOf (List ℕ)
 
--- The event of the definitions for an event of the program, which borrows its bytes.
+-- The `Happening` for an event of the program. The program's event borrows its bytes.
 abbrev pub seen : EventOf (Bor (List ℕ)) → Happening
 seen (Publish message) = Publish message.now
 seen Datagram = Datagram

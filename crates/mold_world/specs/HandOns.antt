@@ -45,7 +45,7 @@ handed_by w (Noise receiver way bytes) =
     (is_own w.publisher.journal.session (reading bytes))
 handed_by w (Restart receiver next) = []
 
--- The messages that the events deliver in order, also those of receivers that restart later.
+-- The messages that the events deliver, in order, including those of receivers that restart later.
 abbrev pub handed_by_all : WorldState → List Happening → List HandOn
 handed_by_all w [] = []
 handed_by_all w (happening ∷ happenings) = handed_by w happening ++ handed_by_all (after_event w happening) happenings

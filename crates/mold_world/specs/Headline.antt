@@ -33,7 +33,7 @@ handed_in machine (Deliver receiver messages ended) =
 handed_in machine (Restart receiver next) = []
 handed_in machine Nothing = []
 
--- The messages that the steps deliver in order, also those of receivers that restart later.
+-- The messages that the steps deliver, in order, including those of receivers that restart later.
 abbrev pub all_handed : Machine → List Step → List HandOn
 all_handed machine [] = []
 all_handed machine (step ∷ steps) = handed_in machine step ++ all_handed (after machine step) steps

@@ -63,9 +63,8 @@ pub fn safety_law()
 /// was ever delivered in a run is the one that was published with its number.
 ///
 /// The law also connects a world with the machine of `safety_law`. A new world is the machine's start, and each event
-/// is the steps that `Names` lists for it. A publication is one publication, and each datagram of a burst is one send.
-/// A delivery is one delivery, a restart is one restart, and noise is no step. The steps deliver the same messages as
-/// the event.
+/// is the steps that `Names` lists for it. A publication, a delivery or a restart is one step of that kind. Each
+/// datagram of a burst is one send, and noise is no step. The steps deliver the same messages as the event.
 pub fn run_law()
     ensures begins { (session : Session) (limit server_limit burst : ℕ) (windows : List ℕ) →
         MayBegin session limit server_limit → IsWorld (beginning session limit server_limit burst windows) }
