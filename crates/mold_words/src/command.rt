@@ -12,7 +12,7 @@ use std::alloc::{AllocError, Global};
 /// The version of the program.
 pub const VERSION: &str = "0.1.0";
 
-const ABOUT: &str = "MoldUDP64 packets, shown as lines of text";
+const ABOUT: &str = "Publish, serve, receive and check MoldUDP64 sessions";
 
 const WITHOUT_COMMAND: &str = "Without a command, show is run.";
 

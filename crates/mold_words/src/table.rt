@@ -62,28 +62,28 @@ const SESSION: OptionRow = OptionRow {
 const LIMIT: OptionRow = OptionRow {
     name: "limit",
     kind: Kind::Optional,
-    help: "The most bytes of a packet, 64 to 65507 [default: 1400]",
+    help: "The maximum size of a packet in bytes, 64 to 65507 [default: 1400]",
 };
 
 // The maximum length of a response.
 const SERVER_LIMIT: OptionRow = OptionRow {
     name: "server-limit",
     kind: Kind::Optional,
-    help: "The most bytes of an answer, 64 to 65507 [default: 1400]\n\
-        It is not below the limit",
+    help: "The maximum size of a response in bytes, 64 to 65507 [default: 1400]\n\
+        It is at least the limit",
 };
 
 const WINDOW: OptionRow = OptionRow {
     name: "window",
     kind: Kind::Optional,
-    help: "How many messages a receiver looks ahead, 1 to 65536 [default: 1024]",
+    help: "How many messages ahead can be stored, 1 to 65536 [default: 1024]",
 };
 
 // The maximum number of responses to a request.
 const BURST: OptionRow = OptionRow {
     name: "burst",
     kind: Kind::Optional,
-    help: "The most packets that answer a request, 1 to 64 [default: 1]",
+    help: "The maximum number of responses to a request, 1 to 64 [default: 1]",
 };
 
 // Writes text at the end of each turn, for a reader who follows it.
@@ -114,13 +114,13 @@ pub static COMMANDS: [CommandRow; 10] = [
     },
     CommandRow {
         name: "pack",
-        about: "Print the packets of a session whose messages standard input gives",
+        about: "Pack messages from standard input and print the packets",
         options: &[SESSION, LIMIT],
         example: "Example:\n  printf '4142\\n4344\\n' | mold pack --session SESSION001",
     },
     CommandRow {
         name: "sim",
-        about: "Run the script of events that standard input gives, and print what each does",
+        about: "Run a script of events from standard input and print what each event does",
         options: &[
             SESSION,
             LIMIT,
@@ -129,7 +129,7 @@ pub static COMMANDS: [CommandRow; 10] = [
             OptionRow {
                 name: "receivers",
                 kind: Kind::Optional,
-                help: "How many receivers there are, 1 to 8 [default: 2]",
+                help: "The number of receivers, 1 to 8 [default: 2]",
             },
             BURST,
         ],
@@ -137,7 +137,7 @@ pub static COMMANDS: [CommandRow; 10] = [
     },
     CommandRow {
         name: "check",
-        about: "Say whether the datagrams of a folder come from one whole session",
+        about: "Report whether captured datagrams are one whole session",
         options: &[OptionRow {
             name: "folder",
             kind: Kind::Word,
@@ -148,7 +148,7 @@ pub static COMMANDS: [CommandRow; 10] = [
     },
     CommandRow {
         name: "publish",
-        about: "Send a session, whose messages standard input gives, on two lines",
+        about: "Publish messages from standard input on two lines",
         options: &[
             SESSION,
             LIMIT,
@@ -165,7 +165,7 @@ pub static COMMANDS: [CommandRow; 10] = [
             OptionRow {
                 name: "journal",
                 kind: Kind::Required,
-                help: "The file that the journal is saved in",
+                help: "The file to save the journal in",
             },
             OptionRow {
                 name: "beats",
@@ -183,7 +183,7 @@ pub static COMMANDS: [CommandRow; 10] = [
     },
     CommandRow {
         name: "serve",
-        about: "Answer requests from the journal of a file",
+        about: "Serve requests for messages of a journal file",
         options: &[
             OptionRow {
                 name: "journal",
@@ -209,7 +209,7 @@ pub static COMMANDS: [CommandRow; 10] = [
     },
     CommandRow {
         name: "listen",
-        about: "Print the messages of a session that come on two lines, and request what is missing",
+        about: "Receive a session on two lines, request what is missing, and print the messages",
         options: &[
             SESSION,
             OptionRow {
@@ -279,17 +279,17 @@ pub static COMMANDS: [CommandRow; 10] = [
     },
     CommandRow {
         name: "upgrade",
-        about: "Write the journal of a file in another one, in the newest version",
+        about: "Write a journal file anew, in version 2 of the format",
         options: &[
             OptionRow {
                 name: "journal",
                 kind: Kind::Required,
-                help: "The file that is read",
+                help: "The file to read",
             },
             OptionRow {
                 name: "to",
                 kind: Kind::Required,
-                help: "The file that is made or replaced, another one",
+                help: "The file to write, which is created or replaced",
             },
             OptionRow {
                 name: "close",
@@ -301,12 +301,12 @@ pub static COMMANDS: [CommandRow; 10] = [
     },
     CommandRow {
         name: "dump",
-        about: "Print the messages of a journal's file as lines of hexadecimal digits",
+        about: "Print the messages of a journal file as lines of hexadecimal digits",
         options: &[
             OptionRow {
                 name: "journal",
                 kind: Kind::Required,
-                help: "The file of the journal",
+                help: "The journal file",
             },
             OptionRow {
                 name: "from",
@@ -316,7 +316,7 @@ pub static COMMANDS: [CommandRow; 10] = [
             OptionRow {
                 name: "count",
                 kind: Kind::Optional,
-                help: "The most messages, 0 to 18446744073709551615 [default: all]",
+                help: "The maximum number of messages, 0 to 18446744073709551615 [default: all]",
             },
         ],
         example: "Example:\n  mold dump --journal day.journal | mold publish --session SESSION001 \\\

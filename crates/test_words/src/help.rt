@@ -2,21 +2,21 @@
 
 use crate::reading::{FaultLine, expect_faults};
 
-const TOP_HELP: &str = "MoldUDP64 packets, shown as lines of text
+const TOP_HELP: &str = "Publish, serve, receive and check MoldUDP64 sessions
 
 Usage: mold [COMMAND]
 
 Commands:
   show     Print packets given as lines of hexadecimal digits on standard input
-  pack     Print the packets of a session whose messages standard input gives
-  sim      Run the script of events that standard input gives, and print what each does
-  check    Say whether the datagrams of a folder come from one whole session
-  publish  Send a session, whose messages standard input gives, on two lines
-  serve    Answer requests from the journal of a file
-  listen   Print the messages of a session that come on two lines, and request what is missing
+  pack     Pack messages from standard input and print the packets
+  sim      Run a script of events from standard input and print what each event does
+  check    Report whether captured datagrams are one whole session
+  publish  Publish messages from standard input on two lines
+  serve    Serve requests for messages of a journal file
+  listen   Receive a session on two lines, request what is missing, and print the messages
   loop     Publish, serve and listen in one process over ports of 127.0.0.1
-  upgrade  Write the journal of a file in another one, in the newest version
-  dump     Print the messages of a journal's file as lines of hexadecimal digits
+  upgrade  Write a journal file anew, in version 2 of the format
+  dump     Print the messages of a journal file as lines of hexadecimal digits
   help     Print this message or the help of the given subcommand(s)
 
 Options:
@@ -38,38 +38,38 @@ Example:
   echo 53455353494f4e30303100000000000000010002000241420000 | mold show
 ";
 
-const PACK_HELP: &str = "Print the packets of a session whose messages standard input gives
+const PACK_HELP: &str = "Pack messages from standard input and print the packets
 
 Usage: mold pack [OPTIONS] --session <NAME>
 
 Options:
       --session <NAME>  The session's name, 1 to 10 characters from space to ~
-      --limit <BYTES>   The most bytes of a packet, 64 to 65507 [default: 1400]
+      --limit <BYTES>   The maximum size of a packet in bytes, 64 to 65507 [default: 1400]
   -h, --help            Print help
 
 Example:
   printf '4142\\n4344\\n' | mold pack --session SESSION001
 ";
 
-const SIM_HELP: &str = "Run the script of events that standard input gives, and print what each does
+const SIM_HELP: &str = "Run a script of events from standard input and print what each event does
 
 Usage: mold sim [OPTIONS] --session <NAME>
 
 Options:
       --session <NAME>        The session's name, 1 to 10 characters from space to ~
-      --limit <BYTES>         The most bytes of a packet, 64 to 65507 [default: 1400]
-      --server-limit <BYTES>  The most bytes of an answer, 64 to 65507 [default: 1400]
-                              It is not below the limit
-      --window <MESSAGES>     How many messages a receiver looks ahead, 1 to 65536 [default: 1024]
-      --receivers <COUNT>     How many receivers there are, 1 to 8 [default: 2]
-      --burst <PACKETS>       The most packets that answer a request, 1 to 64 [default: 1]
+      --limit <BYTES>         The maximum size of a packet in bytes, 64 to 65507 [default: 1400]
+      --server-limit <BYTES>  The maximum size of a response in bytes, 64 to 65507 [default: 1400]
+                              It is at least the limit
+      --window <MESSAGES>     How many messages ahead can be stored, 1 to 65536 [default: 1024]
+      --receivers <COUNT>     The number of receivers, 1 to 8 [default: 2]
+      --burst <PACKETS>       The maximum number of responses to a request, 1 to 64 [default: 1]
   -h, --help                  Print help
 
 Example:
   printf '%s\\n' 'publish 41' datagram 'deliver 0 a 0' | mold sim --session SESSION001
 ";
 
-const CHECK_HELP: &str = "Say whether the datagrams of a folder come from one whole session
+const CHECK_HELP: &str = "Report whether captured datagrams are one whole session
 
 Usage: mold check <FOLDER>
 
@@ -84,13 +84,13 @@ Example:
   mold check captures
 ";
 
-const UPGRADE_HELP: &str = "Write the journal of a file in another one, in the newest version
+const UPGRADE_HELP: &str = "Write a journal file anew, in version 2 of the format
 
 Usage: mold upgrade [OPTIONS] --journal <FILE> --to <FILE>
 
 Options:
-      --journal <FILE>  The file that is read
-      --to <FILE>       The file that is made or replaced, another one
+      --journal <FILE>  The file to read
+      --to <FILE>       The file to write, which is created or replaced
       --close           Close the journal
   -h, --help            Print help
 
@@ -98,14 +98,14 @@ Example:
   mold upgrade --journal old.journal --to new.journal
 ";
 
-const DUMP_HELP: &str = "Print the messages of a journal's file as lines of hexadecimal digits
+const DUMP_HELP: &str = "Print the messages of a journal file as lines of hexadecimal digits
 
 Usage: mold dump [OPTIONS] --journal <FILE>
 
 Options:
-      --journal <FILE>  The file of the journal
+      --journal <FILE>  The journal file
       --from <NUMBER>   The number of the first message, 1 to 18446744073709551615 [default: 1]
-      --count <COUNT>   The most messages, 0 to 18446744073709551615 [default: all]
+      --count <COUNT>   The maximum number of messages, 0 to 18446744073709551615 [default: all]
   -h, --help            Print help
 
 Example:
