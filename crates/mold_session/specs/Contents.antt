@@ -38,8 +38,8 @@ PrecedeFault bytes messages Read = ⊥
 PrecedeFault bytes messages Memory = ⊥
 PrecedeFault bytes messages Write = ⊥
 
--- The contents of the bytes as a file. Without a fault, they are the file of a journal of these messages, of
--- either version. With a fault, they are not the file of a journal, and `messages` are those before the fault.
+-- The bytes as the contents of a file. Without a fault, the bytes are the file of a journal of these messages, of
+-- either version. With a fault, the bytes are not the file of a journal, and `messages` are those before the fault.
 abbrev pub Gives : List ℕ → List (List ℕ) → Option FileError → Type 0
 Gives bytes messages None = (head : FileHead) × SpellsFile head messages head.stated bytes
 Gives bytes messages (Some error) = JournalFault MAX_MESSAGE bytes error × PrecedeFault bytes messages error
