@@ -1,4 +1,4 @@
--- The packets of a response, offered one by one.
+-- The responses to a request, offered one by one.
 use Rattle.std.proofs.Common.{◌≡◌, ℕ, ◌-◌, Bool, true, false, List, [], ◌∷◌, ◌++◌, length, Result, Ok, Err, refl, sym, ap, subst, ◌∙◌, append_assoc, arith}
 use Rattle.std.proofs.lemmas.Result.{IfOk-from_err, on_ok_weaker}
 use Rattle.std.specs.Prelude.{IsErr, OnOk}
@@ -211,7 +211,7 @@ refused_so {P} {E} result to journal bytes why port tally report server after pl
       sent = begins_whole port.sent;
     })
 
--- a new plan sends the packets of the response
+-- a new plan sends the packets of the responses
 plans : (journal : JournalState) (server : ServerState) (bytes : List ℕ) (plan : PlanState)
     (asked : Result Request AnswerError) →
     ((request : Request) → checked_request journal bytes ≡ Ok request → IsAnswerable journal request) →

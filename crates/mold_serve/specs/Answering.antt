@@ -1,4 +1,4 @@
--- The remaining packets of a response while they are offered one by one.
+-- The remaining responses to a request while they are offered one by one.
 use Rattle.std.specs.Prelude.{◌≡◌, Bool, true, false, List, [], ◌∷◌, Result, OnOk}
 use Rattle.mold_serve.specs.Serving.{Service, ResponderState, offer}
 use Rattle.mold_session.specs.Answer.{PlanState, planned}

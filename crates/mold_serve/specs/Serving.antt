@@ -33,14 +33,14 @@ service_of journal server = record {
   burst = server.burst;
 }
 
--- The reply to a request: all packets of the response, or the refusal of the bytes that asked.
+-- The reply to a request: the packets of all responses, or the refusal of the bytes that asked.
 abbrev pub reply_to : Service → Result Request AnswerError → Result (List Packet) AnswerError
 reply_to service (Ok request) =
     Ok
     (answer service.journal.messages service.journal.session service.limit request.sequence request.count service.burst)
 reply_to service (Err why) = Err why
 
--- The reply to the bytes of a received datagram: the packets of the response, or the refusal.
+-- The reply to the bytes of a received datagram: the packets of the responses, or the refusal.
 abbrev pub reply : Service → List ℕ → Result (List Packet) AnswerError
 reply service bytes = reply_to service (checked_request service.journal bytes)
 
@@ -85,7 +85,7 @@ pub record IsSame {D : Type 0} (old new : Responder D) : Type 0 where
 abbrev pub served_by : {P : Type 0} → ServerState → ResponderState P → ServerState
 served_by server responder = record server { answered = responder.requests }
 
--- The state after a packet of a response was offered to the requester `to`. The Boolean states whether the send
+-- The state after the packet of a response was offered to the requester `to`. The Boolean states whether the send
 -- failed. A failure is counted; a packet that was sent is printed and counted.
 abbrev pub offer : {P : Type 0} → P → Bool → Packet → ResponderState P → ResponderState P
 offer to true packet responder = record {

@@ -1,4 +1,4 @@
--- The packets of a response: the next one of a plan, and those after it.
+-- The responses to a request: the next packet of a plan, and those after it.
 use Rattle.std.proofs.Common.{◌≡◌, ℕ, zero, suc, ◌+◌, ◌-◌, ◌<◌, ◌≤◌, List, [], ◌∷◌, ◌++◌, length, length-drop, take, drop, refl, sym, ap, ◌∙◌, inl, inr, arith}
 use Rattle.std.proofs.Math.Seq.{drop-append_seam, drop-append-le}
 use Rattle.std.proofs.lemmas.List.{length-take, drop-drop, drop-take, take_min, take-append-le}
@@ -166,7 +166,7 @@ planned_grown published more limit plan is last =
     ap (λ (t : List (List ℕ)). take plan.left (packing limit plan.session plan.from t))
     (between_grown published more plan.from plan.to is.0 is.1 last)
 
--- What a plan sends for an accepted request is the response to the request.
+-- A plan for an accepted request sends the responses to the request.
 asked_between :
     (published : List (List ℕ)) (number count : ℕ) → 1 ≤ number → number ≤ length published →
     between published number (min (number + count) (length published + 1)) ≡ take count (from_number published number)
@@ -209,7 +209,7 @@ pub plan_unspent :
 plan_unspent published session number count burst first last some packets (inl none) = omega (arith, packets, none)
 plan_unspent published session number count burst first last some packets (inr none) = omega (arith, some, last, none)
 
--- A response has a first packet with at least one message.
+-- A request gets a first response, which has at least one message.
 pub answer_first :
     (published : List (List ℕ)) (session : Session) (limit number count burst : ℕ) → FrontIs → SomeFront → Alone →
     FitAlone limit published → 1 ≤ number → number ≤ length published → 1 ≤ count → 1 ≤ burst →

@@ -72,12 +72,12 @@ spells_next old new journal plan count bytes packed more spells =
     (data_body (next_part journal.messages old.limit plan) (omega (arith, packed.some more, packed.counted)))
     (rw begun at spells)
 
--- The bytes `lent` respond to the request `asked`, and they are true of the journal.
+-- The bytes `lent` are the first response to the request `asked`, and they are true of the journal.
 pub record IsAnswer (journal : JournalState) (server : ServerState) (asked lent : List ℕ) : Type 0 where
   pub spelled : SpellsAnswer journal server asked lent
   pub truth : IsTrueDatagram journal lent
 
--- The packed bytes are the first packet of the response to the request that the plan was made for.
+-- The packed bytes are the first response to the request that the plan was made for.
 pub spells_answer :
     (journal : JournalState) (server : ServerState) (asked : List ℕ) (plan : PlanState) (old new : PackerState)
     (count : ℕ) (bytes : List ℕ) → Piece → FrontIs → SomeFront → Alone → IsJournal journal → IsServer server →

@@ -1,4 +1,4 @@
--- The response to a request: its packets, and what a plan still sends of them.
+-- The responses to a request: their packets, and what a plan still sends of them.
 use Rattle.std.specs.Prelude.{◌≡◌, ◌⊎◌, ℕ, ◌+◌, ◌-◌, ◌<◌, ◌≤◌, min, List, ◌∷◌, length, take, drop}
 use Rattle.std.specs.List.{AllByRecursion}
 use Rattle.mold_wire.specs.declared.limits.TheConstants.{MESSAGE_OVERHEAD}
@@ -16,13 +16,13 @@ from_number published number = drop (number - 1) published
 abbrev pub between : List (List ℕ) → ℕ → ℕ → List (List ℕ)
 between published from to = take (to - from) (from_number published from)
 
--- The response to a request for `count` messages from `number` on: the packets that these messages are packed
+-- The responses to a request for `count` messages from `number` on: the packets that these messages are packed
 -- into, at most `burst` of them.
 abbrev pub answer : List (List ℕ) → Session → ℕ → ℕ → ℕ → ℕ → List Packet
 answer published session limit number count burst =
     take burst (packing limit session number (take count (from_number published number)))
 
--- The rest of a response: the numbers of its messages and how many packets may still be sent.
+-- The remaining responses to a request: the numbers of their messages and how many packets may still be sent.
 pub record PlanState : Type 0 where
   pub session : Session
   -- the number of the next message
@@ -36,7 +36,7 @@ pub record PlanState : Type 0 where
 abbrev pub IsPlan : PlanState → Type 0
 IsPlan plan = (1 ≤ plan.from) × (plan.from ≤ plan.to)
 
--- The plan for the whole response to a request. It ends at the last message that is requested and that the
+-- The plan for all responses to a request. It ends at the last message that is requested and that the
 -- journal has.
 abbrev pub plan_for : JournalState → ℕ → Request → PlanState
 plan_for journal burst request = record {

@@ -25,7 +25,7 @@ pub record ServerState : Type 0 where
   pub limit : ℕ
   -- the largest length of a journal's message, in bytes
   pub max_message : ℕ
-  -- the largest number of datagrams in one response
+  -- the largest number of responses to one request
   pub burst : ℕ
   -- how many requests were accepted
   pub answered : ℕ
@@ -85,20 +85,20 @@ judged journal (Ok request) = unless (request_refusal journal request) request
 abbrev pub checked_request : JournalState → List ℕ → Result Request AnswerError
 checked_request journal bytes = judged journal (request_reading bytes)
 
--- The plan for the response to a checked request, or why the request is refused.
+-- The plan for the responses to a checked request, or why the request is refused.
 abbrev pub plan_of : JournalState → ℕ → Result Request AnswerError → Result PlanState AnswerError
 plan_of journal burst (Err error) = Err error
 plan_of journal burst (Ok request) = Ok (plan_for journal burst request)
 
--- The plan for the response to the request that the bytes encode, or why it is refused.
+-- The plan for the responses to the request that the bytes encode, or why it is refused.
 abbrev pub planning : JournalState → ℕ → List ℕ → Result PlanState AnswerError
 planning journal burst bytes = plan_of journal burst (checked_request journal bytes)
 
--- The bytes `lent` are the encoding of the first packet of the response to the request `asked`.
+-- The bytes `lent` are the encoding of the first response to the request `asked`.
 pub record SpellsAnswer (journal : JournalState) (server : ServerState) (asked lent : List ℕ) : Type 0 where
   pub request : Request
   pub packet : Packet
-  -- the further packets of the response
+  -- the packets of the further responses
   pub rest : List Packet
   pub asks : checked_request journal asked ≡ Ok request
   pub sent : answer journal.messages journal.session server.limit request.sequence request.count server.burst

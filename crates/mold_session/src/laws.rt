@@ -82,7 +82,7 @@ pub fn planned_law()
 }
 
 /// A request is accepted exactly when it asks for messages that the journal has. The packets that its plan
-/// sends are the response to the request.
+/// sends are the responses to the request.
 pub fn answered_law()
     ensures asked { (journal : JournalState) (request : Request) (bytes : List ℕ) →
         SpellsRequest request bytes → IsAnswerable journal request → checked_request journal bytes ≡ Ok request }
@@ -102,7 +102,7 @@ pub fn answered_law()
     reading_law();
 }
 
-/// The response to a request has a first packet with at least one message, if three conditions hold. The
+/// A request gets a first response, which has at least one message, if three conditions hold. The
 /// requested number is that of a message, the message count is at least 1, and each message fits a datagram by
 /// itself.
 ///

@@ -1,4 +1,4 @@
-//! The rest of the response to a request.
+//! The remaining responses to a request.
 
 ghost use Rattle.std.specs.Prelude.{◌≡◌, ◌+◌, ◌≤◌, ◌<◌, ◌↔◌, length, IsTrue, IsSome, IfSome};
 ghost use Rattle.mold_session.specs.Answer.{IsPlan, IsSpent, plan_for, moved};
@@ -8,7 +8,7 @@ use crate::journal::Journal;
 use mold_wire::{Request, Session};
 use std::marker::Model;
 
-/// The rest of the response to a request: the messages with numbers from `from` up to, but not including, `to`,
+/// The remaining responses to a request: the messages with numbers from `from` up to, but not including, `to`,
 /// in at most `left` datagrams. `from` is at least 1 and at most `to`.
 #[derive(Debug, Drop)]
 pub struct Plan {
@@ -29,7 +29,7 @@ impl Model for Plan {
 }
 
 impl Plan {
-    // Plans the response to a request that the journal can satisfy, in at most `burst` datagrams.
+    // Plans at most `burst` responses to a request that the journal can satisfy.
     pub(crate) fn new(journal: &Journal, request: &Request, burst: u16) -> Plan
         requires session { request.now.session ≡ journal.now.session }
         requires first { 1 ≤ request.now.sequence }

@@ -22,7 +22,7 @@ use std::alloc::Global;
 use std::marker::Model;
 
 /// A re-request server, which responds to a request with messages of a journal. A request gets at most `burst`
-/// datagrams. Each has the longest prefix that fits of the remaining messages that were requested and that the
+/// responses. Each has the longest prefix that fits of the remaining messages that were requested and that the
 /// journal has.
 ///
 /// Only `new` allocates. Each call reads at most one message more than it returns. A returned datagram is valid
@@ -32,9 +32,9 @@ pub struct Server {
     packer: Packer,
     // The largest length of a journal's message, in bytes.
     max_message: u16,
-    // The largest number of datagrams in the response to one request.
+    // The largest number of responses to one request.
     burst: u16,
-    // The number of requests with a response.
+    // The number of accepted requests.
     answered: u64,
 }
 
@@ -64,7 +64,7 @@ impl Server {
     ghost use Rattle.mold_session.specs.contracts.server.Server.{the_row};
 
     /// Makes a server whose datagrams have at most `limit` bytes, for journals whose messages have at most
-    /// `max_message` bytes. It sends at most `burst` datagrams for a request. It allocates `limit` bytes, and
+    /// `max_message` bytes. It sends at most `burst` responses to a request. It allocates `limit` bytes, and
     /// nothing later.
     pub fn new(
         alloc: Global,
@@ -119,8 +119,8 @@ impl Server {
         self.answered
     }
 
-    /// Returns the first datagram of the response to a request, and counts the request. The datagram has at
-    /// least one message. The journal's messages may have at most `max_message` bytes.
+    /// Returns the first response to a request, and counts the request. The response has at least one message.
+    /// The journal's messages may have at most `max_message` bytes.
     ///
     /// A refused request gets the first error of `AnswerError` that applies, and the server is unchanged.
     pub fn answer(&mut self, journal: &Journal, request: &[u8]) -> Result<&[u8], AnswerError>
@@ -141,7 +141,7 @@ impl Server {
         Ok(self.packer.bytes())
     }
 
-    /// Plans the response to a request. `datagram` then returns its datagrams one by one. It refuses and counts
+    /// Plans the responses to a request. `datagram` then returns them one by one. It refuses and counts
     /// requests as `answer` does.
     pub fn plan(&mut self, journal: &Journal, request: &[u8]) -> Result<Plan, AnswerError>
         requires { journal.now.max_message ≤ self.old.max_message }

@@ -14,7 +14,7 @@ abbrev pub new_publisher : List ℕ → ℕ → PublisherState
 new_publisher session limit = fresh_publisher (record { 0 = session }) limit
 
 -- A server whose packets have at most `server_limit` bytes, for the messages of a publisher whose packets have at most
--- `limit`. It answers a request with at most `burst` packets.
+-- `limit`. It sends at most `burst` responses to a request.
 abbrev pub new_server : ℕ → ℕ → ℕ → ServerState
 new_server server_limit limit burst = fresh_server server_limit (limit - MESSAGE_OVERHEAD) burst
 

@@ -216,7 +216,7 @@ fn refusals_are_printed_with_their_numbers(rt: HostRuntime) -> Result<(), Fail> 
     expect(&rt, &REFUSED, 0)
 }
 
-// A request for all messages, whose response has at most two datagrams.
+// A request for all messages, which gets at most two responses.
 const BURST: Case = Case {
     given: &[Given::Bytes(ALL)],
     burst: 2,
@@ -308,7 +308,7 @@ fn no_turns_print_the_last_line(rt: HostRuntime) -> Result<(), Fail> {
     expect(&rt, &NO_TURN, 0)
 }
 
-// Sends the response to `ALL` with a new server and a new tally, and compares what both count.
+// Sends the responses to `ALL` with a new server and a new tally, and compares what both count.
 fn expect_counted(
     rt: &(impl Abort + AllocGlobal),
     journal: &Journal,

@@ -1,4 +1,4 @@
-//! The re-request server: worked examples, the order of its refusals, and responses of several datagrams.
+//! The re-request server: worked examples, the order of its refusals, and several responses to a request.
 
 use crate::comparisons::{same_message, same_number};
 use mold_session::{AnswerError, AppendError, Journal, Plan, Server, ServerError};
@@ -271,7 +271,7 @@ fn requests_of_other_lengths_are_refused(rt: HostRuntime) -> Result<(), Fail> {
     Ok(())
 }
 
-/// A server with this burst plans the response to the request, which goes from message `from` to below `to`, and takes
+/// A server with this burst plans the responses to the request, which go from message `from` to below `to`, and takes
 /// the steps.
 fn expect_plan(
     rt: &impl Abort,

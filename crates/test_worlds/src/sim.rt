@@ -8,7 +8,7 @@ use std::alloc::AllocError;
 use std::process::Abort;
 use std::test::Fail;
 
-/// A script, the most packets of a response and the number of receivers, and what the script prints and returns.
+/// A script, the most responses to a request and the number of receivers, and what the script prints and returns.
 #[derive(Clone, Copy)]
 struct Script {
     burst: u16,

@@ -193,7 +193,7 @@ fn five_messages_in_one_run(rt: HostRuntime) -> Result<(), Fail> {
     Ok(())
 }
 
-/// The response has two datagrams, which a burst of three allows.
+/// The request gets two responses, which a burst of three allows.
 #[test]
 fn a_burst_is_sent_whole_or_not_at_all(rt: HostRuntime) -> Result<(), Fail> {
     tell(&rt, 3, &[4], Story::Burst)?;

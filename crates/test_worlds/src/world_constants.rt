@@ -17,7 +17,7 @@ pub const B: Way = Way::Line(Line::B);
 /// A request for 65,535 messages from 2 on.
 pub const FROM_TWO: &[u8] = b"SESSION001\0\0\0\0\0\0\0\x02\xff\xff";
 
-/// The first datagram of the response, with messages 2 and 3.
+/// The first response, with messages 2 and 3.
 pub const TWO_AND_THREE: &[u8] = b"SESSION001\0\0\0\0\0\0\0\x02\0\x02\
     \0\x14\x02\x02\x02\x02\x02\x02\x02\x02\x02\x02\x02\x02\x02\x02\x02\x02\x02\x02\x02\x02\
     \0\x14\x03\x03\x03\x03\x03\x03\x03\x03\x03\x03\x03\x03\x03\x03\x03\x03\x03\x03\x03\x03";
