@@ -2,25 +2,40 @@
  * datagram (the payload of UDP) to the checker.
  *
  *     cc -O2 library/examples/check.c library/out/libmold.a -o check
- *     ./check [--port PORT] [--to ADDRESS] FILE..
+ *     ./check [--port PORT].. [--to ADDRESS].. FILE..
  *
- * --port and --to select the datagrams to this port and to this address; without them all datagrams are taken. A file
- * may have either byte order, and times in microseconds or nanoseconds. Its link may be Ethernet with or without VLAN
- * tags, raw IP, or Linux cooked capture of either version. A datagram that was captured only in part, or that IP
+ * --port and --to select the datagrams to these ports and to these addresses. Without --port, datagrams to all ports
+ * are taken; without --to, those to all addresses. `./check --help` prints the usage.
+ *
+ * A file may have either byte order, and times in microseconds or nanoseconds. Its link may be Ethernet with or without
+ * VLAN tags, raw IP, or Linux cooked capture of either version. A datagram that was captured only in part, or that IP
  * fragmented, is skipped. The number of skipped datagrams is reported on standard error.
  *
  * It prints `datagrams N` and then the verdict. If the session is whole, the verdict is `whole MESSAGES`. Otherwise it
  * is `incomplete end END`, with `none` if no end is known, and a line `missing FIRST LAST` for each missing range. If a
- * datagram is refused, the program prints only `refused datagram K WHY NUMBER`.
+ * datagram is refused, the program prints only `refused datagram K WHY`, and the number that goes with the refusal, if
+ * there is one.
  *
  * The status is 0 if the session is whole, and 1 if something is missing. It is 2 if a datagram was refused, and 3
  * after any other error. */
 #include "udp.h"
 
+static const char usage[] = "usage: check [--port PORT].. [--to ADDRESS].. FILE..\n"
+                            "\n"
+                            "Reports whether pcap files contain one whole session.\n"
+                            "\n"
+                            "  --port PORT   check the datagrams to this port\n"
+                            "  --to ADDRESS  check the datagrams to this IPv4 address\n"
+                            "  --help        print this text\n"
+                            "\n"
+                            "An option may be given several times. Then a datagram to any of the values is checked.\n";
+
+/* The ports and the addresses that select datagrams. If there are no ports, all ports are selected; likewise addresses.
+ */
 struct options {
-    bool has_port, has_address;
-    uint16_t port;
-    struct in_addr address;
+    uint16_t *ports;
+    struct in_addr *addresses;
+    size_t port_count, address_count;
 };
 
 /* A pcap file. */
@@ -123,17 +138,30 @@ static bool skip_link(uint32_t link, struct part *part) {
     return type == 0x0800;
 }
 
+static bool has_port(const struct options *options, uint16_t port) {
+    for (size_t i = 0; i < options->port_count; i++)
+        if (options->ports[i] == port)
+            return true;
+    return options->port_count == 0;
+}
+
+static bool has_address(const struct options *options, const uint8_t *address) {
+    for (size_t i = 0; i < options->address_count; i++)
+        if (memcmp(&options->addresses[i], address, 4) == 0)
+            return true;
+    return options->address_count == 0;
+}
+
 /* Skips the headers of IPv4 and UDP, so that the payload remains. Returns false if the frame is not UDP over IPv4, or
  * if the options do not select it. *whole becomes false if IP fragmented the datagram, or if only a part of it was
  * captured. The port of such a datagram may stay unchecked. */
 static bool skip_headers(const struct options *options, struct part *part, bool *whole) {
     if (part->length < 20 || part->at[0] >> 4 != 4 || part->at[9] != 17)
         return false;
-    const uint8_t *address = part->at + 16;
     size_t header = (size_t)(part->at[0] & 15) * 4, total = two(part->at + 2);
     if ((two(part->at + 6) & 0x3fff) != 0)
         *whole = false;
-    if (header < 20 || total < header || (options->has_address && memcmp(address, &options->address, 4) != 0))
+    if (header < 20 || total < header || !has_address(options, part->at + 16))
         return false;
     if (part->length > total)
         part->length = total;
@@ -142,7 +170,7 @@ static bool skip_headers(const struct options *options, struct part *part, bool 
     if (!skip(part, header) || part->length < 8 || two(part->at + 4) < 8)
         return false;
     size_t length = (size_t)two(part->at + 4) - 8;
-    if (options->has_port && two(part->at + 2) != options->port)
+    if (!has_port(options, two(part->at + 2)))
         return false;
     skip(part, 8);
     *whole = part->length >= length;
@@ -150,25 +178,24 @@ static bool skip_headers(const struct options *options, struct part *part, bool 
     return true;
 }
 
-/* Passes the datagram of a frame, if it has one, to the checker. Returns false if the datagram is refused. */
-static bool check_frame(struct check *check, uint32_t link, struct part part, bool whole) {
-    mold_bytes text = MOLD_NO_BYTES;
+/* Passes the datagram of a frame, if it has one, to the checker. Reports a datagram that is refused. */
+static void check_frame(struct check *check, uint32_t link, struct part part, bool whole) {
     uint64_t number = 0;
     if (!skip_link(link, &part) || !skip_headers(&check->options, &part, &whole))
-        return true;
+        return;
     if (!whole) {
         check->skipped++;
-        return true;
+        return;
     }
     check->datagrams++;
     uint32_t code = mold_checker_take(&check->checker, part.at, part.length, &number);
-    if (code == MOLD_DONE)
-        return true;
-    mold_text(code, &text);
-    printf("refused datagram %llu %.*s %llu\n", (unsigned long long)check->datagrams, (int)text.length,
-           (const char *)text.at, (unsigned long long)number);
-    check->refused = true;
-    return false;
+    if (code == MOLD_MEMORY)
+        need("datagram", code);
+    check->refused = code != MOLD_DONE;
+    if (check->refused) {
+        printf("refused datagram %llu", (unsigned long long)check->datagrams);
+        print_refusal(stdout, code, number);
+    }
 }
 
 static void check_file(struct check *check, const char *name) {
@@ -215,19 +242,28 @@ static int print_verdict(struct check *check) {
     return 1;
 }
 
+static void read_option(struct options *options, const char *name, const char *value) {
+    if (strcmp(name, "--port") == 0)
+        options->ports[options->port_count++] = (uint16_t)number_of(value, 0, 65535);
+    else if (strcmp(name, "--to") != 0)
+        fail_usage(usage, name, "no such option");
+    else if (inet_pton(AF_INET, value, &options->addresses[options->address_count++]) != 1)
+        fail(value, "not an IPv4 address");
+}
+
+/* Reads the options, and returns the index of the first file. */
 static int read_options(struct options *options, int count, char **words) {
     int at = 1;
+    options->ports = calloc((size_t)count, sizeof *options->ports);
+    options->addresses = calloc((size_t)count, sizeof *options->addresses);
+    if (options->ports == NULL || options->addresses == NULL)
+        fail("options", "out of memory");
     for (; at < count && strncmp(words[at], "--", 2) == 0; at++) {
-        const char *name = words[at], *value = value_of(count, words, &at);
-        if (strcmp(name, "--port") == 0)
-            options->port = (uint16_t)number_of(value, 0, 65535), options->has_port = true;
-        else if (strcmp(name, "--to") == 0 && inet_pton(AF_INET, value, &options->address) == 1)
-            options->has_address = true;
-        else
-            fail(name, "no such option");
+        const char *name = words[at];
+        read_option(options, name, value_of(usage, count, words, &at));
     }
     if (at >= count)
-        fail("usage", "check [--port PORT] [--to ADDRESS] FILE..");
+        fail_usage(usage, "check", "no file is given");
     return at;
 }
 
@@ -241,5 +277,7 @@ int main(int count, char **words) {
     if (check.skipped > 0)
         fprintf(stderr, "skipped %llu datagrams that are not whole\n", (unsigned long long)check.skipped);
     mold_free(&check.checker);
+    free(check.options.ports);
+    free(check.options.addresses);
     return fflush(stdout) == 0 ? status : 3;
 }

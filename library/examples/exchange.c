@@ -6,23 +6,38 @@
  * It reads messages as lines of hexadecimal digits from standard input, as `mold publish` does, and sends them at once
  * on both lines. Messages that were read together share datagrams, as far as they fit. After each second without a
  * datagram it sends a heartbeat. It responds to requests at any time. At the end of the input it closes the session.
- * Then it sends four end packets a second, until no request has arrived for the time of --linger. The other options,
- * with their defaults:
+ * Then it sends four end packets a second, until no request has arrived for the time of --linger. `./exchange --help`
+ * lists the options and their defaults.
  *
- *   --limit L             the limit of a datagram, in bytes (1400)
- *   --burst B             the greatest number of datagrams of a response (4)
- *   --save N              the journal is saved after every N messages (1000000)
- *   --linger MS           after the end of the input, the time without a request after which it ends (2000)
- *   --interface ADDRESS   the interface on which it sends to multicast groups (chosen by the system)
+ * The journal is saved after every N messages of --save, and at the end. The first save writes a new file, which then
+ * replaces an old file of that name. A later save only adds the messages that are new. The function save_journal states
+ * what a crash leaves.
  *
- * The journal is also saved at the end. It is written to a new file, which then replaces the old one.
- *
- * The last line is `published MESSAGES datagrams D answered R failed F`. D counts data packets, R the requests that got
+ * The last line is `published MESSAGES datagrams D requests R failed F`. D counts data packets, R the requests that got
  * a response, and F the sends and receives that failed. A refused input line is reported on standard error, and the
  * session goes on. The status is 0, or 2 if an input line was refused, or 3 after any other error. */
 #include "udp.h"
 
-enum { INPUT = 1 << 16, LONGEST = 1 << 18 };
+static const char usage[] =
+    "usage: exchange --session SESSION --a ADDRESS --b ADDRESS --bind ADDRESS --journal FILE [OPTION VALUE]..\n"
+    "\n"
+    "Publishes lines of hexadecimal digits as messages, and responds to requests.\n"
+    "\n"
+    "  --session SESSION    the session, 1 to 10 characters\n"
+    "  --a ADDRESS          the address of line A, such as 239.192.1.1:26477\n"
+    "  --b ADDRESS          the address of line B\n"
+    "  --bind ADDRESS       the address at which requests arrive\n"
+    "  --journal FILE       the file of the journal\n"
+    "  --limit L            the limit of a datagram, in bytes (1400)\n"
+    "  --burst B            the greatest number of datagrams of a response (4)\n"
+    "  --save N             save the journal after every N messages (100000)\n"
+    "  --linger MS          after the end of the input, the time without a request after which it ends (2000)\n"
+    "  --interface ADDRESS  the interface on which it sends to multicast groups (chosen by the system)\n"
+    "  --help               print this text\n";
+
+/* The sizes of the header of a packet and of a journal, and where a journal's header has the flag and the number of
+ * messages. The flag is 1 if the session is closed. */
+enum { INPUT = 1 << 16, LONGEST = 1 << 18, PACKET_HEADER = 20, JOURNAL_HEADER = 27, FLAG = 18, COUNT = 19 };
 
 struct options {
     uint8_t session[10];
@@ -34,12 +49,26 @@ struct options {
     int64_t linger;
 };
 
+/* The journal file, and what the next save adds to it. */
+struct journal {
+    /* The file, or -1 before the first save, and its length. */
+    int file;
+    uint64_t length;
+    /* The number of messages that the next header states: those that were sent. */
+    uint64_t messages;
+    /* How many of them are not saved, and their message blocks. */
+    uint64_t unsaved;
+    uint8_t *blocks;
+    size_t used, room;
+};
+
 struct exchange {
     struct options options;
     mold_publisher publisher;
+    struct journal journal;
     /* The sockets that send datagrams and receive requests. */
     int out, requests;
-    uint64_t messages, datagrams, answered, failed, saved, line;
+    uint64_t messages, datagrams, responded, failed, line;
     bool ended, refused;
     int64_t last_sent, last_asked;
 };
@@ -71,7 +100,7 @@ static void read_option(struct options *read, const char *name, const char *valu
     else if (strcmp(name, "--linger") == 0)
         read->linger = (int64_t)number_of(value, 0, 86400000);
     else
-        fail(name, "no such option");
+        fail_usage(usage, name, "no such option");
 }
 
 static struct options options_of(int count, char **words) {
@@ -79,16 +108,107 @@ static struct options options_of(int count, char **words) {
     memset(&read, 0, sizeof read);
     read.limit = 1400;
     read.burst = 4;
-    read.save = 1000000;
+    read.save = 100000;
     read.linger = 2000;
     for (int i = 1; i < count; i++) {
         const char *name = words[i];
-        read_option(&read, name, value_of(count, words, &i));
+        read_option(&read, name, value_of(usage, count, words, &i));
     }
     if (read.session[0] == 0 || read.lines[0].sin_family == 0 || read.lines[1].sin_family == 0 ||
         read.bind.sin_family == 0 || read.journal == NULL)
-        fail("usage", "exchange --session SESSION --a ADDRESS --b ADDRESS --bind ADDRESS --journal FILE ..");
+        fail_usage(usage, "exchange", "a required option is missing");
     return read;
+}
+
+/* ---- The journal ---- */
+
+/* Keeps the messages of a data packet for the next save. A journal has the same message blocks as the packets. */
+static void keep_messages(struct journal *journal, const uint8_t *packet, size_t size) {
+    size_t length = size - PACKET_HEADER;
+    if (length > journal->room - journal->used) {
+        size_t room = 2 * journal->room + length;
+        uint8_t *blocks = realloc(journal->blocks, room);
+        if (blocks == NULL)
+            fail("journal", "out of memory");
+        journal->blocks = blocks;
+        journal->room = room;
+    }
+    memcpy(journal->blocks + journal->used, packet + PACKET_HEADER, length);
+    journal->used += length;
+    uint64_t count = (uint64_t)packet[18] << 8 | packet[19];
+    journal->messages += count;
+    journal->unsaved += count;
+}
+
+/* Writes bytes at an offset of the file, and waits until they are on disk. */
+static void write_at(const struct journal *journal, const char *name, const uint8_t *bytes, size_t length,
+                     uint64_t offset) {
+    while (length > 0) {
+        ssize_t written = pwrite(journal->file, bytes, length, (off_t)offset);
+        if (written < 0 && errno != EINTR)
+            fail(name, strerror(errno));
+        if (written > 0) {
+            bytes += written;
+            length -= (size_t)written;
+            offset += (uint64_t)written;
+        }
+    }
+    if (fdatasync(journal->file) != 0)
+        fail(name, strerror(errno));
+}
+
+/* The header of a journal file of version 2. */
+static void put_header(uint8_t header[JOURNAL_HEADER], const struct exchange *exchange) {
+    memcpy(header, "MOLDJNL2", 8);
+    memcpy(header + 8, exchange->options.session, 10);
+    header[FLAG] = exchange->ended;
+    for (int i = 0; i < 8; i++)
+        header[COUNT + i] = (uint8_t)(exchange->journal.messages >> (56 - 8 * i));
+}
+
+/* Writes a new file. When its bytes are on disk, it replaces the old file. */
+static void save_first(struct exchange *exchange) {
+    struct journal *journal = &exchange->journal;
+    uint8_t header[JOURNAL_HEADER];
+    char name[4096];
+    int size = snprintf(name, sizeof name, "%s.new", exchange->options.journal);
+    if (size < 0 || (size_t)size >= sizeof name)
+        fail(exchange->options.journal, "the name is too long");
+    journal->file = open(name, O_WRONLY | O_CREAT | O_TRUNC | O_CLOEXEC, 0666);
+    if (journal->file < 0)
+        fail(name, strerror(errno));
+    put_header(header, exchange);
+    write_at(journal, name, header, sizeof header, 0);
+    write_at(journal, name, journal->blocks, journal->used, sizeof header);
+    if (rename(name, exchange->options.journal) != 0)
+        fail(exchange->options.journal, strerror(errno));
+    journal->length = sizeof header;
+}
+
+/* Adds the new messages to the file. The time depends on their bytes alone. Nothing is sent meanwhile.
+ *
+ * The new blocks are on disk before the header states them. So `mold dump` and `mold serve` can read the file after
+ * each save. This is what a crash leaves:
+ *
+ *   before the end of the first save  the old file, if there was one
+ *   between two saves                 the journal as it was last saved
+ *   during a later save               that journal, or the new one, or more messages than the header states, of which
+ *                                     the last may be cut. `mold serve` refuses such a file. `mold dump` prints all
+ *                                     whole messages, and then the refusal. */
+static void save_journal(struct exchange *exchange) {
+    struct journal *journal = &exchange->journal;
+    const char *name = exchange->options.journal;
+    uint8_t header[JOURNAL_HEADER];
+    if (journal->file < 0)
+        save_first(exchange);
+    else {
+        put_header(header, exchange);
+        write_at(journal, name, journal->blocks, journal->used, journal->length);
+        write_at(journal, name, header + FLAG, JOURNAL_HEADER - FLAG, FLAG);
+    }
+    journal->length += journal->used;
+    journal->used = 0;
+    journal->unsaved = 0;
 }
 
 /* ---- Sending ---- */
@@ -110,6 +230,7 @@ static void send_messages(struct exchange *exchange, bool all) {
     size_t size = 0;
     while ((all || mold_publisher_is_full(&exchange->publisher)) &&
            mold_publisher_datagram(&exchange->publisher, datagram, sizeof datagram, &size) == MOLD_DONE) {
+        keep_messages(&exchange->journal, datagram, size);
         send_on_lines(exchange, size);
         exchange->datagrams++;
     }
@@ -123,47 +244,6 @@ static void send_heartbeat(struct exchange *exchange) {
     else
         need("heartbeat", mold_publisher_heartbeat(&exchange->publisher, datagram, sizeof datagram, &size));
     send_on_lines(exchange, size);
-}
-
-/* ---- The journal ---- */
-
-static void write_all(const char *name, int file, const uint8_t *bytes, size_t length) {
-    while (length > 0) {
-        ssize_t written = write(file, bytes, length);
-        if (written < 0 && errno != EINTR)
-            fail(name, strerror(errno));
-        if (written > 0) {
-            bytes += written;
-            length -= (size_t)written;
-        }
-    }
-}
-
-/* Writes a new file. When its bytes are on disk, it is renamed and replaces the old file. */
-static void replace_file(const char *name, const uint8_t *bytes, size_t length) {
-    char new_name[4096];
-    int size = snprintf(new_name, sizeof new_name, "%s.new", name);
-    if (size < 0 || (size_t)size >= sizeof new_name)
-        fail(name, "the name is too long");
-    int file = open(new_name, O_WRONLY | O_CREAT | O_TRUNC | O_CLOEXEC, 0666);
-    if (file < 0)
-        fail(new_name, strerror(errno));
-    write_all(new_name, file, bytes, length);
-    if (fsync(file) != 0 || close(file) != 0 || rename(new_name, name) != 0)
-        fail(name, strerror(errno));
-}
-
-static void save_journal(struct exchange *exchange) {
-    size_t size = 0;
-    if (mold_publisher_save(&exchange->publisher, NULL, 0, &size) != MOLD_ROOM)
-        fail("save", "the journal has no size");
-    uint8_t *bytes = calloc(1, size);
-    if (bytes == NULL)
-        fail("save", "out of memory");
-    need("save", mold_publisher_save(&exchange->publisher, bytes, size, &size));
-    replace_file(exchange->options.journal, bytes, size);
-    free(bytes);
-    exchange->saved = exchange->messages;
 }
 
 /* ---- Input ---- */
@@ -186,36 +266,30 @@ static bool unhex(uint8_t *bytes) {
     return line_length % 2 == 0;
 }
 
-static void refuse_line(struct exchange *exchange, const char *why, size_t length) {
-    exchange->refused = true;
-    fprintf(stderr, "refused line %llu %.*s\n", (unsigned long long)exchange->line, (int)length, why);
-}
-
 /* Publishes a complete line. */
 static void publish_line(struct exchange *exchange) {
     static uint8_t message[LONGEST / 2];
-    mold_bytes text = MOLD_NO_BYTES;
     uint64_t number = 0;
     exchange->line++;
     bool is_hex = line_length < LONGEST && unhex(message);
     size_t length = line_length / 2;
     line_length = 0;
     if (!is_hex) {
-        refuse_line(exchange, "NotHex", 6);
+        exchange->refused = true;
+        fprintf(stderr, "refused line %llu NotHex\n", (unsigned long long)exchange->line);
         return;
     }
     uint32_t code = mold_publisher_publish(&exchange->publisher, message, length, &number);
     if (code == MOLD_MEMORY)
         need("publish", code);
     if (code != MOLD_DONE) {
-        mold_text(code, &text);
-        refuse_line(exchange, (const char *)text.at, text.length);
+        exchange->refused = true;
+        fprintf(stderr, "refused line %llu", (unsigned long long)exchange->line);
+        print_refusal(stderr, code, number);
         return;
     }
     exchange->messages = number;
     send_messages(exchange, false);
-    if (exchange->messages - exchange->saved >= exchange->options.save)
-        save_journal(exchange);
 }
 
 /* Publishes what was read from standard input. At the end of the input it closes the session. */
@@ -236,6 +310,8 @@ static void read_input(struct exchange *exchange) {
     if (came == 0 && line_length > 0)
         publish_line(exchange);
     send_messages(exchange, true);
+    if (exchange->journal.unsaved >= exchange->options.save)
+        save_journal(exchange);
     if (came == 0) {
         need("close", mold_publisher_close(&exchange->publisher, &unsent));
         exchange->ended = true;
@@ -247,7 +323,7 @@ static void read_input(struct exchange *exchange) {
 /* ---- Requests ---- */
 
 /* Responds to the requests that have arrived. A refused request gets no response. */
-static void answer_requests(struct exchange *exchange) {
+static void respond(struct exchange *exchange) {
     mold_server *server = mold_server_of(&exchange->publisher);
     struct sockaddr_in from;
     socklen_t length = sizeof from;
@@ -261,7 +337,7 @@ static void answer_requests(struct exchange *exchange) {
         exchange->last_asked = now();
         size_t had = (size_t)came > sizeof request ? sizeof request : (size_t)came;
         if (mold_server_plan(server, request, had, &plan, &number) == MOLD_DONE) {
-            exchange->answered++;
+            exchange->responded++;
             while (mold_server_datagram(server, &plan, datagram, sizeof datagram, &size) == MOLD_DONE)
                 send_to(exchange, exchange->requests, size, &from);
         }
@@ -288,7 +364,7 @@ static void turn(struct exchange *exchange) {
     if (poll(ready, 2, left < 0 ? 0 : (int)left) < 0 && errno != EINTR)
         fail("poll", strerror(errno));
     if (ready[0].revents != 0)
-        answer_requests(exchange);
+        respond(exchange);
     if (ready[1].revents != 0)
         read_input(exchange);
     if (now() >= due(exchange))
@@ -299,6 +375,7 @@ static void open_exchange(struct exchange *exchange) {
     struct in_addr interface;
     need("publisher", mold_publisher_new(&exchange->publisher, exchange->options.session, exchange->options.limit));
     need("server", mold_server_from_publisher(&exchange->publisher, exchange->options.burst));
+    exchange->journal.file = -1;
     exchange->out = open_socket();
     exchange->requests = open_line(&exchange->options.bind, "0.0.0.0");
     if (exchange->options.interface != NULL) {
@@ -317,11 +394,13 @@ int main(int count, char **words) {
     while (goes_on(&exchange))
         turn(&exchange);
     save_journal(&exchange);
-    printf("published %llu datagrams %llu answered %llu failed %llu\n", (unsigned long long)exchange.messages,
-           (unsigned long long)exchange.datagrams, (unsigned long long)exchange.answered,
+    printf("published %llu datagrams %llu requests %llu failed %llu\n", (unsigned long long)exchange.messages,
+           (unsigned long long)exchange.datagrams, (unsigned long long)exchange.responded,
            (unsigned long long)exchange.failed);
+    close(exchange.journal.file);
     close(exchange.out);
     close(exchange.requests);
+    free(exchange.journal.blocks);
     mold_free(&exchange.publisher);
     return fflush(stdout) != 0 ? 3 : exchange.refused ? 2 : 0;
 }

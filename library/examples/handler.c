@@ -5,17 +5,28 @@
  *     ./handler --session DEMO --a 239.192.1.1:26477 --b 239.192.1.2:26477 --interface 10.0.0.7 --server 10.0.0.9:26400
  *
  * If the address of a line is a multicast group, the handler joins it on the interface. Without --server it requests
- * nothing. The other options, with their defaults:
- *
- *   --next N        the sequence number of the first message (1)
- *   --window W      the window of the listener, in messages (1024)
- *   --patience MS   how long the handler waits before it requests a gap, because the other line may fill it (2)
- *   --timeout MS    how long the handler waits before it requests a gap again (50)
- *   --quiet MS      the handler gives up after this time without a datagram (10000)
+ * nothing. `./handler --help` lists the options and their defaults.
  *
  * At the end it prints a report of each line. It reports refused datagrams on standard error. The status is 0 if it
  * delivered the whole session, 1 if it gave up, and 3 after an error. */
 #include "udp.h"
+
+static const char usage[] =
+    "usage: handler --session SESSION --a ADDRESS --b ADDRESS [OPTION VALUE]..\n"
+    "\n"
+    "Prints the messages of a feed that arrives on two lines.\n"
+    "\n"
+    "  --session SESSION    the session, 1 to 10 characters\n"
+    "  --a ADDRESS          the address of line A, such as 239.192.1.1:26477\n"
+    "  --b ADDRESS          the address of line B\n"
+    "  --server ADDRESS     the address of the re-request server; without it, the handler requests nothing\n"
+    "  --interface ADDRESS  the interface on which the handler joins multicast groups (chosen by the system)\n"
+    "  --next N             the sequence number of the first message (1)\n"
+    "  --window W           the window of the listener, in messages (1024)\n"
+    "  --patience MS        the wait before a gap is requested, because the other line may fill it (2)\n"
+    "  --timeout MS         the wait before a gap is requested again (50)\n"
+    "  --quiet MS           the handler gives up after this time without a datagram (10000)\n"
+    "  --help               print this text\n";
 
 enum { LINES = 3, AT_ONCE = 32 };
 
@@ -55,7 +66,7 @@ static struct options options_of(int count, char **words) {
     read.timeout = 50;
     read.quiet = 10000;
     for (int i = 1; i < count; i++) {
-        const char *name = words[i], *value = value_of(count, words, &i);
+        const char *name = words[i], *value = value_of(usage, count, words, &i);
         if (strcmp(name, "--session") == 0)
             session_of(value, read.session), has_session = true;
         else if (strcmp(name, "--a") == 0)
@@ -77,10 +88,10 @@ static struct options options_of(int count, char **words) {
         else if (strcmp(name, "--quiet") == 0)
             read.quiet = (int64_t)number_of(value, 1, 86400000);
         else
-            fail(name, "no such option");
+            fail_usage(usage, name, "no such option");
     }
     if (!has_session || !has_a || !has_b)
-        fail("usage", "handler --session SESSION --a ADDRESS --b ADDRESS [--server ADDRESS] ..");
+        fail_usage(usage, "handler", "a required option is missing");
     return read;
 }
 
@@ -96,19 +107,14 @@ static void print_batch(mold_listener *listener) {
     need("clear", mold_listener_clear(listener));
 }
 
-static void tell_refused(uint32_t line, uint32_t code, uint64_t detail) {
-    mold_bytes text = MOLD_NO_BYTES;
-    mold_text(code, &text);
-    fprintf(stderr, "refused %c %.*s %llu\n", "ab-"[line], (int)text.length, (const char *)text.at,
-            (unsigned long long)detail);
-}
-
 /* Takes a datagram of a line, or a response. If an allocation fails, the datagram is lost, like one that never came. */
 static void take(struct handler *handler, uint32_t line, const uint8_t *bytes, size_t length) {
     mold_told told = {0, 0, 0, 0, 0};
     uint32_t code = mold_listener_take(&handler->listener, line, bytes, length, &told);
-    if (code != MOLD_DONE)
-        tell_refused(line, code, told.detail);
+    if (code != MOLD_DONE) {
+        fprintf(stderr, "refused %c", "ab-"[line]);
+        print_refusal(stderr, code, told.detail);
+    }
 }
 
 /* Takes datagrams of a line, or responses, with one system call. Returns how many there were. */

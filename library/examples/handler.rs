@@ -4,14 +4,20 @@
 //!     rustc -O --edition 2021 library/examples/handler.rs -L library/out -l static=mold -o handler-rs
 //!     ./handler-rs DEMO 127.0.0.1:26477 127.0.0.1:26478 127.0.0.1:26400
 //!
-//! The arguments are the session and the addresses of line A, line B and the server. The status is 0 if it delivered
-//! the whole session, 1 if no datagram arrived for ten seconds, and 3 after an error.
+//! The arguments are the session and the addresses of line A, line B and the server. `./handler-rs --help` prints them.
+//! The status is 0 if it delivered the whole session, 1 if no datagram arrived for ten seconds, and 3 after an error.
 
 use std::io::{self, ErrorKind, Write};
 use std::net::UdpSocket;
 use std::os::raw::c_void;
 use std::process::ExitCode;
 use std::time::{Duration, Instant};
+
+const USAGE: &str = "usage: handler-rs SESSION LINE_A LINE_B SERVER
+
+Prints the messages of a feed that arrives on two lines. LINE_A, LINE_B and SERVER are addresses such as
+127.0.0.1:26477. There are no options but --help, which prints this text.
+";
 
 /// The declarations of mold.h that are used here. The type `Listener` below is safe: it keeps the caller's duties that
 /// mold.h states.
@@ -88,7 +94,12 @@ impl std::fmt::Display for Refused {
             sys::mold_text(self.code, &mut text);
             std::slice::from_raw_parts(text.at, text.length)
         };
-        write!(f, "{} {}", String::from_utf8_lossy(bytes), self.detail)
+        f.write_str(&String::from_utf8_lossy(bytes))?;
+        // MOLD_SHORT to MOLD_TRAILING, and MOLD_END_CONFLICT to MOLD_CONFLICT. No number goes with other refusals.
+        if matches!(self.code, 1..=3 | 11..=14) {
+            write!(f, " {}", self.detail)?;
+        }
+        Ok(())
     }
 }
 
@@ -226,9 +237,17 @@ fn handle(session: &[u8; 10], a: &str, b: &str, server: &str) -> io::Result<bool
 }
 
 fn main() -> ExitCode {
-    let words: Vec<String> = std::env::args().collect();
-    let [_, session, a, b, server] = words.as_slice() else {
-        eprintln!("usage: handler-rs SESSION ADDRESS ADDRESS SERVER");
+    let words: Vec<String> = std::env::args().skip(1).collect();
+    if words.iter().any(|word| word == "--help") {
+        print!("{USAGE}");
+        return ExitCode::SUCCESS;
+    }
+    if let Some(word) = words.iter().find(|word| word.starts_with("--")) {
+        eprint!("{word}: no such option\n{USAGE}");
+        return ExitCode::from(3);
+    }
+    let [session, a, b, server] = words.as_slice() else {
+        eprint!("{USAGE}");
         return ExitCode::from(3);
     };
     let Some(session) = session_of(session) else {

@@ -2,13 +2,23 @@
  * sequence number and the length.
  *
  *     cc -O2 -I library library/examples/small.c library/out/libmold.a -o small
- *     ./small "DEMO      " 26477 26478 26400 */
+ *     ./small "DEMO      " 26477 26478 26400
+ *
+ * The status is 0 if it printed the whole session, and 3 after an error. */
 #include <arpa/inet.h>
 #include <mold.h>
 #include <poll.h>
 #include <stdio.h>
 #include <stdlib.h>
 #include <string.h>
+
+/* Prints how to run the program, and returns its status. */
+static int usage(FILE *to, int status) {
+    fprintf(to, "usage: small SESSION PORT_A PORT_B SERVER_PORT\n"
+                "\n"
+                "Prints the number and the length of each message. SESSION has 10 characters.\n");
+    return status;
+}
 
 /* Opens a socket, and sets *address to a port of this machine. */
 static int socket_at(const char *port, struct sockaddr_in *address) {
@@ -33,7 +43,7 @@ int main(int count, char **words) {
     mold_told told = {0, 0, 0, 0, 0};
     struct sockaddr_in server;
     if (count != 5 || strlen(words[1]) != 10)
-        return 3;
+        return count == 2 && strcmp(words[1], "--help") == 0 ? usage(stdout, 0) : usage(stderr, 3);
     struct pollfd from[3] = {{listening_at(words[2]), POLLIN, 0}, {listening_at(words[3]), POLLIN, 0},
                              {socket_at(words[4], &server), POLLIN, 0}};
     if (mold_listener_new(&listener, (const uint8_t *)words[1], 1, 1024) != MOLD_DONE)

@@ -1,4 +1,5 @@
-/* Functions that the examples share: options, addresses, UDP sockets, time, and bytes as hexadecimal digits. */
+/* Functions that the examples share: options, refusals, addresses, UDP sockets, time, and bytes as hexadecimal digits.
+ */
 #ifndef UDP_H
 #define UDP_H
 
@@ -39,11 +40,45 @@ static inline void need(const char *what, uint32_t code) {
     }
 }
 
-/* The value of the option at words[*at], which is the next argument. */
-static inline const char *value_of(int count, char **words, int *at) {
+/* Ends the program if an argument is wrong. Prints the reason and the usage. */
+static inline void fail_usage(const char *usage, const char *what, const char *why) {
+    fprintf(stderr, "%s: %s\n%s", what, why, usage);
+    exit(3);
+}
+
+/* Whether the usage has a line for an option: two spaces, the option, and a space. */
+static inline bool is_listed(const char *usage, const char *name) {
+    char line[32];
+    int length = snprintf(line, sizeof line, "\n  %s ", name);
+    return length > 0 && (size_t)length < sizeof line && strstr(usage, line) != NULL;
+}
+
+/* The value of the option at words[*at], which is the next argument. If the option is --help, prints the usage and ends
+ * the program. */
+static inline const char *value_of(const char *usage, int count, char **words, int *at) {
+    const char *name = words[*at];
+    if (strcmp(name, "--help") == 0) {
+        fputs(usage, stdout);
+        exit(fflush(stdout) == 0 ? 0 : 3);
+    }
+    if (!is_listed(usage, name))
+        fail_usage(usage, name, "no such option");
     if (*at + 1 >= count)
-        fail(words[*at], "the option has no value");
+        fail_usage(usage, name, "the option has no value");
     return words[++*at];
+}
+
+/* Prints the text of a code, and the number that goes with it, if there is one, at the end of a line. */
+static inline void print_refusal(FILE *to, uint32_t code, uint64_t number) {
+    mold_bytes text = MOLD_NO_BYTES;
+    bool has_number = code == MOLD_SHORT || code == MOLD_BLOCK_CUT || code == MOLD_TRAILING ||
+                      code == MOLD_END_CONFLICT || code == MOLD_END_BELOW || code == MOLD_PAST_END ||
+                      code == MOLD_CONFLICT || code == MOLD_TOO_LONG;
+    mold_text(code, &text);
+    fprintf(to, " %.*s", (int)text.length, (const char *)text.at);
+    if (has_number)
+        fprintf(to, " %llu", (unsigned long long)number);
+    fputc('\n', to);
 }
 
 /* A decimal number from least to most. */
