@@ -11,22 +11,16 @@
 //
 // The second table has the datagrams a second of one, two and four threads, each with its own listener. They are
 // measured by the clock, which needs an idle machine, and by the processor time of the threads.
+#include "bench.hpp"
 #include "plain.hpp"
 
 #include <atomic>
-#include <chrono>
-#include <cstdio>
-#include <cstdlib>
 #include <ctime>
-#include <string>
 #include <thread>
 
 namespace {
 
-using Clock = std::chrono::steady_clock;
-
 constexpr std::uint32_t window = 1024;
-const std::uint8_t session[] = {'B', 'E', 'N', 'C', 'H', ' ', ' ', ' ', ' ', ' '};
 
 /// A datagram, and its line.
 struct Arrival {
@@ -40,23 +34,6 @@ struct Work {
     std::vector<Arrival> arrivals;
     std::size_t at_once = 1;
 };
-
-std::vector<std::uint8_t> datagram(std::uint64_t sequence, std::size_t count, std::size_t length) {
-    std::vector<std::uint8_t> made(plain::header + count * (2 + length));
-    std::memcpy(made.data(), session, sizeof session);
-    for (std::size_t i = 0; i < 8; i++)
-        made[10 + i] = static_cast<std::uint8_t>(sequence >> (56 - 8 * i));
-    made[18] = static_cast<std::uint8_t>(count >> 8);
-    made[19] = static_cast<std::uint8_t>(count);
-    for (std::size_t i = 0; i < count; i++) {
-        std::uint8_t *block = made.data() + plain::header + i * (2 + length);
-        block[0] = static_cast<std::uint8_t>(length >> 8);
-        block[1] = static_cast<std::uint8_t>(length);
-        for (std::size_t k = 0; k < length; k++)
-            block[2 + k] = static_cast<std::uint8_t>(sequence * 31 + i * 7 + k);
-    }
-    return made;
-}
 
 // ---- The kinds of work ----
 
@@ -148,15 +125,6 @@ struct Sum {
         return messages == other.messages && lengths == other.lengths && first_bytes == other.first_bytes;
     }
 };
-
-[[noreturn]] void stop(const char *why) {
-    std::fprintf(stderr, "bench: %s\n", why);
-    std::exit(1);
-}
-
-double since(Clock::time_point began) {
-    return std::chrono::duration<double, std::nano>(Clock::now() - began).count();
-}
 
 /// The time of a round in which the plain receiver passes messages to a function.
 template <bool keeps_memory>
