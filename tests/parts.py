@@ -70,7 +70,7 @@ LANES = (
     (
         over_program("tests/program-checks", "try", "mold", "examples/*", "tests/checks.sh", "tests/table*",
                      "tests/udp-sessions"),
-        over_program("tests/library", "library/*", "install.sh", "tests/udp-sessions", crate=LIBRARY,
+        over_program("tests/library", "library/*", "docs/LIBRARY.md", "install.sh", "tests/udp-sessions", crate=LIBRARY,
                      needs_compiler=True),
         over_program("tests/documents " + " ".join(DOCUMENTS), *DOCUMENTS, "examples/*", "library/*", "install.sh"),
     ),
