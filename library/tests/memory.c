@@ -1,10 +1,11 @@
 /* Counts the bytes that the library holds: a listener's batch, a publisher, a server of a journal and a checker, with
  * messages of 8, 40 and 1,400 bytes, and a listener's store. tests/library compares the output with docs/LIBRARY.md.
  *
- *     cd library/tests && cc -std=c99 memory.c ../out/libmold.a -o memory && ./memory 18 8 8 8 55 1024
+ *     cd library/tests && cc -std=c99 memory.c ../out/libmold.a -o memory && ./memory 18 8 8 8 55 16 1024
  *
  * The arguments are the figures of LIBRARY: the bytes for each message besides its own, of a batch, a publisher, a
- * server and a checker; the bytes for each run of a checker; and the bytes for everything small.
+ * server and a checker; the bytes for each run of a checker, and for each missing range; and the bytes for everything
+ * small.
  *
  * A handle may hold N times the bytes of its messages, of which each has the bytes of these figures, and besides the
  * bytes that are named with each test below. A line `NAME LENGTH N MOMENT` has the greatest N that was seen after any
@@ -27,7 +28,7 @@ typedef union front {
 static size_t held, most;
 
 /* The figures of LIBRARY. */
-static size_t batch_message, publisher_message, server_message, checker_message, checker_run, small;
+static size_t batch_message, publisher_message, server_message, checker_message, checker_run, missing_range, small;
 
 memory rattle_alloc(size_t size, size_t align);
 memory rattle_realloc(void *old, size_t used, size_t size, size_t align);
@@ -173,6 +174,31 @@ static void count_checker(size_t length, uint16_t at_once, bool descends) {
     print("checker", length, found);
 }
 
+/* What a verdict and the list of missing ranges take until they return. Every second message is missing. */
+static void count_ranges(void) {
+    mold_checker checker = MOLD_EMPTY;
+    mold_verdict verdict = {0, 0, 0, 0, 0};
+    seen found = {0, 0};
+    CODE(mold_checker_new(&checker), MOLD_DONE);
+    for (size_t ranges = 1, next = 1; ranges <= 100000; ranges++) {
+        size_t before, there = 0;
+        take_all(&checker, packet_of(2 * ranges, 1, 0));
+        if (ranges < next)
+            continue;
+        before = held;
+        most = 0;
+        CODE(mold_checker_verdict(&checker, &verdict), MOLD_DONE);
+        CODE(mold_checker_ranges(&checker, NULL, 0, &there), MOLD_DONE);
+        CHECK(held == before && verdict.ranges == ranges && there == ranges);
+        double moment = times_of(most, ranges * missing_range, before);
+        found.moment = moment > found.moment ? moment : found.moment;
+        next += next / 16 + 1;
+    }
+    mold_free(&checker);
+    CHECK(held == 0);
+    print("ranges", 0, found);
+}
+
 /* Passes a datagram with one message to a listener, and clears the batch. */
 static void store_one(mold_listener *listener, size_t number, size_t length) {
     mold_told told = {0, 0, 0, 0, 0};
@@ -188,6 +214,7 @@ static void print_store(const char *name, size_t length, size_t stored, size_t t
 static void count_filled(uint32_t window, size_t length) {
     mold_listener listener = listener_at(1, window);
     size_t before = held;
+    CHECK(before <= 12 * (size_t)window + small);
     most = held;
     for (uint32_t number = window; number > 1; number--)
         store_one(&listener, number, length);
@@ -215,11 +242,11 @@ static void count_advancing(uint32_t window, size_t length) {
 
 int main(int count, char **words) {
     static const size_t lengths[] = {8, 40, 1400};
-    size_t *const figures[] = {&batch_message,   &publisher_message, &server_message,
-                               &checker_message, &checker_run,       &small};
-    if (count != 7)
+    size_t *const figures[] = {&batch_message, &publisher_message, &server_message, &checker_message,
+                               &checker_run,   &missing_range,     &small};
+    if (count != 8)
         return 3;
-    for (int i = 0; i < 6; i++)
+    for (int i = 0; i < 7; i++)
         *figures[i] = strtoul(words[i + 1], NULL, 10);
     for (size_t i = 0; i < 3; i++) {
         size_t length = lengths[i];
@@ -232,6 +259,7 @@ int main(int count, char **words) {
         }
         count_server(length);
     }
+    count_ranges();
     count_filled(1024, 1400);
     count_advancing(1024, 1400);
     count_filled(65536, 100);
