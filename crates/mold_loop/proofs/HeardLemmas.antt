@@ -4,7 +4,7 @@ use Rattle.std.proofs.Common.{Option, None, Some, Result, Ok, ap, refl, sym, sub
 use Rattle.std.proofs.lemmas.List.{map-append}
 use Rattle.std.proofs.lemmas.Result.{on_ok_weaker}
 use Rattle.std.proofs.KnownBytes.{Appends-nil, Appends-trans}
-use Rattle.std.specs.Prelude.{OnOk, if◌then◌else◌}
+use Rattle.std.specs.Prelude.{IsErr, OnOk, if◌then◌else◌}
 use Rattle.std.specs.Io.KnownBytes.{Appends}
 use Rattle.mold_devices.specs.Devices.{AppendsPrefix}
 use Rattle.mold_ports.specs.Ports.{Port}
@@ -13,13 +13,12 @@ use Rattle.mold_receiver.specs.declared.line.Line.{Line}
 use Rattle.mold_receiver.specs.declared.line.Line.TheVariants.{A, B}
 use Rattle.mold_session.specs.Publisher.{Lends}
 use Rattle.mold_wire.specs.declared.packet.Packet.{Packet}
-use Rattle.mold_turns.proofs.RunLemmas.{on_ok}
 use Rattle.mold_send.proofs.SendingLemmas.{lent_none}
-use Rattle.mold_turns.proofs.RunLemmas.{IsLoop, begins_behind, begins_more, begins_trans, begins_whole, grows_in}
+use Rattle.mold_turns.proofs.RunLemmas.{IsLoop, begins_behind, begins_more, begins_trans, begins_whole, grows_in, none_ok, on_ok}
 use Rattle.mold_listen.proofs.TurnLemmas.{hear_before, hear_prints, hearing_before}
 use Rattle.mold_turns.specs.Outgoing.{OutgoingState}
 use Rattle.mold_listen.specs.Listening.{Progress}
-use Rattle.mold_loop.specs.Looping.{ComesOfBoth, HasPassed, LineState, Outcome, LeftOut, Failed, Sent}
+use Rattle.mold_loop.specs.Looping.{ComesOfBoth, HasPassed, LineState, Outcome, LeftOut, Failed, PassRests, Sent}
 use Rattle.mold_loop.specs.Looping.{Pass, goes_out, after_line_if, after_routes, is_sent, line_state, offered_by, passed, passing, port_after}
 use Rattle.mold_loop.specs.Looping.{received_if, outgoing_after, routed_by, sent_by, text_front}
 use Rattle.mold_loop.specs.Passing.{routed, routes_of}
@@ -248,51 +247,91 @@ more_run a b xs ys written before now whole =
     passes_more a b xs ys before ∙ ap (run (passing a b) ys) whole
     ∙ run_behind (passing a b) text_front (passes_are a b) ys written now
 
--- more datagrams are passed
+-- ---- datagrams and the write after them
+
+-- they are passed, and some text is written
+pub rests_moved : {P T E U F : Type 0} (a b : P) {ds : List (Routes × List ℕ)} (value : U) (result : Result T E)
+    {before made : LineState P} {old new : Option (List ℕ)} {left : List ℕ} (after : LineState P) →
+    HasPassed {T = U} {E = F} a b ds (Ok value) before made →
+    (moves : Moves old new made.progress.outgoing.text left) → made ≡ text_front moves.front after →
+    PassRests a b ds result before after old new
+rests_moved {P} a b value result {before} {made} {old} {new} {left} after has moves same = record {
+  passes = has.passes;
+  are = has.are;
+  written = moves.front;
+  appended = moves.appended;
+  whole = on_ok result (sym has.whole ∙ same);
+  text =
+      subst (λ (s : LineState P). Begins moves.front s.progress.outgoing.text) has.whole
+      (record { rest = left; parts = moves.parts });
+  offered = sym (ap (λ (s : LineState P). s.publisher) same) ∙ ap (λ (s : LineState P). s.publisher) has.whole;
+}
+
+-- they are passed, and the write fails
+pub rests_unwritten : {P T E U F : Type 0} (a b : P) {ds : List (Routes × List ℕ)} (value : U) (result : Result T E)
+    {before made : LineState P} {old new : Option (List ℕ)} (after : LineState P) →
+    HasPassed {T = U} {E = F} a b ds (Ok value) before made → after.publisher ≡ made.publisher →
+    AppendsPrefix old new made.progress.outgoing.text → IsErr result → PassRests a b ds result before after old new
+rests_unwritten {P} a b value result after has same cut failed = record {
+  passes = has.passes;
+  are = has.are;
+  written = cut.front;
+  appended = cut.appended;
+  whole = none_ok result _ failed;
+  text =
+      subst (λ (s : LineState P). Begins cut.front s.progress.outgoing.text) has.whole
+      (record { rest = cut.rest; parts = cut.parts });
+  offered = same ∙ ap (λ (s : LineState P). s.publisher) has.whole;
+}
+
+-- memory runs out while they are passed, and a prefix of the former text is written
+pub rests_failed : {P T E U F : Type 0} (a b : P) {ds : List (Routes × List ℕ)} (step : Result U F) (result : Result T E)
+    {before made : LineState P} {old new : Option (List ℕ)} (after : LineState P) → HasPassed a b ds step before made →
+    after.publisher ≡ made.publisher → AppendsPrefix old new before.progress.outgoing.text → IsErr result →
+    PassRests a b ds result before after old new
+rests_failed a b step result {before} after has same cut failed = record {
+  passes = has.passes;
+  are = has.are;
+  written = cut.front;
+  appended = cut.appended;
+  whole = none_ok result _ failed;
+  text =
+      begins_trans (record { rest = cut.rest; parts = cut.parts })
+      (grows_in (passing a b) (passing a b).text (passes_are a b).prints has.passes before);
+  offered = same ∙ has.offered;
+}
+
+-- more datagrams are passed, and some text is written
 pub received_more : {P T E : Type 0} (a b : P) {xs ys : List (Routes × List ℕ)} {before now after : LineState P}
-    {old new : Option (List ℕ)} (value : T) → Heard a b xs before now old new →
-    HasPassed {T = T} {E = E} a b ys (Ok value) now after → Heard a b (xs ++ ys) before after old new
-received_more {P} a b {xs} {ys} {before} {now} value with_receipt has = record {
+    {old mid new : Option (List ℕ)} (value : T) → Heard a b xs before now old mid →
+    PassRests {T = T} {E = E} a b ys (Ok value) now after mid new → Heard a b (xs ++ ys) before after old new
+received_more {P} a b {xs} {ys} {before} {now} {after} {old} {mid} {new} value with_receipt has = record {
   passes = with_receipt.passes ++ has.passes;
   are = both_are with_receipt.passes has.passes xs ys with_receipt.are has.are;
-  written = with_receipt.written;
-  appended = with_receipt.appended;
+  written = with_receipt.written ++ has.written;
+  appended = Appends-trans old mid new with_receipt.written has.written with_receipt.appended has.appended;
   whole =
       more_run a b with_receipt.passes has.passes with_receipt.written before now with_receipt.whole
-      ∙ ap (text_front with_receipt.written) (sym has.whole);
+      ∙ ap (text_front with_receipt.written) has.whole
+      ∙ (passes_are a b).twice with_receipt.written has.written after;
 }
 
--- some text is written
-pub received_moved : {P : Type 0} (a b : P) {xs : List (Routes × List ℕ)} {before now : LineState P}
-    {old mid new : Option (List ℕ)} {left : List ℕ} (after : LineState P) → Heard a b xs before now old mid →
-    (moves : Moves mid new now.progress.outgoing.text left) → now ≡ text_front moves.front after →
-    Heard a b xs before after old new
-received_moved {P} a b {xs} {before} {now} {old} {mid} {new} after with_receipt moves same = record {
-  passes = with_receipt.passes;
-  are = with_receipt.are;
-  written = with_receipt.written ++ moves.front;
-  appended = Appends-trans old mid new with_receipt.written moves.front with_receipt.appended moves.appended;
-  whole =
-      with_receipt.whole ∙ ap (text_front with_receipt.written) same
-      ∙ (passes_are a b).twice with_receipt.written moves.front after;
-}
-
--- a fault occurs while the datagrams are passed
+-- a fault occurs while the datagrams are passed, or in the write after them
 pub received_failed : {P T E : Type 0} (a b : P) {xs ys : List (Routes × List ℕ)} {before now after : LineState P}
-    {old new : Option (List ℕ)} (result : Result T E) → Heard a b xs before now old new →
-    HasPassed a b ys result now after → HeardFront a b (xs ++ ys) before after old new
-received_failed {P} a b {xs} {ys} {before} {now} {after} result with_receipt has =
+    {old mid new : Option (List ℕ)} (result : Result T E) → Heard a b xs before now old mid →
+    PassRests a b ys result now after mid new → HeardFront a b (xs ++ ys) before after old new
+received_failed {P} a b {xs} {ys} {before} {now} {after} {old} {mid} {new} result with_receipt has =
     let end : run (passing a b) (with_receipt.passes ++ has.passes) before
     ≡ text_front with_receipt.written (run (passing a b) has.passes now) =
     more_run a b with_receipt.passes has.passes with_receipt.written before now with_receipt.whole in
     record {
       passes = with_receipt.passes ++ has.passes;
       are = both_are with_receipt.passes has.passes xs ys with_receipt.are has.are;
-      written = with_receipt.written;
-      appended = with_receipt.appended;
+      written = with_receipt.written ++ has.written;
+      appended = Appends-trans old mid new with_receipt.written has.written with_receipt.appended has.appended;
       text =
-          subst (λ (s : LineState P). Begins with_receipt.written s.progress.outgoing.text) (sym end)
-          (begins_more with_receipt.written (run (passing a b) has.passes now).progress.outgoing.text);
+          subst (λ (s : LineState P). Begins (with_receipt.written ++ has.written) s.progress.outgoing.text) (sym end)
+          (begins_behind with_receipt.written has.text);
       offered = has.offered ∙ ap (λ (s : LineState P). s.publisher) (sym end);
     }
 

@@ -10,14 +10,13 @@ use Rattle.mold_publish.specs.Publishing.{Fills}
 use Rattle.mold_publish.specs.declared.filling.Filled.TheVariants.{Full, End, Refused}
 use Rattle.mold_publish.specs.declared.line_refusal.LineRefusal.{LineRefusal}
 use Rattle.mold_session.specs.Publisher.{PublisherState, after_datagram, next_datagram}
-use Rattle.mold_loop.proofs.HeardLemmas.{Heard, HeardFront, received_cut, received_failed, received_more, received_moved, received_none, received_still}
+use Rattle.mold_loop.proofs.HeardLemmas.{Heard, HeardFront, received_cut, received_failed, received_more, received_none, received_still}
 use Rattle.mold_loop.proofs.HeardLemmas.{routed_more}
 use Rattle.mold_send.proofs.SendingLemmas.{LeftToSend, any_known, begun, begun_all, left_end, left_full, left_refused, left_same}
 use Rattle.mold_turns.proofs.RunLemmas.{begins_more, none_answered, none_ok}
-use Rattle.mold_loop.specs.Looping.{BeginsData, HasPassed, ReceivesLines, IsData, LineState, text_front}
+use Rattle.mold_loop.specs.Looping.{BeginsData, IsData, LineState, PassRests, ReceivesLines}
 use Rattle.mold_loop.specs.Passing.{routed}
 use Rattle.mold_send.specs.PublishLoop.{spelled_some}
-use Rattle.mold_devices.specs.Writing.{Moves}
 use Rattle.mold_turns.specs.Runs.{Begins}
 use Rattle.mold_loop.specs.declared.loop_parts.Drops.{Drops}
 use Rattle.mold_loop.specs.declared.loop_parts.Routes.{Routes}
@@ -46,39 +45,37 @@ routed_next drops front ys count counted =
     (let e : count + 1 ≡ 1 + length front = omega (arith, counted) in e)
     ∙ sym (routed_more drops 1 front ys)
 
--- one more datagram is passed
+-- the publisher's next datagram is passed, and some text is written
+received_next : {P T E : Type 0} (drops : Drops) (a b : P) (start before now : PublisherState)
+    (known left : Option (List ℕ)) (first here there : LineState P) (old mid new : Option (List ℕ)) (count : ℕ)
+    (value : T) → (so_far : HeardSoFar drops a b start before known left first here old mid count) →
+    PassRests {T = T} {E = E} a b (routed drops (count + 1) (spelled_some (next_datagram now))) (Ok value) here there mid
+    new →
+    Heard a b (routed drops 1 (so_far.front ++ spelled_some (next_datagram now))) first there old new
+received_next drops a b start before now known left first here there old mid new count value so_far has =
+    subst (λ (l : List (Routes × List ℕ)). Heard a b l first there old new)
+    (routed_next drops so_far.front (spelled_some (next_datagram now)) count so_far.counted)
+    (received_more a b value so_far.received has)
+
+-- one more datagram is passed, and some text is written
 pub so_far_full : {P T E : Type 0} → PackingLaws → (drops : Drops) (a b : P) (start before now after : PublisherState)
-    (known left behind : Option (List ℕ)) (first here there : LineState P) (old new : Option (List ℕ))
-    (count counted : ℕ) (value : T) → HeardSoFar drops a b start before known left first here old new count →
+    (known left behind : Option (List ℕ)) (first here there : LineState P) (old mid new : Option (List ℕ))
+    (count counted : ℕ) (value : T) → HeardSoFar drops a b start before known left first here old mid count →
     Fills before now left behind Full → after ≡ after_datagram now →
-    HasPassed {T = T} {E = E} a b (routed drops (count + 1) (spelled_some (next_datagram now))) (Ok value) here there →
+    PassRests {T = T} {E = E} a b (routed drops (count + 1) (spelled_some (next_datagram now))) (Ok value) here there mid
+    new →
     counted ≡ count + length (spelled_some (next_datagram now)) →
     HeardSoFar drops a b start after known behind first there old new counted
-so_far_full {P} laws drops a b start before now after known left behind first here there old new count counted value so_far filled sent has more =
+so_far_full {P} laws drops a b start before now after known left behind first here there old mid new count counted value
+    so_far filled sent has more =
     subst (λ (p : PublisherState). HeardSoFar drops a b start p known behind first there old new counted) (sym sent)
     (record {
       front = so_far.front ++ spelled_some (next_datagram now);
       counted =
           omega (arith, more, so_far.counted, length-append so_far.front (spelled_some (next_datagram now)));
       behind = left_full laws start before now known left behind so_far.front so_far.behind filled;
-      received =
-          subst (λ (l : List (Routes × List ℕ)). Heard a b l first there old new)
-          (routed_next drops so_far.front (spelled_some (next_datagram now)) count so_far.counted)
-          (received_more a b value so_far.received has);
+      received = received_next drops a b start before now known left first here there old mid new count value so_far has;
     })
-
--- some text is written
-pub so_far_moved : {P : Type 0} (drops : Drops) (a b : P) (start now : PublisherState) (known left : Option (List ℕ))
-    (first here : LineState P) (old mid new : Option (List ℕ)) (count : ℕ) (rest : List ℕ) (there : LineState P) →
-    HeardSoFar drops a b start now known left first here old mid count →
-    (moves : Moves mid new here.progress.outgoing.text rest) → here ≡ text_front moves.front there →
-    HeardSoFar drops a b start now known left first there old new count
-so_far_moved drops a b start now known left first here old mid new count rest there so_far moves same = record {
-  front = so_far.front;
-  counted = so_far.counted;
-  behind = so_far.behind;
-  received = received_moved a b there so_far.received moves same;
-}
 
 -- a fault: the datagrams passed are a prefix
 hears_cut : {P E : Type 0} (drops : Drops) (a b : P) (start last : PublisherState) (known : Option (List ℕ))
@@ -107,45 +104,37 @@ hears_none drops a b start last known result s held failed =
     hears_cut drops a b start last known [] result s s held held (received_still a b (received_none a b s held))
     (any_known known _ (λ input. record { rest = _; parts = refl })) failed
 
--- a fault between two datagrams
-pub hears_still : {P E : Type 0} (drops : Drops) (a b : P) (start now last : PublisherState)
-    (known left : Option (List ℕ)) (result : Result (Option LineRefusal) E) (first here : LineState P)
-    (old new : Option (List ℕ)) (count : ℕ) → HeardSoFar drops a b start now known left first here old new count →
-    IsErr result → ReceivesLines drops a b start last known result first here old new
-hears_still drops a b start now last known left result first here old new count so_far failed =
-    hears_cut drops a b start last known so_far.front result first here old new (received_still a b so_far.received)
-    (begun start now known left so_far.front so_far.behind) failed
-
--- a fault while a datagram is passed
+-- a fault while a datagram is passed, or in the write after it
 hears_more : {P T E F : Type 0} (drops : Drops) (a b : P) (start now last : PublisherState)
-    (known left : Option (List ℕ)) (first here there : LineState P) (old new : Option (List ℕ)) (count : ℕ)
-    (ys : List (List ℕ)) (passing_result : Result T F) (result : Result (Option LineRefusal) E) →
-    (so_far : HeardSoFar drops a b start now known left first here old new count) →
-    HasPassed a b (routed drops (count + 1) ys) passing_result here there →
+    (known left : Option (List ℕ)) (first here there : LineState P) (old mid new : Option (List ℕ)) (count : ℕ)
+    (ys : List (List ℕ)) (step : Result T F) (result : Result (Option LineRefusal) E) →
+    (so_far : HeardSoFar drops a b start now known left first here old mid count) →
+    PassRests a b (routed drops (count + 1) ys) step here there mid new →
     IfSome known (BeginsData start (so_far.front ++ ys)) → IsErr result →
     ReceivesLines drops a b start last known result first there old new
-hears_more drops a b start now last known left first here there old new count ys passing_result result so_far has begins failed =
+hears_more drops a b start now last known left first here there old mid new count ys step result so_far has begins failed =
     hears_cut drops a b start last known (so_far.front ++ ys) result first there old new
     (subst (λ (l : List (Routes × List ℕ)). HeardFront a b l first there old new)
     (routed_next drops so_far.front ys count so_far.counted)
-    (received_failed a b passing_result so_far.received has))
+    (received_failed a b step so_far.received has))
     begins failed
 
 pub hears_full : {P T E F : Type 0} → PackingLaws → (drops : Drops) (a b : P) (start before now last : PublisherState)
-    (known left behind : Option (List ℕ)) (first here there : LineState P) (old new : Option (List ℕ)) (count : ℕ)
-    (passing_result : Result T F) (result : Result (Option LineRefusal) E) →
-    HeardSoFar drops a b start before known left first here old new count → Fills before now left behind Full →
-    HasPassed a b (routed drops (count + 1) (spelled_some (next_datagram now))) passing_result here there →
+    (known left behind : Option (List ℕ)) (first here there : LineState P) (old mid new : Option (List ℕ)) (count : ℕ)
+    (step : Result T F) (result : Result (Option LineRefusal) E) →
+    HeardSoFar drops a b start before known left first here old mid count → Fills before now left behind Full →
+    PassRests a b (routed drops (count + 1) (spelled_some (next_datagram now))) step here there mid new →
     IsErr result → ReceivesLines drops a b start last known result first there old new
-hears_full laws drops a b start before now last known left behind first here there old new count passing_result result so_far filled has failed =
+hears_full laws drops a b start before now last known left behind first here there old mid new count step result so_far
+    filled has failed =
     let front = so_far.front ++ spelled_some (next_datagram now) in
-    hears_more drops a b start before last known left first here there old new count (spelled_some (next_datagram now))
-    passing_result result so_far has
+    hears_more drops a b start before last known left first here there old mid new count (spelled_some (next_datagram now))
+    step result so_far has
     (begun start (after_datagram now) known behind front
     (left_full laws start before now known left behind so_far.front so_far.behind filled))
     failed
 
--- a fault while text is written after a datagram
+-- a fault between two datagrams, and then a prefix of the text is written
 pub hears_unwritten : {P E : Type 0} (drops : Drops) (a b : P) (start now last : PublisherState)
     (known left : Option (List ℕ)) (result : Result (Option LineRefusal) E) (first here there : LineState P)
     (old mid new : Option (List ℕ)) (count : ℕ) → HeardSoFar drops a b start now known left first here old mid count →
@@ -156,17 +145,18 @@ hears_unwritten drops a b start now last known left result first here there old 
     (received_cut a b there same so_far.received cut)
     (begun start now known left so_far.front so_far.behind) failed
 
--- a fault while the last datagram is passed
+-- a fault while the last datagram is passed, or in the write after it
 pub hears_last : {P T E F : Type 0} → PackingLaws → (drops : Drops) (a b : P) (start before now last : PublisherState)
-    (known left behind : Option (List ℕ)) (first here there : LineState P) (old new : Option (List ℕ)) (count : ℕ)
-    (passing_result : Result T F) (result : Result (Option LineRefusal) E) →
-    HeardSoFar drops a b start before known left first here old new count → Fills before now left behind End →
-    HasPassed a b (routed drops (count + 1) (spelled_some (next_datagram now))) passing_result here there →
+    (known left behind : Option (List ℕ)) (first here there : LineState P) (old mid new : Option (List ℕ)) (count : ℕ)
+    (step : Result T F) (result : Result (Option LineRefusal) E) →
+    HeardSoFar drops a b start before known left first here old mid count → Fills before now left behind End →
+    PassRests a b (routed drops (count + 1) (spelled_some (next_datagram now))) step here there mid new →
     IsErr result → ReceivesLines drops a b start last known result first there old new
-hears_last laws drops a b start before now last known left behind first here there old new count passing_result result so_far filled has failed =
+hears_last laws drops a b start before now last known left behind first here there old mid new count step result so_far
+    filled has failed =
     let front = so_far.front ++ spelled_some (next_datagram now) in
-    hears_more drops a b start before last known left first here there old new count (spelled_some (next_datagram now))
-    passing_result result so_far has
+    hears_more drops a b start before last known left first here there old mid new count (spelled_some (next_datagram now))
+    step result so_far has
     (begun_all start now.journal None known front
     (left_end laws start before now known left behind so_far.front so_far.behind filled))
     failed
@@ -192,50 +182,22 @@ hears_all {P} drops a b start now known front refused first here old new with_re
   all = all;
 }
 
--- the last datagram is passed
-heard_end : {P T E : Type 0} (drops : Drops) (a b : P) (start before now : PublisherState)
-    (known left : Option (List ℕ)) (first here there : LineState P) (old new : Option (List ℕ)) (count : ℕ) (value : T) →
-    (so_far : HeardSoFar drops a b start before known left first here old new count) →
-    HasPassed {T = T} {E = E} a b (routed drops (count + 1) (spelled_some (next_datagram now))) (Ok value) here there →
-    Heard a b (routed drops 1 (so_far.front ++ spelled_some (next_datagram now))) first there old new
-heard_end drops a b start before now known left first here there old new count value so_far has =
-    subst (λ (l : List (Routes × List ℕ)). Heard a b l first there old new)
-    (routed_next drops so_far.front (spelled_some (next_datagram now)) count so_far.counted)
-    (received_more a b value so_far.received has)
-
 -- all data are passed, and some text is written
 pub hears_end : {P T E F : Type 0} → PackingLaws → (drops : Drops) (a b : P) (start before now after : PublisherState)
-    (known left behind : Option (List ℕ)) (first here there last : LineState P) (old mid new : Option (List ℕ))
-    (count : ℕ) (value : T) (rest : List ℕ) → HeardSoFar drops a b start before known left first here old mid count →
+    (known left behind : Option (List ℕ)) (first here there : LineState P) (old mid new : Option (List ℕ)) (count : ℕ)
+    (value : T) → HeardSoFar drops a b start before known left first here old mid count →
     Fills before now left behind End →
-    HasPassed {T = T} {E = F} a b (routed drops (count + 1) (spelled_some (next_datagram now))) (Ok value) here there →
+    PassRests {T = T} {E = F} a b (routed drops (count + 1) (spelled_some (next_datagram now))) (Ok value) here there mid
+    new →
     after ≡ after_datagram now →
-    (moves : Moves mid new there.progress.outgoing.text rest) → there ≡ text_front moves.front last →
-    ReceivesLines {E = E} drops a b start after known (Ok None) first last old new
-hears_end {P} {T} {E} laws drops a b start before now after known left behind first here there last old mid new count value rest so_far filled has sent moves same =
+    ReceivesLines {E = E} drops a b start after known (Ok None) first there old new
+hears_end {P} {T} {E} laws drops a b start before now after known left behind first here there old mid new count value
+    so_far filled has sent =
     let front = so_far.front ++ spelled_some (next_datagram now) in
-    subst (λ (p : PublisherState). ReceivesLines {E = E} drops a b start p known (Ok None) first last old new) (sym sent)
-    (hears_all drops a b start (after_datagram now) known front None first last old new
-    (received_moved a b last
-    (heard_end drops a b start before now known left first here there old mid count value so_far has) moves same)
+    subst (λ (p : PublisherState). ReceivesLines {E = E} drops a b start p known (Ok None) first there old new) (sym sent)
+    (hears_all drops a b start (after_datagram now) known front None first there old new
+    (received_next drops a b start before now known left first here there old mid new count value so_far has)
     (left_end laws start before now known left behind so_far.front so_far.behind filled))
-
--- a fault while text is written after the last datagram
-pub hears_end_unwritten : {P T E F : Type 0} → PackingLaws → (drops : Drops) (a b : P)
-    (start before now after : PublisherState) (known left behind : Option (List ℕ)) (first here there last : LineState P)
-    (old mid new : Option (List ℕ)) (count : ℕ) (value : T) (result : Result (Option LineRefusal) E) →
-    HeardSoFar drops a b start before known left first here old mid count → Fills before now left behind End →
-    HasPassed {T = T} {E = F} a b (routed drops (count + 1) (spelled_some (next_datagram now))) (Ok value) here there →
-    last.publisher ≡ there.publisher → AppendsPrefix mid new there.progress.outgoing.text → IsErr result →
-    ReceivesLines drops a b start after known result first last old new
-hears_end_unwritten laws drops a b start before now after known left behind first here there last old mid new count value result so_far filled has same cut failed =
-    let front = so_far.front ++ spelled_some (next_datagram now) in
-    hears_cut drops a b start after known front result first last old new
-    (received_cut a b last same
-    (heard_end drops a b start before now known left first here there old mid count value so_far has) cut)
-    (begun_all start now.journal None known front
-    (left_end laws start before now known left behind so_far.front so_far.behind filled))
-    failed
 
 -- a line is refused
 pub hears_refused : {P E : Type 0} → PackingLaws → (drops : Drops) (a b : P) (start before now : PublisherState)

@@ -8,14 +8,13 @@ use Rattle.mold_publish.specs.Publishing.{lines_published}
 use Rattle.mold_receiver.specs.Arbiter.{Arbitration}
 use Rattle.mold_session.specs.Publisher.{PublisherState}
 use Rattle.mold_session.specs.Server.{ServerState}
-use Rattle.mold_wire.specs.declared.request.Request.{Request}
-use Rattle.mold_loop.specs.LocalFeed.{IsSame, OnlyPasses, OnlyRepairs, Passes, lines}
-use Rattle.mold_loop.specs.Looping.{HasPassed, LineState, LoopRun, line_state, lines_at}
+use Rattle.mold_loop.specs.LocalFeed.{IsSame, OnlyPasses, OnlyRepairs, PassesAndWrites, lines}
+use Rattle.mold_loop.specs.Looping.{LineState, LoopRun, PassRests, line_state, lines_at}
 use Rattle.mold_turns.specs.Outgoing.{OutgoingState}
 use Rattle.mold_loop.specs.Passing.{routed}
-use Rattle.mold_loop.specs.Repairing.{HasRepaired, RepairState, answers_sent, repair_state, repairing, requested, rounds_at}
+use Rattle.mold_loop.specs.Repairing.{RepairState, answers_sent, repair_state, repairing, rounds_at}
 use Rattle.mold_loop.specs.Repairing.{text_before}
-use Rattle.mold_turns.specs.Runs.{RestsOfTwo}
+use Rattle.mold_turns.specs.Runs.{RestsOfTwo, TurnRestsOfTwo}
 use Rattle.mold_serve.specs.Serving.{Service}
 use Rattle.mold_loop.specs.declared.local_feed.LocalFeed.{LocalFeed}
 use Rattle.mold_loop.specs.declared.loop_parts.Drops.{Drops}
@@ -67,30 +66,40 @@ repairs_twice first second = record {
 -- ---- what was passed, with the options of the first state
 
 pub passed_from : {D P T E : Type 0} (port : D → Port P) (datagrams : List (Routes × List ℕ)) (result : Result T E)
-    {first old : LocalFeed D P} (new : LocalFeed D P) → IsSame first old → Passes port datagrams result old new →
-    HasPassed first.options.now.peers.a first.options.now.peers.b datagrams result (lines port old) (lines port new)
-passed_from {D} {P} port datagrams result {first} {old} new same passes =
-    subst (λ (o : Bor (LoopOptions P)). HasPassed o.now.peers.a o.now.peers.b datagrams result (lines port old) (lines port new))
+    {first old : LocalFeed D P} (new : LocalFeed D P) {held now : Option (List ℕ)} → IsSame first old →
+    PassesAndWrites port datagrams result old new held now →
+    PassRests first.options.now.peers.a first.options.now.peers.b datagrams result (lines port old) (lines port new) held now
+passed_from {D} {P} port datagrams result {first} {old} new {held} {now} same passes =
+    subst
+    (λ (o : Bor (LoopOptions P)). PassRests o.now.peers.a o.now.peers.b datagrams result (lines port old) (lines port new)
+    held now)
     same.options passes
 
 pub next_passed : {D P T E : Type 0} (port : D → Port P) (number : ℕ) (datagrams : List (List ℕ)) (result : Result T E)
-    {first old : LocalFeed D P} (new : LocalFeed D P) → IsSame first old → Passes port (routed old.options.now.drops number datagrams) result old new →
-    HasPassed first.options.now.peers.a first.options.now.peers.b (routed first.options.now.drops number datagrams) result (lines port old)
-    (lines port new)
-next_passed {D} {P} port number datagrams result {first} {old} new same passes =
+    {first old : LocalFeed D P} (new : LocalFeed D P) {held now : Option (List ℕ)} → IsSame first old →
+    PassesAndWrites port (routed old.options.now.drops number datagrams) result old new held now →
+    PassRests first.options.now.peers.a first.options.now.peers.b (routed first.options.now.drops number datagrams) result
+    (lines port old) (lines port new) held now
+next_passed {D} {P} port number datagrams result {first} {old} new {held} {now} same passes =
     subst
-    (λ (o : Bor (LoopOptions P)). HasPassed o.now.peers.a o.now.peers.b (routed o.now.drops number datagrams) result
-    (lines port old) (lines port new))
+    (λ (o : Bor (LoopOptions P)). PassRests o.now.peers.a o.now.peers.b (routed o.now.drops number datagrams) result
+    (lines port old) (lines port new) held now)
     same.options passes
 
--- what was requested from the server, with the options of the first state
-pub request_from : {D P T E : Type 0} (result : Result T E) (request : Option Request) (service : Service)
-    (choice : Bool × List Bool) (before after : RepairState P) {first old : LocalFeed D P} → IsSame first old →
-    HasRepaired result after (requested request old.options.now.peers.server service choice before) →
-    HasRepaired result after (requested request first.options.now.peers.server service choice before)
-request_from {D} {P} result request service choice before after {first} {old} same has =
-    subst (λ (o : Bor (LoopOptions P)). HasRepaired result after (requested request o.now.peers.server service choice before))
-    same.options has
+-- one round of requests, with the options of the first state and an equal service
+pub round_from : {D P T E : Type 0} {one other : Service} {before : RepairState P} {result : Result T E}
+    {held now : Option (List ℕ)} {after : RepairState P} {first old : LocalFeed D P} → one ≡ other → IsSame first old →
+    TurnRestsOfTwo (repairing old.options.now.peers.server one) answers_sent text_before before result held now after →
+    TurnRestsOfTwo (repairing first.options.now.peers.server other) answers_sent text_before before result held now after
+round_from {D} {P} {T} {E} {one} {other} {before} {result} {held} {now} {after} {first} {old} is same made =
+    subst
+    (λ (s : Service). TurnRestsOfTwo (repairing first.options.now.peers.server s) answers_sent text_before before result
+    held now after)
+    is
+    (subst
+    (λ (o : Bor (LoopOptions P)). TurnRestsOfTwo (repairing o.now.peers.server one) answers_sent text_before before result
+    held now after)
+    same.options made)
 
 -- the rounds of requests, with the options of the first state
 pub rounds_from : {D P T E : Type 0} (service : Service) {before : RepairState P} {result : Result T E}

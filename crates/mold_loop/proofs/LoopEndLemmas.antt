@@ -19,7 +19,7 @@ use Rattle.mold_send.proofs.SendingLemmas.{any_known}
 use Rattle.mold_turns.proofs.RunLemmas.{begins_more, begins_none, begins_trans, begins_whole}
 use Rattle.mold_turns.specs.Outgoing.{OutgoingState, written_out}
 use Rattle.mold_listen.specs.Listening.{progress, last_lines, listener_status}
-use Rattle.mold_loop.specs.Looping.{HasPassed, ReceivesLines, IsData, LineState, LoopRun}
+use Rattle.mold_loop.specs.Looping.{IsData, LineState, LoopRun, PassRests, ReceivesLines}
 use Rattle.mold_loop.specs.Looping.{with_progress}
 use Rattle.mold_loop.specs.Passing.{all_routed, routed, routed_end}
 use Rattle.mold_send.specs.PublishLoop.{closed_unless, data_after, left_journal}
@@ -156,23 +156,23 @@ all_are : (drops : Drops) (start : PublisherState) (journal : JournalState) (fro
 all_are drops start journal front whole =
     ap (λ (ds : List (List ℕ)). routed drops 1 ds ++ routed_end journal None) whole
 
--- a fault while the end packet is passed
+-- a fault while the end packet is passed, or in the write after it
 pub loop_unended : {P T E F G : Type 0} (reporting : Bool) (drops : Drops) (a b to : P) (turns : ℕ) (start now : PublisherState)
     (server : ServerState) (lines : LineState P) (rounds : RepairState P) (known : Option (List ℕ))
-    (ended : Result T G) (result : Result ℕ E) (old new : Option (List ℕ)) (here lines_left : LineState P)
+    (ended : Result T G) (result : Result ℕ E) (old mid new : Option (List ℕ)) (here lines_left : LineState P)
     (rounds_left : RepairState P) →
-    ReceivesLines {E = F} drops a b start now known (Ok None) lines here old new →
-    HasPassed a b (routed_end now.journal None) ended here lines_left → IsErr result →
+    ReceivesLines {E = F} drops a b start now known (Ok None) lines here old mid →
+    PassRests a b (routed_end now.journal None) ended here lines_left mid new → IsErr result →
     rounds_left.server ≡ rounds.server → rounds_left.requests ≡ rounds.requests →
     IfSome known (λ input. LoopRun reporting drops a b to turns start.limit start.sent
     (lines_published start.journal (lines_of input)) server lines rounds result old new lines_left rounds_left)
-loop_unended {P} reporting drops a b to turns start now server lines rounds known ended result old new here left asked hears has failed kept same =
+loop_unended {P} reporting drops a b to turns start now server lines rounds known ended result old mid new here left asked hears has failed kept same =
     let published : PublishedLines = record { journal = now.journal; refused = None } in
     run_from drops a b to turns start server lines rounds known now.journal None hears.front result old new
     left asked hears.all
     (λ whole.
     run_cut drops a b to turns start.limit start.sent published server lines rounds result left asked old new
-    (received_failed a b ended (received_of drops a b start now known None lines here old new hears) has)
+    (received_failed a b ended (received_of drops a b start now known None lines here old mid hears) has)
     (subst (λ (l : List (Routes × List ℕ)). Begins l (all_routed drops start.limit start.sent published))
     (all_are drops start now.journal hears.front whole)
     (begins_whole (all_routed drops start.limit start.sent published)))
@@ -201,45 +201,45 @@ rests_from {P} to server turns journal other port requests arbitration printer r
     rests)
 
 received_all : {P T F G : Type 0} (drops : Drops) (a b : P) (start now : PublisherState) (known : Option (List ℕ))
-    (lines here there : LineState P) (old new : Option (List ℕ)) (value : T) →
-    (hears : ReceivesLines {E = F} drops a b start now known (Ok None) lines here old new) →
-    HasPassed {T = T} {E = G} a b (routed_end now.journal None) (Ok value) here there →
+    (lines here there : LineState P) (old mid new : Option (List ℕ)) (value : T) →
+    (hears : ReceivesLines {E = F} drops a b start now known (Ok None) lines here old mid) →
+    PassRests {T = T} {E = G} a b (routed_end now.journal None) (Ok value) here there mid new →
     data_after start.limit start.sent (record { journal = now.journal; refused = None }) ≡ hears.front →
     Heard a b (all_routed drops start.limit start.sent (record { journal = now.journal; refused = None })) lines there old
     new
-received_all {P} drops a b start now known lines here there old new value hears has whole =
+received_all {P} drops a b start now known lines here there old mid new value hears has whole =
     subst (λ (l : List (Routes × List ℕ)). Heard a b l lines there old new)
     (sym (all_are drops start now.journal hears.front whole))
-    (received_more a b value (received_of drops a b start now known None lines here old new hears) has)
+    (received_more a b value (received_of drops a b start now known None lines here old mid hears) has)
 
 -- a fault in a round
 pub loop_unrepaired : {P T U E F G H : Type 0} (reporting : Bool) (drops : Drops) (a b to : P) (turns : ℕ) (start now : PublisherState)
     (server : ServerState) (lines : LineState P) (rounds : RepairState P) (known : Option (List ℕ)) (value : T)
-    (asked : Result U H) (result : Result ℕ E) (old mid new : Option (List ℕ)) (here there lines_left : LineState P)
+    (asked : Result U H) (result : Result ℕ E) (old first mid new : Option (List ℕ)) (here there lines_left : LineState P)
     (rounds_left : RepairState P) →
-    ReceivesLines {E = F} drops a b start now known (Ok None) lines here old mid →
-    HasPassed {T = T} {E = G} a b (routed_end now.journal None) (Ok value) here there →
+    ReceivesLines {E = F} drops a b start now known (Ok None) lines here old first →
+    PassRests {T = T} {E = G} a b (routed_end now.journal None) (Ok value) here there first mid →
     RestsOfTwo (repairing to (service_of (record now.journal { closed = true }) server)) answers_sent text_before turns
     (with_progress there.progress rounds) asked mid new rounds_left →
     IsErr result → lines_left.publisher ≡ there.publisher →
     IfSome known (λ input. LoopRun reporting drops a b to turns start.limit start.sent
     (lines_published start.journal (lines_of input)) server lines rounds result old new lines_left rounds_left)
-loop_unrepaired reporting drops a b to turns start now server lines rounds known value asked result old mid new here there left
+loop_unrepaired reporting drops a b to turns start now server lines rounds known value asked result old first mid new here there left
     made hears has rests failed same =
     run_from drops a b to turns start server lines rounds known now.journal None hears.front result old new
     left made hears.all
     (λ whole.
     run_unrepaired drops a b to turns start.limit start.sent now.journal server lines rounds asked result there left
     made old mid new
-    (received_all drops a b start now known lines here there old mid value hears has whole) rests failed same)
+    (received_all drops a b start now known lines here there old first mid value hears has whole) rests failed same)
 
 -- the last line is printed, or a prefix of the remaining text
 pub loop_done : {P T U E F G H : Type 0} (reporting : Bool) (drops : Drops) (a b to : P) (turns : ℕ) (start now : PublisherState)
     (server : ServerState) (lines : LineState P) (rounds : RepairState P) (known : Option (List ℕ)) (value : T)
-    (done : U) (result : Result ℕ E) (old mid second new : Option (List ℕ)) (here there lines_left : LineState P)
+    (done : U) (result : Result ℕ E) (old first mid second new : Option (List ℕ)) (here there lines_left : LineState P)
     (behind rounds_left : RepairState P) →
-    ReceivesLines {E = F} drops a b start now known (Ok None) lines here old mid →
-    HasPassed {T = T} {E = G} a b (routed_end now.journal None) (Ok value) here there →
+    ReceivesLines {E = F} drops a b start now known (Ok None) lines here old first →
+    PassRests {T = T} {E = G} a b (routed_end now.journal None) (Ok value) here there first mid →
     RestsOfTwo {E = H} (repairing to (service_of (record now.journal { closed = true }) server)) answers_sent text_before
     turns (with_progress there.progress rounds) (Ok done) mid second behind →
     AppendsPrefix second new (behind.progress.outgoing.text ++ last_lines reporting behind.progress) →
@@ -249,14 +249,14 @@ pub loop_done : {P T U E F G H : Type 0} (reporting : Bool) (drops : Drops) (a b
     OnOk result (rounds_left.progress.outgoing ≡ written_out behind.progress.outgoing) →
     IfSome known (λ input. LoopRun reporting drops a b to turns start.limit start.sent
     (lines_published start.journal (lines_of input)) server lines rounds result old new lines_left rounds_left)
-loop_done reporting drops a b to turns start now server lines rounds known v done result old mid next new here there left made
+loop_done reporting drops a b to turns start now server lines rounds known v done result old first mid next new here there left made
     rest hears has rests cut printed is out =
     run_from drops a b to turns start server lines rounds known now.journal None hears.front result old new
     left rest hears.all
     (λ whole.
     run_end drops a b to turns start.limit start.sent (record { journal = now.journal; refused = None }) server lines
     rounds result there left made rest old mid next new rests.rests.choices rests.rests.written
-    (received_all drops a b start now known lines here there old mid v hears has whole) rests.rests.counted
+    (received_all drops a b start now known lines here there old first mid v hears has whole) rests.rests.counted
     rests.rests.appended rests.rests.whole cut printed is out)
 
 -- the journal that the publisher ends with

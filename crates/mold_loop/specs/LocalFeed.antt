@@ -1,9 +1,9 @@
 -- Defines the models of a running loop (`LocalFeed`), and what its steps leave unchanged.
-use Rattle.std.specs.Prelude.{◌≡◌, ℕ, Bool, true, List, Result, length}
+use Rattle.std.specs.Prelude.{◌≡◌, ℕ, Bool, true, List, Option, Result, length}
 use Rattle.mold_ports.specs.Ports.{Port}
 use Rattle.mold_session.specs.Server.{ServerState}
 use Rattle.mold_listen.specs.Listening.{Asking, asking}
-use Rattle.mold_loop.specs.Looping.{HasPassed, LineState, lines_at}
+use Rattle.mold_loop.specs.Looping.{HasPassed, LineState, PassRests, lines_at}
 use Rattle.mold_loop.specs.Repairing.{RepairState, rounds_at}
 use Rattle.mold_loop.specs.declared.local_feed.LocalFeed.{LocalFeed}
 use Rattle.mold_loop.specs.declared.loop_parts.Routes.{Routes}
@@ -21,6 +21,10 @@ rounds port server feed = rounds_at port feed.ports.now server feed.listener.now
 abbrev pub asking_state : {D A P : Type 0} → (D → Port P) → LocalFeed D A → Asking P
 asking_state port feed =
     asking (port feed.ports.now.requests) feed.listener.now.arbiter feed.listener.now.printer.outgoing
+
+-- The text that the loop still has to write.
+abbrev pub unwritten : {D A : Type 0} → LocalFeed D A → List ℕ
+unwritten feed = feed.listener.now.printer.outgoing.text
 
 -- The loop's buffer is as long as the longest datagram.
 abbrev pub HasBuffer : {D A : Type 0} → LocalFeed D A → Type 0
@@ -54,3 +58,10 @@ abbrev pub Passes : {D P T E : Type 0} → (D → Port P) → List (Routes × Li
     LocalFeed D P → Type 0
 Passes port datagrams result old new =
     HasPassed old.options.now.peers.a old.options.now.peers.b datagrams result (lines port old) (lines port new)
+
+-- The loop passed these datagrams and then wrote some text, in the sense of `PassRests`.
+abbrev pub PassesAndWrites : {D P T E : Type 0} → (D → Port P) → List (Routes × List ℕ) → Result T E →
+    LocalFeed D P → LocalFeed D P → Option (List ℕ) → Option (List ℕ) → Type 0
+PassesAndWrites port datagrams result old new held_old held_new =
+    PassRests old.options.now.peers.a old.options.now.peers.b datagrams result (lines port old) (lines port new) held_old
+    held_new

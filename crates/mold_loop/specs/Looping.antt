@@ -158,6 +158,19 @@ pub record HasPassed {P T E : Type 0} (a b : P) (datagrams : List (Routes × Lis
   pub whole : OnOk result (after ≡ run (passing a b) passes before)
   pub offered : after.publisher ≡ (run (passing a b) passes before).publisher
 
+-- What passing these datagrams leaves, together with the write after it. They were passed with some outcomes. The text
+-- written is a prefix of the text after them. After a fault, only that and the publisher's port are known.
+pub record PassRests {P T E : Type 0} (a b : P) (datagrams : List (Routes × List ℕ)) (result : Result T E)
+    (before after : LineState P) (old new : Option (List ℕ)) : Type 0 where
+  pub passes : List Pass
+  pub are : map routed_by passes ≡ datagrams
+  -- The text that was written.
+  pub written : List ℕ
+  pub appended : Appends old new written
+  pub whole : OnOk result (run (passing a b) passes before ≡ text_front written after)
+  pub text : Begins written (run (passing a b) passes before).progress.outgoing.text
+  pub offered : after.publisher ≡ (run (passing a b) passes before).publisher
+
 -- The datagrams `front` are a prefix of the data datagrams for the lines of `input`. The publisher starts as `start`.
 abbrev pub BeginsData : PublisherState → List (List ℕ) → List ℕ → Type 0
 BeginsData start front input =

@@ -1,17 +1,20 @@
 //! The state of a running loop, and its steps: publish, receive, repair, print.
 
-ghost use Rattle.std.specs.Prelude.{◌≡◌, ◌+◌, ◌≤◌, [], ◌∷◌, true, None, Some, Bool, List, length, IfOk, IfSome, OnOk};
+ghost use Rattle.std.specs.Prelude.{◌≡◌, ◌+◌, ◌≤◌, [], ◌∷◌, true, None, Some, Bool, List, length, IfErr, IfOk};
+ghost use Rattle.std.specs.Prelude.{IfSome, OnOk};
 ghost use Rattle.mold_devices.specs.Faults.{CountsCommand, CountsSink};
 ghost use Rattle.mold_devices.specs.Lines.{lines_of};
 ghost use Rattle.mold_listen.specs.Listening.{receive_responses};
-ghost use Rattle.mold_loop.specs.LocalFeed.{HasBuffer, IsSame, OnlyPasses, OnlyRepairs, Passes, asking_state, lines};
-ghost use Rattle.mold_loop.specs.LocalFeed.{rounds};
+ghost use Rattle.std.specs.Io.KnownBytes.{Appends};
+ghost use Rattle.mold_loop.specs.LocalFeed.{HasBuffer, IsSame, OnlyPasses, OnlyRepairs, Passes, PassesAndWrites};
+ghost use Rattle.mold_loop.specs.LocalFeed.{asking_state, lines, rounds, unwritten};
 ghost use Rattle.mold_loop.specs.Looping.{ReceivesLines, LoopRun, after_routes};
 ghost use Rattle.mold_loop.specs.Passing.{routed, routed_end};
 ghost use Rattle.mold_send.specs.PublishLoop.{left_journal, spelled_some};
 ghost use Rattle.mold_loop.specs.Repairing.{HasRepaired, answers_sent, repaired, repairing, requested, text_before};
 ghost use Rattle.mold_turns.specs.Outgoing.{IsBounded};
-ghost use Rattle.mold_turns.specs.Runs.{RestsOfTwo};
+ghost use Rattle.mold_receiver.specs.Wanted.{wanted};
+ghost use Rattle.mold_turns.specs.Runs.{Begins, RestsOfTwo, TurnRestsOfTwo};
 ghost use Rattle.mold_serve.specs.Serving.{service_of};
 ghost use Rattle.mold_publish.specs.Publishing.{HasRoom, lines_published};
 ghost use Rattle.mold_session.specs.Publisher.{after_datagram, closed, next_datagram};
@@ -51,6 +54,7 @@ impl<'a, 'p, D: Datagrams + Drop> LocalFeed<'a, 'p, D> {
             OnOk result (lines D.port self.new ≡ after_routes routes (lines D.port self.old)) }
         ensures publisher { self.new.ports.now.publisher ≡ self.old.ports.now.publisher }
         ensures only { OnlyPasses D.modeled D.port self.old self.new }
+        ensures prints { Begins (unwritten self.old) (unwritten self.new) }
     {
         if routes.a {
             let a = &mut self.ports.a;
@@ -68,6 +72,7 @@ impl<'a, 'p, D: Datagrams + Drop> LocalFeed<'a, 'p, D> {
         requires { HasBuffer self.old }
         ensures passed { D.modeled ≡ true → Passes D.port ((routes, datagram.now) ∷ []) result self.old self.new }
         ensures only { OnlyPasses D.modeled D.port self.old self.new }
+        ensures prints { Begins (unwritten self.old) (unwritten self.new) }
     {
         let port = &mut self.ports.publisher;
         let options = self.options;
@@ -85,6 +90,7 @@ impl<'a, 'p, D: Datagrams + Drop> LocalFeed<'a, 'p, D> {
             (routed self.old.options.now.drops (number.old + 1) (spelled_some (next_datagram publisher.old)))
             result self.old self.new }
         ensures only { OnlyPasses D.modeled D.port self.old self.new }
+        ensures prints { Begins (unwritten self.old) (unwritten self.new) }
     {
         publisher_holds(publisher);
         let Some(datagram) = publisher.datagram() else {
@@ -95,9 +101,40 @@ impl<'a, 'p, D: Datagrams + Drop> LocalFeed<'a, 'p, D> {
         self.pass(routes, datagram)
     }
 
+    // Makes one step of `pass_next`. Then writes the text if it has at least 65,536 bytes or the sink is live. If memory
+    // runs out in the step, writes the text before it.
+    fn write_next<K: Sink>(
+        &mut self,
+        publisher: &mut Publisher,
+        number: &mut u64,
+        sink: &mut K,
+    ) -> Result<(), CommandFault>
+        requires buffer { HasBuffer self.old }
+        requires few { number.old ≤ publisher.old.sent }
+        ensures counted { number.new ≡ number.old + length (spelled_some (next_datagram publisher.old)) }
+        ensures sent { publisher.new ≡ after_datagram publisher.old }
+        ensures passed { D.modeled ≡ true → PassesAndWrites D.port
+            (routed self.old.options.now.drops (number.old + 1) (spelled_some (next_datagram publisher.old)))
+            result self.old self.new (K.held sink.old) (K.held sink.new) }
+        ensures bounded { OnOk result (IsBounded (K.live sink.old) (unwritten self.new)) }
+        ensures kept { IfErr result (λ fault. fault ≡ CommandFault.Memory →
+            Appends (K.held sink.old) (K.held sink.new) (unwritten self.old)) }
+        ensures live { K.live sink.new ≡ K.live sink.old }
+        ensures only { OnlyPasses D.modeled D.port self.old self.new }
+        ensures sink { CountsSink (K.failed sink.old) (K.failed sink.new) result }
+    {
+        let told = self.listener.printer.outgoing.unwritten();
+        let Ok(()) = self.pass_next(publisher, number) else {
+            let outgoing = &mut self.listener.printer.outgoing;
+            return Err(outgoing.end_with(told, CommandFault::Memory, sink));
+        };
+        self.listener.printer.outgoing.send_large(sink)?;
+        Ok(())
+    }
+
     // Publishes the lines of the source. Passes a datagram each time the publisher is full, and the rest after the
     // last line. After each datagram, writes the text if it has at least 65,536 bytes or the sink is live. Returns why
-    // a line is refused, if one is. If reading the lines fails, writes the text of the datagrams passed so far.
+    // a line is refused, if one is. If reading fails or memory runs out, writes the text of the datagrams before that.
     fn pass_lines<S: Source, K: Sink>(
         &mut self,
         publisher: &mut Publisher,
@@ -114,8 +151,8 @@ impl<'a, 'p, D: Datagrams + Drop> LocalFeed<'a, 'p, D> {
         ensures all { IfOk result (λ refused. refused ≡ None →
             publisher.new.sent ≡ length publisher.new.journal.messages) }
         ensures limit { OnOk result (publisher.new.limit ≡ publisher.old.limit) }
-        ensures bounded { OnOk result (IsBounded (K.live sink.old) self.old.listener.now.printer.outgoing.text →
-            IsBounded (K.live sink.old) self.new.listener.now.printer.outgoing.text) }
+        ensures bounded { OnOk result
+            (IsBounded (K.live sink.old) (unwritten self.old) → IsBounded (K.live sink.old) (unwritten self.new)) }
         ensures live { K.live sink.new ≡ K.live sink.old }
         ensures failures { CountsCommand (S.failed source.old) (S.failed source.new)
             (K.failed sink.old) (K.failed sink.new) result }
@@ -127,10 +164,9 @@ impl<'a, 'p, D: Datagrams + Drop> LocalFeed<'a, 'p, D> {
         let mut number = 0;
         'passing: loop {
             match fill(publisher, &mut lines, source, &mut message) {
-                Ok(Filled::Full) => self.pass_next(publisher, &mut number)?,
+                Ok(Filled::Full) => self.write_next(publisher, &mut number, sink)?,
                 Ok(Filled::End) => {
-                    self.pass_next(publisher, &mut number)?;
-                    self.listener.printer.outgoing.send_large(sink)?;
+                    self.write_next(publisher, &mut number, sink)?;
                     return Ok(None);
                 }
                 Ok(Filled::Refused { why }) => return Ok(Some(why)),
@@ -141,7 +177,6 @@ impl<'a, 'p, D: Datagrams + Drop> LocalFeed<'a, 'p, D> {
                     return Err(outgoing.end_with(len, met, sink));
                 }
             }
-            self.listener.printer.outgoing.send_large(sink)?;
         }
     }
 
@@ -154,6 +189,7 @@ impl<'a, 'p, D: Datagrams + Drop> LocalFeed<'a, 'p, D> {
         ensures passed { D.modeled ≡ true →
             Passes D.port (routed_end publisher.old.journal None) result self.old self.new }
         ensures only { OnlyPasses D.modeled D.port self.old self.new }
+        ensures prints { Begins (unwritten self.old) (unwritten self.new) }
     {
         let _ = publisher.close();
         match publisher.end() {
@@ -165,6 +201,36 @@ impl<'a, 'p, D: Datagrams + Drop> LocalFeed<'a, 'p, D> {
         }
     }
 
+    // Makes the step of `pass_end`. Then writes the text if it has at least 65,536 bytes or the sink is live. If memory
+    // runs out in the step, writes the text before it.
+    fn write_end<K: Sink>(
+        &mut self,
+        publisher: &mut Publisher,
+        sink: &mut K,
+    ) -> Result<(), CommandFault>
+        requires buffer { HasBuffer self.old }
+        requires sent { publisher.old.sent ≡ length publisher.old.journal.messages }
+        ensures limit { publisher.new.limit ≡ publisher.old.limit }
+        ensures closed { publisher.new ≡ closed publisher.old }
+        ensures passed { D.modeled ≡ true → PassesAndWrites D.port (routed_end publisher.old.journal None)
+            result self.old self.new (K.held sink.old) (K.held sink.new) }
+        ensures bounded { OnOk result (IsBounded (K.live sink.old) (unwritten self.new)) }
+        ensures kept { IfErr result (λ fault. fault ≡ CommandFault.Memory →
+            Appends (K.held sink.old) (K.held sink.new) (unwritten self.old)) }
+        ensures live { K.live sink.new ≡ K.live sink.old }
+        ensures only { OnlyPasses D.modeled D.port self.old self.new }
+        ensures sink { CountsSink (K.failed sink.old) (K.failed sink.new) result }
+    {
+        let told = self.listener.printer.outgoing.unwritten();
+        let Ok(()) = self.pass_end(publisher) else {
+            let outgoing = &mut self.listener.printer.outgoing;
+            return Err(outgoing.end_with(told, CommandFault::Memory, sink));
+        };
+        let outgoing = &mut self.listener.printer.outgoing;
+        outgoing.send_large(sink)?;
+        Ok(())
+    }
+
     // Makes `count` receives for the responses to a request.
     fn take_answers(&mut self, count: u64) -> Result<(), AllocError>
         requires { HasBuffer self.old }
@@ -174,6 +240,7 @@ impl<'a, 'p, D: Datagrams + Drop> LocalFeed<'a, 'p, D> {
             (asking_state D.port self.new ≡ receive_responses count (asking_state D.port self.old)) }
         ensures server { self.new.ports.now.server ≡ self.old.ports.now.server }
         ensures only { OnlyRepairs self.old self.new }
+        ensures prints { Begins (unwritten self.old) (unwritten self.new) }
     {
         for _answer in 0..count {
             let requests = &mut self.ports.requests;
@@ -191,6 +258,7 @@ impl<'a, 'p, D: Datagrams + Drop> LocalFeed<'a, 'p, D> {
             (repaired (service_of journal.now server.old) fails (rounds D.port server.old self.old)) }
         ensures server { server.new ≡ record server.old { answered = server.new.answered } }
         ensures only { OnlyRepairs self.old self.new }
+        ensures prints { Begins (unwritten self.old) (unwritten self.new) }
     {
         let mut tally = Tally::new(self.alloc);
         let mut responder = Responder {
@@ -221,6 +289,7 @@ impl<'a, 'p, D: Datagrams + Drop> LocalFeed<'a, 'p, D> {
             (rounds D.port server.old self.old)) }
         ensures server { server.new ≡ record server.old { answered = server.new.answered } }
         ensures only { OnlyRepairs self.old self.new }
+        ensures prints { Begins (unwritten self.old) (unwritten self.new) }
     {
         let to = self.options.peers.server;
         if self.ports.requests.send(to, &request.encode()).is_err() {
@@ -230,8 +299,41 @@ impl<'a, 'p, D: Datagrams + Drop> LocalFeed<'a, 'p, D> {
         self.repair(server, journal)
     }
 
-    // Makes at most `turns` rounds, and stops when the receiver wants no message. Less text than a large write may
-    // stay unwritten.
+    // Makes one round for the wanted messages. Then writes the text if it has at least 65,536 bytes or the sink is live.
+    // If memory runs out in the round, writes the text before it.
+    fn write_round<K: Sink>(
+        &mut self,
+        server: &mut Server,
+        journal: &Journal,
+        request: &Request,
+        sink: &mut K,
+    ) -> Result<(), CommandFault>
+        requires buffer { HasBuffer self.old }
+        requires longest { journal.now.max_message ≤ server.old.max_message }
+        requires wanted { wanted self.old.listener.now.arbiter.view ≡ Some request.now }
+        ensures rests { D.modeled ≡ true → TurnRestsOfTwo
+            (repairing self.old.options.now.peers.server (service_of journal.now server.old)) answers_sent text_before
+            (rounds D.port server.old self.old) result (K.held sink.old) (K.held sink.new)
+            (rounds D.port server.new self.new) }
+        ensures server { server.new ≡ record server.old { answered = server.new.answered } }
+        ensures bounded { OnOk result (IsBounded (K.live sink.old) (unwritten self.new)) }
+        ensures kept { IfErr result (λ fault. fault ≡ CommandFault.Memory →
+            Appends (K.held sink.old) (K.held sink.new) (unwritten self.old)) }
+        ensures live { K.live sink.new ≡ K.live sink.old }
+        ensures only { OnlyRepairs self.old self.new }
+        ensures sink { CountsSink (K.failed sink.old) (K.failed sink.new) result }
+    {
+        let told = self.listener.printer.outgoing.unwritten();
+        let Ok(()) = self.round(server, journal, request) else {
+            let outgoing = &mut self.listener.printer.outgoing;
+            return Err(outgoing.end_with(told, CommandFault::Memory, sink));
+        };
+        self.listener.printer.outgoing.send_large(sink)?;
+        Ok(())
+    }
+
+    // Makes at most `turns` rounds, and stops when the receiver wants no message. Between rounds, less than 65,536
+    // bytes of text are unwritten, and none if the sink is live.
     fn repair_all<K: Sink>(
         &mut self,
         server: &mut Server,
@@ -240,6 +342,7 @@ impl<'a, 'p, D: Datagrams + Drop> LocalFeed<'a, 'p, D> {
     ) -> Result<(), CommandFault>
         requires buffer { HasBuffer self.old }
         requires longest { journal.now.max_message ≤ server.old.max_message }
+        requires bounded { IsBounded (K.live sink.old) (unwritten self.old) }
         ensures rests { D.modeled ≡ true → RestsOfTwo
             (repairing self.old.options.now.peers.server (service_of journal.now server.old)) answers_sent text_before
             self.old.options.now.turns
@@ -247,8 +350,7 @@ impl<'a, 'p, D: Datagrams + Drop> LocalFeed<'a, 'p, D> {
             (rounds D.port server.new self.new) }
         ensures server { server.new ≡ record server.old { answered = server.new.answered } }
         ensures only { OnlyRepairs self.old self.new }
-        ensures bounded { OnOk result (IsBounded (K.live sink.old) self.old.listener.now.printer.outgoing.text →
-            IsBounded (K.live sink.old) self.new.listener.now.printer.outgoing.text) }
+        ensures bounded { OnOk result (IsBounded (K.live sink.old) (unwritten self.new)) }
         ensures live { K.live sink.new ≡ K.live sink.old }
         ensures sink { CountsSink (K.failed sink.old) (K.failed sink.new) result }
     {
@@ -256,8 +358,7 @@ impl<'a, 'p, D: Datagrams + Drop> LocalFeed<'a, 'p, D> {
             let Some(request) = self.listener.arbiter.receiver().wanted() else {
                 return Ok(());
             };
-            self.round(server, journal, &request)?;
-            self.listener.printer.outgoing.send_large(sink)?;
+            self.write_round(server, journal, &request, sink)?;
         }
         Ok(())
     }
@@ -298,7 +399,7 @@ impl<'a, 'p, D: Datagrams + Drop> LocalFeed<'a, 'p, D> {
             let number = publisher.journal().next();
             return print_refused(&mut self.listener.printer.outgoing, number, why, sink);
         }
-        self.pass_end(publisher)?;
+        self.write_end(publisher, sink)?;
         publisher_holds(publisher);
         let journal = publisher.journal();
         self.repair_all(server, journal, sink)?;

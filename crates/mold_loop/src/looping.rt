@@ -1,13 +1,13 @@
 //! The loop over any ports, source and sink.
 
-ghost use Rattle.std.specs.Prelude.{◌≡◌, ◌≤◌, ◌++◌, true, IfOk, IfSome, OnOk};
+ghost use Rattle.std.specs.Prelude.{◌≡◌, ◌≤◌, ◌++◌, true, IfErr, IfOk, IfSome, OnOk};
 ghost use Rattle.std.specs.Io.KnownBytes.{Appends};
 ghost use Rattle.mold_devices.specs.Devices.{AppendsPrefix};
 ghost use Rattle.mold_devices.specs.Faults.{CountsCommand, CountsSink};
 ghost use Rattle.mold_devices.specs.Lines.{lines_of};
 ghost use Rattle.mold_listen.specs.Listening.{progress, last_lines, listener_status};
 ghost use Rattle.mold_loop.specs.Looping.{LoopRun, lines_at};
-ghost use Rattle.mold_turns.specs.Outgoing.{written_out};
+ghost use Rattle.mold_turns.specs.Outgoing.{IsBounded, written_out};
 ghost use Rattle.mold_loop.specs.Passing.{LoopSends};
 ghost use Rattle.mold_send.specs.PublishLoop.{left_journal};
 ghost use Rattle.mold_loop.specs.Repairing.{rounds_at};
@@ -23,7 +23,8 @@ use mold_send::print_line_refused;
 use mold_turns::Outgoing;
 use mold_wire::MAX_LIMIT;
 
-// Prints the text that is still unwritten, and then why the line of message `number` is refused. Returns the status.
+// Prints the text that is still unwritten, and then why the line of message `number` is refused. Returns the status. If
+// memory runs out, the text that is still unwritten is written.
 pub(crate) fn print_refused<K: Sink>(
     outgoing: &mut Outgoing,
     number: u64,
@@ -34,6 +35,8 @@ pub(crate) fn print_refused<K: Sink>(
         Appends (K.held sink.old) (K.held sink.new) (outgoing.old.text ++ refused_text number why) × (status ≡ 2)) }
     ensures front { AppendsPrefix (K.held sink.old) (K.held sink.new) (outgoing.old.text ++ refused_text number why) }
     ensures left { OnOk result (outgoing.new ≡ written_out outgoing.old) }
+    ensures kept { IfErr result (λ fault. fault ≡ CommandFault.Memory →
+        Appends (K.held sink.old) (K.held sink.new) outgoing.old.text) }
     ensures sink { CountsSink (K.failed sink.old) (K.failed sink.new) result }
 {
     outgoing.send(sink)?;
@@ -43,12 +46,13 @@ pub(crate) fn print_refused<K: Sink>(
 }
 
 // Prints the text that is still unwritten and the listener's last line, preceded by the reports of its lines if
-// `reporting`. Returns the status.
+// `reporting`. Returns the status. If memory runs out, the text that is still unwritten is written.
 pub(crate) fn print_last<K: Sink>(
     listener: &mut Listener,
     reporting: bool,
     sink: &mut K,
 ) -> Result<u8, CommandFault>
+    requires { IsBounded (K.live sink.old) listener.old.printer.outgoing.text }
     ensures whole { IfOk result (λ status. Appends (K.held sink.old) (K.held sink.new)
         (listener.old.printer.outgoing.text
         ++ last_lines reporting (progress listener.old.arbiter listener.old.printer.outgoing))
@@ -58,11 +62,17 @@ pub(crate) fn print_last<K: Sink>(
         ++ last_lines reporting (progress listener.old.arbiter listener.old.printer.outgoing)) }
     ensures left { OnOk result (listener.new.printer.outgoing ≡ written_out listener.old.printer.outgoing) }
     ensures arbiter { listener.new.arbiter ≡ listener.old.arbiter }
+    ensures kept { IfErr result (λ fault. fault ≡ CommandFault.Memory →
+        Appends (K.held sink.old) (K.held sink.new) listener.old.printer.outgoing.text) }
     ensures sink { CountsSink (K.failed sink.old) (K.failed sink.new) result }
 {
     let Listener { arbiter, printer } = listener;
-    let status = push_end(arbiter, reporting, &mut printer.outgoing)?;
-    printer.outgoing.send(sink)?;
+    let outgoing = &mut printer.outgoing;
+    let told = outgoing.unwritten();
+    let Ok(status) = push_end(arbiter, reporting, outgoing) else {
+        return Err(outgoing.end_with(told, CommandFault::Memory, sink));
+    };
+    outgoing.send(sink)?;
     Ok(status)
 }
 
@@ -85,8 +95,9 @@ pub(crate) fn print_last<K: Sink>(
 /// The publisher's maximum message length must not exceed the server's, so that the server can respond to each
 /// request.
 ///
-/// After a fault, the text written and the datagrams sent are prefixes of those of a complete run. The ports of the
-/// lines send nothing. `Read` is returned only if the source failed, `Write` only if the sink failed.
+/// After a fault, the text written and the datagrams sent are prefixes of those of a complete run. If reading fails or
+/// memory runs out, the text before that is written first. The ports of the lines send nothing. `Read` is returned only
+/// if the source failed, `Write` only if the sink failed.
 pub fn session_loop<D: Datagrams + Drop, S: Source, K: Sink>(
     ports: &mut LoopPorts<D>,
     options: &LoopOptions<D::Peer>,

@@ -35,6 +35,7 @@ fn is_sent<D: Datagrams>(
 ) -> bool
     ensures comes { D.modeled ≡ true →
         ComesOf on result to datagram.now (D.port port.old) (D.port port.new) outgoing.old outgoing.new }
+    ensures text { outgoing.new.text ≡ outgoing.old.text }
 {
     if !on {
         return false;
@@ -57,6 +58,7 @@ pub(crate) fn send_on<D: Datagrams>(
     ensures comes { D.modeled ≡ true → ComesOfBoth routes result peers.now.a peers.now.b datagram.now
         (D.port port.old) (D.port port.new) listener.old.printer.outgoing listener.new.printer.outgoing }
     ensures arbiter { listener.new.arbiter ≡ listener.old.arbiter }
+    ensures text { listener.new.printer.outgoing.text ≡ listener.old.printer.outgoing.text }
 {
     let outgoing = &mut listener.printer.outgoing;
     Routes {

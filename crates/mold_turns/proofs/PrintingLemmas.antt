@@ -55,6 +55,10 @@ pub kept_begins : (old new : List ℕ) → Begins old new → take (length old) 
 kept_begins old new begins =
     ap (take (length old)) begins.parts ∙ take_at old begins.rest (length old) refl
 
+-- as many bytes as the former text had are the former text
+pub former_text : (old new : List ℕ) (len : ℕ) → Begins old new → len ≡ length old → take len new ≡ old
+former_text old new len begins is = ap (λ (n : ℕ). take n new) is ∙ kept_begins old new begins
+
 -- text was appended, or part of it followed the former text when memory ran out
 pub begins_pushed : {T E : Type 0} (result : Result T E) (old new more : List ℕ) → OnOk result (new ≡ old ++ more) →
     OnErr result (take (length old) new ≡ old) → Begins old new

@@ -8,7 +8,7 @@ use Rattle.std.specs.Io.KnownBytes.{Appends}
 use Rattle.std.proofs.KnownBytes.{Appends-nil, Appends-trans}
 use Rattle.mold_devices.specs.Devices.{AppendsPrefix}
 use Rattle.mold_devices.specs.Writing.{Moves}
-use Rattle.mold_turns.specs.Runs.{Loop, run, Begins, Rests, RestsOfTwo, Ran, TurnRests}
+use Rattle.mold_turns.specs.Runs.{Loop, run, Begins, Rests, RestsOfTwo, Ran, TurnRests, TurnRestsOfTwo}
 
 -- ---- prefixes
 
@@ -141,39 +141,6 @@ module _ {C S M : Type 0} {loop : Loop C S M} {behind : List ℕ → S → S} (i
     goes_on = λ more. ap (run loop more) (sym (is.none start));
   }
 
-  -- a turn was made
-  pub going_on : {start now : S} {old new : Option (List ℕ)} {count : ℕ} (choice : C) (after : S) →
-      Going loop behind start old new count now → after ≡ loop.turn choice now → loop.over after ≡ false →
-      Going loop behind start old new (count + 1) after
-  going_on {start} {now} {old} {new} {count} choice after going made on = record {
-    choices = going.choices ++ choice ∷ [];
-    counted = omega (arith, length-append going.choices (choice ∷ []), going.counted);
-    written = going.written;
-    appended = going.appended;
-    goes_on = λ more.
-        ap (λ (l : List C). run loop l start) (append_assoc going.choices (choice ∷ []) more)
-        ∙ going.goes_on (choice ∷ more)
-        ∙ run_on loop choice more (behind going.written now)
-        (ap loop.over (is.turn going.written choice now) ∙ is.over going.written (loop.turn choice now)
-        ∙ ap loop.over (sym made) ∙ on)
-        ∙ ap (run loop more) (is.turn going.written choice now ∙ ap (behind going.written) (sym made));
-  }
-
-  -- some of the text was written
-  pub going_sent : {start now : S} {old mid new : Option (List ℕ)} {count : ℕ} {left : List ℕ} (after : S) →
-      Going loop behind start old mid count now → (moves : Moves mid new (loop.text now) left) →
-      now ≡ behind moves.front after → Going loop behind start old new count after
-  going_sent {start} {now} {old} {mid} {new} {count} after going moves same = record {
-    choices = going.choices;
-    counted = going.counted;
-    written = going.written ++ moves.front;
-    appended = Appends-trans old mid new going.written moves.front going.appended moves.appended;
-    goes_on = λ more.
-        going.goes_on more
-        ∙ ap (λ (s : S). run loop more (behind going.written s)) same
-        ∙ ap (run loop more) (is.twice going.written moves.front after);
-  }
-
   -- all turns were made
   pub rests_end : {T E : Type 0} (result : Result T E) {start now : S} {old new : Option (List ℕ)} {turns : ℕ} →
       Going loop behind start old new turns now → Rests loop behind turns start result old new now
@@ -201,70 +168,10 @@ module _ {C S M : Type 0} {loop : Loop C S M} {behind : List ℕ → S → S} (i
   rests_all result {start} {now} {old} {new} {count} turns made going =
       rests_end result (subst (λ (n : ℕ). Going loop behind start old new n now) made going)
 
-  -- the loop ended after a turn
-  pub rests_over : {T E : Type 0} (result : Result T E) {start now : S} {old new : Option (List ℕ)} {count : ℕ}
-      (turns : ℕ) (choice : C) (after : S) → Going loop behind start old new count now → count < turns →
-      after ≡ loop.turn choice now → loop.over after ≡ true → Rests loop behind turns start result old new after
-  unfolding filled
-  rests_over result {start} {now} {old} {new} {count} turns choice after going few made over =
-      let fill : List C = replicate (turns - (count + 1)) choice in
-      let made_behind : loop.turn choice (behind going.written now) ≡ behind going.written after =
-      is.turn going.written choice now ∙ ap (behind going.written) (sym made) in
-      let end : run loop (filled going.choices choice count turns) start ≡ behind going.written after =
-      going.goes_on (choice ∷ fill)
-      ∙ run_over loop choice fill (behind going.written now)
-      (ap loop.over made_behind ∙ is.over going.written after ∙ over)
-      ∙ made_behind in
-      record {
-        choices = filled going.choices choice count turns;
-        counted = filled_length going.choices choice count turns going.counted few;
-        written = going.written;
-        appended = going.appended;
-        whole = on_ok result end;
-        front =
-            subst (λ (t : List ℕ). Begins going.written t)
-            (sym (ap loop.text end ∙ is.text going.written after)) (begins_more going.written (loop.text after));
-        sent =
-            subst (λ (t : List M). Begins (loop.sent after) t)
-            (sym (ap loop.sent end ∙ is.sent going.written after)) (begins_whole (loop.sent after));
-      }
-
-  -- a turn ended in a fault: it sent a prefix of what it was to send
-  pub rests_failed : {T E : Type 0} (result : Result T E) {start now : S} {old new : Option (List ℕ)} {count : ℕ}
-      (turns : ℕ) (choice : C) (after : S) → Going loop behind start old new count now → count < turns →
-      Begins (loop.sent after) (loop.sent (loop.turn choice now)) → IsErr result →
-      Rests loop behind turns start result old new after
-  unfolding filled
-  rests_failed result {start} {now} {old} {new} {count} turns choice after going few sent failed =
-      let fill : List C = replicate (turns - (count + 1)) choice in
-      let here : S = behind going.written now in
-      let end : run loop (filled going.choices choice count turns) start ≡ run loop (choice ∷ fill) here =
-      going.goes_on (choice ∷ fill) in
-      record {
-        choices = filled going.choices choice count turns;
-        counted = filled_length going.choices choice count turns going.counted few;
-        written = going.written;
-        appended = going.appended;
-        whole = none_ok result _ failed;
-        front =
-            subst (λ (s : S). Begins going.written (loop.text s)) (sym end)
-            (begins_trans
-            (subst (λ (t : List ℕ). Begins going.written t) (sym (is.text going.written now))
-            (begins_more going.written (loop.text now)))
-            (grows_in loop loop.text is.prints (choice ∷ fill) here));
-        sent =
-            subst (λ (s : S). Begins (loop.sent after) (loop.sent s)) (sym end)
-            (begins_trans
-            (subst (λ (l : List M). Begins (loop.sent after) l)
-            (sym (ap loop.sent (is.turn going.written choice now) ∙ is.sent going.written (loop.turn choice now)))
-            sent)
-            (grows_from loop loop.sent is.sends choice fill here));
-      }
-
-  -- ---- one turn and the write after it
+  -- ---- one turn and the write after it. The lemmas are unfoldable, since a second port's sends depend on the choice.
 
   -- the turn was made, and some of the text was written
-  pub turn_sent : {T E : Type 0} (result : Result T E) {start : S} {old new : Option (List ℕ)} {left : List ℕ}
+  unfoldable pub turn_sent : {T E : Type 0} (result : Result T E) {start : S} {old new : Option (List ℕ)} {left : List ℕ}
       (choice : C) (after now : S) → after ≡ loop.turn choice start → (moves : Moves old new (loop.text after) left) →
       after ≡ behind moves.front now → TurnRests loop behind start result old new now
   turn_sent result {start} {old} {new} {left} choice after now made moves same = record {
@@ -280,7 +187,7 @@ module _ {C S M : Type 0} {loop : Loop C S M} {behind : List ℕ → S → S} (i
   }
 
   -- the turn failed: it sent a prefix of what it was to send, and a prefix of the former text was written
-  pub turn_failed : {T E : Type 0} (result : Result T E) {start : S} {old new : Option (List ℕ)} (choice : C)
+  unfoldable pub turn_failed : {T E : Type 0} (result : Result T E) {start : S} {old new : Option (List ℕ)} (choice : C)
       (now : S) → AppendsPrefix old new (loop.text start) → Begins (loop.sent now) (loop.sent (loop.turn choice start)) →
       IsErr result → TurnRests loop behind start result old new now
   turn_failed result {start} {old} {new} choice now cut sent failed = record {
@@ -293,7 +200,7 @@ module _ {C S M : Type 0} {loop : Loop C S M} {behind : List ℕ → S → S} (i
   }
 
   -- the turn was made, and the write failed
-  pub turn_cut : {T E : Type 0} (result : Result T E) {start : S} {old new : Option (List ℕ)} (choice : C)
+  unfoldable pub turn_cut : {T E : Type 0} (result : Result T E) {start : S} {old new : Option (List ℕ)} (choice : C)
       (after now : S) → after ≡ loop.turn choice start → AppendsPrefix old new (loop.text after) →
       loop.sent now ≡ loop.sent after → IsErr result → TurnRests loop behind start result old new now
   turn_cut result {start} {old} {new} choice after now made cut same failed = record {
@@ -394,54 +301,6 @@ module _ {C S M : Type 0} {loop : Loop C S M} {behind : List ℕ → S → S} (i
             (grows_from loop loop.sent is.sends choice fill here));
       }
 
-  -- a turn was made, and then a write failed
-  pub rests_cut : {T E : Type 0} (result : Result T E) {start now : S} {old mid new : Option (List ℕ)} {count : ℕ}
-      (turns : ℕ) (choice : C) (after : S) → Going loop behind start old mid count now → count < turns →
-      after ≡ loop.turn choice now → AppendsPrefix mid new (loop.text after) → IsErr result →
-      Rests loop behind turns start result old new after
-  unfolding filled
-  rests_cut result {start} {now} {old} {mid} {new} {count} turns choice after going few made cut failed =
-      let fill : List C = replicate (turns - (count + 1)) choice in
-      let here : S = behind going.written now in
-      let made_behind : loop.turn choice here ≡ behind going.written after =
-      is.turn going.written choice now ∙ ap (behind going.written) (sym made) in
-      let end : run loop (filled going.choices choice count turns) start ≡ run loop (choice ∷ fill) here =
-      going.goes_on (choice ∷ fill) in
-      record {
-        choices = filled going.choices choice count turns;
-        counted = filled_length going.choices choice count turns going.counted few;
-        written = going.written ++ cut.front;
-        appended = Appends-trans old mid new going.written cut.front going.appended cut.appended;
-        whole = none_ok result _ failed;
-        front =
-            subst (λ (s : S). Begins (going.written ++ cut.front) (loop.text s)) (sym end)
-            (begins_trans
-            (subst (λ (t : List ℕ). Begins (going.written ++ cut.front) t)
-            (sym (ap loop.text made_behind ∙ is.text going.written after))
-            (begins_behind going.written (record { rest = cut.rest; parts = cut.parts })))
-            (grows_from loop loop.text is.prints choice fill here));
-        sent =
-            subst (λ (s : S). Begins (loop.sent after) (loop.sent s)) (sym end)
-            (begins_trans
-            (subst (λ (l : List M). Begins (loop.sent after) l)
-            (sym (ap loop.sent made_behind ∙ is.sent going.written after)) (begins_whole (loop.sent after)))
-            (grows_from loop loop.sent is.sends choice fill here));
-      }
-
-  -- after a fault only what was sent matters
-  pub rests_left : {T E : Type 0} (result : Result T E) {start now : S} {old new : Option (List ℕ)} {turns : ℕ} (left : S) →
-      Rests loop behind turns start result old new now → loop.sent left ≡ loop.sent now → IsErr result →
-      Rests loop behind turns start result old new left
-  rests_left result {start} {now} {old} {new} {turns} left rests same failed = record {
-    choices = rests.choices;
-    counted = rests.counted;
-    written = rests.written;
-    appended = rests.appended;
-    whole = none_ok result _ failed;
-    front = rests.front;
-    sent = subst (λ (l : List M). Begins l (loop.sent (run loop rests.choices start))) (sym same) rests.sent;
-  }
-
   -- ---- a loop that sends from two ports
 
   module _ (other : S → List M) (keeps : (front : List ℕ) (s : S) → other (behind front s) ≡ other s)
@@ -466,43 +325,24 @@ module _ {C S M : Type 0} {loop : Loop C S M} {behind : List ℕ → S → S} (i
     two_all result {start} {now} {old} {new} {count} turns made going =
         two_end result (subst (λ (n : ℕ). Going loop behind start old new n now) made going)
 
-    pub two_failed : {T E : Type 0} (result : Result T E) {start now : S} {old new : Option (List ℕ)} {count : ℕ}
-        (turns : ℕ) (choice : C) (after : S) → Going loop behind start old new count now → count < turns →
-        Begins (loop.sent after) (loop.sent (loop.turn choice now)) →
-        Begins (other after) (other (loop.turn choice now)) → IsErr result →
+    -- a turn, or the write after it, ended in a fault
+    pub two_broken : {T E U F : Type 0} (result : Result T E) (inner : Result U F) {start now : S}
+        {old mid new : Option (List ℕ)} {count : ℕ} (turns : ℕ) (after : S) → Going loop behind start old mid count now →
+        count < turns → TurnRestsOfTwo loop other behind now inner mid new after → IsErr result →
         RestsOfTwo loop other behind turns start result old new after
-    unfolding rests_failed filled
-    two_failed result {start} {now} {old} {new} {count} turns choice after going few sent sent_too failed =
+    unfolding rests_broken filled
+    two_broken result inner {start} {now} {old} {mid} {new} {count} turns after going few made failed =
+        let choice : C = made.turn.choice in
         let fill : List C = replicate (turns - (count + 1)) choice in
         let here : S = behind going.written now in
         record {
-          rests = rests_failed result turns choice after going few sent failed;
+          rests = rests_broken result inner turns after going few made.turn failed;
           others =
               subst (λ (s : S). Begins (other after) (other s)) (sym (going.goes_on (choice ∷ fill)))
               (begins_trans
               (subst (λ (l : List M). Begins (other after) l)
               (sym (ap other (is.turn going.written choice now) ∙ keeps going.written (loop.turn choice now)))
-              sent_too)
-              (grows_from loop other more_sent choice fill here));
-        }
-
-    -- a turn was made, then a write failed, and the state after that is `left`
-    pub two_cut : {T E : Type 0} (result : Result T E) {start now : S} {old mid new : Option (List ℕ)} {count : ℕ}
-        (turns : ℕ) (choice : C) (after left : S) → Going loop behind start old mid count now → count < turns →
-        after ≡ loop.turn choice now → AppendsPrefix mid new (loop.text after) → loop.sent left ≡ loop.sent after →
-        other left ≡ other after → IsErr result → RestsOfTwo loop other behind turns start result old new left
-    unfolding rests_left rests_cut filled
-    two_cut result {start} {now} {old} {mid} {new} {count} turns choice after left going few made cut same same_too failed =
-        let fill : List C = replicate (turns - (count + 1)) choice in
-        let here : S = behind going.written now in
-        let made_behind : other (loop.turn choice here) ≡ other left =
-        ap other (is.turn going.written choice now ∙ ap (behind going.written) (sym made))
-        ∙ keeps going.written after ∙ sym same_too in
-        record {
-          rests = rests_left result left (rests_cut result turns choice after going few made cut failed) same failed;
-          others =
-              subst (λ (s : S). Begins (other left) (other s)) (sym (going.goes_on (choice ∷ fill)))
-              (subst (λ (l : List M). Begins l (other (run loop (choice ∷ fill) here))) made_behind
+              made.others)
               (grows_from loop other more_sent choice fill here));
         }
 

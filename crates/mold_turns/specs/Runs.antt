@@ -44,6 +44,13 @@ pub record TurnRests {C S M T E : Type 0} (loop : Loop C S M) (behind : List ℕ
   -- what was sent is a prefix of what the turn sends
   pub sent : Begins (loop.sent now) (loop.sent (loop.turn choice start))
 
+-- The same for a loop that sends from two ports. What the other port sent is also a prefix of what the turn sends
+-- there.
+pub record TurnRestsOfTwo {C S M T E : Type 0} (loop : Loop C S M) (other : S → List M) (behind : List ℕ → S → S)
+    (start : S) (result : Result T E) (old new : Option (List ℕ)) (now : S) : Type 0 where
+  pub turn : TurnRests loop behind start result old new now
+  pub others : Begins (other now) (other (loop.turn turn.choice start))
+
 -- What a loop of at most `turns` turns that starts at `start` leaves before it prints its last line. `now` is the
 -- state that it holds, whose text is not written yet. `behind front s` is the state `s` with `front` put before its
 -- text. There is one choice for each turn.

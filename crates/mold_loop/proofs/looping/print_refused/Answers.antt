@@ -1,5 +1,6 @@
 use Rattle.std.proofs.Common.{◌++◌, ◌∙◌, List, ℕ, ap, refl}
 use Rattle.mold_publish.specs.Publishing.{refused_text}
+use Rattle.mold_devices.proofs.WritingLemmas.{not_memory}
 use Rattle.mold_turns.specs.Outgoing.{OutgoingState}
 use Rattle.mold_turns.proofs.OutgoingLemmas.{all_written}
 use Rattle.mold_turns.proofs.PrintingLemmas.{front_behind, front_more, front_whole, whole_behind}
@@ -41,3 +42,13 @@ returns-clause-left g c =
     all_written c.args.outgoing.now c.send-2.new.self c.in_ok-send-2.ensures.empty
     (c.send-2.ensures.failures ∙ ap (λ (o : OutgoingState). o.failures) c.in_ok-print_line_refused.ensures
     ∙ c.send.ensures.failures)
+
+-- a fault of the sink is not one of memory
+pub returns-in_err-send-clause-kept : goal.returns-in_err-send-clause-kept
+returns-in_err-send-clause-kept g c =
+    not_memory c.from_residual.result c.in_err-send.field-0.0 _ c.from_residual.ensures.1 c.in_err-send.ensures.fault
+
+pub returns-in_err-send-2-clause-kept : goal.returns-in_err-send-2-clause-kept
+returns-in_err-send-2-clause-kept g c =
+    not_memory c.from_residual-in_err-send-2.result c.in_err-send-2.field-0.0 _ c.from_residual-in_err-send-2.ensures.1
+    c.in_err-send-2.ensures.fault

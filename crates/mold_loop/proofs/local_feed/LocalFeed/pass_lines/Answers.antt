@@ -9,13 +9,12 @@ use Rattle.mold_devices.specs.declared.fault.CommandFault.{CommandFault}
 use Rattle.mold_publish.specs.declared.line_refusal.LineRefusal.{LineRefusal}
 use Rattle.mold_publish.proofs.DatagramLemmas.{PackingLaws, all_sent}
 use Rattle.mold_session.specs.Publisher.{PublisherState, next_datagram}
+use Rattle.mold_turns.proofs.FaultLemmas.{counts_behind, counts_same}
 use Rattle.mold_turns.specs.Outgoing.{IsBounded}
 use Rattle.mold_loop.specs.LocalFeed.{lines}
-use Rattle.mold_loop.specs.Looping.{line_state}
 use Rattle.mold_send.specs.PublishLoop.{spelled_some}
-use Rattle.mold_loop.proofs.HeardLemmas.{lines_moved}
-use Rattle.mold_loop.proofs.HearsLemmas.{hears_end, hears_end_unwritten, hears_full, hears_last, hears_none, hears_refused}
-use Rattle.mold_loop.proofs.HearsLemmas.{hears_unwritten, so_far_begun, so_far_full, so_far_moved}
+use Rattle.mold_loop.proofs.HearsLemmas.{hears_end, hears_full, hears_last, hears_none, hears_refused, hears_unwritten}
+use Rattle.mold_loop.proofs.HearsLemmas.{so_far_begun, so_far_full}
 use Rattle.mold_loop.proofs.LocalFeedLemmas.{next_passed, passes_at_first, passes_twice}
 use Rattle.mold_send.proofs.SendingLemmas.{full_went}
 use Rattle.mold_loop.proofs.local_feed.LocalFeed.pass_lines.Given.{Over}
@@ -55,52 +54,33 @@ passing-preserved g c =
     let feed = c.args.self.now in
     let filled = rw c.in-Ok-Full.field-0-is at c.in-Ok-Full.ensures.filled in
     let known = laws g (goal.at.passing-preserved g c).After-packing_law in
-    let went = full_went known c.passing.publisher c.fill.new.publisher c.pass_next.new.publisher c.passing.number _
-    filled.room filled.sent c.passing.invariant.few c.pass_next.ensures.sent c.pass_next.ensures.counted in
-    let only = passes_twice c.passing.invariant.only c.pass_next.ensures.only in
+    let went = full_went known c.passing.publisher c.fill.new.publisher c.write_next.new.publisher c.passing.number _
+    filled.room filled.sent c.passing.invariant.few c.write_next.ensures.sent c.write_next.ensures.counted in
     record {
       room = went.0;
       few = went.1;
       received = λ modeled.
-          let made = lines port c.pass_next.new.self in
-          let after = line_state made.publisher made.a made.b made.progress.arbitration c.send_large-in-passing.new.self in
-          let has = next_passed port (c.passing.number + 1) (spelled_some (next_datagram c.fill.new.publisher)) _
-          c.pass_next.new.self c.passing.invariant.only.same (c.in_ok-pass_next-in-Ok-Full.ensures.passed modeled) in
-          let moves = c.in_ok-send_large.ensures.moved in
-          so_far_moved feed.options.now.drops feed.options.now.peers.a feed.options.now.peers.b c.args.publisher.now c.pass_next.new.publisher
-          _ _ _ made _ _ _ c.pass_next.new.number _ after
-          (so_far_full known feed.options.now.drops feed.options.now.peers.a feed.options.now.peers.b c.args.publisher.now c.passing.publisher
-          c.fill.new.publisher c.pass_next.new.publisher _ _ _ _ _ made _ _ c.passing.number c.pass_next.new.number
-          c.in_ok-pass_next-in-Ok-Full.field-0 (c.passing.invariant.received modeled) filled c.pass_next.ensures.sent
-          has c.pass_next.ensures.counted)
-          moves
-          (lines_moved _ _ _ _ c.pass_next.new.self.listener.now.printer.outgoing c.send_large-in-passing.new.self moves.front
-          moves.parts c.in_ok-send_large.ensures.failures);
-      only = record {
-        same = record {
-          ports = only.same.ports;
-          options = only.same.options;
-          buffer = only.same.buffer;
-          listener = only.same.listener;
-        };
-        server = only.server;
-        requests = only.requests;
-        a = only.a;
-        b = only.b;
-      };
-      limit = ap (λ (p : PublisherState). p.limit) c.pass_next.ensures.sent ∙ filled.limit ∙ c.passing.invariant.limit;
+          so_far_full known feed.options.now.drops feed.options.now.peers.a feed.options.now.peers.b c.args.publisher.now
+          c.passing.publisher c.fill.new.publisher c.write_next.new.publisher _ _ _ _ _ (lines port c.write_next.new.self) _ _ _
+          c.passing.number c.write_next.new.number c.in_ok-write_next-in-Ok-Full.field-0
+          (c.passing.invariant.received modeled) filled c.write_next.ensures.sent
+          (next_passed port (c.passing.number + 1) (spelled_some (next_datagram c.fill.new.publisher)) _
+          c.write_next.new.self c.passing.invariant.only.same (c.in_ok-write_next-in-Ok-Full.ensures.passed modeled))
+          c.write_next.ensures.counted;
+      only = passes_twice c.passing.invariant.only c.write_next.ensures.only;
+      limit = ap (λ (p : PublisherState). p.limit) c.write_next.ensures.sent ∙ filled.limit ∙ c.passing.invariant.limit;
       bounded = λ bounded.
-          subst (λ (live : Bool). IsBounded live c.send_large-in-passing.new.self.text)
-          c.passing.invariant.live c.in_ok-send_large.ensures.bounded;
-      live = c.in_ok-send_large.ensures.live ∙ c.passing.invariant.live;
+          subst (λ (live : Bool). IsBounded live c.write_next.new.self.listener.now.printer.outgoing.text)
+          c.passing.invariant.live c.in_ok-write_next-in-Ok-Full.ensures.bounded;
+      live = c.in_ok-write_next-in-Ok-Full.ensures.live ∙ c.passing.invariant.live;
       source = c.in-Ok-Full.ensures.failures ∙ c.passing.invariant.source;
-      sink = c.in_ok-send_large.ensures.sink ∙ c.passing.invariant.sink;
+      sink = c.in_ok-write_next-in-Ok-Full.ensures.sink ∙ c.passing.invariant.sink;
     }
 
 pub returns-in-Ok-End-clause-all : goal.returns-in-Ok-End-clause-all
 returns-in-Ok-End-clause-all g c none =
     let filled = rw c.in-Ok-End.field-0-is at c.in-Ok-End.ensures.filled in
-    rw c.pass_next-in-Ok-End.ensures.sent
+    rw c.write_next-in-Ok-End.ensures.sent
     (all_sent (laws g (goal.at.returns-in-Ok-End-clause-all g c).After-packing_law) c.fill.new.publisher filled.room)
 
 pub returns-in_err-lines-clause-received : goal.returns-in_err-lines-clause-received
@@ -140,75 +120,63 @@ returns-in-Err-clause-failures g c =
     subst (λ (n : ℕ). CountsFault source_old source_new n (g.K.Sink.failed c.end_with.new.sink) c.end_with.result)
     c.passing.invariant.sink (ends_command source_old source_new met c.end_with.ensures.ends)
 
-pub returns-in_err-pass_next-in-Ok-Full-clause-received : goal.returns-in_err-pass_next-in-Ok-Full-clause-received
-returns-in_err-pass_next-in-Ok-Full-clause-received g c modeled =
+pub returns-in_err-write_next-in-Ok-Full-clause-received : goal.returns-in_err-write_next-in-Ok-Full-clause-received
+returns-in_err-write_next-in-Ok-Full-clause-received g c modeled =
     let feed = c.args.self.now in
-    hears_full (laws g (goal.at.returns-in_err-pass_next-in-Ok-Full-clause-received g c).After-packing_law) feed.options.now.drops
-    feed.options.now.peers.a feed.options.now.peers.b c.args.publisher.now c.passing.publisher c.fill.new.publisher
-    c.pass_next.new.publisher _ _ _ _ _ _ _ _ c.passing.number c.pass_next.result
-    c.from_residual-in_err-pass_next-in-Ok-Full.result (c.passing.invariant.received modeled)
+    hears_full (laws g (goal.at.returns-in_err-write_next-in-Ok-Full-clause-received g c).After-packing_law)
+    feed.options.now.drops feed.options.now.peers.a feed.options.now.peers.b c.args.publisher.now c.passing.publisher
+    c.fill.new.publisher c.write_next.new.publisher _ _ _ _ _ _ _ _ _ c.passing.number c.write_next.result
+    c.from_residual-in_err-write_next-in-Ok-Full.result (c.passing.invariant.received modeled)
     (rw c.in-Ok-Full.field-0-is at c.in-Ok-Full.ensures.filled)
     (next_passed g.D.Datagrams.port (c.passing.number + 1) (spelled_some (next_datagram c.fill.new.publisher)) _
-    c.pass_next.new.self c.passing.invariant.only.same (c.pass_next.ensures.passed modeled))
-    c.from_residual-in_err-pass_next-in-Ok-Full.ensures.0
+    c.write_next.new.self c.passing.invariant.only.same (c.write_next.ensures.passed modeled))
+    c.from_residual-in_err-write_next-in-Ok-Full.ensures.0
 
-pub returns-in_err-send_large-clause-received : goal.returns-in_err-send_large-clause-received
-returns-in_err-send_large-clause-received g c modeled =
-    let feed = c.args.self.now in
-    let port = g.D.Datagrams.port in
-    let filled = rw c.in-Ok-Full.field-0-is at c.in-Ok-Full.ensures.filled in
-    let known = laws g (goal.at.returns-in_err-send_large-clause-received g c).After-packing_law in
-    let made = lines port c.pass_next.new.self in
-    let has = next_passed port (c.passing.number + 1) (spelled_some (next_datagram c.fill.new.publisher)) _
-    c.pass_next.new.self c.passing.invariant.only.same (c.in_ok-pass_next-in-Ok-Full.ensures.passed modeled) in
-    hears_unwritten feed.options.now.drops feed.options.now.peers.a feed.options.now.peers.b c.args.publisher.now c.pass_next.new.publisher
-    c.pass_next.new.publisher _ _ c.from_residual-in_err-send_large.result _ made _ _ _ _ c.pass_next.new.number
-    (so_far_full known feed.options.now.drops feed.options.now.peers.a feed.options.now.peers.b c.args.publisher.now c.passing.publisher
-    c.fill.new.publisher c.pass_next.new.publisher _ _ _ _ _ made _ _ c.passing.number c.pass_next.new.number
-    c.in_ok-pass_next-in-Ok-Full.field-0 (c.passing.invariant.received modeled) filled c.pass_next.ensures.sent
-    has c.pass_next.ensures.counted)
-    refl c.send_large-in-passing.ensures.front c.from_residual-in_err-send_large.ensures.0
+pub returns-in_err-write_next-in-Ok-Full-clause-failures : goal.returns-in_err-write_next-in-Ok-Full-clause-failures
+returns-in_err-write_next-in-Ok-Full-clause-failures g c =
+    let result = c.from_residual-in_err-write_next-in-Ok-Full.result in
+    counts_behind result _ _ _ (g.K.Sink.failed c.passing.sink) _
+    (c.in-Ok-Full.ensures.failures ∙ c.passing.invariant.source) c.passing.invariant.sink
+    (counts_same result c.in_err-write_next-in-Ok-Full.field-0.0 _ _
+    c.from_residual-in_err-write_next-in-Ok-Full.ensures.1 c.in_err-write_next-in-Ok-Full.ensures.sink)
 
-pub returns-in_err-pass_next-in-Ok-End-clause-received : goal.returns-in_err-pass_next-in-Ok-End-clause-received
-returns-in_err-pass_next-in-Ok-End-clause-received g c modeled =
-    let feed = c.args.self.now in
-    hears_last (laws g (goal.at.returns-in_err-pass_next-in-Ok-End-clause-received g c).After-packing_law) feed.options.now.drops
-    feed.options.now.peers.a feed.options.now.peers.b c.args.publisher.now c.passing.publisher c.fill.new.publisher
-    c.pass_next-in-Ok-End.new.publisher _ _ _ _ _ _ _ _ c.passing.number c.pass_next-in-Ok-End.result
-    c.from_residual-in_err-pass_next-in-Ok-End.result (c.passing.invariant.received modeled)
-    (rw c.in-Ok-End.field-0-is at c.in-Ok-End.ensures.filled)
-    (next_passed g.D.Datagrams.port (c.passing.number + 1) (spelled_some (next_datagram c.fill.new.publisher)) _
-    c.pass_next-in-Ok-End.new.self c.passing.invariant.only.same (c.pass_next-in-Ok-End.ensures.passed modeled))
-    c.from_residual-in_err-pass_next-in-Ok-End.ensures.0
+pub returns-in_err-write_next-in-Ok-Full-clause-live : goal.returns-in_err-write_next-in-Ok-Full-clause-live
+returns-in_err-write_next-in-Ok-Full-clause-live g c = c.write_next.ensures.live ∙ c.passing.invariant.live
 
-pub returns-in_err-send_large-in-Ok-End-clause-received : goal.returns-in_err-send_large-in-Ok-End-clause-received
-returns-in_err-send_large-in-Ok-End-clause-received g c modeled =
+pub returns-in_err-write_next-in-Ok-End-clause-received : goal.returns-in_err-write_next-in-Ok-End-clause-received
+returns-in_err-write_next-in-Ok-End-clause-received g c modeled =
     let feed = c.args.self.now in
-    let made = lines g.D.Datagrams.port c.pass_next-in-Ok-End.new.self in
-    hears_end_unwritten (laws g (goal.at.returns-in_err-send_large-in-Ok-End-clause-received g c).After-packing_law) feed.options.now.drops
-    feed.options.now.peers.a feed.options.now.peers.b c.args.publisher.now c.passing.publisher c.fill.new.publisher
-    c.pass_next-in-Ok-End.new.publisher _ _ _ _ _ made _ _ _ _ c.passing.number c.in_ok-pass_next-in-Ok-End.field-0
-    c.from_residual-in_err-send_large-in-Ok-End.result
+    hears_last (laws g (goal.at.returns-in_err-write_next-in-Ok-End-clause-received g c).After-packing_law)
+    feed.options.now.drops feed.options.now.peers.a feed.options.now.peers.b c.args.publisher.now c.passing.publisher
+    c.fill.new.publisher c.write_next-in-Ok-End.new.publisher _ _ _ _ _ _ _ _ _ c.passing.number
+    c.write_next-in-Ok-End.result c.from_residual-in_err-write_next-in-Ok-End.result
     (c.passing.invariant.received modeled) (rw c.in-Ok-End.field-0-is at c.in-Ok-End.ensures.filled)
     (next_passed g.D.Datagrams.port (c.passing.number + 1) (spelled_some (next_datagram c.fill.new.publisher)) _
-    c.pass_next-in-Ok-End.new.self c.passing.invariant.only.same (c.in_ok-pass_next-in-Ok-End.ensures.passed modeled))
-    refl c.send_large.ensures.front c.from_residual-in_err-send_large-in-Ok-End.ensures.0
+    c.write_next-in-Ok-End.new.self c.passing.invariant.only.same (c.write_next-in-Ok-End.ensures.passed modeled))
+    c.from_residual-in_err-write_next-in-Ok-End.ensures.0
+
+pub returns-in_err-write_next-in-Ok-End-clause-failures : goal.returns-in_err-write_next-in-Ok-End-clause-failures
+returns-in_err-write_next-in-Ok-End-clause-failures g c =
+    let result = c.from_residual-in_err-write_next-in-Ok-End.result in
+    counts_behind result _ _ _ (g.K.Sink.failed c.passing.sink) _
+    (c.in-Ok-End.ensures.failures ∙ c.passing.invariant.source) c.passing.invariant.sink
+    (counts_same result c.in_err-write_next-in-Ok-End.field-0.0 _ _
+    c.from_residual-in_err-write_next-in-Ok-End.ensures.1 c.in_err-write_next-in-Ok-End.ensures.sink)
+
+pub returns-in_err-write_next-in-Ok-End-clause-live : goal.returns-in_err-write_next-in-Ok-End-clause-live
+returns-in_err-write_next-in-Ok-End-clause-live g c = c.write_next-in-Ok-End.ensures.live ∙ c.passing.invariant.live
 
 pub returns-in-Ok-End-clause-received : goal.returns-in-Ok-End-clause-received
 returns-in-Ok-End-clause-received g c modeled =
     let feed = c.args.self.now in
-    let made = lines g.D.Datagrams.port c.pass_next-in-Ok-End.new.self in
-    let after = line_state made.publisher made.a made.b made.progress.arbitration c.send_large.new.self in
-    let moves = c.in_ok-send_large-in-Ok-End.ensures.moved in
     hears_end (laws g (goal.at.returns-in-Ok-End-clause-received g c).After-packing_law) feed.options.now.drops
     feed.options.now.peers.a feed.options.now.peers.b c.args.publisher.now c.passing.publisher c.fill.new.publisher
-    c.pass_next-in-Ok-End.new.publisher _ _ _ _ _ made after _ _ _ c.passing.number c.in_ok-pass_next-in-Ok-End.field-0 _
+    c.write_next-in-Ok-End.new.publisher _ _ _ _ _ (lines g.D.Datagrams.port c.write_next-in-Ok-End.new.self) _ _ _
+    c.passing.number c.in_ok-write_next-in-Ok-End.field-0
     (c.passing.invariant.received modeled) (rw c.in-Ok-End.field-0-is at c.in-Ok-End.ensures.filled)
     (next_passed g.D.Datagrams.port (c.passing.number + 1) (spelled_some (next_datagram c.fill.new.publisher)) _
-    c.pass_next-in-Ok-End.new.self c.passing.invariant.only.same (c.in_ok-pass_next-in-Ok-End.ensures.passed modeled))
-    c.pass_next-in-Ok-End.ensures.sent moves
-    (lines_moved _ _ _ _ c.pass_next-in-Ok-End.new.self.listener.now.printer.outgoing c.send_large.new.self moves.front
-    moves.parts c.in_ok-send_large-in-Ok-End.ensures.failures)
+    c.write_next-in-Ok-End.new.self c.passing.invariant.only.same (c.in_ok-write_next-in-Ok-End.ensures.passed modeled))
+    c.write_next-in-Ok-End.ensures.sent
 
 pub returns-in-Ok-Refused-clause-received : goal.returns-in-Ok-Refused-clause-received
 returns-in-Ok-Refused-clause-received g c modeled =
@@ -237,53 +205,25 @@ returns-in-Err-clause-only g c =
 pub returns-in-Ok-Refused-clause-only : goal.returns-in-Ok-Refused-clause-only
 returns-in-Ok-Refused-clause-only g c = c.passing.invariant.only
 
-pub returns-in_err-pass_next-in-Ok-Full-clause-only : goal.returns-in_err-pass_next-in-Ok-Full-clause-only
-returns-in_err-pass_next-in-Ok-Full-clause-only g c = passes_twice c.passing.invariant.only c.pass_next.ensures.only
+pub returns-in_err-write_next-in-Ok-Full-clause-only : goal.returns-in_err-write_next-in-Ok-Full-clause-only
+returns-in_err-write_next-in-Ok-Full-clause-only g c = passes_twice c.passing.invariant.only c.write_next.ensures.only
 
-pub returns-in_err-pass_next-in-Ok-End-clause-only : goal.returns-in_err-pass_next-in-Ok-End-clause-only
-returns-in_err-pass_next-in-Ok-End-clause-only g c = passes_twice c.passing.invariant.only c.pass_next-in-Ok-End.ensures.only
+pub returns-in_err-write_next-in-Ok-End-clause-only : goal.returns-in_err-write_next-in-Ok-End-clause-only
+returns-in_err-write_next-in-Ok-End-clause-only g c = passes_twice c.passing.invariant.only c.write_next-in-Ok-End.ensures.only
 
 pub returns-in-Ok-End-clause-only : goal.returns-in-Ok-End-clause-only
-returns-in-Ok-End-clause-only g c =
-    let only = passes_twice c.passing.invariant.only c.pass_next-in-Ok-End.ensures.only in
-    record {
-      same = record {
-        ports = only.same.ports;
-        options = only.same.options;
-        buffer = only.same.buffer;
-        listener = only.same.listener;
-      };
-      server = only.server;
-      requests = only.requests;
-      a = only.a;
-      b = only.b;
-    }
-
-pub returns-in_err-send_large-in-Ok-End-clause-only : goal.returns-in_err-send_large-in-Ok-End-clause-only
-returns-in_err-send_large-in-Ok-End-clause-only g c =
-    let only = passes_twice c.passing.invariant.only c.pass_next-in-Ok-End.ensures.only in
-    record {
-      same = record {
-        ports = only.same.ports;
-        options = only.same.options;
-        buffer = only.same.buffer;
-        listener = only.same.listener;
-      };
-      server = only.server;
-      requests = only.requests;
-      a = only.a;
-      b = only.b;
-    }
+returns-in-Ok-End-clause-only g c = passes_twice c.passing.invariant.only c.write_next-in-Ok-End.ensures.only
 
 pub returns-in-Ok-Refused-clause-bounded : goal.returns-in-Ok-Refused-clause-bounded
 returns-in-Ok-Refused-clause-bounded g c = c.passing.invariant.bounded
 
 pub returns-in-Ok-End-clause-bounded : goal.returns-in-Ok-End-clause-bounded
 returns-in-Ok-End-clause-bounded g c = λ bounded.
-    subst (λ (live : Bool). IsBounded live c.send_large.new.self.text) c.passing.invariant.live c.in_ok-send_large-in-Ok-End.ensures.bounded
+    subst (λ (live : Bool). IsBounded live c.write_next-in-Ok-End.new.self.listener.now.printer.outgoing.text)
+    c.passing.invariant.live c.in_ok-write_next-in-Ok-End.ensures.bounded
 
 pub returns-in-Ok-Refused-clause-live : goal.returns-in-Ok-Refused-clause-live
 returns-in-Ok-Refused-clause-live g c = c.passing.invariant.live
 
 pub returns-in-Ok-End-clause-live : goal.returns-in-Ok-End-clause-live
-returns-in-Ok-End-clause-live g c = c.in_ok-send_large-in-Ok-End.ensures.live ∙ c.passing.invariant.live
+returns-in-Ok-End-clause-live g c = c.in_ok-write_next-in-Ok-End.ensures.live ∙ c.passing.invariant.live

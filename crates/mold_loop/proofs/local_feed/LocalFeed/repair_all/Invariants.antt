@@ -6,7 +6,8 @@ use Rattle.mold_turns.specs.Outgoing.{IsBounded}
 use Rattle.mold_turns.proofs.RunLemmas.{Going}
 use Rattle.mold_loop.proofs.local_feed.LocalFeed.repair_all.Given as goal
 
--- the rounds so far changed nothing else, the rest of the run starts at this state, and the sink has not failed
+-- the rounds so far changed nothing else, the rest of the run starts at this state, the text is bounded, and the sink has
+-- not failed
 abbrev pub invariant-loop-turn : goal.invariant-loop-turn
 invariant-loop-turn g l =
     let known = g.D.Datagrams.port in
@@ -18,9 +19,7 @@ invariant-loop-turn g l =
           (rounds known l.server l.self);
       server : l.server ≡ record l.fn.server { answered = l.server.answered };
       only : OnlyRepairs l.fn.self l.self;
-      bounded :
-          IsBounded (g.K.Sink.live l.fn.sink) l.fn.self.listener.now.printer.outgoing.text →
-          IsBounded (g.K.Sink.live l.fn.sink) l.self.listener.now.printer.outgoing.text;
+      bounded : IsBounded (g.K.Sink.live l.fn.sink) l.self.listener.now.printer.outgoing.text;
       live : g.K.Sink.live l.sink ≡ g.K.Sink.live l.fn.sink;
       sink : g.K.Sink.failed l.sink ≡ g.K.Sink.failed l.fn.sink;
     }

@@ -1,4 +1,4 @@
-use Rattle.std.proofs.Common.{◌∙◌, None, Some, ap, refl}
+use Rattle.std.proofs.Common.{◌∙◌, Bool, None, Some, ap, refl, subst, sym}
 use Rattle.mold_loop.specs.LocalFeed.{lines, rounds}
 use Rattle.mold_loop.specs.Looping.{line_state}
 use Rattle.mold_loop.specs.Passing.{routed_end}
@@ -6,7 +6,8 @@ use Rattle.mold_loop.specs.Repairing.{repair_state}
 use Rattle.mold_serve.specs.Serving.{service_of}
 use Rattle.mold_ports.specs.Ports.{Port}
 use Rattle.mold_session.specs.Publisher.{PublisherState}
-use Rattle.mold_turns.proofs.FaultLemmas.{counts_behind}
+use Rattle.mold_turns.proofs.FaultLemmas.{counts_behind, counts_same}
+use Rattle.mold_turns.specs.Outgoing.{IsBounded}
 use Rattle.mold_loop.proofs.LocalFeedLemmas.{passed_from, rounds_from, same_twice}
 use Rattle.mold_loop.proofs.LoopEndLemmas.{journal_left, loop_done, loop_stopped, loop_unended, loop_unreceived, loop_unrepaired}
 use Rattle.mold_loop.proofs.LoopEndLemmas.{rests_from}
@@ -58,44 +59,44 @@ returns-in-Some-clause-run g c modeled =
     })
     c.print_refused.ensures.left
 
-pub returns-in_err-pass_end-clause-run : goal.returns-in_err-pass_end-clause-run
-returns-in_err-pass_end-clause-run g c modeled =
+pub returns-in_err-write_end-clause-run : goal.returns-in_err-write_end-clause-run
+returns-in_err-write_end-clause-run g c modeled =
     let port = g.D.Datagrams.port in
     let feed = c.args.self.now in
     let peers = feed.options.now.peers in
     loop_unended feed.options.now.reporting feed.options.now.drops peers.a peers.b peers.server feed.options.now.turns c.args.publisher.now
     c.pass_lines.new.publisher c.args.server.now (lines port feed) (rounds port c.args.server.now feed) _
-    c.pass_end.result c.from_residual-in_err-pass_end.result _ _ (lines port c.pass_lines.new.self)
-    (lines port c.pass_end.new.self) (rounds port c.args.server.now c.pass_end.new.self)
+    c.write_end.result c.from_residual-in_err-write_end.result _ _ _ (lines port c.pass_lines.new.self)
+    (lines port c.write_end.new.self) (rounds port c.args.server.now c.write_end.new.self)
     (rw c.in_default.is at (c.in_ok-refused.ensures.received modeled))
-    (passed_from port (routed_end c.pass_lines.new.publisher.journal None) c.pass_end.result c.pass_end.new.self
-    c.pass_lines.ensures.only.same (c.pass_end.ensures.passed modeled))
-    c.from_residual-in_err-pass_end.ensures.0
-    (ap port (c.pass_end.ensures.only.server ∙ c.pass_lines.ensures.only.server))
-    (ap port (c.pass_end.ensures.only.requests ∙ c.pass_lines.ensures.only.requests))
+    (passed_from port (routed_end c.pass_lines.new.publisher.journal None) c.write_end.result c.write_end.new.self
+    c.pass_lines.ensures.only.same (c.write_end.ensures.passed modeled))
+    c.from_residual-in_err-write_end.ensures.0
+    (ap port (c.write_end.ensures.only.server ∙ c.pass_lines.ensures.only.server))
+    (ap port (c.write_end.ensures.only.requests ∙ c.pass_lines.ensures.only.requests))
 
 pub returns-in_err-repair_all-clause-run : goal.returns-in_err-repair_all-clause-run
 returns-in_err-repair_all-clause-run g c modeled =
     let port = g.D.Datagrams.port in
     let feed = c.args.self.now in
     let peers = feed.options.now.peers in
-    let there = lines port c.pass_end.new.self in
+    let there = lines port c.write_end.new.self in
     let left = rounds port c.repair_all.new.server c.repair_all.new.self in
     loop_unrepaired feed.options.now.reporting feed.options.now.drops peers.a peers.b peers.server feed.options.now.turns c.args.publisher.now
     c.pass_lines.new.publisher c.args.server.now (lines port feed) (rounds port c.args.server.now feed) _
-    c.in_ok-pass_end.field-0 c.repair_all.result c.from_residual-in_err-repair_all.result _ _ _
+    c.in_ok-write_end.field-0 c.repair_all.result c.from_residual-in_err-repair_all.result _ _ _ _
     (lines port c.pass_lines.new.self) there (lines port c.repair_all.new.self) left
     (rw c.in_default.is at (c.in_ok-refused.ensures.received modeled))
-    (passed_from port (routed_end c.pass_lines.new.publisher.journal None) _ c.pass_end.new.self
-    c.pass_lines.ensures.only.same (c.in_ok-pass_end.ensures.passed modeled))
+    (passed_from port (routed_end c.pass_lines.new.publisher.journal None) _ c.write_end.new.self
+    c.pass_lines.ensures.only.same (c.in_ok-write_end.ensures.passed modeled))
     (rests_from peers.server c.args.server.now feed.options.now.turns _ _ _ _ there.progress.arbitration there.progress.outgoing
     (rounds port c.args.server.now feed) c.repair_all.result _ _ left
-    (c.journal-journal.ensures ∙ ap (λ (p : PublisherState). p.journal) c.pass_end.ensures.closed)
-    (ap port (c.pass_end.ensures.only.server ∙ c.pass_lines.ensures.only.server))
-    (ap port (c.pass_end.ensures.only.requests ∙ c.pass_lines.ensures.only.requests))
+    (c.journal-journal.ensures ∙ ap (λ (p : PublisherState). p.journal) c.write_end.ensures.closed)
+    (ap port (c.write_end.ensures.only.server ∙ c.pass_lines.ensures.only.server))
+    (ap port (c.write_end.ensures.only.requests ∙ c.pass_lines.ensures.only.requests))
     refl
     (rounds_from (service_of c.journal-journal.result.now c.args.server.now)
-    (same_twice c.pass_lines.ensures.only.same c.pass_end.ensures.only.same)
+    (same_twice c.pass_lines.ensures.only.same c.write_end.ensures.only.same)
     (c.repair_all.ensures.rests modeled)))
     c.from_residual-in_err-repair_all.ensures.0 (ap port c.repair_all.ensures.only.publisher)
 
@@ -104,7 +105,7 @@ returns-clause-run g c modeled =
     let port = g.D.Datagrams.port in
     let feed = c.args.self.now in
     let peers = feed.options.now.peers in
-    let there = lines port c.pass_end.new.self in
+    let there = lines port c.write_end.new.self in
     let behind = rounds port c.repair_all.new.server c.repair_all.new.self in
     let after = lines port c.repair_all.new.self in
     let there_left = line_state after.publisher after.a after.b c.print_last.new.listener.arbiter
@@ -113,19 +114,19 @@ returns-clause-run g c modeled =
     c.print_last.new.listener.printer.outgoing in
     loop_done feed.options.now.reporting feed.options.now.drops peers.a peers.b peers.server feed.options.now.turns c.args.publisher.now
     c.pass_lines.new.publisher c.args.server.now (lines port feed) (rounds port c.args.server.now feed) _
-    c.in_ok-pass_end.field-0 c.in_ok-repair_all.field-0 c.print_last.result _ _ _ _
+    c.in_ok-write_end.field-0 c.in_ok-repair_all.field-0 c.print_last.result _ _ _ _ _
     (lines port c.pass_lines.new.self) there there_left behind left
     (rw c.in_default.is at (c.in_ok-refused.ensures.received modeled))
-    (passed_from port (routed_end c.pass_lines.new.publisher.journal None) _ c.pass_end.new.self
-    c.pass_lines.ensures.only.same (c.in_ok-pass_end.ensures.passed modeled))
+    (passed_from port (routed_end c.pass_lines.new.publisher.journal None) _ c.write_end.new.self
+    c.pass_lines.ensures.only.same (c.in_ok-write_end.ensures.passed modeled))
     (rests_from peers.server c.args.server.now feed.options.now.turns _ _ _ _ there.progress.arbitration there.progress.outgoing
     (rounds port c.args.server.now feed) _ _ _ behind
-    (c.journal-journal.ensures ∙ ap (λ (p : PublisherState). p.journal) c.pass_end.ensures.closed)
-    (ap port (c.pass_end.ensures.only.server ∙ c.pass_lines.ensures.only.server))
-    (ap port (c.pass_end.ensures.only.requests ∙ c.pass_lines.ensures.only.requests))
+    (c.journal-journal.ensures ∙ ap (λ (p : PublisherState). p.journal) c.write_end.ensures.closed)
+    (ap port (c.write_end.ensures.only.server ∙ c.pass_lines.ensures.only.server))
+    (ap port (c.write_end.ensures.only.requests ∙ c.pass_lines.ensures.only.requests))
     refl
     (rounds_from (service_of c.journal-journal.result.now c.args.server.now)
-    (same_twice c.pass_lines.ensures.only.same c.pass_end.ensures.only.same)
+    (same_twice c.pass_lines.ensures.only.same c.write_end.ensures.only.same)
     (c.in_ok-repair_all.ensures.rests modeled)))
     c.print_last.ensures.front c.print_last.ensures.whole
     (record {
@@ -152,7 +153,7 @@ returns-clause-journal g c modeled =
     on_ok c.print_last.result
     (journal_left feed.options.now.drops feed.options.now.peers.a feed.options.now.peers.b c.args.publisher.now c.pass_lines.new.publisher _
     None _ _ _ _ _ (rw c.in_default.is at (c.in_ok-refused.ensures.received modeled))
-    (ap (λ (p : PublisherState). p.journal) c.pass_end.ensures.closed))
+    (ap (λ (p : PublisherState). p.journal) c.write_end.ensures.closed))
 
 pub returns-in-Some-clause-limit : goal.returns-in-Some-clause-limit
 returns-in-Some-clause-limit g c = on_ok c.print_refused.result c.in_ok-refused.ensures.limit
@@ -160,36 +161,36 @@ returns-in-Some-clause-limit g c = on_ok c.print_refused.result c.in_ok-refused.
 pub returns-clause-limit : goal.returns-clause-limit
 returns-clause-limit g c =
     on_ok c.print_last.result
-    (ap (λ (p : PublisherState). p.limit) c.pass_end.ensures.closed ∙ c.in_ok-refused.ensures.limit)
+    (ap (λ (p : PublisherState). p.limit) c.write_end.ensures.closed ∙ c.in_ok-refused.ensures.limit)
 
-pub returns-in_err-pass_end-clause-a : goal.returns-in_err-pass_end-clause-a
-returns-in_err-pass_end-clause-a g c modeled = c.pass_end.ensures.only.a modeled ∙ c.pass_lines.ensures.only.a modeled
+pub returns-in_err-write_end-clause-a : goal.returns-in_err-write_end-clause-a
+returns-in_err-write_end-clause-a g c modeled = c.write_end.ensures.only.a modeled ∙ c.pass_lines.ensures.only.a modeled
 
 pub returns-in_err-repair_all-clause-a : goal.returns-in_err-repair_all-clause-a
 returns-in_err-repair_all-clause-a g c modeled =
     ap (λ (p : Port _). p.sent) (ap g.D.Datagrams.port c.repair_all.ensures.only.a)
-    ∙ c.pass_end.ensures.only.a modeled
+    ∙ c.write_end.ensures.only.a modeled
     ∙ c.pass_lines.ensures.only.a modeled
 
 pub returns-clause-a : goal.returns-clause-a
 returns-clause-a g c modeled =
     ap (λ (p : Port _). p.sent) (ap g.D.Datagrams.port c.repair_all.ensures.only.a)
-    ∙ c.pass_end.ensures.only.a modeled
+    ∙ c.write_end.ensures.only.a modeled
     ∙ c.pass_lines.ensures.only.a modeled
 
-pub returns-in_err-pass_end-clause-b : goal.returns-in_err-pass_end-clause-b
-returns-in_err-pass_end-clause-b g c modeled = c.pass_end.ensures.only.b modeled ∙ c.pass_lines.ensures.only.b modeled
+pub returns-in_err-write_end-clause-b : goal.returns-in_err-write_end-clause-b
+returns-in_err-write_end-clause-b g c modeled = c.write_end.ensures.only.b modeled ∙ c.pass_lines.ensures.only.b modeled
 
 pub returns-in_err-repair_all-clause-b : goal.returns-in_err-repair_all-clause-b
 returns-in_err-repair_all-clause-b g c modeled =
     ap (λ (p : Port _). p.sent) (ap g.D.Datagrams.port c.repair_all.ensures.only.b)
-    ∙ c.pass_end.ensures.only.b modeled
+    ∙ c.write_end.ensures.only.b modeled
     ∙ c.pass_lines.ensures.only.b modeled
 
 pub returns-clause-b : goal.returns-clause-b
 returns-clause-b g c modeled =
     ap (λ (p : Port _). p.sent) (ap g.D.Datagrams.port c.repair_all.ensures.only.b)
-    ∙ c.pass_end.ensures.only.b modeled
+    ∙ c.write_end.ensures.only.b modeled
     ∙ c.pass_lines.ensures.only.b modeled
 
 pub returns-in_err-refused-clause-same : goal.returns-in_err-refused-clause-same
@@ -205,16 +206,16 @@ returns-in-Some-clause-same g c =
       listener = same.listener;
     }
 
-pub returns-in_err-pass_end-clause-same : goal.returns-in_err-pass_end-clause-same
-returns-in_err-pass_end-clause-same g c = same_twice c.pass_lines.ensures.only.same c.pass_end.ensures.only.same
+pub returns-in_err-write_end-clause-same : goal.returns-in_err-write_end-clause-same
+returns-in_err-write_end-clause-same g c = same_twice c.pass_lines.ensures.only.same c.write_end.ensures.only.same
 
 pub returns-in_err-repair_all-clause-same : goal.returns-in_err-repair_all-clause-same
 returns-in_err-repair_all-clause-same g c =
-    same_twice (same_twice c.pass_lines.ensures.only.same c.pass_end.ensures.only.same) c.repair_all.ensures.only.same
+    same_twice (same_twice c.pass_lines.ensures.only.same c.write_end.ensures.only.same) c.repair_all.ensures.only.same
 
 pub returns-clause-same : goal.returns-clause-same
 returns-clause-same g c =
-    let same = same_twice (same_twice c.pass_lines.ensures.only.same c.pass_end.ensures.only.same)
+    let same = same_twice (same_twice c.pass_lines.ensures.only.same c.write_end.ensures.only.same)
     c.repair_all.ensures.only.same in
     record {
       ports = same.ports;
@@ -222,3 +223,24 @@ returns-clause-same g c =
       buffer = same.buffer;
       listener = same.listener;
     }
+
+-- ---- the unwritten text between the steps
+
+pub repair_all-requires-clause-bounded : goal.repair_all-requires-clause-bounded
+repair_all-requires-clause-bounded g c =
+    subst (λ (live : Bool). IsBounded live c.write_end.new.self.listener.now.printer.outgoing.text)
+    (sym c.in_ok-write_end.ensures.live) c.in_ok-write_end.ensures.bounded
+
+pub print_last-requires : goal.print_last-requires
+print_last-requires g c =
+    subst (λ (live : Bool). IsBounded live c.repair_all.new.self.listener.now.printer.outgoing.text)
+    (sym c.in_ok-repair_all.ensures.live) c.in_ok-repair_all.ensures.bounded
+
+-- ---- the counts of failures
+
+pub returns-in_err-write_end-clause-failures : goal.returns-in_err-write_end-clause-failures
+returns-in_err-write_end-clause-failures g c =
+    let result = c.from_residual-in_err-write_end.result in
+    counts_behind result _ _ _ _ _ c.in_ok-refused.ensures.failures.0 c.in_ok-refused.ensures.failures.1
+    (counts_same result c.in_err-write_end.field-0.0 _ _ c.from_residual-in_err-write_end.ensures.1
+    c.in_err-write_end.ensures.sink)

@@ -1,6 +1,7 @@
 use Rattle.std.proofs.Common.{◌≡◌, true, ◌-◌}
 use Rattle.mold_listen.specs.Listening.{receive_responses}
 use Rattle.mold_loop.specs.LocalFeed.{OnlyRepairs, asking_state}
+use Rattle.mold_turns.specs.Runs.{Begins}
 use Rattle.mold_loop.proofs.local_feed.LocalFeed.take_answers.Given as goal
 
 -- the remaining receives lead from this state to the end of all receives; nothing is sent, and other ports are
@@ -14,4 +15,5 @@ invariant-loop-answer g l = record {
       (g.D.Datagrams.port l.self.ports.now.requests).sent ≡ (g.D.Datagrams.port l.fn.self.ports.now.requests).sent;
   server : l.self.ports.now.server ≡ l.fn.self.ports.now.server;
   only : OnlyRepairs l.fn.self l.self;
+  prints : Begins l.fn.self.listener.now.printer.outgoing.text l.self.listener.now.printer.outgoing.text;
 }
