@@ -6,5 +6,5 @@ mod serving;
 mod tally;
 
 pub use responder::Responder;
-pub use serving::{answer_request, serve_loop};
+pub use serving::serve_loop;
 pub use tally::Tally;

@@ -80,9 +80,10 @@ impl<'a, D: Datagrams> Responder<'a, D> {
     }
 
     /// Answers a request with datagrams to the requester, or refuses it. Prints and counts each datagram that was
-    /// sent, or the refusal. Each datagram is offered once, and a failed send is counted. An error means out of
-    /// memory; part of the work is then done.
-    pub(crate) fn answer(&mut self, from: D::Peer, request: &[u8]) -> Result<(), AllocError>
+    /// sent, or the refusal. Each datagram is offered once, and a failed send is counted. The longest message that the
+    /// journal allows must not be longer than the server allows. An error means out of memory; part of the work is
+    /// then done.
+    pub fn answer_request(&mut self, from: D::Peer, request: &[u8]) -> Result<(), AllocError>
         requires { MayAnswer self.old }
         ensures replied { D.modeled ≡ true → (fails : List Bool) × Reaches result (state D.port self.new)
             (replied from fails (reply (service self.old) request.now) (state D.port self.old)) }
@@ -107,7 +108,7 @@ impl<'a, D: Datagrams> Responder<'a, D> {
         ensures same { IsSame self.old self.new }
     {
         match self.port.receive(buffer) {
-            Ok(Some((len, from))) => self.answer(from, &buffer[..len]),
+            Ok(Some((len, from))) => self.answer_request(from, &buffer[..len]),
             Ok(None) => {
                 self.tally.add_quiet();
                 Ok(())
@@ -119,8 +120,8 @@ impl<'a, D: Datagrams> Responder<'a, D> {
         }
     }
 
-    // Makes one turn. Then writes the text if it has at least 65,536 bytes or the sink is live. If the turn fails, writes
-    // the text of the turns before it.
+    // Makes one turn. Then writes the text if it has at least 65,536 bytes or the sink is live. If the turn fails,
+    // writes the text of the turns before it.
     fn write_turn<K: Sink>(&mut self, buffer: &mut [u8], sink: &mut K) -> Result<(), CommandFault>
         requires longest { MayAnswer self.old }
         requires buffer { length buffer.old ≡ MAX_LIMIT }

@@ -80,7 +80,8 @@ impl Tally {
 
     // Prints the last line.
     pub(crate) fn push_last(&mut self) -> Result<(), AllocError>
-        ensures line { OnOk result (self.new ≡ with_outgoing (with_more (served_line self.old) self.old.outgoing) self.old) }
+        ensures line { OnOk result
+            (self.new ≡ with_outgoing (with_more (served_line self.old) self.old.outgoing) self.old) }
         ensures prints { Begins self.old.outgoing.text self.new.outgoing.text }
     {
         let words = [

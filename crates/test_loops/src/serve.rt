@@ -1,4 +1,5 @@
-//! `serve_loop` over a port in memory, and `answer_request`. A case is a constant, and one function runs each case.
+//! `serve_loop` over a port in memory, and `Responder::answer_request`. A case is a constant, and one function runs each
+//! case.
 
 ghost use Rattle.std.specs.Prelude.{◌≤◌};
 
@@ -8,7 +9,7 @@ use crate::scripts::{
 };
 use mold_devices::{CommandFault, MemorySink};
 use mold_ports::{Datagrams, MemoryPort};
-use mold_serve::{Tally, answer_request, serve_loop};
+use mold_serve::{Responder, Tally, serve_loop};
 use mold_session::{AppendError, Journal, Server};
 use mold_wire::Session;
 use std::alloc::{AllocError, Global};
@@ -20,9 +21,9 @@ const SESSION: Session = Session(*b"SESSION001");
 // Requests for 65,535 messages from 1 on and from 2 on, and for message 6.
 const ALL: &[u8] = b"SESSION001\0\0\0\0\0\0\0\x01\xff\xff";
 
-const FROM_TWO: Given = Given::Bytes(b"SESSION001\0\0\0\0\0\0\0\x02\xff\xff");
+pub const FROM_TWO: Given = Given::Bytes(b"SESSION001\0\0\0\0\0\0\0\x02\xff\xff");
 
-const SIXTH: Given = Given::Bytes(b"SESSION001\0\0\0\0\0\0\0\x06\0\x01");
+pub const SIXTH: Given = Given::Bytes(b"SESSION001\0\0\0\0\0\0\0\x06\0\x01");
 
 // The packets of the five messages, each of at most 64 bytes.
 const ONE_AND_TWO: (u32, &[u8]) = (
@@ -70,7 +71,7 @@ struct Case {
     failures: u64,
 }
 
-fn new_journal(alloc: Global) -> Result<Journal, AppendError> {
+pub fn new_journal(alloc: Global) -> Result<Journal, AppendError> {
     let mut journal = Journal::new(alloc, SESSION, 42);
     append_five(&mut journal)?;
     Ok(journal)
@@ -330,7 +331,13 @@ fn expect_tally(
     requires { journal.now.max_message ≤ server.old.max_message }
 {
     let mut tally = Tally::new(rt.alloc());
-    answer_request(port, server, journal, PEER, ALL, &mut tally)?;
+    let mut responder = Responder {
+        port,
+        server,
+        journal,
+        tally: &mut tally,
+    };
+    responder.answer_request(PEER, ALL)?;
     same_number(rt, tally.answered, 2, 0);
     same_number(rt, tally.outgoing.failures(), 1, 0);
     Ok(())

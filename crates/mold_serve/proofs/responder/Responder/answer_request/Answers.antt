@@ -1,6 +1,6 @@
 use Rattle.std.proofs.Common.{[]}
 use Rattle.mold_serve.proofs.AnsweringLemmas.{answered_so, refused_so}
-use Rattle.mold_serve.proofs.responder.Responder.answer.Goals as goal
+use Rattle.mold_serve.proofs.responder.Responder.answer_request.Goals as goal
 
 pub returns-in-Ok-clause-replied : goal.returns-in-Ok-clause-replied
 returns-in-Ok-clause-replied g c modeled =

@@ -6,7 +6,7 @@ use Rattle.mold_serve.proofs.responder.Responder.take_turn.Goals as goal
 
 pub returns-in-Ok-Some-clause-turn : goal.returns-in-Ok-Some-clause-turn
 returns-in-Ok-Some-clause-turn g c modeled =
-    let replied = c.answer.ensures.replied modeled in
+    let replied = c.answer_request.ensures.replied modeled in
     let came = rw c.in-Ok-Some.field-0-is at (c.in-Ok-Some.ensures.came modeled) in (
       replied.0,
       turn_met _ (service c.args.self.now) replied.0 (state g.D.Datagrams.port c.args.self.now) _
