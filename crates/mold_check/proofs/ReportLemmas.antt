@@ -1,5 +1,6 @@
 -- What was written of a report.
-use Rattle.std.proofs.Common.{◌≡◌, ℕ, List, [], ◌∷◌, ◌++◌, Option, take, drop, refl, sym, ap, subst, ◌∙◌, append_assoc, append-nil, take-append-drop}
+use Rattle.std.proofs.Common.{◌≡◌, ℕ, List, [], ◌∷◌, ◌++◌, Option, length, take, drop, refl, sym, ap, subst, ◌∙◌}
+use Rattle.std.proofs.Common.{append_assoc, append-nil, take-append-drop}
 use Rattle.std.specs.Io.KnownBytes.{Appends}
 use Rattle.std.proofs.KnownBytes.{Appends-nil, Appends-trans}
 use Rattle.std.specs.Prelude.{Result, Ok, Err, IsErr, IsErrAnd, IfErr}
@@ -11,7 +12,7 @@ use Rattle.mold_rule.specs.Ranges as lacking
 use Rattle.mold_capture.specs.Verdict.{ranges_of}
 use Rattle.mold_capture.specs.declared.verdict.Range.{Range}
 use Rattle.mold_devices.specs.Faults.{CountsSink, CountsSinkFault}
-use Rattle.mold_check.specs.Report.{missing_line, missing_text}
+use Rattle.mold_check.specs.Report.{Keeps, missing_line, missing_text}
 
 -- Nothing was written.
 pub front_none : (held : Option (List ℕ)) (text : List ℕ) → AppendsPrefix held held text
@@ -103,6 +104,54 @@ sent_all old mid now begun done all text has is out =
     subst (Appends old now)
     (sym (ap (λ (l : List Range). begun ++ missing_text (ranges_of l)) is ∙ has.parts))
     (Appends-trans old mid now has.written text has.sent out)
+
+-- ---- the text is written if an allocation fails
+
+-- All of the text was written.
+pub keeps_all : (old new : Option (List ℕ)) (text : List ℕ) → Appends old new text → Keeps old new text
+keeps_all old new text whole =
+    record { more = []; appended = subst (Appends old new) (sym (append-nil text)) whole }
+
+-- The text that an allocation did not change was written.
+pub keeps_former : (old new : Option (List ℕ)) (text now : List ℕ) (len : ℕ) → len ≡ length text →
+    take (length text) now ≡ text → Appends old new (take len now) → Keeps old new text
+keeps_former old new text now len is kept whole =
+    keeps_all old new text (subst (Appends old new) (ap (λ (n : ℕ). take n now) is ∙ kept) whole)
+
+pub front_former : (old new : Option (List ℕ)) (text more now : List ℕ) (len : ℕ) → len ≡ length text →
+    take (length text) now ≡ text → AppendsPrefix old new (take len now) → AppendsPrefix old new (text ++ more)
+front_former old new text more now len is kept front =
+    front_more old new text more (text ++ more) refl
+    (subst (AppendsPrefix old new) (ap (λ (n : ℕ). take n now) is ∙ kept) front)
+
+-- More text was appended, and all of it was written, perhaps followed by more.
+pub keeps_more : (old new : Option (List ℕ)) (text line more : List ℕ) → more ≡ text ++ line → Keeps old new more →
+    Keeps old new text
+keeps_more old new text line more is kept = record {
+  more = line ++ kept.more;
+  appended =
+      subst (Appends old new) (ap (λ t. t ++ kept.more) is ∙ append_assoc text line kept.more) kept.appended;
+}
+
+-- The lines before a failed one were written.
+pub sent_kept : (old mid now : Option (List ℕ)) (begun : List ℕ) (done : List Range) (text : List ℕ) →
+    HasSent old mid begun done text → Appends mid now text → Keeps old now begun
+sent_kept old mid now begun done text has out = record {
+  more = missing_text (ranges_of done);
+  appended = subst (Appends old now) (sym has.parts) (Appends-trans old mid now has.written text has.sent out);
+}
+
+-- A fault that is passed on.
+pub kept_on : {T : Type 0} (r : Result T CommandFault) (why : CommandFault) (P : Type 0) →
+    IsErr r × IsErrAnd r (λ f. f ≡ why) → (why ≡ fault.Memory → P) → IfErr r (λ f. f ≡ fault.Memory → P)
+kept_on (Ok x) why P is kept = tt
+kept_on (Err f) why P is kept = λ memory. kept (sym is.1 ∙ memory)
+
+-- A write that failed.
+pub never_memory : {T : Type 0} (r : Result T CommandFault) (P : Type 0) → IfErr r (λ f. f ≡ fault.Write) →
+    IfErr r (λ f. f ≡ fault.Memory → P)
+never_memory (Ok x) P write = tt
+never_memory (Err f) P write = λ memory. let no : ⊥ = cc in absurd no
 
 -- The count of failures after a fault that is returned.
 pub counts_err : {T : Type 0} (old new : ℕ) (r : Result T CommandFault) (why : CommandFault) →

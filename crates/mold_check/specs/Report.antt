@@ -1,6 +1,7 @@
 -- What `mold check` prints, and its exit status.
 use Rattle.std.specs.Prelude.{ℕ, ◌-◌, List, [], ◌∷◌, ◌++◌, length, map, slice_index_or, codes, decimal, Option}
 use Rattle.std.specs.Prelude.{None, Some}
+use Rattle.std.specs.Io.KnownBytes.{Appends}
 use Rattle.std.specs.List.{flat_map}
 use Rattle.mold_rule.specs.Ranges.{Range}
 use Rattle.mold_text.specs.Line.{line_of}
@@ -55,3 +56,8 @@ abbrev pub report : {entries : List Entry} → Checked entries → List ℕ
 report {entries} checked =
     counts_line (length checked.order) (length entries - length checked.order)
     ++ outcome_text (map name_of checked.order) checked.outcome
+
+-- The text was written, perhaps followed by more.
+pub record Keeps (old new : Option (List ℕ)) (text : List ℕ) : Type 0 where
+  pub more : List ℕ
+  pub appended : Appends old new (text ++ more)

@@ -1,17 +1,18 @@
 //! Checks datagrams given as lines of hexadecimal digits, line by line.
 
-ghost use Rattle.std.specs.Prelude.{◌≡◌, ◌++◌, IfOk, OnOk};
+ghost use Rattle.std.specs.Prelude.{◌≡◌, ◌++◌, length, take, IfErr, IfOk, OnErr, OnOk};
 ghost use Rattle.std.specs.Io.KnownBytes.{Appends};
 ghost use Rattle.hex.specs.Hex.{decode_of};
 ghost use Rattle.mold_check.specs.CheckLines.{count_line};
 ghost use Rattle.mold_check.specs.Checking.{beginning, checking_of, checking_status, checking_text};
 ghost use Rattle.mold_check.specs.Checking.{judged_digits, refused_line_text, taken};
+ghost use Rattle.mold_check.specs.Report.{Keeps};
 ghost use Rattle.mold_devices.specs.Devices.{AppendsPrefix};
 ghost use Rattle.mold_devices.specs.Faults.{CountsSink};
 
 use crate::report::print_verdict;
 use mold_capture::{Checker, Refusal};
-use mold_devices::{CommandFault, Sink, send};
+use mold_devices::{CommandFault, Sink, end_with, send};
 use mold_rule::laws::lacking_law;
 use mold_text::{Word, push_line, push_line_with, push_refusal};
 use std::alloc::{AllocError, Global};
@@ -84,12 +85,16 @@ impl LineCheck {
     {
         lacking_law();
         let mut text = Vec::new(alloc);
-        push_count(&mut text, self.datagrams)?;
         if let Some(line) = self.refused {
+            push_count(&mut text, self.datagrams)?;
             return print_refused_line(sink, &mut text, line);
         }
+        // The first line is made after the verdict, which may run out of memory.
         match self.checker.verdict() {
-            Ok(verdict) => print_verdict(sink, &mut text, &verdict),
+            Ok(verdict) => {
+                push_count(&mut text, self.datagrams)?;
+                print_verdict(sink, &mut text, &verdict)
+            }
             Err(_) => Err(CommandFault::Memory),
         }
     }
@@ -129,7 +134,8 @@ fn push_count(text: &mut Vec<u8>, datagrams: u64) -> Result<(), AllocError>
 }
 
 fn push_refused_line(text: &mut Vec<u8>, line: RefusedLine) -> Result<(), AllocError>
-    ensures { OnOk result (text.new.items ≡ text.old.items ++ refused_line_text line) }
+    ensures line { OnOk result (text.new.items ≡ text.old.items ++ refused_line_text line) }
+    ensures kept { OnErr result (take (length text.old.items) text.new.items ≡ text.old.items) }
 {
     let before = [
         Word::Text(b"refused"),
@@ -142,7 +148,8 @@ fn push_refused_line(text: &mut Vec<u8>, line: RefusedLine) -> Result<(), AllocE
     }
 }
 
-// Writes the text and the reason why the line is refused, and returns the exit status.
+// Writes the text and the reason why the line is refused, and returns the exit status. If an allocation fails, writes
+// the text.
 fn print_refused_line<K: Sink>(
     sink: &mut K,
     text: &mut Vec<u8>,
@@ -152,9 +159,16 @@ fn print_refused_line<K: Sink>(
         (text.old.items ++ refused_line_text line) × (status ≡ 2)) }
     ensures front { AppendsPrefix (K.held sink.old) (K.held sink.new)
         (text.old.items ++ refused_line_text line) }
+    ensures kept { IfErr result (λ fault. fault ≡ CommandFault.Memory →
+        Keeps (K.held sink.old) (K.held sink.new) text.old.items) }
     ensures failures { CountsSink (K.failed sink.old) (K.failed sink.new) result }
 {
-    push_refused_line(text, line)?;
-    send(sink, text)?;
-    Ok(2)
+    let told = text.len();
+    match push_refused_line(text, line) {
+        Ok(()) => {
+            send(sink, text)?;
+            Ok(2)
+        }
+        Err(_) => Err(end_with(sink, text, told, CommandFault::Memory)),
+    }
 }

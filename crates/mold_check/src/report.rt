@@ -5,7 +5,7 @@ ghost use Rattle.std.specs.Io.KnownBytes.{Appends};
 ghost use Rattle.mold_capture.specs.Outcome.{incomplete, outcome_in, whole};
 ghost use Rattle.mold_capture.specs.Verdict.{ranges_of};
 ghost use Rattle.mold_check.specs.Entries.{NamesDiffer};
-ghost use Rattle.mold_check.specs.Report.{Checked, counts_line, incomplete_line, missing_line};
+ghost use Rattle.mold_check.specs.Report.{Checked, Keeps, counts_line, incomplete_line, missing_line};
 ghost use Rattle.mold_check.specs.Report.{missing_text, outcome_status, outcome_text, report};
 ghost use Rattle.mold_devices.specs.Devices.{AppendsPrefix};
 ghost use Rattle.mold_devices.specs.Faults.{CountsSink};
@@ -37,14 +37,16 @@ fn push_counts(text: &mut Vec<u8>, files: usize, skipped: usize) -> Result<(), A
 }
 
 fn push_whole(text: &mut Vec<u8>, messages: u64) -> Result<(), AllocError>
-    ensures { OnOk result (text.new.items ≡ text.old.items ++ outcome_text [] (whole messages)) }
+    ensures line { OnOk result (text.new.items ≡ text.old.items ++ outcome_text [] (whole messages)) }
+    ensures kept { OnErr result (take (length text.old.items) text.new.items ≡ text.old.items) }
 {
     push_line(text, &[Word::Text(b"whole"), Word::Number(messages)])
 }
 
 // Appends the first line of an incomplete session, without the lines of the missing ranges.
 fn push_incomplete(text: &mut Vec<u8>, end: Option<u64>) -> Result<(), AllocError>
-    ensures { OnOk result (text.new.items ≡ text.old.items ++ incomplete_line end) }
+    ensures line { OnOk result (text.new.items ≡ text.old.items ++ incomplete_line end) }
+    ensures kept { OnErr result (take (length text.old.items) text.new.items ≡ text.old.items) }
 {
     let end = match end {
         Some(number) => Word::Number(number),
@@ -94,7 +96,8 @@ fn print_missing<K: Sink>(
     }
 }
 
-// Writes the text and the lines of the missing ranges, in pieces of 65,536 bytes or more.
+// Writes the text and the lines of the missing ranges, in pieces of 65,536 bytes or more. If an allocation fails,
+// writes the text and the lines before that.
 fn send_missing<K: Sink>(
     sink: &mut K,
     text: &mut Vec<u8>,
@@ -104,6 +107,8 @@ fn send_missing<K: Sink>(
         (text.old.items ++ missing_text (ranges_of missing.now))) }
     ensures front { AppendsPrefix (K.held sink.old) (K.held sink.new)
         (text.old.items ++ missing_text (ranges_of missing.now)) }
+    ensures kept { IfErr result (λ fault. fault ≡ CommandFault.Memory →
+        Keeps (K.held sink.old) (K.held sink.new) text.old.items) }
     ensures failures { CountsSink (K.failed sink.old) (K.failed sink.new) result }
 {
     for range in missing {
@@ -112,20 +117,28 @@ fn send_missing<K: Sink>(
     send(sink, text)
 }
 
-// Writes the text and that the session is whole, and returns the exit status.
+// Writes the text and that the session is whole, and returns the exit status. If an allocation fails, writes the text.
 fn print_whole<K: Sink>(sink: &mut K, text: &mut Vec<u8>, messages: u64) -> Result<u8, CommandFault>
     ensures whole { IfOk result (λ status. Appends (K.held sink.old) (K.held sink.new)
         (text.old.items ++ outcome_text [] (whole messages)) × (status ≡ 0)) }
     ensures front { AppendsPrefix (K.held sink.old) (K.held sink.new)
         (text.old.items ++ outcome_text [] (whole messages)) }
+    ensures kept { IfErr result (λ fault. fault ≡ CommandFault.Memory →
+        Keeps (K.held sink.old) (K.held sink.new) text.old.items) }
     ensures failures { CountsSink (K.failed sink.old) (K.failed sink.new) result }
 {
-    push_whole(text, messages)?;
-    send(sink, text)?;
-    Ok(0)
+    let told = text.len();
+    match push_whole(text, messages) {
+        Ok(()) => {
+            send(sink, text)?;
+            Ok(0)
+        }
+        Err(_) => Err(end_with(sink, text, told, CommandFault::Memory)),
+    }
 }
 
-// Writes the text and the missing ranges, and returns the exit status.
+// Writes the text and the missing ranges, and returns the exit status. If an allocation fails, writes the text and the
+// lines before that.
 fn print_incomplete<K: Sink>(
     sink: &mut K,
     text: &mut Vec<u8>,
@@ -136,14 +149,22 @@ fn print_incomplete<K: Sink>(
         (text.old.items ++ outcome_text [] (incomplete (ranges_of missing.now) end)) × (status ≡ 1)) }
     ensures front { AppendsPrefix (K.held sink.old) (K.held sink.new)
         (text.old.items ++ outcome_text [] (incomplete (ranges_of missing.now) end)) }
+    ensures kept { IfErr result (λ fault. fault ≡ CommandFault.Memory →
+        Keeps (K.held sink.old) (K.held sink.new) text.old.items) }
     ensures failures { CountsSink (K.failed sink.old) (K.failed sink.new) result }
 {
-    push_incomplete(text, end)?;
-    send_missing(sink, text, missing)?;
-    Ok(1)
+    let told = text.len();
+    match push_incomplete(text, end) {
+        Ok(()) => {
+            send_missing(sink, text, missing)?;
+            Ok(1)
+        }
+        Err(_) => Err(end_with(sink, text, told, CommandFault::Memory)),
+    }
 }
 
-/// Writes the text and what the verdict reports, and returns the exit status.
+/// Writes the text and what the verdict reports, and returns the exit status. If an allocation fails, writes the text
+/// and the lines before that.
 pub(crate) fn print_verdict<K: Sink>(
     sink: &mut K,
     text: &mut Vec<u8>,
@@ -154,6 +175,8 @@ pub(crate) fn print_verdict<K: Sink>(
         × (status ≡ outcome_status (outcome_in verdict.now))) }
     ensures front { AppendsPrefix (K.held sink.old) (K.held sink.new)
         (text.old.items ++ outcome_text [] (outcome_in verdict.now)) }
+    ensures kept { IfErr result (λ fault. fault ≡ CommandFault.Memory →
+        Keeps (K.held sink.old) (K.held sink.new) text.old.items) }
     ensures failures { CountsSink (K.failed sink.old) (K.failed sink.new) result }
 {
     match verdict {
@@ -164,7 +187,8 @@ pub(crate) fn print_verdict<K: Sink>(
     }
 }
 
-// Writes the text and the reason why the entry with this name is refused, and returns the exit status.
+// Writes the text and the reason why the entry with this name is refused, and returns the exit status. If an allocation
+// fails, writes the text.
 fn print_refusal<K: Sink>(
     sink: &mut K,
     text: &mut Vec<u8>,
@@ -175,19 +199,26 @@ fn print_refusal<K: Sink>(
         (text.old.items ++ refused_line (name.now ∷ refusal_words reason)) × (status ≡ 2)) }
     ensures front { AppendsPrefix (K.held sink.old) (K.held sink.new)
         (text.old.items ++ refused_line (name.now ∷ refusal_words reason)) }
+    ensures kept { IfErr result (λ fault. fault ≡ CommandFault.Memory →
+        Keeps (K.held sink.old) (K.held sink.new) text.old.items) }
     ensures failures { CountsSink (K.failed sink.old) (K.failed sink.new) result }
 {
-    push_refusal(text, &[Word::Text(b"refused"), Word::Text(name)], reason)?;
-    send(sink, text)?;
-    Ok(2)
+    let told = text.len();
+    match push_refusal(text, &[Word::Text(b"refused"), Word::Text(name)], reason) {
+        Ok(()) => {
+            send(sink, text)?;
+            Ok(2)
+        }
+        Err(_) => Err(end_with(sink, text, told, CommandFault::Memory)),
+    }
 }
 
 /// Checks the entries that are datagrams, in ascending order of the bytes of their names. It writes the outcome
 /// to the sink and returns the exit status: 0 whole, 1 incomplete, 2 a datagram is refused.
 ///
 /// It copies no entry, only the messages that the checker stores. If there is a fault and no two entries have
-/// the same name, a prefix of the text was written. `Write` is returned only if the sink failed, `Memory` only
-/// if an allocation failed, and `Read` never.
+/// the same name, a prefix of the text was written. After `Memory` this prefix is all text made so far. `Write` is
+/// returned only if the sink failed, `Memory` only if an allocation failed, and `Read` never.
 pub fn check_entries<K: Sink>(
     alloc: Global,
     entries: &[Entry],
@@ -203,12 +234,18 @@ pub fn check_entries<K: Sink>(
     outcome_law();
     let order = sorted_datagrams(alloc, entries)?;
     let datagrams = lend_bytes(alloc, order.as_slice())?;
+    let files = order.len();
+    let skipped = entries.len() - files;
     let mut text = Vec::new(alloc);
-    push_counts(&mut text, order.len(), entries.len() - order.len())?;
+    // The first line is made after the check, which may run out of memory.
     match check(alloc, datagrams.as_slice()) {
-        Ok(verdict) => print_verdict(sink, &mut text, &verdict),
+        Ok(verdict) => {
+            push_counts(&mut text, files, skipped)?;
+            print_verdict(sink, &mut text, &verdict)
+        }
         Err((_, Refusal::Memory)) => Err(CommandFault::Memory),
         Err((index, reason)) => {
+            push_counts(&mut text, files, skipped)?;
             let name = order[index].name.as_str().as_bytes();
             print_refusal(sink, &mut text, name, reason)
         }

@@ -19,16 +19,19 @@ returns-in_err-order-clause-front g c = λ differ checked. front_none _ _
 pub returns-in_err-datagrams-clause-front : goal.returns-in_err-datagrams-clause-front
 returns-in_err-datagrams-clause-front g c = λ differ checked. front_none _ _
 
-pub returns-in_err-push_counts-clause-front : goal.returns-in_err-push_counts-clause-front
-returns-in_err-push_counts-clause-front g c = λ differ checked. front_none _ _
+pub returns-in_err-push_counts-in-Ok-clause-front : goal.returns-in_err-push_counts-in-Ok-clause-front
+returns-in_err-push_counts-in-Ok-clause-front g c = λ differ checked. front_none _ _
 
-pub overflow_sub-entries : goal.overflow_sub-entries
-overflow_sub-entries g c =
+pub returns-in_err-push_counts-in-Err-clause-front : goal.returns-in_err-push_counts-in-Err-clause-front
+returns-in_err-push_counts-in-Err-clause-front g c = λ differ checked. front_none _ _
+
+pub overflow_sub-skipped : goal.overflow_sub-skipped
+overflow_sub-skipped g c =
     omega (
       arith,
       order_few c.args.entries.now (lent c.in_ok-order.order.items) c.in_ok-order.ensures,
       length-lent c.in_ok-order.order.items,
-      c.len-2.ensures,
+      c.len-files.ensures,
       c.in_ok-order.order.ok,
     )
 
@@ -51,7 +54,7 @@ returns-in-Ok-clause-whole g c =
     in
     told_whole _ _ c.args.entries.now checked c.print_verdict.result _ _
     (report_text c.args.entries.now order _ _ _ _ (outcome_text [] (outcome_in v)) (outcome_in v) c.new-text.ensures.items
-    c.in_ok-push_counts.ensures (c.len.ensures ∙ c.in_ok-order.order.ok.0) (c.len-2.ensures ∙ c.in_ok-order.order.ok.0)
+    c.in_ok-push_counts-in-Ok.ensures (c.len-files.ensures ∙ c.in_ok-order.order.ok.0) (c.len-files.ensures ∙ c.in_ok-order.order.ok.0)
     (verdict_text (map name_of (lent order)) v))
     refl c.print_verdict.ensures.whole
 
@@ -65,7 +68,7 @@ returns-in-Ok-clause-front g c =
     in
     told_front _ _ c.outcome_law.ensures.one c.args.entries.now checked _
     (report_text c.args.entries.now order _ _ _ _ (outcome_text [] (outcome_in v)) (outcome_in v) c.new-text.ensures.items
-    c.in_ok-push_counts.ensures (c.len.ensures ∙ c.in_ok-order.order.ok.0) (c.len-2.ensures ∙ c.in_ok-order.order.ok.0)
+    c.in_ok-push_counts-in-Ok.ensures (c.len-files.ensures ∙ c.in_ok-order.order.ok.0) (c.len-files.ensures ∙ c.in_ok-order.order.ok.0)
     (verdict_text (map name_of (lent order)) v))
     c.print_verdict.ensures.front
 
@@ -84,8 +87,8 @@ returns g c =
     ∙ sym (name_at order c.in-Err.index c.index.result.now (within_order order _ c.in-Err.index list told.0))
     in
     let text = report_text c.args.entries.now order _ _ _ _ (refused_line (c.as_bytes-name.result.now ∷ refusal_words why))
-    (refused c.in-Err.index why) c.new-text.ensures.items c.in_ok-push_counts.ensures
-    (c.len.ensures ∙ c.in_ok-order.order.ok.0) (c.len-2.ensures ∙ c.in_ok-order.order.ok.0)
+    (refused c.in-Err.index why) c.new-text.ensures.items c.in_ok-push_counts-in-Err.ensures
+    (c.len-files.ensures ∙ c.in_ok-order.order.ok.0) (c.len-files.ensures ∙ c.in_ok-order.order.ok.0)
     (ap (λ n. refused_line (n ∷ refusal_words why)) name)
     in
     record {

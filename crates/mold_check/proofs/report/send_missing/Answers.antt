@@ -2,7 +2,8 @@ use Rattle.std.proofs.Common.{◌+◌, ℕ, take, refl, subst, sym, ◌∙◌}
 use Rattle.mold_devices.specs.Faults.{CountsSinkFault}
 use Rattle.std.proofs.lemmas.Result.{on_ok_weaker}
 use Rattle.std.proofs.lemmas.List.{take_more, take_all}
-use Rattle.mold_check.proofs.ReportLemmas.{counts_err, counts_sent, sent_all, sent_front, sent_more, sent_moved, sent_none, split_at}
+use Rattle.mold_check.proofs.ReportLemmas.{counts_err, counts_sent, kept_on, never_memory, sent_all, sent_front, sent_kept}
+use Rattle.mold_check.proofs.ReportLemmas.{sent_more, sent_moved, sent_none, split_at}
 use Rattle.mold_check.proofs.report.send_missing.Goals as goal
 
 pub loop-range-init : goal.loop-range-init
@@ -51,3 +52,13 @@ returns-clause-front g c =
 pub returns-clause-failures : goal.returns-clause-failures
 returns-clause-failures g c =
     counts_sent _ _ _ _ c.loop-range.invariant.counted c.send.ensures.failures c.send.ensures.fault
+
+pub returns-in_err-print_missing-clause-kept : goal.returns-in_err-print_missing-clause-kept
+returns-in_err-print_missing-clause-kept g c =
+    kept_on c.from_residual.result _ _ c.from_residual.ensures
+    (λ memory.
+    sent_kept _ _ _ _ (take c.loop-range.range-index c.args.missing.now) _ c.loop-range.invariant.has
+    (c.in_err-print_missing.ensures.kept memory))
+
+pub returns-clause-kept : goal.returns-clause-kept
+returns-clause-kept g c = never_memory c.send.result _ c.send.ensures.fault
