@@ -107,8 +107,8 @@ impl<'a, D: Datagrams> FeedListener<'a, D> {
         self.ask(server, burst, buffer)
     }
 
-    // Makes one turn. Then writes the text if it has at least 65,536 bytes or the sink is live. If the turn fails, writes
-    // the text of the turns before it.
+    // Makes one turn. Then writes the text if it has at least 65,536 bytes or the sink is live. If the turn fails,
+    // writes the text of the turns before it.
     fn write_turn<K: Sink>(
         &mut self,
         server: D::Peer,

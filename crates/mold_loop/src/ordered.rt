@@ -20,7 +20,8 @@ use std::alloc::{AllocError, Global};
 fn make_publisher(alloc: Global, order: &LoopOrder) -> Result<Publisher, AllocError>
     ensures made { IfOk result (λ publisher. publisher ≡ loop_publisher_of order.now) }
     ensures room { IfOk result (λ publisher. HasRoom publisher) }
-    ensures longest { IfOk result (λ publisher. publisher.journal.max_message ≡ order.now.limits.limit - MESSAGE_OVERHEAD) }
+    ensures longest { IfOk result (λ publisher.
+        publisher.journal.max_message ≡ order.now.limits.limit - MESSAGE_OVERHEAD) }
 {
     packet_length_law();
     match Publisher::new(alloc, Session(order.session), order.limits.limit) {

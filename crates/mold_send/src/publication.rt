@@ -83,8 +83,8 @@ impl<'a, 'p, D: Datagrams> Publication<'a, 'p, D> {
     // Sends the publisher's next datagram on both lines, and counts it once. Does nothing if every message was sent.
     fn send_next(&mut self)
         requires { self.old.datagrams ≤ self.old.publisher.now.sent }
-        ensures sends { D.modeled ≡ true →
-            SendsBoth D.port (spelled_some (next_datagram self.old.publisher.now)) self.old.two_lines self.new.two_lines }
+        ensures sends { D.modeled ≡ true → SendsBoth D.port (spelled_some (next_datagram self.old.publisher.now))
+            self.old.two_lines self.new.two_lines }
         ensures counted { self.new.datagrams
             ≡ self.old.datagrams + length (spelled_some (next_datagram self.old.publisher.now)) }
         ensures sent { self.new.publisher.now ≡ after_datagram self.old.publisher.now }
@@ -128,7 +128,8 @@ impl<'a, 'p, D: Datagrams> Publication<'a, 'p, D> {
     fn send_beats(&mut self, beats: u32)
         requires sent { self.old.publisher.now.sent ≡ length self.old.publisher.now.journal.messages }
         ensures sends { D.modeled ≡ true → self.old.publisher.now.journal.closed ≡ false → SendsBoth D.port
-            (replicate beats (spelling_of (beat_packet self.old.publisher.now.journal))) self.old.two_lines self.new.two_lines }
+            (replicate beats (spelling_of (beat_packet self.old.publisher.now.journal)))
+            self.old.two_lines self.new.two_lines }
         ensures publisher { self.new.publisher ≡ self.old.publisher }
         ensures datagrams { self.new.datagrams ≡ self.old.datagrams }
         ensures same { IsSame self.old self.new }
@@ -142,7 +143,8 @@ impl<'a, 'p, D: Datagrams> Publication<'a, 'p, D> {
     fn send_ends(&mut self, ends: u32)
         requires closed { self.old.publisher.now.journal.closed ≡ true }
         ensures sends { D.modeled ≡ true → SendsBoth D.port
-            (replicate ends (spelling_of (end_packet self.old.publisher.now.journal))) self.old.two_lines self.new.two_lines }
+            (replicate ends (spelling_of (end_packet self.old.publisher.now.journal)))
+            self.old.two_lines self.new.two_lines }
         ensures publisher { self.new.publisher ≡ self.old.publisher }
         ensures datagrams { self.new.datagrams ≡ self.old.datagrams }
         ensures same { IsSame self.old self.new }

@@ -2,7 +2,8 @@
 
 ghost use Rattle.std.specs.Prelude.{◌≡◌, IfErr, OnOk};
 ghost use Rattle.std.specs.Process.{exit_status};
-ghost use Rattle.mold_wiring.specs.Ending.{AppendsUnlessFailed, fault_line, flushed, program_fault_word, program_status};
+ghost use Rattle.mold_wiring.specs.Ending.{AppendsUnlessFailed, fault_line, flushed, program_fault_word};
+ghost use Rattle.mold_wiring.specs.Ending.{program_status};
 
 use crate::program_fault::ProgramFault;
 use mold_devices::{CommandFault, Sink, write_all};
@@ -40,7 +41,8 @@ fn line(fault: ProgramFault) -> &'static str
 /// the status of the program, which is 3. Nothing is allocated, since memory may be short.
 pub fn print_fault<K: Sink>(sink: &mut K, line: &str) -> ExitCode
     ensures status { exit_status result ≡ 3 }
-    ensures told { AppendsUnlessFailed (K.failed sink.old) (K.failed sink.new) (K.held sink.old) (K.held sink.new) line.now }
+    ensures told { AppendsUnlessFailed (K.failed sink.old) (K.failed sink.new)
+        (K.held sink.old) (K.held sink.new) line.now }
 {
     let _ = write_all(sink, line.as_bytes());
     ExitCode::from(FAULT)

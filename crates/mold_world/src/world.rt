@@ -212,7 +212,8 @@ impl World {
     /// Returns whether receiver `r` knows the session's end and delivered every message up to it, or `None` if there
     /// is no such receiver.
     pub fn finished(&self, r: usize) -> Option<bool>
-        ensures { result ≡ option_map (λ subscriber. is_finished subscriber.arbitration.view) (slice_get self.now.subscribers r) }
+        ensures { result
+            ≡ option_map (λ subscriber. is_finished subscriber.arbitration.view) (slice_get self.now.subscribers r) }
     {
         Some(self.parts.subscribers.get(r)?.receiver().finished())
     }
@@ -228,8 +229,8 @@ impl World {
     /// Returns what receiver `r` received on a line since it started or restarted, or `None` if there is no such
     /// receiver.
     pub fn report(&self, r: usize, line: Line) -> Option<LineReport>
-        ensures { result ≡
-            option_map (λ subscriber. report_on line subscriber.arbitration.reports) (slice_get self.now.subscribers r) }
+        ensures { result ≡ option_map (λ subscriber. report_on line subscriber.arbitration.reports)
+            (slice_get self.now.subscribers r) }
     {
         Some(self.parts.subscribers.get(r)?.report(line))
     }
