@@ -19,3 +19,5 @@ mod scripts;
 mod serve;
 #[cfg(test)]
 mod session;
+#[cfg(test)]
+mod writes;

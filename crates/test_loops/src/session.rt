@@ -22,7 +22,7 @@ use std::test::Fail;
 const SESSION: Session = Session(*b"SESSION001");
 
 /// The peers of line A, of line B and of the server.
-const PEERS: LoopPeers<u32> = LoopPeers {
+pub const PEERS: LoopPeers<u32> = LoopPeers {
     a: 1,
     b: 2,
     server: 3,
@@ -32,24 +32,24 @@ const PEERS: LoopPeers<u32> = LoopPeers {
 const DROPS: Drops = Drops { a: 2, b: 2 };
 
 /// Five messages, the k-th of which is twenty bytes of the value k. Packets have messages 1 and 2, 3 and 4, and 5.
-const LINES: &[u8] = b"0101010101010101010101010101010101010101\n\
+pub const LINES: &[u8] = b"0101010101010101010101010101010101010101\n\
     0202020202020202020202020202020202020202\n\
     0303030303030303030303030303030303030303\n\
     0404040404040404040404040404040404040404\n\
     0505050505050505050505050505050505050505\n";
 
-const ONE_AND_TWO: &[u8] = b"SESSION001\0\0\0\0\0\0\0\x01\0\x02\
+pub const ONE_AND_TWO: &[u8] = b"SESSION001\0\0\0\0\0\0\0\x01\0\x02\
     \0\x14\x01\x01\x01\x01\x01\x01\x01\x01\x01\x01\x01\x01\x01\x01\x01\x01\x01\x01\x01\x01\
     \0\x14\x02\x02\x02\x02\x02\x02\x02\x02\x02\x02\x02\x02\x02\x02\x02\x02\x02\x02\x02\x02";
 
-const THREE_AND_FOUR: &[u8] = b"SESSION001\0\0\0\0\0\0\0\x03\0\x02\
+pub const THREE_AND_FOUR: &[u8] = b"SESSION001\0\0\0\0\0\0\0\x03\0\x02\
     \0\x14\x03\x03\x03\x03\x03\x03\x03\x03\x03\x03\x03\x03\x03\x03\x03\x03\x03\x03\x03\x03\
     \0\x14\x04\x04\x04\x04\x04\x04\x04\x04\x04\x04\x04\x04\x04\x04\x04\x04\x04\x04\x04\x04";
 
-const FIVE: &[u8] = b"SESSION001\0\0\0\0\0\0\0\x05\0\x01\
+pub const FIVE: &[u8] = b"SESSION001\0\0\0\0\0\0\0\x05\0\x01\
     \0\x14\x05\x05\x05\x05\x05\x05\x05\x05\x05\x05\x05\x05\x05\x05\x05\x05\x05\x05\x05\x05";
 
-const END: &[u8] = b"SESSION001\0\0\0\0\0\0\0\x06\xff\xff";
+pub const END: &[u8] = b"SESSION001\0\0\0\0\0\0\0\x06\xff\xff";
 
 /// What is sent on line B if no send fails.
 const ON_LINE_B: [Given; 3] = [
@@ -62,7 +62,7 @@ const ON_LINE_B: [Given; 3] = [
 const THREE_LINES: usize = 123;
 
 /// The request for messages 3 and 4.
-const REQUEST: &[u8] = b"SESSION001\0\0\0\0\0\0\0\x03\0\x02";
+pub const REQUEST: &[u8] = b"SESSION001\0\0\0\0\0\0\0\x03\0\x02";
 
 // A publisher without messages. Its packets have at most 64 bytes.
 fn new_publisher(alloc: Global) -> Result<Publisher, Fail>
@@ -81,7 +81,7 @@ fn new_server(alloc: Global) -> Result<Server, Fail>
 }
 
 // Publisher, server, and a listener that begins at message 1.
-fn new_parts(alloc: Global) -> Result<LoopParts, Fail>
+pub fn new_parts(alloc: Global) -> Result<LoopParts, Fail>
     ensures room { IfOk result (λ parts. HasRoom parts.publisher) }
     ensures longest { IfOk result (λ parts. parts.publisher.journal.max_message ≤ parts.server.max_message) }
 {
@@ -121,7 +121,7 @@ struct Case {
     left: [usize; 3],
 }
 
-fn silent_ports(alloc: Global) -> LoopPorts<MemoryPort> {
+pub fn silent_ports(alloc: Global) -> LoopPorts<MemoryPort> {
     LoopPorts {
         publisher: silent(alloc),
         server: silent(alloc),
@@ -236,7 +236,7 @@ const ON_THEIR_LINES: [(u32, &[u8]); 6] = [
     (2, END),
 ];
 
-const ALL: &[u8] = b"1 0101010101010101010101010101010101010101\n\
+pub const ALL: &[u8] = b"1 0101010101010101010101010101010101010101\n\
     2 0202020202020202020202020202020202020202\n\
     3 0303030303030303030303030303030303030303\n\
     4 0404040404040404040404040404040404040404\n\
