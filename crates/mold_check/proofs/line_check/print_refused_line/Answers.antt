@@ -1,4 +1,4 @@
-use Rattle.std.proofs.Common.{◌≡◌, ◌∙◌}
+use Rattle.std.proofs.Common.{◌∙◌}
 use Rattle.mold_devices.proofs.WritingLemmas.{ends_front, ends_sink, ends_whole, not_memory}
 use Rattle.mold_check.proofs.ReportLemmas.{front_former, keeps_former}
 use Rattle.mold_check.proofs.line_check.print_refused_line.Goals as goal
