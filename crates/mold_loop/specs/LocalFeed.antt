@@ -63,5 +63,5 @@ Passes port datagrams result old new =
 abbrev pub PassesAndWrites : {D P T E : Type 0} → (D → Port P) → List (Routes × List ℕ) → Result T E →
     LocalFeed D P → LocalFeed D P → Option (List ℕ) → Option (List ℕ) → Type 0
 PassesAndWrites port datagrams result old new held_old held_new =
-    PassRests old.options.now.peers.a old.options.now.peers.b datagrams result (lines port old) (lines port new) held_old
-    held_new
+    PassRests old.options.now.peers.a old.options.now.peers.b datagrams result (lines port old) (lines port new)
+    held_old held_new

@@ -101,8 +101,8 @@ impl<'a, 'p, D: Datagrams + Drop> LocalFeed<'a, 'p, D> {
         self.pass(routes, datagram)
     }
 
-    // Makes one step of `pass_next`. Then writes the text if it has at least 65,536 bytes or the sink is live. If memory
-    // runs out in the step, writes the text before it.
+    // Makes one step of `pass_next`. Then writes the text if it has at least 65,536 bytes or the sink is live. If
+    // memory runs out in the step, writes the text before it.
     fn write_next<K: Sink>(
         &mut self,
         publisher: &mut Publisher,
@@ -299,8 +299,8 @@ impl<'a, 'p, D: Datagrams + Drop> LocalFeed<'a, 'p, D> {
         self.repair(server, journal)
     }
 
-    // Makes one round for the wanted messages. Then writes the text if it has at least 65,536 bytes or the sink is live.
-    // If memory runs out in the round, writes the text before it.
+    // Makes one round for the wanted messages. Then writes the text if it has at least 65,536 bytes or the sink is
+    // live. If memory runs out in the round, writes the text before it.
     fn write_round<K: Sink>(
         &mut self,
         server: &mut Server,

@@ -27,7 +27,8 @@ pub fn load_journal<S: Source>(
     ensures longest { IfOk result (λ loaded. IfOk loaded (λ journal.
         journal.max_message ≡ order.now.limit - MESSAGE_OVERHEAD)) }
     ensures whole { IfOk result (λ loaded. IfOk loaded (λ journal. IfSome (S.left source.old) (SpellsFile journal))) }
-    ensures refused { IfOk result (λ loaded. IfErr loaded (IsAtFault (order.now.limit - MESSAGE_OVERHEAD) (S.left source.old))) }
+    ensures refused { IfOk result (λ loaded.
+        IfErr loaded (IsAtFault (order.now.limit - MESSAGE_OVERHEAD) (S.left source.old))) }
     ensures failures { CountsSource (S.failed source.old) (S.failed source.new) result }
 {
     match Journal::load(alloc, longest_message(order.limit), source) {

@@ -11,7 +11,8 @@ use Rattle.mold_world.specs.World.{SubscriberState, WorldState}
 
 -- The receiver is honest, and its book is the published messages before its next number. Each stored message was
 -- sent, and so was the end packet of a known end.
-pub record IsSubscriberKept (journal : JournalState) (sent : List (List ℕ)) (subscriber : SubscriberState) : Type 0 where
+pub record IsSubscriberKept (journal : JournalState) (sent : List (List ℕ)) (subscriber : SubscriberState) :
+    Type 0 where
   pub session : subscriber.arbitration.view.session ≡ journal.session
   pub honest : IsHonest subscriber.arbitration.view journal.messages journal.closed
   pub book : subscriber.book.messages ≡ take (subscriber.arbitration.view.next - 1) journal.messages

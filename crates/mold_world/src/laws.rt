@@ -72,7 +72,8 @@ pub fn run_law()
         effect w happening ≡ Ok (report, new) → IsWorld new }
     ensures run { (w : WorldState) (happenings : List Happening) → IsWorld w → IsWorld (run_events w happenings) }
     ensures books { (w : WorldState) (receiver : ℕ) (subscriber : SubscriberState) → IsWorld w →
-        slice_get w.subscribers receiver ≡ Some subscriber → IsPrefix subscriber.book.messages w.publisher.journal.messages }
+        slice_get w.subscribers receiver ≡ Some subscriber →
+        IsPrefix subscriber.book.messages w.publisher.journal.messages }
     ensures whole { (w : WorldState) (receiver : ℕ) (subscriber : SubscriberState) → IsWorld w →
         slice_get w.subscribers receiver ≡ Some subscriber →
         subscriber.arbitration.view.ended ≡ Some subscriber.arbitration.view.next →

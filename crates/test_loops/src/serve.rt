@@ -1,5 +1,5 @@
-//! `serve_loop` over a port in memory, and `Responder::answer_request`. A case is a constant, and one function runs each
-//! case.
+//! `serve_loop` over a port in memory, and `Responder::answer_request`. A case is a constant, and one function runs
+//! each case.
 
 ghost use Rattle.std.specs.Prelude.{◌≤◌};
 

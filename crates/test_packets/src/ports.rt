@@ -313,8 +313,8 @@ const WAITS_ENDED: &[Call] = &[
     Call::Receive(Side::Busy, b"abc", Side::Busy),
 ];
 
-/// A receive of nothing waits its full time. If a port beside has a datagram, the wait ends at once; after a send it ends
-/// when the time for a response is over.
+/// A receive of nothing waits its full time. If a port beside it has a datagram, the wait ends at once. After a send it
+/// ends when the time for a response is over.
 #[test]
 fn a_wait_ends_where_a_port_beside_has_a_datagram(rt: HostRuntime) -> Result<(), Fail> {
     expect_calls(&rt, WAITS_ENDED)

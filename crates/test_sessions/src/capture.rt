@@ -1,6 +1,6 @@
 //! The checker of captures: verdicts, which refusal comes first, and its state after an allocation has failed.
-//! `tests/out-of-memory` makes each allocation of the tests for it fail. Expected values are constants, and each kind of
-//! comparison is in one function: the proof of a test grows with the owned values and the comparisons in it.
+//! `tests/out-of-memory` makes each allocation of the tests for it fail. Expected values are constants, and each kind
+//! of comparison is in one function: the proof of a test grows with the owned values and the comparisons in it.
 
 use mold_capture::{Checker, Memory, Range, Refusal, Verdict, check};
 use mold_wire::DecodeError;

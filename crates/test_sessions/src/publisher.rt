@@ -1,5 +1,5 @@
-//! Journals and publishers: worked examples, and their state after an allocation has failed. `tests/out-of-memory` makes
-//! each allocation of the tests for it fail.
+//! Journals and publishers: worked examples, and their state after an allocation has failed. `tests/out-of-memory`
+//! makes each allocation of the tests for it fail.
 
 use crate::comparisons::{same_message, same_number, same_truth};
 use mold_session::{AppendError, Journal, Publisher, PublisherError, Unsent};

@@ -148,7 +148,8 @@ fn expect_story(
     }
 }
 
-// Makes a world, once more if an allocation failed. Only this function and the next own one, since each costs its proof.
+// Makes a world, once more if an allocation failed. Only this function and the next own a world: each function that
+// owns one takes longer to prove.
 fn tell(
     rt: &(impl Abort + AllocGlobal),
     burst: u16,
