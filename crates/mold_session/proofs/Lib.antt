@@ -1,5 +1,6 @@
 pub mod AnswerLemmas
 pub mod RequestCheckLemmas
+pub mod CheckingLemmas
 pub mod ContentsLemmas
 pub mod DatagramLemmas
 pub mod FileLawLemmas

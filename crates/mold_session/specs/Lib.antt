@@ -1,4 +1,5 @@
 pub mod Answer
+pub mod Checking
 pub mod Contents
 pub mod Datagrams
 pub mod File

@@ -15,6 +15,7 @@ ghost use Rattle.mold_session.specs.Putting.{PutsFile};
 ghost use Rattle.mold_session.specs.declared.error.AppendError.{AppendError};
 ghost use Rattle.mold_session.specs.declared.error.FileError.{FileError};
 
+use crate::checking::check_file;
 use crate::error::{AppendError, FileError};
 use crate::loading::load_file;
 use crate::saving::{HEAD_LENGTH, put_file, save_file};
@@ -181,6 +182,17 @@ impl Journal {
             list,
             closed: head.closed,
         })
+    }
+
+    /// Checks that the bytes are the file of a journal, of version 1 or 2, whose messages have at most
+    /// `max_message` bytes. The error is their fault, which `load` returns too unless an allocation fails first.
+    ///
+    /// It goes through the bytes once and allocates nothing.
+    pub fn check(max_message: u16, bytes: &[u8]) -> Result<(), FileError>
+        ensures valid { OnOk result ((error : FileError) → ¬ JournalFault max_message bytes.now error) }
+        ensures refused { IfErr result (λ error. JournalFault max_message bytes.now error) }
+    {
+        check_file(max_message, bytes)
     }
 
     /// Saves the journal as a file of version 2. Blocks are gathered into writes of up to 4,096 bytes, and a

@@ -2,6 +2,7 @@
 //! responds to requests for messages of the journal.
 #![tactic(auto)]
 
+mod checking;
 mod error;
 mod journal;
 pub mod laws;

@@ -111,6 +111,13 @@ impl Server {
         self.max_message
     }
 
+    /// Returns the largest number of datagrams in the response to one request.
+    pub fn burst(&self) -> u16
+        ensures { result ≡ self.now.burst }
+    {
+        self.burst
+    }
+
     /// Returns the number of requests that `answer` and `plan` accepted. The count stops at `MAX_NUMBER`. A
     /// refused request isn't counted.
     pub fn answered(&self) -> u64

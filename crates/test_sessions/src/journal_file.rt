@@ -178,10 +178,17 @@ fn expect_loaded_by_bytes(
     same_loaded(rt, file.len(), found, wanted);
 }
 
-/// Loads the file at once, and byte by byte with the same result.
+/// What a check of a file returns, by what loading it returns.
+fn checked(loaded: Loaded) -> Result<(), FileError> {
+    loaded?;
+    Ok(())
+}
+
+/// Loads the file at once, and byte by byte with the same result. A check of its bytes has that result too.
 fn expect_loaded(rt: &impl Abort, alloc: Global, max_message: u16, file: &[u8], wanted: Loaded) {
     let found = load(alloc, max_message, &mut MemorySource::new(file));
     same_loaded(rt, file.len(), found, wanted);
+    same_saved(rt, Journal::check(max_message, file), checked(wanted));
     expect_loaded_by_bytes(rt, alloc, max_message, file, 0, wanted);
 }
 
@@ -211,6 +218,13 @@ const FILES: &[(&[u8], u16, Loaded)] = &[
 fn other_files_are_loaded_or_refused(rt: HostRuntime) {
     for (file, max_message, wanted) in FILES {
         expect_loaded(&rt, rt.alloc(), *max_message, file, *wanted);
+    }
+}
+
+#[test]
+fn no_allocation_of_check(rt: HostRuntime) {
+    for (file, max_message, wanted) in FILES {
+        same_saved(&rt, Journal::check(*max_message, file), checked(*wanted));
     }
 }
 

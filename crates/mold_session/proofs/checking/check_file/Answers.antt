@@ -1,0 +1,12 @@
+use Rattle.std.proofs.Common.{arith}
+use Rattle.mold_session.proofs.CheckingLemmas.{no_fault, on_ok}
+use Rattle.mold_session.proofs.checking.check_file.Goals as goal
+
+pub returns-in-Err-clause-refused : goal.returns-in-Err-clause-refused
+returns-in-Err-clause-refused c = c.in-Err.ensures.refused c.args.most
+
+pub returns-in-Ok-count_messages-clause-valid : goal.returns-in-Ok-count_messages-clause-valid
+returns-in-Ok-count_messages-clause-valid c = on_ok c.check_count.result _ _
+    (λ same. no_fault c.args.most c.in-Ok-count_messages.found c.args.bytes.now c.in-Ok.found.0.now c.in-Ok.found.1
+    (omega (arith, c.ranges.most.fits)) c.in-Ok.ensures.body c.in-Ok-count_messages.ensures.counted same)
+    c.check_count.ensures.same
