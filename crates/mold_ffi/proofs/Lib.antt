@@ -3,5 +3,6 @@ mod CheckerLemmas
 mod ListenerLemmas
 mod LoanLemmas
 mod PlaceLemmas
+mod Reading
 mod ServerLemmas
 mod Walking

@@ -2,8 +2,12 @@
 
 ghost use Rattle.std.specs.Prelude.{◌≡◌, ◌≤◌, ◌<◌, ◌++◌, ℕ, List, None, Some, length, take, drop, map, min};
 ghost use Rattle.std.specs.Prelude.{slice_get, unwrap_or};
+ghost use Rattle.std.specs.Borrow.{sem};
+ghost use Rattle.std.specs.Io.BufRead.{Rests};
+ghost use Rattle.std.specs.Option.{option_copied};
 ghost use Rattle.mold_ffi.specs.Handle.Borrow.{IsNoListener};
 ghost use Rattle.mold_ffi.specs.Listener.BatchedArbiter.{BatchedArbitration};
+ghost use Rattle.mold_ffi.specs.contracts.handle.mold_handle.MoldHandle.{the_row};
 ghost use Rattle.mold_ffi.specs.declared.code.TheConstants as codes;
 ghost use Rattle.mold_ffi.specs.declared.handle.held.Held.TheVariants.{Listener as AListener};
 ghost use Rattle.mold_receiver.specs.Batch.{first_of};
@@ -11,6 +15,7 @@ ghost use Rattle.mold_receiver.specs.Batch.{first_of};
 use crate::code::{ABSENT, BROKEN, DONE, ROOM};
 use crate::handle::borrow::lend_listener;
 use crate::handle::mold_handle::MoldHandle;
+use crate::listener::batched_arbiter::BatchedArbiter;
 use mold_receiver::Batch;
 
 /// The number of messages of the batch; 0 if the handle holds no listener.
@@ -41,24 +46,17 @@ pub extern "C" fn mold_listener_first(listener: &mut MoldHandle) -> u64
     }
 }
 
-/// Writes a slice of the message at index `i` of the batch, from 0. The slice is valid until the next call on this
-/// handle. Only code 0 writes anything.
-#[unsafe(no_mangle)]
-pub extern "C" fn mold_listener_message<'a>(
-    listener: &'a mut MoldHandle,
-    i: usize,
-    message: &mut &'a [u8],
-) -> u32
+// Writes a slice of the message at index `i` of the batch of a listener, if there is one.
+fn write_message<'a>(lent: Option<&'a BatchedArbiter>, i: usize, message: &mut &'a [u8]) -> u32
     ensures lent { (batched : BatchedArbitration) (bytes : List ℕ) →
-        listener.old.handle.value ≡ Some (AListener batched) → slice_get batched.batch.messages i ≡ Some bytes →
+        option_copied lent.entry ≡ Some batched → slice_get batched.batch.messages i ≡ Some bytes →
         (result ≡ codes.DONE) × (message.new.now ≡ bytes) }
     ensures absent { (batched : BatchedArbitration) →
-        listener.old.handle.value ≡ Some (AListener batched) → slice_get batched.batch.messages i ≡ None →
+        option_copied lent.entry ≡ Some batched → slice_get batched.batch.messages i ≡ None →
         (result ≡ codes.ABSENT) × (message.new ≡ message.old) }
-    ensures broken { IsNoListener listener.old.handle.value →
-        (result ≡ codes.BROKEN) × (message.new ≡ message.old) }
+    ensures broken { option_copied lent.entry ≡ None → (result ≡ codes.BROKEN) × (message.new ≡ message.old) }
 {
-    let Some(held) = lend_listener(listener) else {
+    let Some(held) = lent else {
         return BROKEN;
     };
     match held.batch().get(i) {
@@ -68,6 +66,27 @@ pub extern "C" fn mold_listener_message<'a>(
         }
         None => ABSENT,
     }
+}
+
+/// Writes a slice of the message at index `i` of the batch, from 0. The slice is valid until the next call on this
+/// handle. Only code 0 writes anything.
+#[unsafe(no_mangle)]
+pub extern "C" fn mold_listener_message<'a>(
+    listener: &'a mut MoldHandle,
+    i: usize,
+    message: &mut &'a [u8],
+) -> u32
+    ensures* after { sem 𝓛 (Rests the_row listener.entry (λ new. new.handle.value ≡ listener.old.handle.value)) }
+    ensures lent { (batched : BatchedArbitration) (bytes : List ℕ) →
+        listener.old.handle.value ≡ Some (AListener batched) → slice_get batched.batch.messages i ≡ Some bytes →
+        (result ≡ codes.DONE) × (message.new.now ≡ bytes) }
+    ensures absent { (batched : BatchedArbitration) →
+        listener.old.handle.value ≡ Some (AListener batched) → slice_get batched.batch.messages i ≡ None →
+        (result ≡ codes.ABSENT) × (message.new ≡ message.old) }
+    ensures broken { IsNoListener listener.old.handle.value →
+        (result ≡ codes.BROKEN) × (message.new ≡ message.old) }
+{
+    write_message(lend_listener(listener), i, message)
 }
 
 /// Copies the message at index `i` of the batch to the start of the buffer, and writes its length. If the buffer is
@@ -108,6 +127,21 @@ pub extern "C" fn mold_listener_copy(
     DONE
 }
 
+// Writes slices of the first messages of the batch of a listener, and returns how many.
+fn write_messages<'a>(lent: Option<&'a BatchedArbiter>, messages: &mut [&'a [u8]]) -> usize
+    ensures count { (batched : BatchedArbitration) → option_copied lent.entry ≡ Some batched →
+        result ≡ min (length messages.old) (length batched.batch.messages) }
+    ensures lent { (batched : BatchedArbitration) → option_copied lent.entry ≡ Some batched →
+        map (λ bytes. bytes.now) (take result messages.new) ≡ take result batched.batch.messages }
+    ensures behind { drop result messages.new ≡ drop result messages.old }
+    ensures broken { option_copied lent.entry ≡ None → (result ≡ 0) × (messages.new ≡ messages.old) }
+{
+    match lent {
+        Some(held) => lend_messages(held.batch(), messages),
+        None => 0,
+    }
+}
+
 // Writes slices of the first messages of a batch, as many as the array has room for, and returns how many.
 fn lend_messages<'a>(batch: &'a Batch, messages: &mut [&'a [u8]]) -> usize
     ensures count { result ≡ min (length messages.old) (length batch.now.messages) }
@@ -133,6 +167,7 @@ pub extern "C" fn mold_listener_messages<'a>(
     listener: &'a mut MoldHandle,
     messages: &mut [&'a [u8]],
 ) -> usize
+    ensures* after { sem 𝓛 (Rests the_row listener.entry (λ new. new.handle.value ≡ listener.old.handle.value)) }
     ensures count { (batched : BatchedArbitration) → listener.old.handle.value ≡ Some (AListener batched) →
         result ≡ min (length messages.old) (length batched.batch.messages) }
     ensures lent { (batched : BatchedArbitration) → listener.old.handle.value ≡ Some (AListener batched) →
@@ -140,8 +175,5 @@ pub extern "C" fn mold_listener_messages<'a>(
     ensures behind { drop result messages.new ≡ drop result messages.old }
     ensures broken { IsNoListener listener.old.handle.value → (result ≡ 0) × (messages.new ≡ messages.old) }
 {
-    match lend_listener(listener) {
-        Some(held) => lend_messages(held.batch(), messages),
-        None => 0,
-    }
+    write_messages(lend_listener(listener), messages)
 }
