@@ -1,10 +1,9 @@
 -- How the bytes of a file are checked, block by block.
-use Rattle.std.proofs.Common.{◌≡◌, ◌⊎◌, ℕ, ◌+◌, ◌<◌, ◌≤◌, List, [], ◌∷◌, ◌++◌, length, length-append, take, drop, append-nil}
+use Rattle.std.proofs.Common.{◌≡◌, ◌⊎◌, ℕ, ◌+◌, ◌<◌, ◌≤◌, List, [], ◌∷◌, ◌++◌, length, length-append, append-nil}
 use Rattle.std.proofs.Common.{Option, None, Some, refl, sym, ap, subst, ◌∙◌, append_assoc, inl, inr, arith}
 use Rattle.std.specs.Prelude.{unwrap_or, OnOk, Result, Ok, Err}
 use Rattle.std.specs.List.{AllByRecursion}
-use Rattle.byteorder.specs.Endian.{big_number}
-use Rattle.mold_wire.specs.Block.{IsBytes, block, blocks}
+use Rattle.mold_wire.specs.Block.{block, blocks}
 use Rattle.mold_session.specs.Checking.{IsBody, HasBlock, HasCounted}
 use Rattle.mold_session.specs.FileFault.{IsBody1, IsBody2, BlockFault, BlocksFault, FaultInBlocks, JournalFault}
 use Rattle.mold_session.specs.Journal.{IsWithin}
