@@ -35,8 +35,8 @@
  * passed to a call may be freed when the call returns. The exception is a packer's buffer, which the packer keeps.
  *
  * CODES. A call that can be refused returns a code. The code is 0 if the call succeeded. Otherwise it is that of the
- * first reason that applies, in the order in which the call lists them; mold_server_new states an exception. After a
- * code other than 0 the handle holds what it held before, except that a line's report counts a refused datagram.
+ * first reason that applies, in the order in which the call lists them. After a code other than 0 the handle holds what
+ * it held before, except that a line's report counts a refused datagram.
  * If a call has an output for a number, it then writes the number that goes with the refusal, or 0 if there is none.
  * All other outputs keep their values. A call that returns MOLD_BROKEN or MOLD_LINE writes nothing at all. Other codes
  * of which this is true are listed with "writes nothing".
@@ -439,7 +439,7 @@ static inline mold_server *mold_server_of(mold_publisher *publisher) {
  *   MOLD_COUNT_DIFFERS  the journal has *number messages, and states another number.
  *   MOLD_MEMORY         an allocation failed; the handle is empty.
  *
- * If an allocation fails, MOLD_MEMORY may be returned in place of any code listed after MOLD_BURST. */
+ * If no server is made, the bytes are read once more for a fault, so an allocation that fails hides none. */
 uint32_t mold_server_new(mold_server *server, size_t limit, uint16_t burst, const uint8_t *journal, size_t length,
                          uint64_t *number);
 
@@ -465,8 +465,8 @@ uint32_t mold_server_plan(mold_server *server, const uint8_t *request, size_t le
 /* Writes the next datagram of a plan to the start of a buffer, and moves the plan past its messages. *size is its
  * length.
  *
- *   MOLD_BROKEN  the handle does not hold a server, or the plan does not fit this server: it has another session, or
- *                messages that the journal does not have.
+ *   MOLD_BROKEN  the handle does not hold a server, or the plan does not fit this server: it has another session,
+ *                messages that the journal does not have, or more datagrams than the burst.
  *   MOLD_ROOM    the buffer is shorter than the limit; *size is the limit.
  *   MOLD_ABSENT  the plan has no remaining datagram; *size is 0. */
 uint32_t mold_server_datagram(mold_server *server, mold_plan *plan, uint8_t *buffer, size_t room, size_t *size);

@@ -268,6 +268,26 @@ static void run_checker(void) {
     mold_free(&checker);
 }
 
+/* Files with a fault. Their code is the same if all allocations fail, and no server is made. */
+static void run_faulty_journals(void) {
+    static const uint32_t codes[] = {MOLD_FILE_SHORT, MOLD_BAD_MAGIC, MOLD_FILE_CUT, MOLD_TOO_LONG, MOLD_FILE_CUT,
+                                     MOLD_BAD_FLAG, MOLD_COUNT_DIFFERS};
+    static const uint64_t numbers[] = {17, 0, 5, 43, 1, 2, 2};
+    for (size_t i = 0; i < sizeof codes / sizeof *codes; i++) {
+        datagram files[] = {cut(five_messages(), 17), of_length(200), cut(five_messages(), 18 + 5 * 22 - 1),
+                            five_messages(), cut(five_messages(), 19),
+                            of_hex("4d4f4c444a4e4c32" SESSION_HEX "020000000000000000"),
+                            of_hex("4d4f4c444a4e4c32" SESSION_HEX "000000000000000003" "00024142" "0000")};
+        mold_server server = MOLD_EMPTY;
+        uint64_t number = 99;
+        files[3].at[18 + 4 * 22 + 1] = 43;
+        CHECK(mold_server_new(&server, 64, 1, files[i].at, files[i].length, &number) == codes[i]);
+        CHECK(number == numbers[i] && !server.live);
+        for (size_t k = 0; k < sizeof files / sizeof *files; k++)
+            free(files[k].at);
+    }
+}
+
 /* Runs with a failing allocation after `place` successful ones, and returns whether there was such an allocation. */
 static bool fails_at(void (*run)(void), unsigned long place, bool and_all_after) {
     left = place;
@@ -297,5 +317,6 @@ int main(void) {
     each_in_turn("publisher", run_publisher);
     each_in_turn("server", run_server);
     each_in_turn("checker", run_checker);
+    each_in_turn("faulty journals", run_faulty_journals);
     return told_checks();
 }

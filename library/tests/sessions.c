@@ -258,6 +258,34 @@ static void plans_that_cannot_be(void) {
     free(room.at);
 }
 
+/* Serves a plan of messages 1 to 5 with this many datagrams, and returns how many datagrams were written. */
+static unsigned served(mold_server *server, uint16_t left, uint32_t last) {
+    datagram room = of_length(64);
+    mold_plan made = {1, 6, left, {0}};
+    size_t size = 0;
+    unsigned count = 0;
+    uint32_t code;
+    memcpy(made.session, SESSION, 10);
+    while ((code = mold_server_datagram(server, &made, room.at, 64, &size)) == MOLD_DONE)
+        count++;
+    CODE(code, last);
+    CHECK(last != MOLD_BROKEN || (made.from == 1 && made.left == left && size == 0 && room.at[0] == 0));
+    free(room.at);
+    return count;
+}
+
+/* A plan has no more datagrams than the burst of the server, also at the greatest burst. */
+static void plans_longer_than_a_response(void) {
+    mold_server server = server_of_five(2);
+    CHECK(served(&server, 2, MOLD_ABSENT) == 2);
+    CHECK(served(&server, 3, MOLD_BROKEN) == 0 && served(&server, UINT16_MAX, MOLD_BROKEN) == 0);
+    mold_free(&server);
+    server = server_of_five(64);
+    CHECK(served(&server, 64, MOLD_ABSENT) == 3);
+    CHECK(served(&server, 65, MOLD_BROKEN) == 0);
+    mold_free(&server);
+}
+
 /* The server of a publisher responds with the messages published so far, also after the session is closed. */
 static void a_publisher_serves(void) {
     mold_publisher publisher = publisher_of(64);
@@ -308,5 +336,6 @@ void test_sessions(void) {
     requests_are_refused();
     an_answer_of_a_burst();
     plans_that_cannot_be();
+    plans_longer_than_a_response();
     a_publisher_serves();
 }

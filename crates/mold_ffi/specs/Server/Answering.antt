@@ -50,12 +50,14 @@ pub record Plans (T : Type 0) (server : ServerState) (journal : JournalState) (r
   pub planned : (plan : PlanState) → Suits server journal → planning journal server.burst request ≡ Ok plan →
       (code ≡ codes.DONE) × (number ≡ 0) × (new ≡ plan_fields plan) × (held ≡ holding (counted server))
 
--- A plan that the server may have made for this journal.
+-- A plan that the server may have made for this journal: its messages are the journal's, and it has no more datagrams
+-- than a response of this server.
 pub record MayServe (server : ServerState) (journal : JournalState) (plan : PlanState) : Type 0 where
   pub suits : Suits server journal
   pub first : 1 ≤ plan.from
   pub ordered : plan.from ≤ plan.to
   pub within : plan.to ≤ length journal.messages + 1
+  pub few : plan.left ≤ server.burst
   pub session : plan.session ≡ journal.session
 
 -- The next packet of a plan is written to a buffer that has at least as many bytes as the limit, and the plan moves

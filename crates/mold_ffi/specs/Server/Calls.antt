@@ -1,6 +1,7 @@
 -- What `mold_server_new` returns and writes.
-use Rattle.std.specs.Prelude.{◌≡◌, ◌⊎◌, ℕ, List, Option, None, Some}
-use Rattle.mold_ffi.specs.Server.Serving.{IsFault, IsOfFile}
+use Rattle.std.specs.Prelude.{◌≡◌, ◌⊎◌, ℕ, ◌-◌, List, Option, None, Some}
+use Rattle.mold_wire.specs.declared.limits.TheConstants.{MESSAGE_OVERHEAD}
+use Rattle.mold_ffi.specs.Server.Serving.{IsNotLoaded, IsOfFile}
 use Rattle.mold_ffi.specs.declared.code.TheConstants as codes
 use Rattle.mold_ffi.specs.declared.handle.held.Held.{Held}
 use Rattle.mold_ffi.specs.declared.handle.held.Held.TheVariants.{Server}
@@ -14,10 +15,9 @@ pub record HasLoaded (limit burst : ℕ) (bytes : List ℕ) (code number : ℕ) 
   pub by_number : number ≡ 0
   pub held_is : held ≡ Some (Server serving)
 
--- The handle holds a server of the journal file; or the bytes are not such a file, or an allocation failed, and the
--- handle is empty.
+-- The handle holds a server of the journal file. Or it is empty, because the bytes are not such a file, or they are and
+-- an allocation failed.
 abbrev pub Loads : ℕ → ℕ → List ℕ → ℕ → ℕ → Option Held → Type 0
 Loads limit burst bytes code number held =
     HasLoaded limit burst bytes code number held
-    ⊎ (IsFault limit bytes code number × (held ≡ None))
-    ⊎ ((code ≡ codes.MEMORY) × (number ≡ 0) × (held ≡ None))
+    ⊎ (IsNotLoaded (limit - MESSAGE_OVERHEAD) bytes code number × (held ≡ None))

@@ -89,6 +89,7 @@ pub(crate) fn datagram(
     if journal.max_message() > server.max_message()
         || plan.session() != journal.session()
         || plan.to() > journal.next()
+        || plan.left() > server.burst()
     {
         return BROKEN;
     }

@@ -14,18 +14,19 @@ ghost use Rattle.mold_ffi.specs.declared.server.serving.Serving.{Serving as ASer
 ghost use Rattle.mold_session.specs.Server.{ServerState};
 ghost use Rattle.mold_wire.specs.Packer.{IsLimit};
 
-use crate::code::{BROKEN, DONE, MEMORY};
+use crate::code::{BROKEN, BURST, DONE, LIMIT};
 use crate::handle::held::Held;
 use crate::handle::mold_handle::MoldHandle;
 use crate::server::mold_plan::MoldPlan;
-use crate::server::serving::Serving;
+use crate::server::serving::{Serving, code_of_refusal};
+use mold_wire::{MAX_BURST, MAX_LIMIT, MESSAGE_OVERHEAD, MIN_LIMIT};
 use std::alloc::Global;
 
 /// Makes a server of the bytes of a journal file, of version 1 or 2. Its datagrams have at most `limit` bytes, which is
 /// 64 to 65,507, and the messages must have at most 22 bytes fewer. A response has at most `burst` datagrams, 1 to 64.
 /// If the bytes are not such a journal, `number` goes with the fault: the length of the bytes, the length or the
-/// sequence number of a message, a byte, or the number of messages found. Otherwise it is 0. If an allocation fails,
-/// the code is 7, also if the bytes have a fault. The handle must be empty.
+/// sequence number of a message, a byte, or the number of messages found. Otherwise it is 0. A fault of the bytes is
+/// reported also if an allocation fails: if no server is made, the bytes are read once more. The handle must be empty.
 #[unsafe(no_mangle)]
 pub extern "C" fn mold_server_new(
     alloc: Global,
@@ -47,15 +48,23 @@ pub extern "C" fn mold_server_new(
     if server.live {
         return BROKEN;
     }
-    match Serving::new(alloc, limit, burst, bytes, number) {
-        Ok(serving) => match Box::new(alloc, Held::Server(serving)) {
-            Ok(boxed) => {
-                *server = MoldHandle::of(boxed);
-                DONE
-            }
-            Err(_) => MEMORY,
-        },
-        Err(code) => code,
+    *number = 0;
+    if limit < MIN_LIMIT || MAX_LIMIT < limit {
+        return LIMIT;
+    }
+    if burst == 0 || MAX_BURST < burst {
+        return BURST;
+    }
+    let most = (limit - MESSAGE_OVERHEAD) as u16;
+    let Some(serving) = Serving::new(alloc, limit, burst, bytes) else {
+        return code_of_refusal(most, bytes, number);
+    };
+    match Box::new(alloc, Held::Server(serving)) {
+        Ok(boxed) => {
+            *server = MoldHandle::of(boxed);
+            DONE
+        }
+        Err(_) => code_of_refusal(most, bytes, number),
     }
 }
 
@@ -119,8 +128,8 @@ pub extern "C" fn mold_server_plan(
 }
 
 /// Writes the next datagram of a plan, and moves the plan past its messages. A plan that is spent has no datagram. For
-/// a plan of another session, or of messages that the journal does not have, the code is 6. `buffer` and `size` are as
-/// for a publisher's datagram.
+/// a plan of another session, of messages that the journal does not have, or of more datagrams than the burst, the code
+/// is 6. `buffer` and `size` are as for a publisher's datagram.
 #[unsafe(no_mangle)]
 pub extern "C" fn mold_server_datagram(
     server: &mut MoldHandle,

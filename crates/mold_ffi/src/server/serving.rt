@@ -1,20 +1,18 @@
 //! A server, and the journal from which it responds.
 
-ghost use Rattle.std.specs.Prelude.{◌≡◌, ◌⊎◌, Option, Some, IfOk, IfErr, OnOk};
-ghost use Rattle.mold_ffi.specs.Publisher.Exchange.{IsBurst};
+ghost use Rattle.std.specs.Prelude.{◌≡◌, Option, Some, IfSome};
 ghost use Rattle.mold_ffi.specs.Server.Answering.{Answers, Plans, Serves};
-ghost use Rattle.mold_ffi.specs.Server.Serving.{IsOfFile, IsFault, with_serving};
-ghost use Rattle.mold_ffi.specs.declared.code.TheConstants as codes;
+ghost use Rattle.mold_ffi.specs.Server.Serving.{IsNotLoaded, IsOfFile, with_serving};
 ghost use Rattle.mold_ffi.specs.declared.handle.held.Held.TheVariants.{Server as AServer};
 ghost use Rattle.mold_ffi.specs.declared.handle.held.Held.{Held as AHeld};
 ghost use Rattle.mold_wire.specs.Packer.{IsLimit};
 
+use crate::code::MEMORY;
 use crate::code::file_error::code_of_file_error;
-use crate::code::{BURST, LIMIT, MEMORY};
 use crate::server::answering::{answer, datagram, plan};
 use crate::server::mold_plan::MoldPlan;
-use mold_session::{Journal, Server, ServerError, SliceSource};
-use mold_wire::{MAX_LIMIT, MESSAGE_OVERHEAD, MIN_LIMIT};
+use mold_session::{Journal, Server, SliceSource};
+use mold_wire::MESSAGE_OVERHEAD;
 use std::alloc::Global;
 
 /// A server, and the journal from which it responds.
@@ -26,42 +24,38 @@ pub struct Serving {
     pub(crate) journal: Journal,
 }
 
-impl Serving {
-    /// A server of the journal file, whose messages must have at most 22 bytes less than the limit; or the code of the
-    /// refusal. `number` is the number that goes with the refusal, or 0.
-    pub(crate) fn new(
-        alloc: Global,
-        limit: usize,
-        burst: u16,
-        bytes: &[u8],
-        number: &mut u64,
-    ) -> Result<Serving, u32>
-        ensures made { IfOk result (λ serving. IsOfFile limit burst bytes.now serving) }
-        ensures ok { OnOk result (IsLimit limit × IsBurst burst × (number.new ≡ 0)) }
-        ensures limit { (IsLimit limit → ⊥) → IfErr result (λ code. (code ≡ codes.LIMIT) × (number.new ≡ 0)) }
-        ensures burst { IsLimit limit → (IsBurst burst → ⊥) →
-            IfErr result (λ code. (code ≡ codes.BURST) × (number.new ≡ 0)) }
-        ensures file { IsLimit limit → IsBurst burst → IfErr result (λ code.
-            IsFault limit bytes.now code number.new ⊎ ((code ≡ codes.MEMORY) × (number.new ≡ 0))) }
-    {
-        *number = 0;
-        if limit < MIN_LIMIT || MAX_LIMIT < limit {
-            return Err(LIMIT);
+/// Returns why no server was made of the bytes: the code of their fault as a journal file, or `MEMORY` if they have
+/// none. Writes the number that goes with it.
+pub(crate) fn code_of_refusal(most: u16, bytes: &[u8], number: &mut u64) -> u32
+    ensures { IsNotLoaded most bytes.now result number.new }
+{
+    match Journal::check(most, bytes) {
+        Ok(()) => {
+            *number = 0;
+            MEMORY
         }
+        Err(error) => {
+            let (code, found) = code_of_file_error(error);
+            *number = found;
+            code
+        }
+    }
+}
+
+impl Serving {
+    /// A server of the journal file, whose messages must have at most 22 bytes less than the limit. `None` if the
+    /// burst is invalid, the bytes are not such a file, or an allocation failed.
+    pub(crate) fn new(alloc: Global, limit: usize, burst: u16, bytes: &[u8]) -> Option<Serving>
+        requires { IsLimit limit }
+        ensures { IfSome result (λ serving. IsOfFile limit burst bytes.now serving) }
+    {
         let longest = (limit - MESSAGE_OVERHEAD) as u16;
-        let server = match Server::new(alloc, limit, longest, burst) {
-            Ok(server) => server,
-            Err(ServerError::Limit) => return Err(LIMIT),
-            Err(ServerError::Burst) => return Err(BURST),
-            Err(ServerError::Memory) => return Err(MEMORY),
+        let Ok(server) = Server::new(alloc, limit, longest, burst) else {
+            return None;
         };
         match Journal::load(alloc, longest, &mut SliceSource::new(bytes)) {
-            Ok(journal) => Ok(Serving { server, journal }),
-            Err(error) => {
-                let (code, found) = code_of_file_error(error);
-                *number = found;
-                Err(code)
-            }
+            Ok(journal) => Some(Serving { server, journal }),
+            Err(_) => None,
         }
     }
 
