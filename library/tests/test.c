@@ -1,7 +1,7 @@
 /* Tests every call of the library, and every code, with expected values that were written by hand.
  *
  *     cd library/tests
- *     cc -std=c99 test.c packets.c listener.c sessions.c handles.c ../out/libmold.a -o test && ./test */
+ *     cc -std=c99 test.c packets.c listener.c sessions.c ample.c handles.c ../out/libmold.a -o test && ./test */
 #define CHECK_MAIN
 #include "check.h"
 #include "test.h"
@@ -10,6 +10,7 @@ int main(void) {
     test_packets();
     test_listener();
     test_sessions();
+    test_ample();
     test_handles();
     return told_checks();
 }

@@ -5,6 +5,7 @@
 void test_packets(void);
 void test_listener(void);
 void test_sessions(void);
+void test_ample(void);
 
 /* Runs last: it also checks that each code was returned. */
 void test_handles(void);
