@@ -11,6 +11,7 @@
 
 #include <cstddef>
 #include <cstdint>
+#include <cstring>
 #include <string_view>
 #include <utility>
 
@@ -79,11 +80,22 @@ private:
     std::uint8_t name_[10];
 };
 
-/// Returns the text of a code.
-inline std::string_view text(std::uint32_t code) noexcept {
-    mold_bytes bytes = MOLD_NO_BYTES;
-    mold_text(code, &bytes);
-    return {reinterpret_cast<const char *>(bytes.at), bytes.length};
+/// Returns the text of a code. A zero byte ends it, as `%s` of printf requires. It is valid forever.
+inline const char *text(std::uint32_t code) noexcept {
+    constexpr std::uint32_t unknown = MOLD_COUNT_DIFFERS + 1;
+    struct Texts {
+        char all[unknown + 1][64] = {};
+
+        Texts() noexcept {
+            for (std::uint32_t i = 0; i <= unknown; i++) {
+                mold_bytes bytes = MOLD_NO_BYTES;
+                mold_text(i, &bytes);
+                std::memcpy(all[i], bytes.at, bytes.length < sizeof all[i] ? bytes.length : sizeof all[i] - 1);
+            }
+        }
+    };
+    static const Texts texts;
+    return texts.all[code < unknown ? code : unknown];
 }
 
 /// Decodes a datagram, and writes its header.

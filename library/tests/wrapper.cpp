@@ -150,8 +150,19 @@ void packets_and_texts() {
     const std::string heartbeat = std::string("DEMO      ") + std::string("\0\0\0\0\0\0\0\7\0\0", 10);
     CHECK(mold::decode(heartbeat, packet) == MOLD_DONE && packet.kind == MOLD_HEARTBEAT && packet.sequence == 7);
     CHECK(mold::decode({}, packet) == MOLD_SHORT && packet.detail == 0);
-    CHECK(!mold::text(MOLD_CONFLICT).empty() && mold::text(MOLD_CONFLICT) != mold::text(MOLD_DONE));
+    CHECK(mold::text(MOLD_DONE) == std::string("done") && mold::text(1000) == std::string("unknown code"));
     CHECK(is_bytes(mold::Bytes(mold::Session("0123456789ABC").data(), mold::Session::size()), "0123456789"));
+}
+
+/// `%s` prints the text of each code as mold_text returns it.
+void texts_are_printed() {
+    for (std::uint32_t code = 0; code < 1000; code++) {
+        mold_bytes wanted = MOLD_NO_BYTES;
+        char printed[100];
+        mold_text(code, &wanted);
+        const int length = std::snprintf(printed, sizeof printed, "%s", mold::text(code));
+        CHECK(is_bytes(wanted, std::string(printed, static_cast<std::size_t>(length))));
+    }
 }
 
 } // namespace
@@ -162,6 +173,7 @@ int main() {
     a_checker_checks();
     what_is_moved();
     packets_and_texts();
+    texts_are_printed();
     std::printf("%lu checks, %lu failed\n", checks, faults);
     return faults == 0 ? 0 : 1;
 }
