@@ -186,8 +186,8 @@ bool mold_packer_fits(const mold_packer *packer, size_t length);
  *
  *   MOLD_BROKEN  the fields are invalid. The call does not read the packet in the buffer, so it accepts some invalid
  *                fields.
- *   MOLD_FULL    no packet was begun, or it is an end packet, or the message does not fit: with its two bytes of length
- *                the packet would be longer than the limit. */
+ *   MOLD_FULL    no packet was begun, or the packet is an end packet, or the message does not fit: with its two bytes
+ *                of length the packet would be longer than the limit. */
 uint32_t mold_packer_add(mold_packer *packer, const uint8_t *message, size_t length);
 
 /* Writes an end packet in place of the previous packet. No message can be added to it.
@@ -274,7 +274,8 @@ uint32_t mold_listener_new(mold_listener *listener, const uint8_t session[10], u
  *   MOLD_END_CONFLICT   it states an end of the session other than the known end, `told->detail`.
  *   MOLD_END_BELOW      it ends the session below `told->detail`, the greatest known top.
  *   MOLD_PAST_END       its top is above `told->detail`, the known end.
- *   MOLD_CONFLICT       its message number `told->detail`, the least such number, differs from the stored one.
+ *   MOLD_CONFLICT       its message with number `told->detail` differs from the stored one. If several messages differ,
+ *                       this is the least number.
  *   MOLD_MEMORY         an allocation failed, or the store would reach 4 GiB.
  *
  * After a refusal the listener is as before, except that the line's report counts the datagram as refused. MOLD_MEMORY
@@ -397,7 +398,7 @@ uint32_t mold_publisher_save(mold_publisher *publisher, uint8_t *buffer, size_t 
 
 /* ---- Server: responses to requests, from a journal ---- */
 
-/* The rest of a response. */
+/* The remaining responses to a request. */
 typedef struct mold_plan {
     uint64_t from; /* the number of its next message */
     uint64_t to;   /* one more than the number of its last message */
@@ -405,8 +406,8 @@ typedef struct mold_plan {
     uint8_t session[10];
 } mold_plan;
 
-/* Lets the publisher respond to requests too, from its journal. A response has at most `burst` datagrams, each of at
- * most the publisher's limit. The calls below then also accept the publisher's handle, as
+/* Lets the publisher respond to requests too, from its journal. A request gets at most `burst` responses, each of at
+ * most as many bytes as the publisher's limit. The calls below then also accept the publisher's handle, as
  * mold_server_of(&publisher).
  *
  *   MOLD_BROKEN  the handle does not hold a publisher, or the publisher responds to requests already.
@@ -425,7 +426,7 @@ static inline mold_server *mold_server_of(mold_publisher *publisher) {
 }
 
 /* Makes a server from the bytes of a journal file of version 1 or 2. Its datagrams have at most `limit` bytes, and a
- * response at most `burst` datagrams. *number is 0 if the call succeeds.
+ * request gets at most `burst` responses. *number is 0 if the call succeeds.
  *
  *   MOLD_BROKEN         the handle is not empty.
  *   MOLD_LIMIT          limit is not 64 to 65,507.
@@ -443,8 +444,8 @@ static inline mold_server *mold_server_of(mold_publisher *publisher) {
 uint32_t mold_server_new(mold_server *server, size_t limit, uint16_t burst, const uint8_t *journal, size_t length,
                          uint64_t *number);
 
-/* Writes the first datagram of the response to a request to the start of a buffer. *number is its length. For a
- * response of several datagrams use mold_server_plan and mold_server_datagram instead.
+/* Writes the first response to a request to the start of a buffer. *number is its length. For several responses use
+ * mold_server_plan and mold_server_datagram instead.
  *
  *   MOLD_BROKEN          the handle does not hold a server.
  *   MOLD_ROOM            the buffer is shorter than the limit; *number is the limit.
@@ -456,7 +457,7 @@ uint32_t mold_server_new(mold_server *server, size_t limit, uint16_t burst, cons
 uint32_t mold_server_answer(mold_server *server, const uint8_t *request, size_t length, uint8_t *buffer, size_t room,
                             uint64_t *number);
 
-/* Plans the whole response to a request. The codes are those of mold_server_answer, except MOLD_ROOM. A refusal keeps
+/* Plans all responses to a request. The codes are those of mold_server_answer, except MOLD_ROOM. A refusal keeps
  * *plan. If the call succeeds, *number is 0. A plan is a plain struct. It may be kept as long as the session is served,
  * and discarded at any time. */
 uint32_t mold_server_plan(mold_server *server, const uint8_t *request, size_t length, mold_plan *plan,
@@ -481,7 +482,7 @@ typedef struct mold_range {
 
 typedef struct mold_verdict {
     uint64_t messages; /* if the session is whole, its number of messages; otherwise 0 */
-    uint64_t end;      /* if it is not whole, the number of its end packet, or 0 if none was taken; otherwise 0 */
+    uint64_t end;      /* if it is not whole and an end packet was taken, the number of that packet; otherwise 0 */
     uint64_t ranges;   /* if it is not whole, the number of missing ranges; otherwise 0 */
     uint32_t whole;    /* 1 if the session is whole, otherwise 0 */
     uint32_t unused;   /* padding, which is never written */
@@ -506,7 +507,8 @@ uint32_t mold_checker_new(mold_checker *checker);
  *   MOLD_END_CONFLICT   it states an end of the session other than the known end, *number.
  *   MOLD_END_BELOW      it ends the session below *number, the greatest known top.
  *   MOLD_PAST_END       its top is above *number, the known end.
- *   MOLD_CONFLICT       its message number *number, the least such number, differs from that of an earlier datagram.
+ *   MOLD_CONFLICT       its message with number *number differs from that of an earlier datagram. If several messages
+ *                       differ, this is the least number.
  *   MOLD_MEMORY         an allocation failed. */
 uint32_t mold_checker_take(mold_checker *checker, const uint8_t *bytes, size_t length, uint64_t *number);
 

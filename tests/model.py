@@ -359,7 +359,7 @@ def dump(first, count, some_bytes):
 
 
 def response(session, messages, limit, burst, datagram):
-    """The packets of the response to the datagram of a request."""
+    """The packets of the responses to the datagram of a request."""
     request = request_of(datagram)
     if request.session != session:
         raise Refused("WrongSession")

@@ -29,7 +29,7 @@ static const char usage[] =
     "  --bind ADDRESS       the address at which requests arrive\n"
     "  --journal FILE       the file of the journal\n"
     "  --limit L            the limit of a datagram, in bytes (1400)\n"
-    "  --burst B            the greatest number of datagrams of a response (4)\n"
+    "  --burst B            the greatest number of responses to a request (4)\n"
     "  --save N             save the journal after every N messages (100000)\n"
     "  --linger MS          after the end of the input, the time without a request after which it ends (2000)\n"
     "  --interface ADDRESS  the interface on which it sends to multicast groups (chosen by the system)\n"

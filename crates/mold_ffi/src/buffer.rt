@@ -6,7 +6,7 @@ ghost use Rattle.mold_session.specs.Putting.{Puts};
 
 use crate::code::{ABSENT, DONE};
 
-/// Copies the text to the start of the buffer. The other bytes of the buffer stay.
+/// Copies the text to the start of the buffer. The other bytes of the buffer are unchanged.
 pub(crate) fn copy_to_front(buffer: &mut [u8], text: &[u8])
     requires { length text.now ≤ length buffer.old }
     ensures { Puts buffer.old buffer.new text.now (length text.now) }
@@ -15,8 +15,8 @@ pub(crate) fn copy_to_front(buffer: &mut [u8], text: &[u8])
     front.copy_from_slice(text);
 }
 
-/// Copies the bytes to the start of the buffer and writes their length. If there are none, the buffer stays, the
-/// length is 0, and the code is `ABSENT`.
+/// Copies the bytes to the start of the buffer and writes their length. If there are none, the buffer is
+/// unchanged, the length is 0, and the code is `ABSENT`.
 pub(crate) fn copy_if_some(found: Option<&[u8]>, buffer: &mut [u8], size: &mut usize) -> u32
     requires { IfSome found (λ bytes. length bytes.now ≤ length buffer.old) }
     ensures absent { IfNone found.entry ((result ≡ codes.ABSENT) × (size.new ≡ 0) × (buffer.new ≡ buffer.old)) }

@@ -38,7 +38,7 @@ pub fn checked_law()
 
 /// `mold_read` writes where the messages are. Each message has a place, as far as the array has room: after the header,
 /// the blocks before it, and the two bytes of its own length. The bytes at the place are the message. The other
-/// elements of the array stay.
+/// elements of the array are unchanged.
 pub fn places_law()
     ensures placed { (packet : Packet) (bytes : List ℕ) (before behind : List (List ℕ)) (message : List ℕ)
         (old : List MoldPlace) → Spells packet bytes → messages_of packet.body ≡ before ++ message ∷ behind →

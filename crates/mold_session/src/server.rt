@@ -111,7 +111,7 @@ impl Server {
         self.max_message
     }
 
-    /// Returns the largest number of datagrams in the response to one request.
+    /// Returns the maximum number of responses to one request.
     pub fn burst(&self) -> u16
         ensures { result ≡ self.now.burst }
     {

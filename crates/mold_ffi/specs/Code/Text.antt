@@ -40,6 +40,6 @@ texts =
     text.COUNT_DIFFERS.now ∷
     []
 
--- The text of any number: of a code its text, otherwise `unknown code`.
+-- The text for a number: that of the code with this number, or `unknown code` if there is no such code.
 abbrev pub text_of : ℕ → List ℕ
 text_of code = get_or texts code text.UNKNOWN.now

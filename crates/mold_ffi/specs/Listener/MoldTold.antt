@@ -6,7 +6,7 @@ use Rattle.mold_ffi.specs.Code.Refusal.{refusal_number}
 use Rattle.mold_ffi.specs.declared.listener.mold_told.MoldTold.{MoldTold}
 
 -- The fields of a result of the receiving rule: the three counts, or the number that goes with the refusal. The padding
--- `unused` stays.
+-- `unused` is unchanged.
 abbrev pub taking_fields : Result Reception Refusal → ℕ → MoldTold
 taking_fields (Ok reception) unused = record {
   detail = 0;

@@ -16,7 +16,8 @@ places_of at (message ∷ messages) =
 abbrev pub written_front : List MoldPlace → List MoldPlace → List MoldPlace
 written_front found old = take (length old) found ++ drop (length found) old
 
--- The array of places after decoding a packet: it begins with the places of the messages. After a fault it stays.
+-- The array of places after decoding a packet: it begins with the places of the messages. After a fault it is
+-- unchanged.
 abbrev pub places_read : Result Packet DecodeError → List MoldPlace → List MoldPlace
 places_read (Ok packet) old = written_front (places_of HEADER_LENGTH (messages_of packet.body)) old
 places_read (Err error) old = old

@@ -8,12 +8,13 @@ use Rattle.mold_ffi.specs.declared.packets.packer.MoldPacker.{MoldPacker}
 abbrev pub fields_of : MoldPacker → Fields
 fields_of packer = over packer.buffer.now packer.used packer.count packer.is_open
 
--- The fields pass the test of the calls, which does not read the bytes of the buffer. The fields of every packer pass
--- it.
+-- The fields pass the check that the calls make, which does not read the bytes of the buffer. The fields of every
+-- packer pass it.
 abbrev pub CanBe : Fields → Type 0
 CanBe fields = CanHold (length fields.items) fields.used fields.count fields.is_open
 
--- A call left the packer with the packet `begun`, in the same buffer. The bytes of the buffer after the packet stay.
+-- A call left the packer with the packet `begun`, in the same buffer. The bytes of the buffer after the packet are
+-- unchanged.
 pub record Packs (old new : MoldPacker) (begun : Begun) : Type 0 where
   pub holds : Holds (fields_of new) begun
   pub limit : length new.buffer.now ≡ length old.buffer.now

@@ -18,7 +18,8 @@ abbrev pub code_asked : Result Request RequestError → ℕ
 code_asked (Ok request) = codes.DONE
 code_asked (Err error) = codes.REQUEST_LENGTH
 
--- The fields after decoding a request: those of the request. If the bytes are not a request, the fields stay.
+-- The fields after decoding a request: those of the request. If the bytes are not a request, the fields are
+-- unchanged.
 abbrev pub request_asked : Result Request RequestError → MoldRequest → MoldRequest
 request_asked (Ok request) old = record {
   sequence = request.sequence;

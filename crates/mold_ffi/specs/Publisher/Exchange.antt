@@ -21,7 +21,7 @@ use Rattle.mold_ffi.specs.declared.handle.held.Held.TheVariants.{Publisher}
 abbrev pub opened : Session → ℕ → Exchange
 opened session limit = record { publisher = fresh_publisher session limit; server = None }
 
--- What a handle of this exchange holds.
+-- What the handle of this publisher holds, with its server if it has one.
 abbrev pub holding : Exchange → Option Held
 holding exchange = Some (Publisher exchange)
 
@@ -29,7 +29,7 @@ holding exchange = Some (Publisher exchange)
 abbrev pub with_publisher : Exchange → PublisherState → Option Held
 with_publisher exchange publisher = holding (record { publisher = publisher; server = exchange.server })
 
--- What a handle holds after its exchange got this server.
+-- What the handle of this publisher holds after its server is in this state.
 abbrev pub with_server : Exchange → ServerState → Option Held
 with_server exchange server = holding (record { publisher = exchange.publisher; server = Some server })
 
@@ -37,7 +37,7 @@ with_server exchange server = holding (record { publisher = exchange.publisher; 
 abbrev pub server_beside : PublisherState → ℕ → ServerState
 server_beside publisher burst = fresh_server publisher.limit publisher.journal.max_message burst
 
--- A valid greatest number of datagrams of a response.
+-- A valid maximum number of responses to a request.
 abbrev pub IsBurst : ℕ → Type 0
 IsBurst burst = (1 ≤ burst) × (burst ≤ MAX_BURST)
 

@@ -16,16 +16,15 @@ use Rattle.mold_ffi.specs.declared.server.mold_plan.MoldPlan.{MoldPlan}
 abbrev pub Suits : ServerState → JournalState → Type 0
 Suits server journal = journal.max_message ≤ server.max_message
 
--- The buffer begins with the first packet of the response to a request, which is `size` bytes long. Its other bytes
--- stay.
+-- The buffer begins with the first response to a request, which is `size` bytes long. Its other bytes are unchanged.
 pub record PutsAnswer (server : ServerState) (journal : JournalState) (request old new : List ℕ)
     (size : ℕ) : Type 0 where
   pub bytes : List ℕ
   pub spelled : SpellsAnswer journal server request bytes
   pub put : Puts old new bytes size
 
--- The first packet of the response is written to a buffer that has at least as many bytes as the limit. Or the request
--- is refused for the first reason that applies. `holding` gives what then holds the server.
+-- The first response is written to a buffer that has at least as many bytes as the limit. Or the request is refused for
+-- the first reason that applies. `holding` maps the server's state to what the handle then holds.
 pub record Answers (T : Type 0) (server : ServerState) (journal : JournalState) (request old new : List ℕ)
     (before code number : ℕ) (holding : ServerState → T) (held : T) : Type 0 where
   pub foreign : (Suits server journal → ⊥) →
@@ -39,8 +38,8 @@ pub record Answers (T : Type 0) (server : ServerState) (journal : JournalState) 
       checked_request journal request ≡ Ok asked →
       (code ≡ codes.DONE) × PutsAnswer server journal request old new number × (held ≡ holding (counted server))
 
--- The response to a request is planned, or the request is refused for the first reason that applies. `holding` gives
--- what then holds the server.
+-- The responses to a request are planned, or the request is refused for the first reason that applies. `holding` maps
+-- the server's state to what the handle then holds.
 pub record Plans (T : Type 0) (server : ServerState) (journal : JournalState) (request : List ℕ) (old new : MoldPlan)
     (before code number : ℕ) (holding : ServerState → T) (held : T) : Type 0 where
   pub foreign : (Suits server journal → ⊥) →
@@ -50,8 +49,8 @@ pub record Plans (T : Type 0) (server : ServerState) (journal : JournalState) (r
   pub planned : (plan : PlanState) → Suits server journal → planning journal server.burst request ≡ Ok plan →
       (code ≡ codes.DONE) × (number ≡ 0) × (new ≡ plan_fields plan) × (held ≡ holding (counted server))
 
--- A plan that the server may have made for this journal: its messages are the journal's, and it has no more datagrams
--- than a response of this server.
+-- A plan that the server may have made for this journal: its messages are the journal's, and it has at most as many
+-- datagrams as the server's burst.
 pub record MayServe (server : ServerState) (journal : JournalState) (plan : PlanState) : Type 0 where
   pub suits : Suits server journal
   pub first : 1 ≤ plan.from

@@ -161,7 +161,7 @@ fn lend_messages<'a>(batch: &'a Batch, messages: &mut [&'a [u8]]) -> usize
 
 /// Writes slices of the first messages of the batch, as many as the array has room for, and returns how many; 0 if the
 /// handle holds no listener. The slices are valid until the next call on this handle. The other elements of the array
-/// stay.
+/// are unchanged.
 #[unsafe(no_mangle)]
 pub extern "C" fn mold_listener_messages<'a>(
     listener: &'a mut MoldHandle,

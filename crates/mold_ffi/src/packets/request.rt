@@ -19,7 +19,8 @@ pub struct MoldRequest {
     pub session: [u8; 10],
 }
 
-/// Decodes a request. Any 20 bytes are a request. For any other length the code is 24, and `request` stays.
+/// Decodes a request. Any 20 bytes are a request. For any other length the code is 24, and `request` is
+/// unchanged.
 #[unsafe(no_mangle)]
 pub extern "C" fn mold_request_decode(bytes: &[u8], request: &mut MoldRequest) -> u32
     ensures code { result ≡ code_asked (request_reading bytes.now) }

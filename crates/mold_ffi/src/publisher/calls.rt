@@ -18,7 +18,7 @@ use mold_wire::Session;
 use std::alloc::Global;
 
 /// Makes a publisher of an open session without messages. Its datagrams have at most `limit` bytes, which is 64 to
-/// 65,507, and its messages at most 22 bytes fewer. The handle must be empty.
+/// 65,507, and its messages have at most `limit` - 22 bytes. The handle must be empty.
 #[unsafe(no_mangle)]
 pub extern "C" fn mold_publisher_new(
     alloc: Global,
@@ -201,9 +201,9 @@ pub extern "C" fn mold_publisher_save(
     exchange.save(buffer, size)
 }
 
-/// Lets the publisher respond to requests too. A response has at most `burst` datagrams, 1 to 64, each of at most the
-/// publisher's limit. The handle is then also that of a server. A publisher that has a server stays as it is, and the
-/// code is 6.
+/// Lets the publisher respond to requests too. A request gets at most `burst` responses, 1 to 64, each of at most as
+/// many bytes as the publisher's limit. The handle is then also that of a server. If the publisher has a server
+/// already, the code is 6 and nothing changes.
 #[unsafe(no_mangle)]
 pub extern "C" fn mold_server_from_publisher(
     alloc: Global,

@@ -159,7 +159,7 @@ impl Exchange {
         }
     }
 
-    /// Writes the first datagram of the response to a request.
+    /// Writes the first response to a request.
     pub(crate) fn answer(&mut self, request: &[u8], buffer: &mut [u8], number: &mut u64) -> u32
         ensures answers { (server : ServerState) → self.old.server ≡ Some server →
             Answers (Option AHeld) server self.old.publisher.journal request.now buffer.old buffer.new number.old
@@ -173,7 +173,7 @@ impl Exchange {
         }
     }
 
-    /// Plans the response to a request.
+    /// Plans the responses to a request.
     pub(crate) fn plan(&mut self, request: &[u8], fields: &mut MoldPlan, number: &mut u64) -> u32
         ensures plans { (server : ServerState) → self.old.server ≡ Some server →
             Plans (Option AHeld) server self.old.publisher.journal request.now fields.old fields.new number.old

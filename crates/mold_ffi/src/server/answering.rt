@@ -10,7 +10,7 @@ use crate::code::{ABSENT, BROKEN, DONE, ROOM};
 use crate::server::mold_plan::MoldPlan;
 use mold_session::{Journal, Server};
 
-/// Writes the first datagram of the response to a request to the start of the buffer.
+/// Writes the first response to a request to the start of the buffer.
 pub(crate) fn answer(
     server: &mut Server,
     journal: &Journal,
@@ -43,7 +43,7 @@ pub(crate) fn answer(
     }
 }
 
-/// Plans the response to a request.
+/// Plans the responses to a request.
 pub(crate) fn plan(
     server: &mut Server,
     journal: &Journal,

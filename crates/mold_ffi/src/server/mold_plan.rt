@@ -7,7 +7,7 @@ ghost use Rattle.mold_session.specs.Answer.{IsPlan};
 use mold_session::Plan;
 use mold_wire::Session;
 
-/// The rest of the response to a request: the messages from `from` to below `to`, in at most `left` datagrams.
+/// The remaining responses to a request: the messages from `from` to below `to`, in at most `left` datagrams.
 #[repr(C)]
 #[derive(Clone, Copy)]
 pub struct MoldPlan {

@@ -59,7 +59,7 @@ impl Serving {
         }
     }
 
-    /// Writes the first datagram of the response to a request.
+    /// Writes the first response to a request.
     pub(crate) fn answer(&mut self, request: &[u8], buffer: &mut [u8], number: &mut u64) -> u32
         ensures { Answers (Option AHeld) self.old.server self.old.journal request.now buffer.old buffer.new number.old
             result number.new (with_serving self.old) (Some (AServer self.new)) }
@@ -67,7 +67,7 @@ impl Serving {
         answer(&mut self.server, &self.journal, request, buffer, number)
     }
 
-    /// Plans the response to a request.
+    /// Plans the responses to a request.
     pub(crate) fn plan(&mut self, request: &[u8], fields: &mut MoldPlan, number: &mut u64) -> u32
         ensures { Plans (Option AHeld) self.old.server self.old.journal request.now fields.old fields.new number.old
             result number.new (with_serving self.old) (Some (AServer self.new)) }
