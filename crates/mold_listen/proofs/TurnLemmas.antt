@@ -2,7 +2,7 @@
 use Rattle.std.proofs.Common.{◌≡◌, ℕ, zero, suc, Bool, true, false, List, [], ◌∷◌, ◌++◌, Option, None, Some, Result}
 use Rattle.std.proofs.Common.{ap, refl, sym, subst, ◌∙◌, ◌↔◌, eq-eqb, ne_eqb}
 use Rattle.std.proofs.lemmas.Result.{on_ok_weaker}
-use Rattle.std.specs.Prelude.{IsErr, IsTrue, if◌then◌else◌}
+use Rattle.std.specs.Prelude.{IsErr, IsTrue, OnErr, if◌then◌else◌}
 use Rattle.mold_ports.specs.Ports.{Port, Receipt, Datagram, Quiet, Failure, cut, next_of, offered, received}
 use Rattle.mold_receiver.specs.Arbiter.{Arbitration}
 use Rattle.mold_receiver.specs.Receive.{receive}
@@ -10,7 +10,7 @@ use Rattle.mold_receiver.specs.View.{View}
 use Rattle.mold_receiver.specs.Wanted.{wanted}
 use Rattle.mold_receiver.specs.declared.line.Line.{Line}
 use Rattle.mold_receiver.specs.declared.line.Line.TheVariants.{A, B}
-use Rattle.mold_turns.specs.Runs.{Begins, Ran}
+use Rattle.mold_turns.specs.Runs.{Begins, Ran, WrittenInTime}
 use Rattle.mold_listen.specs.declared.feed_listener.FeedListener.{FeedListener}
 use Rattle.mold_turns.proofs.RunLemmas.{IsLoop, begins_more, begins_trans, begins_whole, none_ok}
 use Rattle.mold_wire.specs.Request.{request_spelling}
@@ -18,7 +18,7 @@ use Rattle.mold_wire.specs.declared.request.Request.{Request}
 use Rattle.mold_listen.specs.Text.{finished_line, open_line, taking_text}
 use Rattle.mold_listen.specs.Listening.{Asking, Progress, HasAsked, HasTurned, ListenerState, asked, progress, last_line, listener_status}
 use Rattle.mold_turns.specs.Outgoing.{OutgoingState, with_front, with_more}
-use Rattle.mold_listen.specs.Listening.{Agrees, IsSame, ends_at, with_next_receipt, receive_responses, with_receipt, is_finished, listened_lines}
+use Rattle.mold_listen.specs.Listening.{Agrees, IsInNextTurn, IsSame, ends_at, with_next_receipt, receive_responses, with_receipt, is_finished, listened_lines}
 use Rattle.mold_listen.specs.Listening.{after_lines, listening, listener, put_before, receives, status, turn, turn_asked}
 use Rattle.mold_listen.proofs.ListenLemmas.{hearing_sends, stepped}
 use Rattle.mold_turns.proofs.OutgoingLemmas.{front_twice, more_after, written_front}
@@ -276,3 +276,13 @@ listened_so {D} reporting known server burst turns start result old new a a_end 
     (subst (λ (d : D). leaves a d requests_end arbitration_end) (sym is_b)
     (subst (λ (d : D). leaves a b d arbitration_end) (sym is_requests)
     (subst (λ (w : Arbitration). leaves a b requests w) (sym is_arbiter) listened)))
+
+-- the same for what a fault finds unwritten
+pub timely_so : {D P E : Type 0} (M : Type 0) (known : D → Port P) (server : P) (burst : ℕ) (start : ListenerState P)
+    (result : Result ℕ E) (live : Bool) (old new : Option (List ℕ)) (a a_end : D) → a_end ≡ a →
+    OnErr result (M → WrittenInTime (listening server burst) start live old new (IsInNextTurn (known a))) →
+    OnErr result (M → WrittenInTime (listening server burst) start live old new (IsInNextTurn (known a_end)))
+timely_so {D} M known server burst start result live old new a a_end is timely =
+    subst
+    (λ (d : D). OnErr result (M → WrittenInTime (listening server burst) start live old new (IsInNextTurn (known d))))
+    (sym is) timely

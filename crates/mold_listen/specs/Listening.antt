@@ -1,5 +1,5 @@
 -- The turns of a listener on two lines: what it receives, requests and prints. A whole run is `run` of `listening`.
-use Rattle.std.specs.Prelude.{◌≡◌, ℕ, zero, suc, Bool, true, false, ◌==◌, if◌then◌else◌, List, [], ◌∷◌, ◌++◌}
+use Rattle.std.specs.Prelude.{◌≡◌, ◌⊎◌, ℕ, zero, suc, Bool, true, false, ◌==◌, if◌then◌else◌, List, [], ◌∷◌, ◌++◌}
 use Rattle.std.specs.Prelude.{Option, None, Some, Result, OnOk}
 use Rattle.mold_ports.specs.Ports.{Port, Receipt, Datagram, Quiet, Failure, cut, next_of, offered, received}
 use Rattle.mold_receiver.specs.Arbiter.{Arbitration, arbitrates}
@@ -169,6 +169,10 @@ listening server burst = record {
   text = λ s. s.progress.outgoing.text;
   sent = λ s. s.requests.sent;
 }
+
+-- The port of line A is as in the state `s`, or one receive further: the listener makes the turn after `s`.
+abbrev pub IsInNextTurn : {P : Type 0} → Port P → ListenerState P → Type 0
+IsInNextTurn a s = (a ≡ s.a) ⊎ (a ≡ received s.a)
 
 -- The state with `front` put before its text.
 abbrev pub put_before : {P : Type 0} → List ℕ → ListenerState P → ListenerState P

@@ -1,12 +1,14 @@
 //! The listener at work: it receives on two lines, requests missing messages, and prints what the arbiter delivers.
 
-ghost use Rattle.std.specs.Prelude.{◌≡◌, true, length, IfErr, OnOk};
+ghost use Rattle.std.specs.Prelude.{◌≡◌, true, length, IfErr, OnErr, OnOk};
 ghost use Rattle.std.specs.Io.KnownBytes.{Appends};
 ghost use Rattle.mold_devices.specs.Faults.{CountsSink};
-ghost use Rattle.mold_listen.specs.Listening.{Agrees, HasAsked, HasTurned, IsSame, asking_state, receive_responses};
-ghost use Rattle.mold_listen.specs.Listening.{listened_lines, listening, put_before, receives, state, status};
+ghost use Rattle.mold_listen.specs.Listening.{Agrees, HasAsked, HasTurned, IsInNextTurn, IsSame, asking_state};
+ghost use Rattle.mold_listen.specs.Listening.{listened_lines, listening, put_before, receive_responses, receives};
+ghost use Rattle.mold_listen.specs.Listening.{state, status};
+ghost use Rattle.mold_ports.specs.Ports.{received};
 ghost use Rattle.mold_turns.specs.Outgoing.{IsBounded};
-ghost use Rattle.mold_turns.specs.Runs.{Begins, Ran, Rests, TurnRests};
+ghost use Rattle.mold_turns.specs.Runs.{Begins, Ran, Rests, TurnRests, WrittenInTime};
 ghost use Rattle.mold_receiver.specs.Wanted.{wanted};
 ghost use Rattle.mold_wire.specs.declared.limits.TheConstants.{MAX_LIMIT};
 
@@ -87,6 +89,7 @@ impl<'a, D: Datagrams> FeedListener<'a, D> {
         requires { length buffer.old ≡ MAX_LIMIT }
         ensures turned { D.modeled ≡ true →
             HasTurned server burst result (state D.port self.old) (state D.port self.new) }
+        ensures a { D.modeled ≡ true → D.port self.new.a.now ≡ received (D.port self.old.a.now) }
         ensures prints { Begins self.old.printer.now.outgoing.text self.new.printer.now.outgoing.text }
         ensures same { IsSame self.old self.new }
     {
@@ -120,6 +123,7 @@ impl<'a, D: Datagrams> FeedListener<'a, D> {
         ensures run { D.modeled ≡ true →
             TurnRests (listening server burst) put_before (state D.port self.old)
             result (K.held sink.old) (K.held sink.new) (state D.port self.new) }
+        ensures a { D.modeled ≡ true → D.port self.new.a.now ≡ received (D.port self.old.a.now) }
         ensures bounded { OnOk result (IsBounded (K.live sink.old) self.new.printer.now.outgoing.text) }
         ensures kept { IfErr result (λ fault. fault ≡ CommandFault.Memory →
             Appends (K.held sink.old) (K.held sink.new) self.old.printer.now.outgoing.text) }
@@ -150,6 +154,10 @@ impl<'a, D: Datagrams> FeedListener<'a, D> {
             result (K.held sink.old) (K.held sink.new) (state D.port self.new) }
         ensures bounded { OnOk result (IsBounded (K.live sink.old) self.old.printer.now.outgoing.text →
             IsBounded (K.live sink.old) self.new.printer.now.outgoing.text) }
+        ensures timely { OnErr result (D.modeled ≡ true →
+            IsBounded (K.live sink.old) self.old.printer.now.outgoing.text →
+            WrittenInTime (listening options.server options.burst) (state D.port self.old) (K.live sink.old)
+            (K.held sink.old) (K.held sink.new) (IsInNextTurn (D.port self.new.a.now))) }
         ensures live { K.live sink.new ≡ K.live sink.old }
         ensures same { IsSame self.old self.new }
         ensures sink { CountsSink (K.failed sink.old) (K.failed sink.new) result }
@@ -177,6 +185,10 @@ impl<'a, D: Datagrams> FeedListener<'a, D> {
             (listened_lines options.reporting) status
             (Agrees (D.port self.new.a.now) (D.port self.new.b.now) (D.port self.new.requests.now) self.new.arbiter.now)
             result (K.held sink.old) (K.held sink.new) (D.port self.new.requests.now).sent }
+        ensures timely { OnErr result (D.modeled ≡ true →
+            IsBounded (K.live sink.old) self.old.printer.now.outgoing.text →
+            WrittenInTime (listening options.server options.burst) (state D.port self.old) (K.live sink.old)
+            (K.held sink.old) (K.held sink.new) (IsInNextTurn (D.port self.new.a.now))) }
         ensures same { IsSame self.old self.new }
         ensures sink { CountsSink (K.failed sink.old) (K.failed sink.new) result }
     {

@@ -1,11 +1,11 @@
 //! The loop that listens on two lines, and the last line that it prints.
 
-ghost use Rattle.std.specs.Prelude.{◌≡◌, true, IfOk, OnOk};
+ghost use Rattle.std.specs.Prelude.{◌≡◌, true, IfOk, OnErr, OnOk};
 ghost use Rattle.mold_devices.specs.Faults.{CountsSink};
-ghost use Rattle.mold_listen.specs.Listening.{Agrees, beginning, progress, last_line, listener_status};
+ghost use Rattle.mold_listen.specs.Listening.{Agrees, IsInNextTurn, beginning, progress, last_line, listener_status};
 ghost use Rattle.mold_listen.specs.Listening.{listened_lines, listening, status};
 ghost use Rattle.mold_turns.specs.Outgoing.{with_more};
-ghost use Rattle.mold_turns.specs.Runs.{Begins, Ran};
+ghost use Rattle.mold_turns.specs.Runs.{Begins, Ran, WrittenInTime};
 ghost use Rattle.mold_listen.specs.Text.{finished_line, open_line};
 
 use crate::feed_listener::FeedListener;
@@ -95,6 +95,9 @@ pub fn listen_loop<D: Datagrams, K: Sink>(
         (beginning (D.port a.old) (D.port b.old) (D.port requests.old) arbiter.old)
         (listened_lines reporting) status (Agrees (D.port a.new) (D.port b.new) (D.port requests.new) arbiter.new)
         result (K.held sink.old) (K.held sink.new) (D.port requests.new).sent }
+    ensures timely { OnErr result (D.modeled ≡ true → WrittenInTime (listening server burst)
+        (beginning (D.port a.old) (D.port b.old) (D.port requests.old) arbiter.old) (K.live sink.old)
+        (K.held sink.old) (K.held sink.new) (IsInNextTurn (D.port a.new))) }
     ensures sink { CountsSink (K.failed sink.old) (K.failed sink.new) result }
 {
     let mut buffer = vec![in alloc; 0; MAX_LIMIT]?;
@@ -128,6 +131,9 @@ pub fn listen<D: Datagrams + Drop, K: Sink>(
         (listened_lines options.reporting) status
         (Agrees (D.port ports.new.a) (D.port ports.new.b) (D.port ports.new.requests) arbiter.new)
         result (K.held sink.old) (K.held sink.new) (D.port ports.new.requests).sent }
+    ensures timely { OnErr result (D.modeled ≡ true → WrittenInTime (listening options.server options.burst)
+        (beginning (D.port ports.old.a) (D.port ports.old.b) (D.port ports.old.requests) arbiter.old) (K.live sink.old)
+        (K.held sink.old) (K.held sink.new) (IsInNextTurn (D.port ports.new.a))) }
     ensures sink { CountsSink (K.failed sink.old) (K.failed sink.new) result }
 {
     let ListenPorts { a, b, requests } = ports;

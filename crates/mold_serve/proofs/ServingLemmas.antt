@@ -1,11 +1,11 @@
 -- Turns of a server: text put before its text changes nothing else, and a turn only appends to what is printed and
 -- sent.
 use Rattle.std.proofs.Common.{◌≡◌, ◌≤◌, ℕ, Bool, true, false, List, [], ◌∷◌, ◌++◌, drop, Option, Result, Ok, Err, refl, sym, ap, subst, ◌∙◌}
-use Rattle.std.specs.Prelude.{IsErr}
+use Rattle.std.specs.Prelude.{IsErr, OnErr}
 use Rattle.mold_ports.specs.Ports.{Port, Receipt, Datagram, Quiet, Failure, cut, next_of, received}
 use Rattle.mold_serve.specs.Answering.{Reaches}
 use Rattle.std.specs.Borrow.{Bor}
-use Rattle.mold_serve.specs.Serving.{IsSame, MayAnswer, Service, ResponderState, behind, fails_first, met, offer, offer_all}
+use Rattle.mold_serve.specs.Serving.{IsInNextTurn, IsSame, MayAnswer, Service, ResponderState, behind, fails_first, met, offer, offer_all}
 use Rattle.mold_serve.specs.Serving.{replied, reply, serve_turn, served_by, service, service_of, serving}
 use Rattle.mold_turns.specs.Outgoing.{OutgoingState}
 use Rattle.mold_serve.specs.Tally.{served_line, with_outgoing}
@@ -14,7 +14,7 @@ use Rattle.mold_serve.specs.declared.tally.Tally.{Tally}
 use Rattle.mold_session.specs.Journal.{JournalState}
 use Rattle.mold_session.specs.Server.{ServerState}
 use Rattle.mold_session.specs.declared.error.AnswerError.{AnswerError}
-use Rattle.mold_turns.specs.Runs.{Begins, Ran, Rests, run}
+use Rattle.mold_turns.specs.Runs.{Begins, Ran, Rests, WrittenInTime, run}
 use Rattle.mold_turns.proofs.OutgoingLemmas.{front_twice, more_after, written_front}
 use Rattle.mold_turns.proofs.RunLemmas.{IsLoop, begins_more, begins_trans, begins_whole, none_ok}
 use Rattle.mold_wire.specs.declared.packet.Packet.{Packet}
@@ -270,3 +270,13 @@ served_so {D} {P} {E} known service turns start result old new first port end se
     (λ s. (known port ≡ s.port) × (n ≡ served_by first s)) result old new (known port).sent)
     (sym is_server)
     ran)
+
+-- the same for what a fault finds unwritten
+pub timely_so : {D P E : Type 0} (M : Type 0) (known : D → Port P) (service : Service) (start : ResponderState P)
+    (result : Result ℕ E) (live : Bool) (old new : Option (List ℕ)) (port end : D) → end ≡ port →
+    OnErr result (M → WrittenInTime (serving service) start live old new (IsInNextTurn (known port))) →
+    OnErr result (M → WrittenInTime (serving service) start live old new (IsInNextTurn (known end)))
+timely_so {D} M known service start result live old new port end is timely =
+    subst
+    (λ (d : D). OnErr result (M → WrittenInTime (serving service) start live old new (IsInNextTurn (known d))))
+    (sym is) timely

@@ -1,6 +1,6 @@
 -- The turns of a server: what it receives, and what it sends and prints for it.
 use Rattle.mold_wire.specs.declared.limits.TheConstants.{MAX_NUMBER}
-use Rattle.std.specs.Prelude.{◌≡◌, ◌≤◌, ℕ, ◌+◌, min, Bool, true, false, List, [], ◌∷◌, drop, Result, Ok, Err}
+use Rattle.std.specs.Prelude.{◌≡◌, ◌≤◌, ◌⊎◌, ℕ, ◌+◌, min, Bool, true, false, List, [], ◌∷◌, drop, Result, Ok, Err}
 use Rattle.mold_ports.specs.Ports.{Port, Receipt, Datagram, Quiet, Failure, cut, next_of, offered, received}
 use Rattle.mold_turns.specs.Outgoing.{with_front}
 use Rattle.mold_serve.specs.Tally.{with_answered, with_failed, with_outgoing, with_quiet, with_refused}
@@ -159,6 +159,10 @@ serving service = record {
   text = λ responder. responder.tally.outgoing.text;
   sent = λ responder. responder.port.sent;
 }
+
+-- The port gives what it gave in the state `s`, or all but the first of that: the server makes the turn after `s`.
+abbrev pub IsInNextTurn : {P : Type 0} → Port P → ResponderState P → Type 0
+IsInNextTurn port s = (port.comes ≡ s.port.comes) ⊎ (port.comes ≡ drop 1 s.port.comes)
 
 -- The state with `front` put before its text.
 abbrev pub behind : {P : Type 0} → List ℕ → ResponderState P → ResponderState P

@@ -1,14 +1,14 @@
 //! The server at work: the requests that it receives on a port, and the responses that it sends.
 
-ghost use Rattle.std.specs.Prelude.{◌≡◌, ◌+◌, ◌≤◌, ◌<◌, true, List, Bool, length, IfErr, IfOk, MatchResult};
-ghost use Rattle.std.specs.Prelude.{OnOk};
+ghost use Rattle.std.specs.Prelude.{◌≡◌, ◌+◌, ◌≤◌, ◌<◌, true, List, Bool, drop, length, IfErr, IfOk, MatchResult};
+ghost use Rattle.std.specs.Prelude.{OnErr, OnOk};
 ghost use Rattle.std.specs.Io.KnownBytes.{Appends};
 ghost use Rattle.mold_devices.specs.Faults.{CountsSink};
 ghost use Rattle.mold_serve.specs.Answering.{OffersNext, OffersOne, Reaches, left_of};
 ghost use Rattle.mold_turns.specs.Outgoing.{IsBounded};
-ghost use Rattle.mold_turns.specs.Runs.{Begins, Ran, Rests, TurnRests};
-ghost use Rattle.mold_serve.specs.Serving.{IsSame, MayAnswer, behind, offer_all, replied, reply, serve_turn, service};
-ghost use Rattle.mold_serve.specs.Serving.{served_by, serving, state};
+ghost use Rattle.mold_turns.specs.Runs.{Begins, Ran, Rests, TurnRests, WrittenInTime};
+ghost use Rattle.mold_serve.specs.Serving.{IsInNextTurn, IsSame, MayAnswer, behind, offer_all, replied, reply};
+ghost use Rattle.mold_serve.specs.Serving.{serve_turn, served_by, service, serving, state};
 ghost use Rattle.mold_serve.specs.Tally.{served_line};
 ghost use Rattle.mold_wire.specs.declared.limits.TheConstants.{MAX_LIMIT};
 
@@ -50,6 +50,7 @@ impl<'a, D: Datagrams> Responder<'a, D> {
         ensures session { plan.new.session ≡ plan.old.session }
         ensures to { plan.new.to ≡ plan.old.to }
         ensures prints { Begins self.old.tally.now.outgoing.text self.new.tally.now.outgoing.text }
+        ensures comes { D.modeled ≡ true → (D.port self.new.port.now).comes ≡ (D.port self.old.port.now).comes }
         ensures same { IsSame self.old self.new }
     {
         planned_law();
@@ -73,6 +74,7 @@ impl<'a, D: Datagrams> Responder<'a, D> {
         ensures offered { D.modeled ≡ true → (fails : List Bool) × Reaches result (state D.port self.new)
             (offer_all to (left_of (service self.old) plan.old) fails (state D.port self.old)) }
         ensures prints { Begins self.old.tally.now.outgoing.text self.new.tally.now.outgoing.text }
+        ensures comes { D.modeled ≡ true → (D.port self.new.port.now).comes ≡ (D.port self.old.port.now).comes }
         ensures same { IsSame self.old self.new }
     {
         'packets: while self.offer_next(plan, to)? {}
@@ -88,6 +90,7 @@ impl<'a, D: Datagrams> Responder<'a, D> {
         ensures replied { D.modeled ≡ true → (fails : List Bool) × Reaches result (state D.port self.new)
             (replied from fails (reply (service self.old) request.now) (state D.port self.old)) }
         ensures prints { Begins self.old.tally.now.outgoing.text self.new.tally.now.outgoing.text }
+        ensures comes { D.modeled ≡ true → (D.port self.new.port.now).comes ≡ (D.port self.old.port.now).comes }
         ensures same { IsSame self.old self.new }
     {
         answered_law();
@@ -105,6 +108,8 @@ impl<'a, D: Datagrams> Responder<'a, D> {
         ensures turn { D.modeled ≡ true → (fails : List Bool) × Reaches result (state D.port self.new)
             (serve_turn (service self.old) fails (state D.port self.old)) }
         ensures prints { Begins self.old.tally.now.outgoing.text self.new.tally.now.outgoing.text }
+        ensures comes { D.modeled ≡ true →
+            (D.port self.new.port.now).comes ≡ drop 1 (D.port self.old.port.now).comes }
         ensures same { IsSame self.old self.new }
     {
         match self.port.receive(buffer) {
@@ -127,6 +132,8 @@ impl<'a, D: Datagrams> Responder<'a, D> {
         requires buffer { length buffer.old ≡ MAX_LIMIT }
         ensures rests { D.modeled ≡ true → TurnRests (serving (service self.old)) behind (state D.port self.old)
             result (K.held sink.old) (K.held sink.new) (state D.port self.new) }
+        ensures comes { D.modeled ≡ true →
+            (D.port self.new.port.now).comes ≡ drop 1 (D.port self.old.port.now).comes }
         ensures bounded { OnOk result (IsBounded (K.live sink.old) self.new.tally.now.outgoing.text) }
         ensures kept { IfErr result (λ fault. fault ≡ CommandFault.Memory →
             Appends (K.held sink.old) (K.held sink.new) self.old.tally.now.outgoing.text) }
@@ -159,6 +166,10 @@ impl<'a, D: Datagrams> Responder<'a, D> {
             result (K.held sink.old) (K.held sink.new) (state D.port self.new) }
         ensures bounded { OnOk result (IsBounded (K.live sink.old) self.old.tally.now.outgoing.text →
             IsBounded (K.live sink.old) self.new.tally.now.outgoing.text) }
+        ensures timely { OnErr result (D.modeled ≡ true →
+            IsBounded (K.live sink.old) self.old.tally.now.outgoing.text →
+            WrittenInTime (serving (service self.old)) (state D.port self.old) (K.live sink.old)
+            (K.held sink.old) (K.held sink.new) (IsInNextTurn (D.port self.new.port.now))) }
         ensures live { K.live sink.new ≡ K.live sink.old }
         ensures same { IsSame self.old self.new }
         ensures sink { CountsSink (K.failed sink.old) (K.failed sink.new) result }
@@ -183,6 +194,10 @@ impl<'a, D: Datagrams> Responder<'a, D> {
             (λ responder. (D.port self.new.port.now ≡ responder.port)
             × (self.new.server.now ≡ served_by self.old.server.now responder))
             result (K.held sink.old) (K.held sink.new) (D.port self.new.port.now).sent }
+        ensures timely { OnErr result (D.modeled ≡ true →
+            IsBounded (K.live sink.old) self.old.tally.now.outgoing.text →
+            WrittenInTime (serving (service self.old)) (state D.port self.old) (K.live sink.old)
+            (K.held sink.old) (K.held sink.new) (IsInNextTurn (D.port self.new.port.now))) }
         ensures same { IsSame self.old self.new }
         ensures sink { CountsSink (K.failed sink.old) (K.failed sink.new) result }
     {

@@ -1,9 +1,9 @@
 //! The loop that serves a journal over a port.
 
-ghost use Rattle.std.specs.Prelude.{◌≡◌, ◌≤◌, true};
+ghost use Rattle.std.specs.Prelude.{◌≡◌, ◌≤◌, true, OnErr};
 ghost use Rattle.mold_devices.specs.Faults.{CountsSink};
-ghost use Rattle.mold_turns.specs.Runs.{Ran};
-ghost use Rattle.mold_serve.specs.Serving.{responder_of, served_by, service_of, serving};
+ghost use Rattle.mold_turns.specs.Runs.{Ran, WrittenInTime};
+ghost use Rattle.mold_serve.specs.Serving.{IsInNextTurn, responder_of, served_by, service_of, serving};
 ghost use Rattle.mold_serve.specs.Tally.{served_line, no_tally};
 
 use crate::responder::Responder;
@@ -35,6 +35,9 @@ pub fn serve_loop<D: Datagrams, K: Sink>(
         (responder_of (D.port port.old) no_tally server.old) (λ responder. served_line responder.tally) (λ responder. 0)
         (λ responder. (D.port port.new ≡ responder.port) × (server.new ≡ served_by server.old responder))
         result (K.held sink.old) (K.held sink.new) (D.port port.new).sent }
+    ensures timely { OnErr result (D.modeled ≡ true → WrittenInTime (serving (service_of journal.now server.old))
+        (responder_of (D.port port.old) no_tally server.old) (K.live sink.old)
+        (K.held sink.old) (K.held sink.new) (IsInNextTurn (D.port port.new))) }
     ensures sink { CountsSink (K.failed sink.old) (K.failed sink.new) result }
 {
     let mut tally = Tally::new(alloc);

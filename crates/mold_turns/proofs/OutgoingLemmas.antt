@@ -1,6 +1,6 @@
 -- Outgoing text with other text before it or after it.
-use Rattle.std.proofs.Common.{◌≡◌, ◌∙◌, ℕ, List, [], ◌++◌, ap, append_assoc, sym}
-use Rattle.mold_turns.specs.Outgoing.{OutgoingState, with_front, with_more, written_out}
+use Rattle.std.proofs.Common.{arith, ◌≡◌, ◌∙◌, ℕ, Bool, List, [], ◌++◌, ap, append_assoc, refl, sym}
+use Rattle.mold_turns.specs.Outgoing.{IsBounded, OutgoingState, with_front, with_more, written_out}
 
 -- if a prefix of the text was written, the former text is that prefix and the rest
 pub written_front : (old new : OutgoingState) (front : List ℕ) → old.text ≡ front ++ new.text →
@@ -8,6 +8,10 @@ pub written_front : (old new : OutgoingState) (front : List ℕ) → old.text �
 written_front old new front parts failures =
     ap {B = OutgoingState} (λ (t : List ℕ). record { text = t; failures = old.failures }) parts
     ∙ ap {B = OutgoingState} (λ (n : ℕ). record { text = front ++ new.text; failures = n }) (sym failures)
+
+-- no text is bounded
+pub bounded_none : (live : Bool) → IsBounded live []
+bounded_none live = (λ t. refl, omega arith)
 
 -- two texts put before another one are one text
 pub front_twice : (front back : List ℕ) (outgoing : OutgoingState) →

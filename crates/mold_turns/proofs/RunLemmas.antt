@@ -3,12 +3,13 @@ use Rattle.std.proofs.Common.{◌≡◌, ℕ, ◌+◌, ◌-◌, ◌<◌, Bool, t
 use Rattle.std.proofs.Common.{Option, Result, Ok, Err, refl, sym, ap, subst, ◌∙◌, arith, append_assoc, append-nil}
 use Rattle.std.proofs.Common.{length-append}
 use Rattle.std.proofs.Math.ListN.{length-replicate}
-use Rattle.std.specs.Prelude.{IsErr, IfOk, OnOk, if◌then◌else◌}
+use Rattle.std.specs.Prelude.{IsErr, IfOk, OnErr, OnOk, if◌then◌else◌}
 use Rattle.std.specs.Io.KnownBytes.{Appends}
 use Rattle.std.proofs.KnownBytes.{Appends-nil, Appends-trans}
 use Rattle.mold_devices.specs.Devices.{AppendsPrefix}
 use Rattle.mold_devices.specs.Writing.{Moves}
-use Rattle.mold_turns.specs.Runs.{Loop, run, Begins, Rests, RestsOfTwo, Ran, TurnRests, TurnRestsOfTwo}
+use Rattle.mold_turns.specs.Outgoing.{IsBounded}
+use Rattle.mold_turns.specs.Runs.{Loop, run, Begins, Rests, RestsOfTwo, Ran, TurnRests, TurnRestsOfTwo, WrittenInTime}
 
 -- ---- prefixes
 
@@ -39,6 +40,10 @@ begins_behind {A} ws {xs} {ys} p = record {
 pub on_ok : {T E : Type 0} (result : Result T E) {P : Type 0} → P → OnOk result P
 on_ok (Ok _) p = p
 on_ok (Err _) p = tt
+
+pub on_err : {T E : Type 0} (result : Result T E) {P : Type 0} → P → OnErr result P
+on_err (Ok _) p = tt
+on_err (Err _) p = p
 
 pub none_ok : {T E : Type 0} (result : Result T E) (P : Type 0) → IsErr result → OnOk result P
 none_ok (Ok _) P failed = let no : ⊥ = cc in absurd no
@@ -300,6 +305,58 @@ module _ {C S M : Type 0} {loop : Loop C S M} {behind : List ℕ → S → S} (i
             (sym (ap loop.sent made ∙ is.sent going.written (loop.turn choice now))) turned.sent)
             (grows_from loop loop.sent is.sends choice fill here));
       }
+
+  -- ---- what a fault finds unwritten
+
+  -- a fault in a turn
+  pub in_time : {start now : S} {old mid new : Option (List ℕ)} {count : ℕ} (live : Bool) (ends : S → Type 0)
+      (more : List ℕ) (going : Going loop behind start old mid count now) → ends (behind going.written now) →
+      IsBounded live (loop.text now) → Appends mid new more → WrittenInTime loop start live old new ends
+  in_time {start} {now} {old} {mid} {new} live ends more going ports bounded appended =
+      let end : run loop going.choices start ≡ behind going.written now =
+      ap (λ (l : List C). run loop l start) (sym (append-nil going.choices)) ∙ going.goes_on []
+      ∙ run_none loop (behind going.written now) in
+      record {
+        choices = going.choices;
+        ports = subst ends (sym end) ports;
+        written = going.written;
+        kept = loop.text now;
+        parts = ap loop.text end ∙ is.text going.written now;
+        bounded = bounded;
+        more = more;
+        appended = Appends-trans old mid new going.written more going.appended appended;
+      }
+
+  -- a fault after all turns
+  pub in_time_end : {T E : Type 0} {value : T} {turns : ℕ} {start now : S} {old mid new : Option (List ℕ)} (live : Bool)
+      (ends : S → Type 0) (more : List ℕ)
+      (rests : Rests {T = T} {E = E} loop behind turns start (Ok value) old mid now) →
+      ends (behind rests.written now) → IsBounded live (loop.text now) → Appends mid new more →
+      WrittenInTime loop start live old new ends
+  in_time_end {T} {E} {value} {turns} {start} {now} {old} {mid} {new} live ends more rests ports bounded appended = record {
+    choices = rests.choices;
+    ports = subst ends (sym rests.whole) ports;
+    written = rests.written;
+    kept = loop.text now;
+    parts = ap loop.text rests.whole ∙ is.text rests.written now;
+    bounded = bounded;
+    more = more;
+    appended = Appends-trans old mid new rests.written more rests.appended appended;
+  }
+
+  -- a fault before the first turn
+  pub in_time_none : {start : S} {held : Option (List ℕ)} (live : Bool) (ends : S → Type 0) → ends start →
+      IsBounded live (loop.text start) → WrittenInTime loop start live held held ends
+  in_time_none {start} {held} live ends ports bounded = record {
+    choices = [];
+    ports = subst ends (sym (run_none loop start)) ports;
+    written = [];
+    kept = loop.text start;
+    parts = ap loop.text (run_none loop start);
+    bounded = bounded;
+    more = [];
+    appended = Appends-nil held;
+  }
 
   -- ---- a loop that sends from two ports
 

@@ -2,6 +2,7 @@
 use Rattle.std.specs.Prelude.{◌≡◌, ℕ, Bool, if◌then◌else◌, List, [], ◌∷◌, ◌++◌, length, Option, Result, IfOk, OnOk}
 use Rattle.std.specs.Io.KnownBytes.{Appends}
 use Rattle.mold_devices.specs.Devices.{AppendsPrefix}
+use Rattle.mold_turns.specs.Outgoing.{IsBounded}
 
 -- A loop over a state `S`. A turn depends on a choice `C` of what cannot be known in advance, such as which sends
 -- fail. The loop sends values of type `M`.
@@ -50,6 +51,23 @@ pub record TurnRestsOfTwo {C S M T E : Type 0} (loop : Loop C S M) (other : S �
     (start : S) (result : Result T E) (old new : Option (List ℕ)) (now : S) : Type 0 where
   pub turn : TurnRests loop behind start result old new now
   pub others : Begins (other now) (other (loop.turn turn.choice start))
+
+-- A fault ended a loop. The text of the turns that were completed before is written, except text that the loop may keep
+-- unwritten between turns. A loop that writes only at its end does not satisfy this. `ends s` relates the loop's ports
+-- to the state `s` in which the last of these turns ended.
+pub record WrittenInTime {C S M : Type 0} (loop : Loop C S M) (start : S) (live : Bool) (old new : Option (List ℕ))
+    (ends : S → Type 0) : Type 0 where
+  -- the choices of the completed turns
+  pub choices : List C
+  pub ports : ends (run loop choices start)
+  -- their text: what was written of it, and what was not
+  pub written : List ℕ
+  pub kept : List ℕ
+  pub parts : loop.text (run loop choices start) ≡ written ++ kept
+  pub bounded : IsBounded live kept
+  -- what was written after that
+  pub more : List ℕ
+  pub appended : Appends old new (written ++ more)
 
 -- What a loop of at most `turns` turns that starts at `start` leaves before it prints its last line. `now` is the
 -- state that it holds, whose text is not written yet. `behind front s` is the state `s` with `front` put before its

@@ -1,8 +1,10 @@
-use Rattle.std.proofs.Common.{false, refl, rules, sym}
+use Rattle.std.proofs.Common.{false, inl, refl, rules, sym}
 use Rattle.mold_turns.proofs.FaultLemmas.{counts_memory}
-use Rattle.mold_turns.proofs.RunLemmas.{ran_none}
-use Rattle.mold_listen.specs.Listening.{beginning, listened_lines, status}
-use Rattle.mold_listen.proofs.TurnLemmas.{is_loop, listened_so}
+use Rattle.std.proofs.lemmas.Result.{on_err_weaker}
+use Rattle.mold_turns.proofs.OutgoingLemmas.{bounded_none}
+use Rattle.mold_turns.proofs.RunLemmas.{in_time_none, on_err, ran_none}
+use Rattle.mold_listen.specs.Listening.{IsInNextTurn, beginning, listened_lines, status}
+use Rattle.mold_listen.proofs.TurnLemmas.{is_loop, listened_so, timely_so}
 use Rattle.mold_listen.proofs.listening.listen_loop.Goals as goal
 
 pub returns-in_err-buffer-clause-run : goal.returns-in_err-buffer-clause-run
@@ -27,3 +29,23 @@ returns-clause-run g c = λ t.
     (let same = sym c.listen.ensures.same.requests in search rules)
     (let same = sym c.listen.ensures.same.arbiter in search rules)
     (rw c.new-printer.ensures at c.listen.ensures.run t)
+
+-- ---- what a fault finds unwritten
+
+pub returns-in_err-buffer-clause-timely : goal.returns-in_err-buffer-clause-timely
+returns-in_err-buffer-clause-timely g c =
+    on_err c.from_residual.result
+    (λ t.
+    in_time_none (is_loop c.args.server c.args.burst) (g.K.Sink.live c.args.sink.now)
+    (IsInNextTurn (g.D.Datagrams.port c.args.a.now)) (inl refl) (bounded_none (g.K.Sink.live c.args.sink.now)))
+
+pub returns-clause-timely : goal.returns-clause-timely
+returns-clause-timely g c =
+    timely_so _ g.D.Datagrams.port c.args.server c.args.burst
+    (beginning (g.D.Datagrams.port c.args.a.now) (g.D.Datagrams.port c.args.b.now)
+    (g.D.Datagrams.port c.args.requests.now) c.args.arbiter.now)
+    c.listen.result (g.K.Sink.live c.args.sink.now) _ _ c.listen.new.self.a.now _
+    (let same = sym c.listen.ensures.same.a in search rules)
+    (on_err_weaker c.listen.result
+    (λ timely t. (rw c.new-printer.ensures at timely) t (bounded_none (g.K.Sink.live c.args.sink.now)))
+    c.listen.ensures.timely)

@@ -1,10 +1,12 @@
-use Rattle.std.proofs.Common.{◌≡◌, ℕ, [], rules, sym, List}
+use Rattle.std.proofs.Common.{◌≡◌, ℕ, [], inl, refl, rules, sym, List}
+use Rattle.std.proofs.lemmas.Result.{on_err_weaker}
 use Rattle.mold_ports.specs.Ports.{Port}
-use Rattle.mold_serve.specs.Serving.{ResponderState, served_by, service_of, responder_of}
+use Rattle.mold_serve.specs.Serving.{IsInNextTurn, ResponderState, served_by, service_of, responder_of}
 use Rattle.mold_serve.specs.Tally.{served_line, no_tally}
-use Rattle.mold_serve.proofs.ServingLemmas.{served_so, serving_is}
+use Rattle.mold_serve.proofs.ServingLemmas.{served_so, serving_is, timely_so}
 use Rattle.mold_session.specs.Server.{ServerState}
-use Rattle.mold_turns.proofs.RunLemmas.{ran_none}
+use Rattle.mold_turns.proofs.OutgoingLemmas.{bounded_none}
+use Rattle.mold_turns.proofs.RunLemmas.{in_time_none, on_err, ran_none}
 use Rattle.mold_serve.proofs.serving.serve_loop.Goals as goal
 
 -- the last line, and that port and server are as at the end
@@ -29,3 +31,22 @@ returns-clause-run g c modeled =
     (let same = sym c.serve.ensures.same.port in search rules)
     (let same = sym c.serve.ensures.same.server in search rules)
     (rw c.new-tally.ensures at c.serve.ensures.run modeled)
+
+-- ---- what a fault finds unwritten
+
+pub returns-in_err-buffer-clause-timely : goal.returns-in_err-buffer-clause-timely
+returns-in_err-buffer-clause-timely g c =
+    on_err c.from_residual.result
+    (λ t.
+    in_time_none (serving_is (service_of c.args.journal.now c.args.server.now)) (g.K.Sink.live c.args.sink.now)
+    (IsInNextTurn (g.D.Datagrams.port c.args.port.now)) (inl refl) (bounded_none (g.K.Sink.live c.args.sink.now)))
+
+pub returns-clause-timely : goal.returns-clause-timely
+returns-clause-timely g c =
+    timely_so _ g.D.Datagrams.port (service_of c.args.journal.now c.args.server.now)
+    (responder_of (g.D.Datagrams.port c.args.port.now) no_tally c.args.server.now)
+    c.serve.result (g.K.Sink.live c.args.sink.now) _ _ c.serve.new.self.port.now _
+    (let same = sym c.serve.ensures.same.port in search rules)
+    (on_err_weaker c.serve.result
+    (λ timely t. (rw c.new-tally.ensures at timely) t (bounded_none (g.K.Sink.live c.args.sink.now)))
+    c.serve.ensures.timely)

@@ -1,12 +1,12 @@
-use Rattle.std.proofs.Common.{◌∙◌, ℕ, Err, List, Result, ap, refl, subst, take}
+use Rattle.std.proofs.Common.{◌∙◌, ℕ, Err, List, Result, ap, inl, refl, subst, take}
 use Rattle.mold_devices.specs.Devices.{AppendsPrefix}
 use Rattle.mold_devices.specs.Faults.{CountsSinkFault}
 use Rattle.mold_devices.specs.declared.fault.CommandFault.{CommandFault}
 use Rattle.mold_devices.proofs.WritingLemmas.{ends_front, ends_sink}
 use Rattle.mold_turns.proofs.PrintingLemmas.{front_more, kept_begins}
 use Rattle.mold_turns.proofs.FaultLemmas.{counts_same, counts_write}
-use Rattle.mold_turns.proofs.RunLemmas.{ran_cut, ran_front, ran_whole}
-use Rattle.mold_listen.specs.Listening.{Agrees, listened_lines, state, status}
+use Rattle.mold_turns.proofs.RunLemmas.{in_time_end, on_err, ran_cut, ran_front, ran_whole}
+use Rattle.mold_listen.specs.Listening.{Agrees, IsInNextTurn, listened_lines, state, status}
 use Rattle.mold_turns.specs.Outgoing.{OutgoingState}
 use Rattle.mold_listen.proofs.TurnLemmas.{is_loop}
 use Rattle.mold_listen.proofs.feed_listener.FeedListener.listen.Goals as goal
@@ -80,3 +80,24 @@ returns-clause-run g c = λ t.
 
 pub returns-clause-sink : goal.returns-clause-sink
 returns-clause-sink g c = c.in_ok-send.ensures.sink ∙ c.in_ok-take_turns.ensures.sink
+
+-- ---- what a fault finds unwritten
+
+pub returns-in_err-take_turns-clause-timely : goal.returns-in_err-take_turns-clause-timely
+returns-in_err-take_turns-clause-timely g c = on_err c.from_residual.result c.in_err-take_turns.ensures.timely
+
+pub returns-in_default-clause-timely : goal.returns-in_default-clause-timely
+returns-in_default-clause-timely g c = λ t bounded.
+    let cut = ends_front c.end_with.ensures.ends in
+    in_time_end (is_loop c.args.options.server c.args.options.burst) (g.K.Sink.live c.args.sink.now)
+    (IsInNextTurn (g.D.Datagrams.port c.take_turns.new.self.a.now)) cut.front (c.in_ok-take_turns.ensures.run t)
+    (inl refl) (c.in_ok-take_turns.ensures.bounded bounded) cut.appended
+
+pub returns-in_err-send-clause-timely : goal.returns-in_err-send-clause-timely
+returns-in_err-send-clause-timely g c =
+    on_err c.from_residual-in_err-send.result
+    (λ t bounded.
+    let cut = c.in_err-send.ensures.front in
+    in_time_end (is_loop c.args.options.server c.args.options.burst) (g.K.Sink.live c.args.sink.now)
+    (IsInNextTurn (g.D.Datagrams.port c.take_turns.new.self.a.now)) cut.front (c.in_ok-take_turns.ensures.run t)
+    (inl refl) (c.in_ok-take_turns.ensures.bounded bounded) cut.appended)

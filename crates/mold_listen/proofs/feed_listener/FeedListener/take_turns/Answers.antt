@@ -1,8 +1,9 @@
-use Rattle.std.proofs.Common.{arith, ◌≡◌, ◌∙◌, Bool, refl, subst, ℕ}
+use Rattle.std.proofs.Common.{arith, ◌≡◌, ◌∙◌, Bool, inr, refl, subst, ℕ}
 use Rattle.mold_devices.specs.Faults.{CountsSinkFault}
 use Rattle.mold_turns.proofs.FaultLemmas.{counts_same}
-use Rattle.mold_turns.proofs.RunLemmas.{going_init, going_turned, rests_all, rests_broken, rests_turned}
+use Rattle.mold_turns.proofs.RunLemmas.{going_init, going_turned, in_time, on_err, rests_all, rests_broken, rests_turned}
 use Rattle.mold_turns.specs.Outgoing.{IsBounded}
+use Rattle.mold_listen.specs.Listening.{IsInNextTurn}
 use Rattle.mold_listen.proofs.TurnLemmas.{finished_is, is_loop, same_at_first, same_twice}
 use Rattle.mold_listen.proofs.feed_listener.FeedListener.take_turns.Goals as goal
 
@@ -49,6 +50,15 @@ returns-in_err-write_turn-clause-sink g c =
     (subst (λ (n : ℕ). CountsSinkFault n (g.K.Sink.failed c.write_turn.new.sink) c.in_err-write_turn.field-0.0)
     c.loop-turn.invariant.sink c.in_err-write_turn.ensures.sink)
 
+pub returns-in_err-write_turn-clause-timely : goal.returns-in_err-write_turn-clause-timely
+returns-in_err-write_turn-clause-timely g c =
+    on_err c.from_residual.result
+    (λ t bounded.
+    let turned = c.write_turn.ensures.run t in
+    in_time (is_loop c.args.options.server c.args.options.burst) (g.K.Sink.live c.args.sink.now)
+    (IsInNextTurn (g.D.Datagrams.port c.write_turn.new.self.a.now)) turned.written (c.loop-turn.invariant.going t)
+    (inr (c.write_turn.ensures.a t)) (c.loop-turn.invariant.bounded bounded) turned.appended)
+
 pub returns-then-finished : goal.returns-then-finished
 returns-then-finished g c = record {
   run = λ t.
@@ -59,6 +69,7 @@ returns-then-finished g c = record {
   bounded = λ bounded.
       subst (λ (live : Bool). IsBounded live c.write_turn.new.self.printer.now.outgoing.text)
       c.loop-turn.invariant.live c.in_ok-write_turn.ensures.bounded;
+  timely = tt;
   live = c.in_ok-write_turn.ensures.live ∙ c.loop-turn.invariant.live;
   same = same_twice c.loop-turn.invariant.same c.in_ok-write_turn.ensures.same;
   sink = c.in_ok-write_turn.ensures.sink ∙ c.loop-turn.invariant.sink;
@@ -70,6 +81,7 @@ returns g c = record {
       let made : c.loop-turn._turn ≡ c.args.options.turns = omega (arith, c.loop-turn-test.false, c.loop-turn.auto._turn-end) in
       rests_all (is_loop c.args.options.server c.args.options.burst) _ c.args.options.turns made (c.loop-turn.invariant.going t);
   bounded = c.loop-turn.invariant.bounded;
+  timely = tt;
   live = c.loop-turn.invariant.live;
   same = c.loop-turn.invariant.same;
   sink = c.loop-turn.invariant.sink;

@@ -24,6 +24,7 @@ packets-preserved g c = record {
   session = c.in_ok-offer_next.ensures.session ∙ c.packets.invariant.session;
   to = c.in_ok-offer_next.ensures.to ∙ c.packets.invariant.to;
   prints = begins_trans c.packets.invariant.prints c.in_ok-offer_next.ensures.prints;
+  comes = λ t. c.in_ok-offer_next.ensures.comes t ∙ c.packets.invariant.comes t;
   same = same_twice c.packets.invariant.same c.in_ok-offer_next.ensures.same;
 }
 
@@ -41,3 +42,9 @@ returns-in_err-offer_next-clause-prints g c =
 
 pub returns-clause-prints : goal.returns-clause-prints
 returns-clause-prints g c = begins_trans c.packets.invariant.prints c.in_ok-offer_next.ensures.prints
+
+pub returns-in_err-offer_next-clause-comes : goal.returns-in_err-offer_next-clause-comes
+returns-in_err-offer_next-clause-comes g c t = c.in_err-offer_next.ensures.comes t ∙ c.packets.invariant.comes t
+
+pub returns-clause-comes : goal.returns-clause-comes
+returns-clause-comes g c t = c.in_ok-offer_next.ensures.comes t ∙ c.packets.invariant.comes t

@@ -18,6 +18,9 @@ invariant-packets g l = record {
   session : l.plan.session ≡ l.fn.plan.session;
   to : l.plan.to ≡ l.fn.plan.to;
   prints : Begins l.fn.self.tally.now.outgoing.text l.self.tally.now.outgoing.text;
+  comes :
+      g.D.Datagrams.modeled ≡ true →
+      (g.D.Datagrams.port l.self.port.now).comes ≡ (g.D.Datagrams.port l.fn.self.port.now).comes;
   same : IsSame l.fn.self l.self;
 }
 

@@ -1,4 +1,5 @@
-use Rattle.std.proofs.Common.{subst, sym}
+use Rattle.std.proofs.Common.{ap, subst, sym}
+use Rattle.mold_ports.specs.Ports.{Port}
 use Rattle.std.proofs.lemmas.Result.{MatchResult-from_err}
 use Rattle.mold_turns.specs.Runs.{Begins}
 use Rattle.mold_turns.proofs.RunLemmas.{begins_whole}
@@ -67,3 +68,12 @@ pub returns-in-Err-clause-prints : goal.returns-in-Err-clause-prints
 returns-in-Err-clause-prints g c =
     subst (λ (tally : Tally). Begins c.args.self.now.tally.now.outgoing.text tally.outgoing.text) (sym c.add_failed.ensures)
     (begins_whole _)
+
+pub returns-in_err-add_answered-in-Ok-clause-comes : goal.returns-in_err-add_answered-in-Ok-clause-comes
+returns-in_err-add_answered-in-Ok-clause-comes g c t = ap (λ (p : Port _). p.comes) (c.in-Ok.ensures.sent t)
+
+pub returns-in_ok-add_answered-in-Ok-clause-comes : goal.returns-in_ok-add_answered-in-Ok-clause-comes
+returns-in_ok-add_answered-in-Ok-clause-comes g c t = ap (λ (p : Port _). p.comes) (c.in-Ok.ensures.sent t)
+
+pub returns-in-Err-clause-comes : goal.returns-in-Err-clause-comes
+returns-in-Err-clause-comes g c t = ap (λ (p : Port _). p.comes) (c.in-Err.ensures.sent t)

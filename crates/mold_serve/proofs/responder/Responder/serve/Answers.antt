@@ -1,16 +1,16 @@
-use Rattle.std.proofs.Common.{◌≡◌, ◌∙◌, ℕ, Err, List, Result, ap, refl, subst, take}
+use Rattle.std.proofs.Common.{◌≡◌, ◌∙◌, ℕ, Err, List, Result, ap, inl, refl, subst, take}
 use Rattle.mold_devices.specs.Devices.{AppendsPrefix}
 use Rattle.mold_devices.specs.Faults.{CountsSinkFault}
 use Rattle.mold_devices.specs.declared.fault.CommandFault.{CommandFault}
 use Rattle.mold_devices.proofs.WritingLemmas.{ends_front, ends_sink}
 use Rattle.mold_ports.specs.Ports.{Port}
-use Rattle.mold_serve.specs.Serving.{ResponderState, served_by, service, state}
+use Rattle.mold_serve.specs.Serving.{IsInNextTurn, ResponderState, served_by, service, state}
 use Rattle.mold_serve.specs.Tally.{served_line}
 use Rattle.mold_serve.specs.declared.tally.Tally.{Tally}
 use Rattle.mold_serve.proofs.ServingLemmas.{serving_is}
 use Rattle.mold_session.specs.Server.{ServerState}
 use Rattle.mold_turns.proofs.PrintingLemmas.{front_more, kept_begins}
-use Rattle.mold_turns.proofs.RunLemmas.{ran_cut, ran_front, ran_whole}
+use Rattle.mold_turns.proofs.RunLemmas.{in_time_end, on_err, ran_cut, ran_front, ran_whole}
 use Rattle.mold_serve.proofs.responder.Responder.serve.Goals as goal
 
 -- the last line, and that port and server are as at the end
@@ -71,3 +71,24 @@ returns-clause-run g c modeled =
     0 c.push_last.new.self.outgoing.text
     (ap (λ (tally : Tally). tally.outgoing.text) c.in-Ok.ensures.line)
     c.in_ok-send.ensures.whole refl (refl, c.in_ok-take_turns.ensures.same.limits)
+
+-- ---- what a fault finds unwritten
+
+pub returns-in_err-take_turns-clause-timely : goal.returns-in_err-take_turns-clause-timely
+returns-in_err-take_turns-clause-timely g c = on_err c.from_residual.result c.in_err-take_turns.ensures.timely
+
+pub returns-in_default-clause-timely : goal.returns-in_default-clause-timely
+returns-in_default-clause-timely g c = λ t bounded.
+    let cut = ends_front c.end_with.ensures.ends in
+    in_time_end (serving_is (service c.args.self.now)) (g.K.Sink.live c.args.sink.now)
+    (IsInNextTurn (g.D.Datagrams.port c.take_turns.new.self.port.now)) cut.front (c.in_ok-take_turns.ensures.rests t)
+    (inl refl) (c.in_ok-take_turns.ensures.bounded bounded) cut.appended
+
+pub returns-in_err-send-clause-timely : goal.returns-in_err-send-clause-timely
+returns-in_err-send-clause-timely g c =
+    on_err c.from_residual-in_err-send.result
+    (λ t bounded.
+    let cut = c.in_err-send.ensures.front in
+    in_time_end (serving_is (service c.args.self.now)) (g.K.Sink.live c.args.sink.now)
+    (IsInNextTurn (g.D.Datagrams.port c.take_turns.new.self.port.now)) cut.front (c.in_ok-take_turns.ensures.rests t)
+    (inl refl) (c.in_ok-take_turns.ensures.bounded bounded) cut.appended)

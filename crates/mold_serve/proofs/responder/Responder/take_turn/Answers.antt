@@ -1,5 +1,5 @@
-use Rattle.std.proofs.Common.{[], ◌∙◌, take}
-use Rattle.mold_ports.specs.Ports.{Datagram, Quiet, Failure}
+use Rattle.std.proofs.Common.{[], ◌∙◌, ap, take}
+use Rattle.mold_ports.specs.Ports.{Datagram, Failure, Port, Quiet}
 use Rattle.mold_serve.specs.Serving.{service, state}
 use Rattle.mold_serve.proofs.ServingLemmas.{reached, tally_is, turn_met}
 use Rattle.mold_serve.proofs.responder.Responder.take_turn.Goals as goal
@@ -33,3 +33,13 @@ returns-in-Err-clause-turn g c modeled = (
       (c.receive.ensures.left modeled)
       (reached (tally_is _ _ c.add_failed.ensures)),
 )
+
+pub returns-in-Ok-Some-clause-comes : goal.returns-in-Ok-Some-clause-comes
+returns-in-Ok-Some-clause-comes g c t =
+    c.answer_request.ensures.comes t ∙ ap (λ (p : Port _). p.comes) (c.receive.ensures.left t)
+
+pub returns-in-Ok-None-clause-comes : goal.returns-in-Ok-None-clause-comes
+returns-in-Ok-None-clause-comes g c t = ap (λ (p : Port _). p.comes) (c.receive.ensures.left t)
+
+pub returns-in-Err-clause-comes : goal.returns-in-Err-clause-comes
+returns-in-Err-clause-comes g c t = ap (λ (p : Port _). p.comes) (c.receive.ensures.left t)

@@ -1,12 +1,12 @@
-use Rattle.std.proofs.Common.{◌≡◌, ◌∙◌, ℕ, refl, subst, Bool, Ok, Result, Option, List, arith}
+use Rattle.std.proofs.Common.{◌≡◌, ◌∙◌, ℕ, inr, refl, subst, Bool, Ok, Result, Option, List, arith}
 use Rattle.mold_devices.specs.Faults.{CountsSinkFault}
 use Rattle.mold_devices.specs.declared.fault.CommandFault.{CommandFault}
-use Rattle.mold_serve.specs.Serving.{ResponderState, Service, behind, service, serving, state}
+use Rattle.mold_serve.specs.Serving.{IsInNextTurn, ResponderState, Service, behind, service, serving, state}
 use Rattle.mold_serve.proofs.ServingLemmas.{may_answer, same_at_first, same_twice, service_is, serving_is}
 use Rattle.mold_turns.proofs.FaultLemmas.{counts_same}
 use Rattle.mold_turns.specs.Outgoing.{IsBounded}
 use Rattle.mold_turns.specs.Runs.{Rests, TurnRests}
-use Rattle.mold_turns.proofs.RunLemmas.{going_init, going_turned, rests_broken, rests_end}
+use Rattle.mold_turns.proofs.RunLemmas.{going_init, going_turned, in_time, on_err, rests_broken, rests_end}
 use Rattle.mold_serve.proofs.responder.Responder.take_turns.Goals as goal
 
 -- a turn with its write, for an equal service
@@ -86,3 +86,12 @@ returns-clause-same g c = c.loop-turn.invariant.same
 
 pub returns-clause-sink : goal.returns-clause-sink
 returns-clause-sink g c = c.loop-turn.invariant.sink
+
+pub returns-in_err-write_turn-clause-timely : goal.returns-in_err-write_turn-clause-timely
+returns-in_err-write_turn-clause-timely g c =
+    on_err c.from_residual.result
+    (λ t bounded.
+    let turned = c.write_turn.ensures.rests t in
+    in_time (serving_is (service c.args.self.now)) (g.K.Sink.live c.args.sink.now)
+    (IsInNextTurn (g.D.Datagrams.port c.write_turn.new.self.port.now)) turned.written (c.loop-turn.invariant.going t)
+    (inr (c.write_turn.ensures.comes t)) (c.loop-turn.invariant.bounded bounded) turned.appended)
