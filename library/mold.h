@@ -440,7 +440,7 @@ static inline mold_server *mold_server_of(mold_publisher *publisher) {
  *   MOLD_COUNT_DIFFERS  the journal has *number messages, and states another number.
  *   MOLD_MEMORY         an allocation failed; the handle is empty.
  *
- * If no server is made, the bytes are read once more for a fault, so an allocation that fails hides none. */
+ * If no server is made, the bytes are read once more, so a fault is reported even if an allocation failed. */
 uint32_t mold_server_new(mold_server *server, size_t limit, uint16_t burst, const uint8_t *journal, size_t length,
                          uint64_t *number);
 

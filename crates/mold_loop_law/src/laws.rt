@@ -26,10 +26,10 @@ use mold_wire::laws::reading_law;
 /// or at the next one after them. The ports may lose, repeat and reorder datagrams, but give only what the loop itself
 /// sent (`OwnPorts`).
 ///
-/// - `printed`: no line is refused, and the server's maximum message length is at least the journal's. The loop prints
-///   published lines in order from the start message on, each after its sequence number. If the status is 0, it prints
-///   all of them.
-/// - `refused`: a line is refused, so no request is made. The loop prints lines before the refused one, and then the
+/// - `printed`: if no line is refused, and the server's maximum message length is at least the journal's, the loop
+///   prints published lines in order from the start message on, each after its sequence number. If the status is 0, it
+///   prints all of them.
+/// - `refused`: if a line is refused, no request is made. The loop prints lines before the refused one, and then the
 ///   refusal.
 ///
 /// After a fault, the text written is a prefix of such a text. The reports of the two lines are printed only if

@@ -43,7 +43,7 @@ impl Model for MemoryPort {
 }
 
 impl MemoryPort {
-    /// Returns a port whose receives give these steps. This allocates no memory.
+    /// Returns a port on which each receive gives the next of these steps. This allocates no memory.
     pub fn new(alloc: Global, script: Vec<Step>) -> MemoryPort
         ensures { result ≡ record {
           port = record { comes = map receipt_at script.items; sent = []; failures = 0 };

@@ -59,9 +59,9 @@ pub fn first_part_law()
     front_law();
 }
 
-/// What a plan still sends. A spent plan sends nothing. Any other plan sends its next packet, and the
-/// others are those of the plan after that packet. It never sends more than `left` packets. Messages that are
-/// published meanwhile change nothing.
+/// What a plan still sends. A spent plan sends nothing. Any other plan sends its next packet, and then what the plan
+/// after that packet sends. It never sends more than `left` packets. Messages that are published meanwhile change
+/// nothing.
 ///
 /// So the datagrams that `Server::datagram` returns, until it returns `None`, are all packets that the plan had
 /// at first, in order.
