@@ -1,173 +1,211 @@
 -- The fields of a shelf stay consistent.
-use Rattle.std.proofs.Common.{◌≡◌, ℕ, ◌+◌, ◌-◌, ◌<◌, ◌≤◌, ◌^◌, ◌⊎◌, max, true, cond, List, [], ◌∷◌, ◌++◌, length, drop}
-use Rattle.std.proofs.Common.{slice_set, replicate, length-append, refl, sym, ap, subst, ◌∙◌, arith, Vec, Global}
+use Rattle.std.proofs.Common.{◌≡◌, ℕ, ◌+◌, ◌-◌, ◌<◌, ◌≤◌, ◌⊎◌, true, cond, ltb, List, [], ◌∷◌, ◌++◌, length, drop}
+use Rattle.std.proofs.Common.{slice_set, replicate, refl, sym, ap, subst, ◌∙◌, arith}
 use Rattle.std.specs.Prelude.{Option, None, Some, is_some, is_none}
 use Rattle.std.specs.Option.{option_map}
 use Rattle.std.proofs.lemmas.Bool.{and_parts, ltb-true}
-use Rattle.std.proofs.lemmas.List.{map-set, length-map}
+use Rattle.std.proofs.lemmas.List.{append-nil, map-set, length-map}
 use Rattle.circular_buffer.specs.Buffer.{Buffer}
+use Rattle.mold_receiver.specs.declared.place.Place.{Place}
+use Rattle.mold_receiver.specs.declared.segments.Segments.{Segments}
 use Rattle.mold_receiver.specs.declared.shelf.Shelf.{Shelf}
-use Rattle.mold_receiver.specs.declared.span.Span.{Span}
 use Rattle.mold_receiver.specs.Keeping.{is_fresh}
-use Rattle.mold_receiver.specs.Shelf.{AreWithin, IsKept, closed_up, joined, joined_length, message_in, slots_in, slots_on}
-use Rattle.mold_receiver.specs.Shelf.{span_at}
-use Rattle.mold_receiver.specs.Slots.{AreSlots, Slot, count_held, held_bytes, slot_at}
+use Rattle.mold_receiver.specs.Places.{IsBlockAt, count_in, place_at, places_of}
+use Rattle.mold_receiver.specs.Segments.{AreMore, AreSegments, HasGained, HasLost, bytes_at, live_at, one_at}
+use Rattle.mold_receiver.specs.Shelf.{AreBlocksAt, IsKept, message_on, slots_in, slots_on}
+use Rattle.mold_receiver.specs.Slots.{AreSlots, Slot, count_held, slot_at}
 use Rattle.mold_receiver.specs.Store.{Message}
-use Rattle.mold_receiver.proofs.PackLemmas.{length-joined, packed_slots, packed_within}
-use Rattle.mold_receiver.proofs.ShelfLemmas.{joined_held, message_long, none_slots, none_within, slot_in, slots_more}
-use Rattle.mold_receiver.proofs.ShelfLemmas.{within_more, within_moved, within_put}
-use Rattle.mold_receiver.proofs.SlotLemmas.{all_empty, are_empty, are_moved, are_put, bytes_empty, bytes_moved, count_empty}
+use Rattle.mold_receiver.proofs.ShelfLemmas.{HasOld, count_moved_none, count_moved_some, count_none, count_put, count_some}
+use Rattle.mold_receiver.proofs.ShelfLemmas.{no_place, slot_in, slots_more, within_more, within_moved, within_put}
+use Rattle.mold_receiver.proofs.SlotLemmas.{are_empty, are_moved, are_put, empty_view, moved_view}
 use Rattle.mold_receiver.proofs.StoreLemmas.{none_some}
-use Rattle.mold_receiver.proofs.SlotLemmas.{bytes_none, bytes_put, bytes_released, empty_view, moved_view}
 
--- Bytes are appended.
-pub more_on : (old : Shelf) (bytes : Vec ℕ Global) (more : List ℕ) → IsKept old → bytes.items ≡ old.bytes.items ++ more →
-    slots_on (record old { bytes = bytes }) ≡ slots_on old
-more_on old bytes more kept joins =
-    ap (λ (t : List ℕ). slots_in t old.ring.items) joins
-    ∙ slots_more old.bytes.items more old.ring.items kept.within
+-- The places of a shelf.
+abbrev pub places_on : Shelf → List (Option Place)
+places_on shelf = places_of shelf.ring.items
 
-pub kept_more : (old : Shelf) (bytes : Vec ℕ Global) (more : List ℕ) → IsKept old →
-    bytes.items ≡ old.bytes.items ++ more → length old.bytes.items + length more < 2 ^ 32 →
-    IsKept (record old { bytes = bytes })
-kept_more old bytes more kept joins few =
-    let same : slots_on (record old { bytes = bytes }) ≡ slots_on old = more_on old bytes more kept joins in
-    let long : length bytes.items ≡ length old.bytes.items + length more =
-    ap (λ (t : List ℕ). length t) joins ∙ length-append old.bytes.items more in
-    let longer : length old.bytes.items ≤ length bytes.items = omega (arith, long) in
-    record {
-      slots = subst (λ (t : List Slot). AreSlots t old.ring.capacity old.held old.clear old.reach) (sym same) kept.slots;
-      within = within_more old.ring.items (length old.bytes.items) (length bytes.items) kept.within longer;
-      used = kept.used ∙ sym (ap held_bytes same);
-      fits = omega (arith, kept.fits, longer);
-      few = omega (arith, few, long);
-    }
+-- Segments with a stored message keep their bytes, and blocks may be appended to them.
+has_more : (old : Shelf) (new : Segments) → IsKept old → AreMore old.segments new →
+    HasOld old.segments new (places_on old)
+has_more old new kept more = λ i place is.
+    more.bytes place.segment (omega (arith, kept.live place.segment, count_some (places_on old) i place is))
 
--- A message is put into an empty slot.
-pub put_on : (old : Shelf) (ring : Buffer (Option Span)) (slot : ℕ) (span : Span) →
-    ring ≡ record old.ring { items = slice_set old.ring.items slot (Some span) }
-    → slots_in old.bytes.items ring.items ≡
-    slice_set (slots_on old) slot (Some (message_in old.bytes.items span))
-put_on old ring slot span is =
-    ap (λ (r : Buffer (Option Span)). slots_in old.bytes.items r.items) is
-    ∙ map-set (option_map (message_in old.bytes.items)) old.ring.items slot (Some span)
+pub more_on : (old : Shelf) (new : Segments) → IsKept old → AreMore old.segments new →
+    slots_in new (places_on old) ≡ slots_on old
+more_on old new kept more =
+    slots_more old.segments new (places_on old) kept.within (has_more old new kept more)
+
+pub kept_more : (old : Shelf) (new : Segments) → IsKept old → AreSegments new → AreMore old.segments new →
+    IsKept (record old { segments = new })
+kept_more old new kept are more = record {
+  slots = subst (λ (t : List Slot). AreSlots t old.ring.capacity old.held old.clear)
+      (sym (more_on old new kept more)) kept.slots;
+  segments = are;
+  within = within_more old.segments new (places_on old) kept.within (has_more old new kept more);
+  live = λ key. more.live key ∙ kept.live key;
+}
+
+-- Segments with the same bytes have the same messages.
+has_same : (old new : Segments) (places : List (Option Place)) → ((key : ℕ) → bytes_at new key ≡ bytes_at old key) →
+    HasOld old new places
+has_same old new places same =
+    λ i place is. ([], same place.segment ∙ sym (append-nil (bytes_at old place.segment)))
 
 none_of : (o : Option Message) → is_none o ≡ true → o ≡ None
 none_of None none = refl
 none_of (Some m) none = absurd (cc none)
 
-pub kept_put : (old : Shelf) (ring : Buffer (Option Span)) (slot : ℕ) (span : Span) (clear : ℕ) →
-    IsKept old → ring ≡ record old.ring { items = slice_set old.ring.items slot (Some span) }
-    → is_fresh (slots_on old) slot ≡ true → span.start ≤ span.end → span.end ≤ length old.bytes.items
-    → old.used ≤ span.start → clear ≤ slot → (old.held ≡ 0) ⊎ (clear ≤ old.clear)
-    → IsKept (record {
-      ring = ring;
-      bytes = old.bytes;
-      held = old.held + 1;
-      used = old.used + (span.end - span.start);
-      clear = clear;
-      reach = max old.reach (slot + 1);
-    })
-kept_put old ring slot span clear kept is free ordered ends behind before known =
+-- A message is put into an empty slot.
+pub put_on : (old : Shelf) (segments : Segments) (places : List (Option Place)) (slot : ℕ) (place : Place) →
+    IsKept old → HasGained old.segments segments place.segment
+    → IsBlockAt (bytes_at old.segments place.segment) place.start
+    → slot < length (places_on old)
+    → places ≡ slice_set (places_on old) slot (Some place)
+    → slots_in segments places ≡ slice_set (slots_on old) slot (Some (message_on old.segments place))
+put_on old segments places slot place kept gained block there is =
+    ap (slots_in segments) is
+    ∙ slots_more old.segments segments (slice_set (places_on old) slot (Some place))
+    (within_put old.segments (places_on old) slot place kept.within there block)
+    (has_same old.segments segments (slice_set (places_on old) slot (Some place)) gained.bytes)
+    ∙ map-set (option_map (message_on old.segments)) (places_on old) slot (Some place)
+
+pub fresh_there : (old : Shelf) (slot : ℕ) → is_fresh (slots_on old) slot ≡ true → slot < length (places_on old)
+fresh_there old slot free =
+    let there : slot < length (slots_on old) = ltb-true slot (length (slots_on old))
+    (and_parts (ltb slot (length (slots_on old))) (is_none (slot_at (slots_on old) slot)) free).0 in
+    omega (
+      arith,
+      there,
+      length-map (places_on old) (option_map (message_on old.segments)),
+    )
+
+pub kept_put : (old : Shelf) (ring : Buffer Place) (segments : Segments) (slot : ℕ) (place : Place) (clear : ℕ) →
+    IsKept old → places_of ring.items ≡ slice_set (places_on old) slot (Some place)
+    → ring.capacity ≡ old.ring.capacity → AreSegments segments → HasGained old.segments segments place.segment
+    → is_fresh (slots_on old) slot ≡ true → IsBlockAt (bytes_at old.segments place.segment) place.start
+    → clear ≤ slot → (old.held ≡ 0) ⊎ (clear ≤ old.clear)
+    → IsKept (record { ring = ring; segments = segments; held = old.held + 1; clear = clear })
+kept_put old ring segments slot place clear kept is size are gained free block before known =
     let slots = slots_on old in
-    let m = message_in old.bytes.items span in
     let parts = and_parts _ (is_none (slot_at slots slot)) free in
     let there : slot < length slots = ltb-true slot (length slots) parts.0 in
     let empty : slot_at slots slot ≡ None = none_of (slot_at slots slot) parts.1 in
-    let as_wide : length old.ring.items ≡ length slots =
-    sym (length-map old.ring.items (option_map (message_in old.bytes.items))) in
-    let new : slots_in old.bytes.items ring.items ≡ slice_set slots slot (Some m) = put_on old ring slot span is in
-    let long : length m ≡ span.end - span.start = message_long old.bytes.items span ordered ends in
-    let size : ring.capacity ≡ old.ring.capacity = ap (λ (r : Buffer (Option Span)). r.capacity) is in
+    let inside : slot < length (places_on old) = fresh_there old slot free in
+    let message = message_on old.segments place in
+    let new : slots_in segments (places_of ring.items) ≡ slice_set slots slot (Some message) =
+    put_on old segments (places_of ring.items) slot place kept gained block inside is in
+    let set = slice_set (places_on old) slot (Some place) in
     record {
-      slots = subst (λ (t : List Slot). AreSlots t ring.capacity (old.held + 1) clear (max old.reach (slot + 1))) (sym new)
-          (subst (λ (n : ℕ). AreSlots (slice_set slots slot (Some m)) n (old.held + 1) clear (max old.reach (slot + 1)))
-          (sym size)
-          (are_put slots old.ring.capacity old.held old.clear old.reach slot m clear kept.slots there empty before known));
-      within = subst (λ (r : Buffer (Option Span)). AreWithin r.items (length old.bytes.items)) (sym is)
-          (within_put old.ring.items (length old.bytes.items) slot span kept.within (omega (arith, there, as_wide))
-          ordered ends);
-      used = (let sum : old.used + (span.end - span.start) ≡ held_bytes slots + length m =
-          omega (arith, kept.used, long) in sum)
-          ∙ sym (bytes_put slots slot m there empty) ∙ sym (ap held_bytes new);
-      fits = omega (arith, behind, ordered, ends);
-      few = kept.few;
+      slots = subst (λ (t : List Slot). AreSlots t ring.capacity (old.held + 1) clear) (sym new)
+          (subst (λ (n : ℕ). AreSlots (slice_set slots slot (Some message)) n (old.held + 1) clear) (sym size)
+          (are_put slots old.ring.capacity old.held old.clear slot message clear kept.slots there empty before known));
+      segments = are;
+      within = subst (λ (t : List (Option Place)). AreBlocksAt segments t) (sym is)
+          (within_more old.segments segments set
+          (within_put old.segments (places_on old) slot place kept.within inside block)
+          (has_same old.segments segments set gained.bytes));
+      live = λ key.
+          gained.live key
+          ∙ ap (λ (n : ℕ). n + one_at place.segment key) (kept.live key)
+          ∙ sym (count_put (places_on old) slot place key inside
+          (no_place old.segments (places_on old) slot empty))
+          ∙ ap (count_in key) (sym is);
     }
 
 -- The slots move by one.
-pub moved_on : (old : Shelf) (ring : Buffer (Option Span)) →
-    ring ≡ record old.ring { items = drop 1 old.ring.items ++ None ∷ [] }
-    → slots_in old.bytes.items ring.items ≡ drop 1 (slots_on old) ++ None ∷ []
-moved_on old ring is =
-    ap (λ (r : Buffer (Option Span)). slots_in old.bytes.items r.items) is
-    ∙ moved_view (message_in old.bytes.items) old.ring.items
+moved_on : (old : Shelf) (segments : Segments) (places : List (Option Place)) →
+    places ≡ drop 1 (places_on old) ++ None ∷ [] → AreBlocksAt old.segments places →
+    HasOld old.segments segments places → slots_in segments places ≡ drop 1 (slots_on old) ++ None ∷ []
+moved_on old segments places is within has =
+    slots_more old.segments segments places within has
+    ∙ ap (slots_in old.segments) is
+    ∙ moved_view (message_on old.segments) (places_on old)
 
-pub kept_moved : (old : Shelf) (ring : Buffer (Option Span)) (held used clear reach : ℕ) → IsKept old →
-    ring ≡ record old.ring { items = drop 1 old.ring.items ++ None ∷ [] }
-    → held ≡ old.held - cond (is_some (slot_at (slots_on old) 0)) 1 0
-    → used ≡ held_bytes (drop 1 (slots_on old) ++ None ∷ []) → used ≤ old.used
-    → clear ≡ old.clear - 1 → reach ≡ old.reach - 1
-    → IsKept (record { ring = ring; bytes = old.bytes; held = held; used = used; clear = clear; reach = reach })
-kept_moved old ring held used clear reach kept is counted sum less empties reaches =
+-- The state after the slots moved by one.
+pub record HasMoved (old : Shelf) (ring : Buffer Place) (segments : Segments) : Type 0 where
+  pub moved : places_of ring.items ≡ drop 1 (places_on old) ++ None ∷ []
+  pub size : ring.capacity ≡ old.ring.capacity
+  pub whole : AreSegments segments
+  pub has : HasOld old.segments segments (places_of ring.items)
+  pub live : (key : ℕ) → live_at segments key ≡ count_in key (places_of ring.items)
+
+within_after : (old : Shelf) (ring : Buffer Place) (segments : Segments) → IsKept old → HasMoved old ring segments →
+    AreBlocksAt old.segments (places_of ring.items)
+within_after old ring segments kept moved =
+    subst (λ (t : List (Option Place)). AreBlocksAt old.segments t) (sym moved.moved)
+    (within_moved old.segments (places_on old) kept.within)
+
+pub moved_slots : (old : Shelf) (ring : Buffer Place) (segments : Segments) → IsKept old → HasMoved old ring segments →
+    slots_in segments (places_of ring.items) ≡ drop 1 (slots_on old) ++ None ∷ []
+moved_slots old ring segments kept moved =
+    moved_on old segments (places_of ring.items) moved.moved (within_after old ring segments kept moved) moved.has
+
+pub kept_moved : (old : Shelf) (ring : Buffer Place) (segments : Segments) (held clear : ℕ) → IsKept old →
+    HasMoved old ring segments → held ≡ old.held - cond (is_some (slot_at (slots_on old) 0)) 1 0 →
+    clear ≡ old.clear - 1 → IsKept (record { ring = ring; segments = segments; held = held; clear = clear })
+kept_moved old ring segments held clear kept moved counted empties =
     let slots = slots_on old in
-    let new : slots_in old.bytes.items ring.items ≡ drop 1 slots ++ None ∷ [] = moved_on old ring is in
-    let size : ring.capacity ≡ old.ring.capacity = ap (λ (r : Buffer (Option Span)). r.capacity) is in
     record {
-      slots = rw (new, size, counted, empties, reaches)
-          (are_moved slots old.ring.capacity old.held old.clear old.reach kept.slots);
-      within = subst (λ (r : Buffer (Option Span)). AreWithin r.items (length old.bytes.items)) (sym is)
-          (within_moved old.ring.items (length old.bytes.items) kept.within);
-      used = sum ∙ sym (ap held_bytes new);
-      fits = omega (arith, less, kept.fits);
-      few = kept.few;
+      slots = rw (moved_slots old ring segments kept moved, moved.size, counted, empties)
+          (are_moved slots old.ring.capacity old.held old.clear kept.slots);
+      segments = moved.whole;
+      within = within_more old.segments segments (places_of ring.items) (within_after old ring segments kept moved)
+          moved.has;
+      live = moved.live;
     }
 
 -- The first slot was empty.
-pub kept_moved_none : (old : Shelf) (ring : Buffer (Option Span)) (clear reach : ℕ) → IsKept old →
-    ring ≡ record old.ring { items = drop 1 old.ring.items ++ None ∷ [] } → span_at old.ring.items 0 ≡ None
-    → clear ≡ old.clear - 1 → reach ≡ old.reach - 1
-    → IsKept (record {
-      ring = ring;
-      bytes = old.bytes;
-      held = old.held;
-      used = old.used;
-      clear = clear;
-      reach = reach;
-    })
-kept_moved_none old ring clear reach kept is first empties reaches =
+pub moved_none : (old : Shelf) (ring : Buffer Place) → IsKept old →
+    places_of ring.items ≡ drop 1 (places_on old) ++ None ∷ [] → ring.capacity ≡ old.ring.capacity
+    → place_at (places_on old) 0 ≡ None → HasMoved old ring old.segments
+moved_none old ring kept is size first = record {
+  moved = is;
+  size = size;
+  whole = kept.segments;
+  has = has_same old.segments old.segments (places_of ring.items) (λ key. refl);
+  live = λ key. kept.live key ∙ sym (count_moved_none (places_on old) key first) ∙ ap (count_in key) (sym is);
+}
+
+pub count_after_none : (old : Shelf) → place_at (places_on old) 0 ≡ None →
+    old.held ≡ old.held - cond (is_some (slot_at (slots_on old) 0)) 1 0
+count_after_none old first =
     let none : slot_at (slots_on old) 0 ≡ None =
-    slot_in old.bytes.items old.ring.items 0 ∙ ap (option_map (message_in old.bytes.items)) first in
+    slot_in old.segments (places_on old) 0 ∙ ap (option_map (message_on old.segments)) first in
     let same : old.held ≡ old.held - 0 = omega arith in
-    kept_moved old ring old.held old.used clear reach kept is
-    (same ∙ ap (λ (o : Option Message). old.held - cond (is_some o) 1 0) (sym none))
-    (kept.used ∙ sym (bytes_moved (slots_on old) none)) (omega arith) empties reaches
+    same ∙ ap (λ (o : Option Message). old.held - cond (is_some o) 1 0) (sym none)
 
 -- The first slot had a message.
-pub kept_moved_some : (old : Shelf) (ring : Buffer (Option Span)) (span : Span) (clear reach : ℕ) → IsKept old →
-    ring ≡ record old.ring { items = drop 1 old.ring.items ++ None ∷ [] } → span_at old.ring.items 0 ≡ Some span
-    → clear ≡ old.clear - 1 → reach ≡ old.reach - 1
-    → IsKept (record {
-      ring = ring;
-      bytes = old.bytes;
-      held = old.held - 1;
-      used = old.used - (span.end - span.start);
-      clear = clear;
-      reach = reach;
-    })
-kept_moved_some old ring span clear reach kept is first empties reaches =
-    let m = message_in old.bytes.items span in
-    let some : slot_at (slots_on old) 0 ≡ Some m =
-    slot_in old.bytes.items old.ring.items 0 ∙ ap (option_map (message_in old.bytes.items)) first in
-    let here = kept.within 0 span first in
-    kept_moved old ring (old.held - 1) (old.used - (span.end - span.start)) clear reach kept is
-    (ap (λ (o : Option Message). old.held - cond (is_some o) 1 0) (sym some))
-    (omega (
-      arith,
-      kept.used,
-      bytes_released (slots_on old) m some,
-      message_long old.bytes.items span here.0 here.1,
-    ))
-    (omega arith) empties reaches
+pub moved_some : (old : Shelf) (ring : Buffer Place) (segments : Segments) (place : Place) → IsKept old →
+    places_of ring.items ≡ drop 1 (places_on old) ++ None ∷ [] → ring.capacity ≡ old.ring.capacity
+    → place_at (places_on old) 0 ≡ Some place → AreSegments segments
+    → HasLost old.segments segments place.segment → HasMoved old ring segments
+moved_some old ring segments place kept is size first are lost =
+    let live : (key : ℕ) → live_at segments key ≡ count_in key (places_of ring.items) = λ key.
+    lost.live key
+    ∙ ap (λ (n : ℕ). n - one_at place.segment key) (kept.live key)
+    ∙ sym (count_moved_some (places_on old) place key first)
+    ∙ ap (count_in key) (sym is) in
+    record {
+      moved = is;
+      size = size;
+      whole = are;
+      has = λ i p at. (
+        [],
+        lost.bytes p.segment (omega (arith, live p.segment, count_some (places_of ring.items) i p at))
+            ∙ sym (append-nil (bytes_at old.segments p.segment)),
+      );
+      live = live;
+    }
+
+some_first : (old : Shelf) (place : Place) → place_at (places_on old) 0 ≡ Some place →
+    slot_at (slots_on old) 0 ≡ Some (message_on old.segments place)
+some_first old place first =
+    slot_in old.segments (places_on old) 0 ∙ ap (option_map (message_on old.segments)) first
+
+pub count_after_some : (old : Shelf) (place : Place) → place_at (places_on old) 0 ≡ Some place →
+    old.held - 1 ≡ old.held - cond (is_some (slot_at (slots_on old) 0)) 1 0
+count_after_some old place first =
+    ap (λ (o : Option Message). old.held - cond (is_some o) 1 0) (sym (some_first old place first))
 
 count_first : (slots : List Slot) (m : Message) → slot_at slots 0 ≡ Some m → 0 < count_held slots
 count_first [] m is = absurd (none_some is)
@@ -175,75 +213,37 @@ count_first (None ∷ slots) m is = absurd (none_some is)
 count_first (Some x ∷ slots) m is = omega arith
 
 -- Facts about the first slot's message.
-pub first_fits : (old : Shelf) (span : Span) → IsKept old → span_at old.ring.items 0 ≡ Some span →
-    (0 < old.held) × (span.start ≤ span.end) × (span.end - span.start ≤ old.used)
-first_fits old span kept first =
-    let m = message_in old.bytes.items span in
-    let some : slot_at (slots_on old) 0 ≡ Some m =
-    slot_in old.bytes.items old.ring.items 0 ∙ ap (option_map (message_in old.bytes.items)) first in
-    let here = kept.within 0 span first in (
-      omega (arith, kept.slots.counted, count_first (slots_on old) m some),
-      here.0,
-      omega (
-        arith,
-        kept.used,
-        bytes_released (slots_on old) m some,
-        message_long old.bytes.items span here.0 here.1,
-      ),
-    )
+pub first_held : (old : Shelf) (place : Place) → IsKept old → place_at (places_on old) 0 ≡ Some place →
+    (0 < old.held) × (0 < live_at old.segments place.segment)
+first_held old place kept first = (
+  omega (
+    arith,
+    kept.slots.counted,
+    count_first (slots_on old) (message_on old.segments place) (some_first old place first),
+  ),
+  omega (arith, kept.live place.segment, count_some (places_on old) 0 place first),
+)
 
--- All slots are empty, and there are no bytes.
-pub kept_new : (ring : Buffer (Option Span)) (bytes : Vec ℕ Global) (window : ℕ) → 0 < window → window ≤ 65536 →
-    ring ≡ record { items = replicate window None; capacity = window } → bytes.items ≡ [] →
-    IsKept (record { ring = ring; bytes = bytes; held = 0; used = 0; clear = 0; reach = 0 })
-kept_new ring bytes window some few is none_yet =
-    subst (λ (r : Buffer (Option Span)).
-    IsKept (record { ring = r; bytes = bytes; held = 0; used = 0; clear = 0; reach = 0 })) (sym is)
-    (let none : slots_in bytes.items (replicate window None) ≡ replicate window None =
-    empty_view (message_in bytes.items) window in
-    record {
-      slots = subst (λ (t : List Slot). AreSlots t window 0 0 0) (sym none) (are_empty window some few);
-      within = none_within bytes.items (replicate window None) (length bytes.items)
-          (ap count_held none ∙ count_empty window);
-      used = sym (ap held_bytes none ∙ bytes_empty window);
-      fits = omega arith;
-      few = omega (arith, ap (λ (t : List ℕ). length t) none_yet);
-    })
+-- All slots are empty, and no segment has a message.
+pub new_on : (ring : Buffer Place) (segments : Segments) (window : ℕ) →
+    places_of ring.items ≡ replicate window None → slots_in segments (places_of ring.items) ≡ replicate window None
+new_on ring segments window is = ap (slots_in segments) is ∙ empty_view (message_on segments) window
 
--- The bytes are removed if all slots are empty.
-pub gone_on : (old : Shelf) (bytes : Vec ℕ Global) → IsKept old → old.held ≡ 0 →
-    slots_in bytes.items old.ring.items ≡ slots_on old
-gone_on old bytes kept none =
-    none_slots old.bytes.items bytes.items old.ring.items (sym kept.slots.counted ∙ none)
-
-pub kept_gone : (old : Shelf) (bytes : Vec ℕ Global) → IsKept old → old.held ≡ 0 → bytes.items ≡ [] → IsKept (record {
-  ring = old.ring;
-  bytes = bytes;
-  held = old.held;
-  used = old.used;
-  clear = old.clear;
-  reach = 0;
-})
-kept_gone old bytes kept none gone =
-    let slots = slots_on old in
-    let count : count_held slots ≡ 0 = sym kept.slots.counted ∙ none in
-    let same : slots_in bytes.items old.ring.items ≡ slots = gone_on old bytes kept none in
-    let empty : old.used ≡ 0 = kept.used ∙ bytes_none slots count in
-    record {
-      slots = subst (λ (t : List Slot). AreSlots t old.ring.capacity old.held old.clear 0) (sym same) (record {
-        some = kept.slots.some;
-        few = kept.slots.few;
-        full = kept.slots.full;
-        counted = kept.slots.counted;
-        empty = kept.slots.empty;
-        behind = λ i from. all_empty slots count i;
-        reached = omega arith;
-      });
-      within = none_within old.bytes.items old.ring.items (length bytes.items) count;
-      used = kept.used ∙ sym (ap held_bytes same);
-      fits = omega (arith, empty);
-      few = omega (arith, ap (λ (t : List ℕ). length t) gone);
-    }
+pub kept_new : (ring : Buffer Place) (segments : Segments) (window : ℕ) → 0 < window → window ≤ 65536 →
+    places_of ring.items ≡ replicate window None → ring.capacity ≡ window → AreSegments segments →
+    ((key : ℕ) → live_at segments key ≡ 0) →
+    IsKept (record { ring = ring; segments = segments; held = 0; clear = 0 })
+kept_new ring segments window some few is size are none = record {
+  slots = rw (new_on ring segments window is, size) (are_empty window some few);
+  segments = are;
+  within = λ i place at. absurd (omega (
+    arith,
+    count_some (places_of ring.items) i place at,
+    ap (count_in place.segment) is,
+    count_none window place.segment,
+  ));
+  live = λ key. none key ∙ sym (ap (count_in key) is ∙ count_none window key);
+}
 
 -- More slots at the start of the ring are known to be empty.
 pub kept_clear : (old : Shelf) (clear : ℕ) → IsKept old → ((i : ℕ) → i < clear → slot_at (slots_on old) i ≡ None) →
@@ -255,50 +255,8 @@ kept_clear old clear kept empty = record {
     full = kept.slots.full;
     counted = kept.slots.counted;
     empty = empty;
-    behind = kept.slots.behind;
-    reached = kept.slots.reached;
   };
+  segments = kept.segments;
   within = kept.within;
-  used = kept.used;
-  fits = kept.fits;
-  few = kept.few;
+  live = kept.live;
 }
-
--- The messages are joined, and their spans follow one another without waste.
-pub packed_on : (old : Shelf) (ring : Buffer (Option Span)) (bytes : Vec ℕ Global) → IsKept old →
-    ring ≡ record old.ring { items = closed_up 0 old.ring.items } → bytes.items ≡ joined (slots_on old) →
-    slots_in bytes.items ring.items ≡ slots_on old
-packed_on old ring bytes kept is joins =
-    ap (λ (r : Buffer (Option Span)). slots_in bytes.items r.items) is
-    ∙ ap (λ (t : List ℕ). slots_in t (closed_up 0 old.ring.items)) joins
-    ∙ packed_slots old.bytes.items old.ring.items kept.within
-
-pub packed_length : (old : Shelf) (bytes : Vec ℕ Global) → IsKept old → bytes.items ≡ joined (slots_on old) →
-    length bytes.items ≡ old.used
-packed_length old bytes kept joins =
-    ap (λ (t : List ℕ). length t) joins ∙ length-joined (slots_on old) ∙ sym kept.used
-
-pub kept_packed : (old : Shelf) (ring : Buffer (Option Span)) (bytes : Vec ℕ Global) → IsKept old →
-    ring ≡ record old.ring { items = closed_up 0 old.ring.items } → bytes.items ≡ joined (slots_on old) →
-    IsKept (record {
-      ring = ring;
-      bytes = bytes;
-      held = old.held;
-      used = old.used;
-      clear = old.clear;
-      reach = old.reach;
-    })
-kept_packed old ring bytes kept is joins =
-    let same : slots_in bytes.items ring.items ≡ slots_on old = packed_on old ring bytes kept is joins in
-    let size : ring.capacity ≡ old.ring.capacity = ap (λ (r : Buffer (Option Span)). r.capacity) is in
-    let long : length bytes.items ≡ old.used = packed_length old bytes kept joins in
-    record {
-      slots = rw (same, size) kept.slots;
-      within = subst (λ (r : Buffer (Option Span)). AreWithin r.items (length bytes.items)) (sym is)
-          (within_more (closed_up 0 old.ring.items) (joined_length old.ring.items) (length bytes.items)
-          (packed_within old.ring.items)
-          (omega (arith, joined_held old.bytes.items old.ring.items kept.within, kept.used, long)));
-      used = kept.used ∙ sym (ap held_bytes same);
-      fits = omega (arith, long);
-      few = omega (arith, long, kept.fits, kept.few);
-    }

@@ -17,5 +17,5 @@ pub mod GapLemmas
 pub mod ArbiterLemmas
 pub mod MarkLemmas
 pub mod ShelfLemmas
-pub mod PackLemmas
+pub mod SegmentLemmas
 pub mod KeptLemmas

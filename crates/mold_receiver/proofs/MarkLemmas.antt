@@ -2,8 +2,10 @@
 use Rattle.std.proofs.Common.{◌≡◌, ℕ, ◌+◌, ◌≤◌, List, [], ◌∷◌, ◌++◌, length, length-append, take, drop}
 use Rattle.std.proofs.Common.{append_assoc, refl, sym, ap, ◌∙◌, arith}
 use Rattle.std.proofs.lemmas.List.{append-nil, drop-drop, drop_at, length-drop, take_at}
-use Rattle.mold_wire.specs.Block.{be16, block, blocks}
+use Rattle.mold_wire.specs.Block.{IsMessage, be16, block, blocks}
+use Rattle.byteorder.specs.Endian.{big_number}
 use Rattle.mold_receiver.specs.Handing.{HasMore}
+use Rattle.mold_receiver.specs.Places.{IsBlockAt, length_at, message_in}
 use Rattle.mold_receiver.specs.Store.{Message}
 
 two_long : (n : ℕ) → length (be16 n) ≡ 2
@@ -42,6 +44,27 @@ is_there bytes at message messages there =
           ∙ ap (drop (length message)) from
           ∙ drop_at message (blocks messages) (length message) refl;
     }
+
+-- The block of a message that is short enough is read as that message.
+pub length_there :
+    (bytes : List ℕ) (at : ℕ) (message : Message) (messages : List Message) → IsMessage message →
+    drop at bytes ≡ blocks (message ∷ messages) → length_at bytes at ≡ length message
+length_there bytes at message messages short there =
+    ap (λ (t : List ℕ). big_number 2 (take 2 t)) (there
+    ∙ append_assoc (be16 (length message)) message (blocks messages)) ∙ omega (arith, short)
+
+pub block_there :
+    (bytes : List ℕ) (at : ℕ) (message : Message) (messages : List Message) → IsMessage message →
+    drop at bytes ≡ blocks (message ∷ messages) → IsBlockAt bytes at
+block_there bytes at message messages short there =
+    omega (arith, length_there bytes at message messages short there, (is_there bytes at message messages there).within)
+
+pub message_there :
+    (bytes : List ℕ) (at : ℕ) (message : Message) (messages : List Message) → IsMessage message →
+    drop at bytes ≡ blocks (message ∷ messages) → message_in bytes at ≡ message
+message_there bytes at message messages short there =
+    ap (λ (n : ℕ). take n (drop (at + 2) bytes)) (length_there bytes at message messages short there)
+    ∙ (is_there bytes at message messages there).lies
 
 -- The state of a loop that marks messages: those already marked, and those that remain.
 pub record IsMarking (old new left whole : List Message) : Type 0 where

@@ -1,129 +1,197 @@
--- Spans, and the slots that they represent.
-use Rattle.std.proofs.Common.{◌≡◌, ℕ, zero, suc, ◌-◌, ◌<◌, ◌≤◌, List, [], ◌∷◌, ◌++◌, length, take, drop, slice_set}
-use Rattle.std.proofs.Common.{refl, sym, ap, subst, ◌∙◌, inl, inr, arith}
-use Rattle.std.specs.Prelude.{Option, None, Some}
+-- Places, and the slots that they represent.
+use Rattle.std.proofs.Common.{◌≡◌, ℕ, zero, suc, ◌+◌, ◌-◌, ◌<◌, ◌≤◌, Bool, true, false, cond, eqb, List, [], ◌∷◌, ◌++◌, length}
+use Rattle.std.proofs.Common.{take, drop, slice_set, replicate, refl, sym, ap, subst, ◌∙◌, inl, inr, arith}
+use Rattle.std.specs.Prelude.{Option, None, Some, slice_get}
 use Rattle.std.specs.Option.{option_map}
-use Rattle.std.proofs.lemmas.Bool.{cases_eq}
-use Rattle.std.proofs.lemmas.List.{length-take-le, length-drop, take-append-le, drop-append-le}
-use Rattle.mold_receiver.specs.declared.span.Span.{Span}
-use Rattle.mold_receiver.specs.Shelf.{AreWithin, joined_length, message_in}
-use Rattle.mold_receiver.specs.Shelf.{slots_in, span_at}
-use Rattle.mold_receiver.specs.Slots.{Slot, count_held, held_bytes, slot_at}
+use Rattle.byteorder.specs.Endian.{big_number}
+use Rattle.std.proofs.lemmas.Bool.{cases_eq, eq-eqb}
+use Rattle.std.proofs.lemmas.List.{length-append, length-drop, take-append-le, drop-append-le}
+use Rattle.mold_receiver.specs.declared.place.Place.{Place}
+use Rattle.mold_receiver.specs.declared.segments.Segments.{Segments}
+use Rattle.mold_receiver.specs.Places.{IsBlockAt, count_in, length_at, message_in, place_at}
+use Rattle.mold_receiver.specs.Segments.{bytes_at, one_at}
+use Rattle.mold_receiver.specs.Shelf.{AreBlocksAt, message_on, slots_in}
+use Rattle.mold_receiver.specs.Slots.{Slot, count_held, slot_at}
 use Rattle.mold_receiver.specs.Store.{Message}
-use Rattle.mold_receiver.proofs.SlotLemmas.{all_empty}
 use Rattle.mold_receiver.proofs.StoreLemmas.{none_some}
 
--- A slot's message, from its span.
-pub slot_in : (bytes : List ℕ) (spans : List (Option Span)) (i : ℕ) →
-    slot_at (slots_in bytes spans) i ≡ option_map (message_in bytes) (span_at spans i)
-slot_in bytes [] i = refl
-slot_in bytes (None ∷ spans) zero = refl
-slot_in bytes (Some span ∷ spans) zero = refl
-slot_in bytes (slot ∷ spans) (suc i) = slot_in bytes spans i
+-- A slot's message, from its place.
+pub slot_in : (segments : Segments) (places : List (Option Place)) (i : ℕ) →
+    slot_at (slots_in segments places) i ≡ option_map (message_on segments) (place_at places i)
+slot_in segments [] i = refl
+slot_in segments (None ∷ places) zero = refl
+slot_in segments (Some place ∷ places) zero = refl
+slot_in segments (slot ∷ places) (suc i) = slot_in segments places i
 
-no_message : (bytes : List ℕ) (slot : Option Span) → option_map (message_in bytes) slot ≡ None → slot ≡ None
-no_message bytes None none = refl
-no_message bytes (Some span) none = absurd (cc none)
+no_message : (segments : Segments) (slot : Option Place) → option_map (message_on segments) slot ≡ None → slot ≡ None
+no_message segments None none = refl
+no_message segments (Some place) none = absurd (cc none)
 
--- An empty slot has no span.
-pub no_span : (bytes : List ℕ) (spans : List (Option Span)) (i : ℕ) → slot_at (slots_in bytes spans) i ≡ None →
-    span_at spans i ≡ None
-no_span bytes spans i none = no_message bytes (span_at spans i) (sym (slot_in bytes spans i) ∙ none)
+-- An empty slot has no place.
+pub no_place : (segments : Segments) (places : List (Option Place)) (i : ℕ) →
+    slot_at (slots_in segments places) i ≡ None → place_at places i ≡ None
+no_place segments places i none = no_message segments (place_at places i) (sym (slot_in segments places i) ∙ none)
 
-pub message_long : (bytes : List ℕ) (span : Span) → span.start ≤ span.end → span.end ≤ length bytes →
-    length (message_in bytes span) ≡ span.end - span.start
-message_long bytes span ordered ends =
-    length-take-le (span.end - span.start) (drop span.start bytes) (omega (arith, length-drop span.start bytes))
+-- The slots are the same if each place has the same message.
+slots_same : (old new : Segments) (places : List (Option Place))
+    → ((i : ℕ) (place : Place) → place_at places i ≡ Some place → message_on new place ≡ message_on old place)
+    → slots_in new places ≡ slots_in old places
+slots_same old new [] same = refl
+slots_same old new (None ∷ places) same =
+    ap (λ (t : List Slot). None ∷ t) (slots_same old new places (λ i p is. same (suc i) p is))
+slots_same old new (Some place ∷ places) same =
+    ap (λ (m : Message). Some m ∷ slots_in new places) (same 0 place refl)
+    ∙ ap (λ (t : List Slot). Some (message_on old place) ∷ t) (slots_same old new places (λ i p is. same (suc i) p is))
 
-message_more : (bytes more : List ℕ) (span : Span) → span.start ≤ span.end → span.end ≤ length bytes →
-    message_in (bytes ++ more) span ≡ message_in bytes span
-message_more bytes more span ordered ends =
-    ap (λ (t : List ℕ). take (span.end - span.start) t) (drop-append-le span.start bytes more (omega arith))
-    ∙ take-append-le (span.end - span.start) (drop span.start bytes) more (omega (arith, length-drop span.start bytes))
+-- Bytes that are appended change no message.
+length_more : (bytes more : List ℕ) (start : ℕ) → IsBlockAt bytes start →
+    length_at (bytes ++ more) start ≡ length_at bytes start
+length_more bytes more start there =
+    ap (λ (t : List ℕ). big_number 2 (take 2 t)) (drop-append-le start bytes more (omega (arith, there)))
+    ∙ ap (λ (t : List ℕ). big_number 2 t)
+    (take-append-le 2 (drop start bytes) more (omega (arith, there, length-drop start bytes)))
 
--- Appended bytes change no message.
-pub slots_more : (bytes more : List ℕ) (spans : List (Option Span)) → AreWithin spans (length bytes) →
-    slots_in (bytes ++ more) spans ≡ slots_in bytes spans
-slots_more bytes more [] within = refl
-slots_more bytes more (None ∷ spans) within =
-    ap (λ (t : List Slot). None ∷ t) (slots_more bytes more spans (λ i s is. within (suc i) s is))
-slots_more bytes more (Some span ∷ spans) within =
-    let here = within 0 span refl in
-    ap (λ (m : Message). Some m ∷ slots_in (bytes ++ more) spans) (message_more bytes more span here.0 here.1)
-    ∙ ap (λ (t : List Slot). Some (message_in bytes span) ∷ t)
-    (slots_more bytes more spans (λ i s is. within (suc i) s is))
+pub block_more : (bytes more : List ℕ) (start : ℕ) → IsBlockAt bytes start → IsBlockAt (bytes ++ more) start
+block_more bytes more start there =
+    omega (arith, there, length_more bytes more start there, length-append bytes more)
 
-span_put_same : (spans : List (Option Span)) (i : ℕ) (slot : Option Span) → i < length spans →
-    span_at (slice_set spans i slot) i ≡ slot
-span_put_same [] i slot within = absurd (omega arith)
-span_put_same (s ∷ spans) zero slot within = refl
-span_put_same (s ∷ spans) (suc i) slot within = span_put_same spans i slot (omega arith)
+pub message_more : (bytes more : List ℕ) (start : ℕ) → IsBlockAt bytes start →
+    message_in (bytes ++ more) start ≡ message_in bytes start
+message_more bytes more start there =
+    ap (λ (n : ℕ). take n (drop (start + 2) (bytes ++ more))) (length_more bytes more start there)
+    ∙ ap (λ (t : List ℕ). take (length_at bytes start) t)
+    (drop-append-le (start + 2) bytes more (omega (arith, there)))
+    ∙ take-append-le (length_at bytes start) (drop (start + 2) bytes) more
+    (omega (arith, there, length-drop (start + 2) bytes))
 
-span_put_other : (spans : List (Option Span)) (i : ℕ) (slot : Option Span) (at : ℕ) → (at ≡ i → ⊥) →
-    span_at (slice_set spans i slot) at ≡ span_at spans at
-span_put_other [] i slot at other = refl
-span_put_other (s ∷ spans) zero slot zero other = absurd (other refl)
-span_put_other (s ∷ spans) zero slot (suc at) other = refl
-span_put_other (s ∷ spans) (suc i) slot zero other = refl
-span_put_other (s ∷ spans) (suc i) slot (suc at) other = span_put_other spans i slot at (λ e. other (ap suc e))
+-- The segments of the places have their old bytes, and more bytes may follow them.
+abbrev pub HasOld : Segments → Segments → List (Option Place) → Type 0
+HasOld old new places =
+    (i : ℕ) (place : Place) → place_at places i ≡ Some place →
+    (more : List ℕ) × (bytes_at new place.segment ≡ bytes_at old place.segment ++ more)
 
--- Emptying an empty slot changes nothing.
-pub set_none : (spans : List (Option Span)) (i : ℕ) → span_at spans i ≡ None → slice_set spans i None ≡ spans
-set_none [] i none = refl
-set_none (None ∷ spans) zero none = refl
-set_none (Some span ∷ spans) zero none = absurd (none_some (sym none))
-set_none (slot ∷ spans) (suc i) none = ap (λ (t : List (Option Span)). slot ∷ t) (set_none spans i none)
+pub slots_more : (old new : Segments) (places : List (Option Place)) → AreBlocksAt old places →
+    HasOld old new places → slots_in new places ≡ slots_in old places
+slots_more old new places within has = slots_same old new places (λ i place is.
+    let here = has i place is in
+    ap (λ (t : List ℕ). message_in t place.start) here.1
+    ∙ message_more (bytes_at old place.segment) here.0 place.start (within i place is))
 
--- If a span within the bytes is written, all spans are within the bytes.
-pub within_put : (spans : List (Option Span)) (total i : ℕ) (span : Span) → AreWithin spans total → i < length spans →
-    span.start ≤ span.end → span.end ≤ total → AreWithin (slice_set spans i (Some span)) total
-within_put spans total i span within there ordered ends = λ at s is. elim (cases_eq at i) [
+pub within_more : (old new : Segments) (places : List (Option Place)) → AreBlocksAt old places →
+    HasOld old new places → AreBlocksAt new places
+within_more old new places within has = λ i place is.
+    let here = has i place is in
+    subst (λ (t : List ℕ). IsBlockAt t place.start) (sym here.1)
+    (block_more (bytes_at old place.segment) here.0 place.start (within i place is))
+
+place_put_same : (places : List (Option Place)) (i : ℕ) (slot : Option Place) → i < length places →
+    place_at (slice_set places i slot) i ≡ slot
+place_put_same [] i slot within = absurd (omega arith)
+place_put_same (s ∷ places) zero slot within = refl
+place_put_same (s ∷ places) (suc i) slot within = place_put_same places i slot (omega arith)
+
+place_put_other : (places : List (Option Place)) (i : ℕ) (slot : Option Place) (at : ℕ) → (at ≡ i → ⊥) →
+    place_at (slice_set places i slot) at ≡ place_at places at
+place_put_other [] i slot at other = refl
+place_put_other (s ∷ places) zero slot zero other = absurd (other refl)
+place_put_other (s ∷ places) zero slot (suc at) other = refl
+place_put_other (s ∷ places) (suc i) slot zero other = refl
+place_put_other (s ∷ places) (suc i) slot (suc at) other = place_put_other places i slot at (λ e. other (ap suc e))
+
+-- If a place with a block is written, blocks are at all places.
+pub within_put : (segments : Segments) (places : List (Option Place)) (i : ℕ) (place : Place) →
+    AreBlocksAt segments places → i < length places → IsBlockAt (bytes_at segments place.segment) place.start →
+    AreBlocksAt segments (slice_set places i (Some place))
+within_put segments places i place within there block = λ at p is. elim (cases_eq at i) [
   | inl same ↦
-      let here : Some span ≡ Some s = sym (span_put_same spans i (Some span) there)
-      ∙ subst (λ (n : ℕ). span_at (slice_set spans i (Some span)) n ≡ Some s) same is in
-      let it : span ≡ s = cc here in
-      subst (λ (x : Span). (x.start ≤ x.end) × (x.end ≤ total)) it (ordered, ends)
-  | inr other ↦ within at s (sym (span_put_other spans i (Some span) at other) ∙ is)
+      let here : Some place ≡ Some p = sym (place_put_same places i (Some place) there)
+      ∙ subst (λ (n : ℕ). place_at (slice_set places i (Some place)) n ≡ Some p) same is in
+      let it : place ≡ p = cc here in
+      subst (λ (x : Place). IsBlockAt (bytes_at segments x.segment) x.start) it block
+  | inr other ↦ within at p (sym (place_put_other places i (Some place) at other) ∙ is)
 ]
 
-span_padded : (spans : List (Option Span)) (i : ℕ) → span_at (spans ++ None ∷ []) i ≡ span_at spans i
-span_padded [] zero = refl
-span_padded [] (suc i) = refl
-span_padded (s ∷ spans) zero = refl
-span_padded (s ∷ spans) (suc i) = span_padded spans i
+place_padded : (places : List (Option Place)) (i : ℕ) → place_at (places ++ None ∷ []) i ≡ place_at places i
+place_padded [] zero = refl
+place_padded [] (suc i) = refl
+place_padded (s ∷ places) zero = refl
+place_padded (s ∷ places) (suc i) = place_padded places i
 
-span_moved : (spans : List (Option Span)) (i : ℕ) → span_at (drop 1 spans ++ None ∷ []) i ≡ span_at spans (suc i)
-span_moved [] zero = refl
-span_moved [] (suc i) = refl
-span_moved (s ∷ spans) i = span_padded spans i
+place_moved : (places : List (Option Place)) (i : ℕ) →
+    place_at (drop 1 places ++ None ∷ []) i ≡ place_at places (suc i)
+place_moved [] zero = refl
+place_moved [] (suc i) = refl
+place_moved (s ∷ places) i = place_padded places i
 
-pub within_moved : (spans : List (Option Span)) (total : ℕ) → AreWithin spans total →
-    AreWithin (drop 1 spans ++ None ∷ []) total
-within_moved spans total within = λ i s is. within (suc i) s (sym (span_moved spans i) ∙ is)
+pub within_moved : (segments : Segments) (places : List (Option Place)) → AreBlocksAt segments places →
+    AreBlocksAt segments (drop 1 places ++ None ∷ [])
+within_moved segments places within = λ i place is. within (suc i) place (sym (place_moved places i) ∙ is)
 
-pub within_more : (spans : List (Option Span)) (total more : ℕ) → AreWithin spans total → total ≤ more →
-    AreWithin spans more
-within_more spans total more within longer =
-    λ i s is. let here = within i s is in (here.0, omega (arith, here.1, longer))
+-- Counts of the places in a segment.
+one_itself : (key : ℕ) → one_at key key ≡ 1
+one_itself key = ap {B = ℕ} (λ (b : Bool). cond b 1 0) (eq-eqb key key refl)
 
--- If all slots are empty, the spans are within any bytes.
-pub none_within : (bytes : List ℕ) (spans : List (Option Span)) (total : ℕ) → count_held (slots_in bytes spans) ≡ 0 →
-    AreWithin spans total
-none_within bytes spans total none =
-    λ i s is. absurd (none_some (sym (no_span bytes spans i (all_empty (slots_in bytes spans) none i)) ∙ is))
+pub count_some : (places : List (Option Place)) (i : ℕ) (place : Place) → place_at places i ≡ Some place →
+    0 < count_in place.segment places
+count_some [] i place is = absurd (none_some is)
+count_some (None ∷ places) zero place is = absurd (none_some is)
+count_some (Some p ∷ places) zero place is =
+    let it : p ≡ place = cc is in
+    subst (λ (x : Place). 0 < one_at x.segment place.segment + count_in place.segment places) (sym it)
+    (omega (arith, one_itself place.segment))
+count_some (None ∷ places) (suc i) place is = count_some places i place is
+count_some (Some p ∷ places) (suc i) place is = omega (arith, count_some places i place is)
 
-pub none_slots : (bytes others : List ℕ) (spans : List (Option Span)) → count_held (slots_in bytes spans) ≡ 0 →
-    slots_in others spans ≡ slots_in bytes spans
-none_slots bytes others [] none = refl
-none_slots bytes others (None ∷ spans) none =
-    ap (λ (t : List Slot). None ∷ t) (none_slots bytes others spans (omega (arith, none)))
-none_slots bytes others (Some span ∷ spans) none = absurd (omega (arith, none))
+pub count_put : (places : List (Option Place)) (i : ℕ) (place : Place) (key : ℕ) → i < length places →
+    place_at places i ≡ None →
+    count_in key (slice_set places i (Some place)) ≡ count_in key places + one_at place.segment key
+count_put [] i place key within free = absurd (omega arith)
+count_put (None ∷ places) zero place key within free = omega arith
+count_put (Some p ∷ places) zero place key within free = absurd (none_some (sym free))
+count_put (None ∷ places) (suc i) place key within free = count_put places i place key (omega arith) free
+count_put (Some p ∷ places) (suc i) place key within free =
+    omega (arith, count_put places i place key (omega arith) free)
 
--- Spans are as long as their messages.
-pub joined_held : (bytes : List ℕ) (spans : List (Option Span)) → AreWithin spans (length bytes) →
-    joined_length spans ≡ held_bytes (slots_in bytes spans)
-joined_held bytes [] within = refl
-joined_held bytes (None ∷ spans) within = omega (arith, joined_held bytes spans (λ i s is. within (suc i) s is))
-joined_held bytes (Some span ∷ spans) within =
-    let here = within 0 span refl in
-    omega (arith, message_long bytes span here.0 here.1, joined_held bytes spans (λ i s is. within (suc i) s is))
+count_padded : (places : List (Option Place)) (key : ℕ) → count_in key (places ++ None ∷ []) ≡ count_in key places
+count_padded [] key = refl
+count_padded (None ∷ places) key = count_padded places key
+count_padded (Some p ∷ places) key = ap (λ (n : ℕ). one_at p.segment key + n) (count_padded places key)
+
+pub count_moved_none : (places : List (Option Place)) (key : ℕ) → place_at places 0 ≡ None →
+    count_in key (drop 1 places ++ None ∷ []) ≡ count_in key places
+count_moved_none [] key none = refl
+count_moved_none (None ∷ places) key none = count_padded places key
+count_moved_none (Some p ∷ places) key none = absurd (none_some (sym none))
+
+pub count_moved_some : (places : List (Option Place)) (place : Place) (key : ℕ) → place_at places 0 ≡ Some place →
+    count_in key (drop 1 places ++ None ∷ []) ≡ count_in key places - one_at place.segment key
+count_moved_some [] place key is = absurd (none_some is)
+count_moved_some (None ∷ places) place key is = absurd (none_some is)
+count_moved_some (Some p ∷ places) place key is =
+    let it : p ≡ place = cc is in
+    omega (arith, count_padded places key, ap (λ (x : Place). one_at x.segment key) it)
+
+pub count_none : (n key : ℕ) → count_in key (replicate n None) ≡ 0
+count_none zero key = refl
+count_none (suc n) key = count_none n key
+
+one_most : (segment key : ℕ) → one_at segment key ≤ 1
+one_most segment key =
+    elim (eqb segment key) as (λ (b : Bool). ◌≤◌ (cond {A = ℕ} b 1 0) 1) [
+      | true ↦ omega arith
+      | false ↦ omega arith
+    ]
+
+-- A segment has at most as many messages as all slots.
+pub count_held_in : (segments : Segments) (places : List (Option Place)) (key : ℕ) →
+    count_in key places ≤ count_held (slots_in segments places)
+count_held_in segments [] key = omega arith
+count_held_in segments (None ∷ places) key = omega (arith, count_held_in segments places key)
+count_held_in segments (Some p ∷ places) key =
+    omega (arith, count_held_in segments places key, one_most p.segment key)
+
+-- A slot of the ring that exists has a place.
+pub there_some : (ring : List Place) (i : ℕ) → i < length ring → slice_get ring i ≡ None → ⊥
+there_some [] i within none = omega (arith, within)
+there_some (place ∷ ring) zero within none = none_some (sym none)
+there_some (place ∷ ring) (suc i) within none = there_some ring i (omega (arith, within)) none

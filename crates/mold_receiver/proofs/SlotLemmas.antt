@@ -1,6 +1,6 @@
 -- Slots, and the store that they represent.
 use Rattle.std.proofs.Common.{◌≡◌, ℕ, zero, suc, ◌+◌, ◌-◌, ◌<◌, ◌≤◌, ◌⊎◌, Bool, true, false, cond, eqb, leb, ◌&&◌, List}
-use Rattle.std.proofs.Common.{[], ◌∷◌, ◌++◌, length, length-append, drop, replicate, slice_set, append_assoc, refl, sym, max}
+use Rattle.std.proofs.Common.{[], ◌∷◌, ◌++◌, length, length-append, drop, replicate, slice_set, append_assoc, refl, sym}
 use Rattle.std.proofs.Common.{ap, subst, ◌∙◌, inl, inr, arith, nat_cmp}
 use Rattle.std.specs.Prelude.{Option, None, Some, is_some, slice_get, map}
 use Rattle.std.specs.Cmp.{nat_cmp_total}
@@ -13,7 +13,7 @@ use Rattle.std.proofs.lemmas.Option.{slice_get_past}
 use Rattle.std.proofs.lemmas.List.{length-replicate, length-set, length-drop, drop-drop, drop-append-le, replicate_more}
 use Rattle.std.proofs.lemmas.List.{drop-replicate, replicate-append-replicate}
 use Rattle.mold_receiver.specs.Store.{Message, differs}
-use Rattle.mold_receiver.specs.Slots.{Slot, slot_at, slot_entries, store_of, count_held, held_bytes, AreSlots}
+use Rattle.mold_receiver.specs.Slots.{Slot, slot_at, slot_entries, store_of, count_held, AreSlots}
 use Rattle.mold_receiver.proofs.StoreLemmas.{get_made, none_some}
 
 pub count_within : (slots : List Slot) → count_held slots ≤ length slots
@@ -52,41 +52,6 @@ count_put (None ∷ slots) (suc i) message within =
     count_behind (is_some (slot_at slots i)) 0 (count_held slots) _ (count_put slots i message (omega arith))
 count_put (Some m ∷ slots) (suc i) message within =
     count_behind (is_some (slot_at slots i)) 1 (count_held slots) _ (count_put slots i message (omega arith))
-
-bytes-push : (slots : List Slot) → held_bytes (slots ++ None ∷ []) ≡ held_bytes slots
-bytes-push [] = refl
-bytes-push (None ∷ slots) = bytes-push slots
-bytes-push (Some m ∷ slots) = ap (λ (n : ℕ). length m + n) (bytes-push slots)
-
--- The bytes that are held after the slots move: all but those of the first slot.
-pub bytes_moved : (slots : List Slot) → slot_at slots 0 ≡ None → held_bytes (drop 1 slots ++ None ∷ []) ≡ held_bytes slots
-bytes_moved [] none = refl
-bytes_moved (None ∷ slots) none = bytes-push slots
-bytes_moved (Some m ∷ slots) none = absurd (none_some (sym none))
-
-pub bytes_released : (slots : List Slot) (m : Message) → slot_at slots 0 ≡ Some m →
-    held_bytes (drop 1 slots ++ None ∷ []) + length m ≡ held_bytes slots
-bytes_released [] m is = absurd (none_some is)
-bytes_released (None ∷ slots) m is = absurd (none_some is)
-bytes_released (Some x ∷ slots) m is =
-    let it : x ≡ m = cc is in omega (arith, bytes-push slots, ap (λ (t : Message). length t) it)
-
-pub bytes_put : (slots : List Slot) (i : ℕ) (m : Message) → i < length slots → slot_at slots i ≡ None →
-    held_bytes (slice_set slots i (Some m)) ≡ held_bytes slots + length m
-bytes_put [] i m within free = absurd (omega arith)
-bytes_put (None ∷ slots) zero m within free = omega arith
-bytes_put (Some x ∷ slots) zero m within free = absurd (none_some (sym free))
-bytes_put (None ∷ slots) (suc i) m within free = bytes_put slots i m (omega arith) free
-bytes_put (Some x ∷ slots) (suc i) m within free = omega (arith, bytes_put slots i m (omega arith) free)
-
-pub bytes_empty : (n : ℕ) → held_bytes (replicate n None) ≡ 0
-bytes_empty zero = refl
-bytes_empty (suc n) = bytes_empty n
-
-pub bytes_none : (slots : List Slot) → count_held slots ≡ 0 → held_bytes slots ≡ 0
-bytes_none [] none = refl
-bytes_none (None ∷ slots) none = bytes_none slots (omega (arith, none))
-bytes_none (Some m ∷ slots) none = absurd (omega (arith, none))
 
 slot_put_same : (slots : List Slot) (i : ℕ) (slot : Slot) → i < length slots → slot_at (slice_set slots i slot) i ≡ slot
 slot_put_same [] i slot within = absurd (omega arith)
@@ -181,9 +146,9 @@ all_empty (None ∷ slots) none (suc i) = all_empty slots (omega (arith, none)) 
 all_empty (Some m ∷ slots) none i = absurd (omega (arith, none))
 
 -- The ring stays valid.
-pub are_moved : (slots : List Slot) (capacity count clear reach : ℕ) → AreSlots slots capacity count clear reach →
-    AreSlots (drop 1 slots ++ None ∷ []) capacity (count - cond (is_some (slot_at slots 0)) 1 0) (clear - 1) (reach - 1)
-are_moved slots capacity count clear reach are =
+pub are_moved : (slots : List Slot) (capacity count clear : ℕ) → AreSlots slots capacity count clear →
+    AreSlots (drop 1 slots ++ None ∷ []) capacity (count - cond (is_some (slot_at slots 0)) 1 0) (clear - 1)
+are_moved slots capacity count clear are =
     let same : length (drop 1 slots ++ None ∷ []) ≡ length slots =
     omega (arith, are.some, length-append (drop 1 slots) (None ∷ []), length-drop 1 slots) in
     record {
@@ -192,15 +157,13 @@ are_moved slots capacity count clear reach are =
       full = same ∙ are.full;
       counted = ap (λ (n : ℕ). n - cond (is_some (slot_at slots 0)) 1 0) are.counted ∙ sym (count_moved slots);
       empty = λ i below. slot_moved 1 slots i ∙ are.empty (1 + i) (omega (arith, below));
-      behind = λ i from. slot_moved 1 slots i ∙ are.behind (1 + i) (omega (arith, from));
-      reached = omega (arith, are.reached, same);
     }
 
-pub are_put : (slots : List Slot) (capacity count clear reach i : ℕ) (message : Message) (n : ℕ) →
-    AreSlots slots capacity count clear reach → i < length slots → slot_at slots i ≡ None → n ≤ i
+pub are_put : (slots : List Slot) (capacity count clear i : ℕ) (message : Message) (n : ℕ) →
+    AreSlots slots capacity count clear → i < length slots → slot_at slots i ≡ None → n ≤ i
     → (count ≡ 0) ⊎ (n ≤ clear)
-    → AreSlots (slice_set slots i (Some message)) capacity (count + 1) n (max reach (i + 1))
-are_put slots capacity count clear reach i message n are within free before known =
+    → AreSlots (slice_set slots i (Some message)) capacity (count + 1) n
+are_put slots capacity count clear i message n are within free before known =
     let same : length (slice_set slots i (Some message)) ≡ length slots = length-set slots i (Some message) in
     record {
       some = omega (arith, are.some, same);
@@ -213,9 +176,6 @@ are_put slots capacity count clear reach i message n are within free before know
         | inl none ↦ all_empty slots (sym are.counted ∙ none) at
         | inr less ↦ are.empty at (omega (arith, below, less))
       ];
-      behind = λ at from. slot_put_other slots i (Some message) at (λ e. omega (arith, from, e))
-          ∙ are.behind at (omega (arith, from));
-      reached = omega (arith, are.reached, same, within);
     }
 
 pub slot_view : {V : Type 0} (g : V → Message) (xs : List (Option V)) (i : ℕ) →
@@ -230,7 +190,7 @@ put_past [] i slot past = refl
 put_past (s ∷ slots) zero slot past = absurd (omega arith)
 put_past (s ∷ slots) (suc i) slot past = ap (λ (t : List Slot). s ∷ t) (put_past slots i slot (omega arith))
 
-pub are_empty : (n : ℕ) → 0 < n → n ≤ 65536 → AreSlots (replicate n None) n 0 0 0
+pub are_empty : (n : ℕ) → 0 < n → n ≤ 65536 → AreSlots (replicate n None) n 0 0
 are_empty n some few =
     let same : length (replicate {A = Slot} n None) ≡ n = length-replicate n None in
     record {
@@ -239,8 +199,6 @@ are_empty n some few =
       full = same;
       counted = sym (count_empty n);
       empty = λ i below. absurd (omega (arith, below));
-      behind = λ i from. slot_empty n i;
-      reached = omega arith;
     }
 
 -- Look-ups in a list of slots, from look-ups in its rest.

@@ -5,6 +5,8 @@ pub mod Receive
 pub mod Wanted
 pub mod Batch
 pub mod Slots
+pub mod Places
+pub mod Segments
 pub mod Shelf
 pub mod Keeping
 pub mod Handing

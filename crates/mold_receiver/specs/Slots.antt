@@ -33,22 +33,14 @@ abbrev pub count_held : List Slot → ℕ
 count_held [] = 0
 count_held (slot ∷ slots) = (if is_some slot then 1 else 0) + count_held slots
 
--- The number of bytes of all messages in the slots together.
-abbrev pub held_bytes : List Slot → ℕ
-held_bytes [] = 0
-held_bytes (None ∷ slots) = held_bytes slots
-held_bytes (Some message ∷ slots) = length message + held_bytes slots
-
 -- The slots are those of a ring with this capacity, which is a valid window. The first `clear` slots are empty, and
--- so are the slots from `reach` on. `count` slots have a message.
-pub record AreSlots (slots : List Slot) (capacity count clear reach : ℕ) : Type 0 where
+-- `count` slots have a message.
+pub record AreSlots (slots : List Slot) (capacity count clear : ℕ) : Type 0 where
   pub some : 0 < length slots
   pub few : length slots ≤ MAX_WINDOW
   pub full : length slots ≡ capacity
   pub counted : count ≡ count_held slots
   pub empty : (i : ℕ) → i < clear → slot_at slots i ≡ None
-  pub behind : (i : ℕ) → reach ≤ i → slot_at slots i ≡ None
-  pub reached : reach ≤ length slots
 
 -- The slot is the first one with a message among the first `most` slots. It is `most` if these are empty.
 pub record IsFirstHeld (slots : List Slot) (most slot : ℕ) : Type 0 where

@@ -1,13 +1,15 @@
 //! Storage: the messages of a packet above a gap.
 
-ghost use Rattle.std.specs.Prelude.{◌≡◌, ◌↔◌, ◌+◌, ◌<◌, ◌≤◌, ◌^◌, length, drop, IfOk, OnOk, OnErr, IsTrue};
+ghost use Rattle.std.specs.Prelude.{◌≡◌, ◌↔◌, ◌+◌, ◌<◌, ◌^◌, length, IfOk, OnOk, OnErr, IsTrue};
+ghost use Rattle.std.specs.List.{AllByRecursion};
 ghost use Rattle.mold_receiver.specs.Keeping.{filled, fresh};
+ghost use Rattle.mold_receiver.specs.Segments.{IsAppended};
 ghost use Rattle.mold_receiver.specs.Shelf.{IsKept, slots_on};
-ghost use Rattle.mold_wire.specs.Block.{blocks as packed};
+ghost use Rattle.mold_wire.specs.Block.{IsMessage, blocks as packed};
 ghost use Rattle.mold_wire.specs.declared.header.TheConstants.{END_OF_SESSION};
 
+use crate::place::Place;
 use crate::shelf::Shelf;
-use crate::span::Span;
 use mold_wire::{Blocks, LENGTH_BYTES};
 use std::alloc::{AllocError, Global};
 
@@ -26,31 +28,30 @@ fn has_fresh(shelf: &Shelf, first: u64, blocks: &Blocks<'_>) -> bool
     false
 }
 
-// Puts the messages whose blocks start at the offset `begin` into their slots, if these are empty. Returns how many
-// it put.
-fn mark_blocks(shelf: &mut Shelf, first: u64, begin: usize, blocks: &Blocks<'_>) -> u32
+// Puts the messages whose blocks start at the place `begin` into their slots, if these are empty. Returns how many it
+// put.
+fn mark_blocks(shelf: &mut Shelf, first: u64, begin: Place, blocks: &Blocks<'_>) -> u32
     requires kept { IsKept shelf.old }
     requires numbered { first + length blocks.now < 2 ^ 64 }
     requires few { length blocks.now < END_OF_SESSION }
-    requires behind { shelf.old.used ≤ begin }
-    requires there { drop begin shelf.old.bytes.items ≡ packed blocks.now }
+    requires each { AllByRecursion IsMessage blocks.now }
+    requires there { IsAppended shelf.old.segments begin (packed blocks.now) }
     ensures kept { IsKept shelf.new }
     ensures filled { slots_on shelf.new ≡ filled (slots_on shelf.old) first blocks.now }
     ensures count { result ≡ length (fresh (slots_on shelf.old) first blocks.now) }
 {
-    let mut at = begin;
+    let mut at = begin.start as usize;
     let mut slot = first;
     let mut count = 0;
     for message in blocks.iter() {
-        let start = at + LENGTH_BYTES;
-        at = start + message.len();
-        let span = Span {
-            start: start as u32,
-            end: at as u32,
+        let place = Place {
+            segment: begin.segment,
+            start: at as u32,
         };
-        if shelf.mark_free(slot, span) {
+        if shelf.mark_free(slot, place) {
             count += 1;
         }
+        at += LENGTH_BYTES + message.len();
         slot += 1;
     }
     count
@@ -77,7 +78,6 @@ pub(crate) fn keep_fresh(
     if !has_fresh(shelf, first, blocks) {
         return Ok(0);
     }
-    shelf.tidy(alloc)?;
-    let begin = shelf.append(blocks.bytes())?;
+    let begin = shelf.append(alloc, blocks.bytes())?;
     Ok(mark_blocks(shelf, first, begin, blocks))
 }

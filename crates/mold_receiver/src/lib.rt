@@ -11,11 +11,13 @@ mod keep;
 pub mod laws;
 mod line;
 mod origin;
+mod place;
 mod receiver;
 mod ring;
+mod segment;
+mod segments;
 mod shelf;
 mod slots;
-mod span;
 mod taken;
 
 pub use arbiter::Arbiter;

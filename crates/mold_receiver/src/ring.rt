@@ -1,12 +1,10 @@
-//! The ring of spans. A slot is empty or has the span of its message.
+//! The ring of places. A slot is empty or has the place of its message.
 
-ghost use Rattle.std.specs.Prelude.{◌≡◌, ◌+◌, ◌<◌, ◌≤◌, ◌^◌, ◌++◌, ◌∷◌, [], length, drop, replicate, slice_set, IfOk};
-ghost use Rattle.std.specs.Prelude.{None, Some};
-ghost use Rattle.mold_receiver.specs.declared.span.Span.{Span};
-ghost use Rattle.mold_receiver.specs.Shelf.{AreNoneFrom, AreOrdered, closed_up, joined_length, moved_to, size_of};
-ghost use Rattle.mold_receiver.specs.Shelf.{span_at};
+ghost use Rattle.std.specs.Prelude.{◌≡◌, ◌<◌, ◌≤◌, ◌++◌, ◌∷◌, [], length, drop, replicate, slice_set, IfOk, None, Some};
+ghost use Rattle.mold_receiver.specs.Places.{place_at, places_of};
+ghost use Rattle.mold_receiver.specs.declared.place.TheConstants.{NO_START};
 
-use crate::span::Span;
+use crate::place::Place;
 use circular_buffer::HeapCircularBuffer;
 use std::alloc::{AllocError, Global};
 
@@ -14,80 +12,49 @@ use std::alloc::{AllocError, Global};
 pub(crate) fn empty_ring(
     alloc: Global,
     window: u32,
-) -> Result<HeapCircularBuffer<Option<Span>>, AllocError>
-    ensures { IfOk result (λ ring. ring ≡ record { items = replicate window None; capacity = window }) }
+) -> Result<HeapCircularBuffer<Place>, AllocError>
+    ensures empty { IfOk result (λ ring. places_of ring.items ≡ replicate window None) }
+    ensures full { IfOk result (λ ring. ring.capacity ≡ window) }
 {
     let mut ring = HeapCircularBuffer::with_capacity(alloc, window as usize)?;
     for _ in 0..window {
-        ring.push_back(None);
+        ring.push_back(Place::none());
     }
     Ok(ring)
 }
 
 /// Drops the first slot, appends an empty one, and returns what was in the first.
-pub(crate) fn advance(ring: &mut HeapCircularBuffer<Option<Span>>) -> Option<Span>
+pub(crate) fn advance(ring: &mut HeapCircularBuffer<Place>) -> Option<Place>
     requires some { 0 < length ring.old.items }
     requires full { length ring.old.items ≡ ring.old.capacity }
-    ensures moved { ring.new ≡ record ring.old { items = drop 1 ring.old.items ++ None ∷ [] } }
-    ensures first { result ≡ span_at ring.old.items 0 }
+    ensures moved { places_of ring.new.items ≡ drop 1 (places_of ring.old.items) ++ None ∷ [] }
+    ensures capacity { ring.new.capacity ≡ ring.old.capacity }
+    ensures first { result ≡ place_at (places_of ring.old.items) 0 }
 {
-    let first = ring.pop_front().flatten();
-    ring.push_back(None);
+    let first = place_in(ring, 0);
+    ring.pop_front();
+    ring.push_back(Place::none());
     first
 }
 
-/// Returns the span in a slot, or `None` if the slot is empty or doesn't exist.
-pub(crate) fn span_in(ring: &HeapCircularBuffer<Option<Span>>, slot: usize) -> Option<Span>
-    ensures { result ≡ span_at ring.now.items slot }
+/// Returns the place in a slot, or `None` if the slot is empty or doesn't exist.
+pub(crate) fn place_in(ring: &HeapCircularBuffer<Place>, slot: usize) -> Option<Place>
+    ensures { result ≡ place_at (places_of ring.now.items) slot }
 {
     match ring.get(slot) {
-        Some(span) => *span,
+        Some(place) => place.held(),
         None => None,
     }
 }
 
-/// Writes a span into a slot.
-pub(crate) fn write(ring: &mut HeapCircularBuffer<Option<Span>>, slot: usize, span: Span)
-    requires { slot < length ring.old.items }
-    ensures { ring.new ≡ record ring.old { items = slice_set ring.old.items slot (Some span) } }
-{
-    if let Some(place) = ring.get_mut(slot) {
-        *place = Some(span);
-    }
-}
-
-// Moves the span of a slot to the offset `at` and keeps its length. Returns the offset where the span now ends, or
-// `at` if the slot is empty.
-fn move_span(ring: &mut HeapCircularBuffer<Option<Span>>, slot: usize, at: u32) -> u32
+/// Writes a place into a slot.
+pub(crate) fn write(ring: &mut HeapCircularBuffer<Place>, slot: usize, place: Place)
     requires there { slot < length ring.old.items }
-    requires ordered { (span : Span) → span_at ring.old.items slot ≡ Some span → span.start ≤ span.end }
-    requires fits { at + size_of (span_at ring.old.items slot) < 2 ^ 32 }
-    ensures moved { ring.new ≡ record ring.old {
-      items = slice_set ring.old.items slot (moved_to at (span_at ring.old.items slot));
-    } }
-    ensures end { result ≡ at + size_of (span_at ring.old.items slot) }
+    requires some { place.start < NO_START }
+    ensures written { places_of ring.new.items ≡ slice_set (places_of ring.old.items) slot (Some place) }
+    ensures capacity { ring.new.capacity ≡ ring.old.capacity }
 {
-    match span_in(ring, slot) {
-        Some(span) => {
-            let end = at + (span.end - span.start);
-            write(ring, slot, Span { start: at, end });
-            end
-        }
-        None => at,
-    }
-}
-
-/// Moves the spans so that they follow one another without waste from the offset 0 on. The slots from `reach` on are
-/// empty.
-pub(crate) fn close_up(ring: &mut HeapCircularBuffer<Option<Span>>, reach: usize)
-    requires within { reach ≤ length ring.old.items }
-    requires none { AreNoneFrom reach ring.old.items }
-    requires ordered { AreOrdered ring.old.items }
-    requires fits { joined_length ring.old.items < 2 ^ 32 }
-    ensures { ring.new ≡ record ring.old { items = closed_up 0 ring.old.items } }
-{
-    let mut at = 0;
-    for slot in 0..reach {
-        at = move_span(ring, slot, at);
+    if let Some(here) = ring.get_mut(slot) {
+        *here = place;
     }
 }

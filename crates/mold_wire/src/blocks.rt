@@ -29,7 +29,8 @@ impl<'a> Model for Blocks<'a> {
 }
 
 impl<'a> Blocks<'a> {
-    ghost use Rattle.mold_wire.specs.Block.{messages_at, AreBlocks, blocks};
+    ghost use Rattle.std.specs.List.{AllByRecursion};
+    ghost use Rattle.mold_wire.specs.Block.{messages_at, AreBlocks, IsMessage, blocks};
 
     pub(crate) fn new(count: u16, bytes: &'a [u8]) -> Blocks<'a>
         requires some { 0 < count }
@@ -50,7 +51,8 @@ impl<'a> Blocks<'a> {
 
     /// Returns the message blocks as they are in the datagram: each message follows its two length bytes.
     pub fn bytes(&self) -> &'a [u8]
-        ensures { result.now ≡ blocks self.now }
+        ensures blocks { result.now ≡ blocks self.now }
+        ensures each { AllByRecursion IsMessage self.now }
     {
         self.bytes
     }

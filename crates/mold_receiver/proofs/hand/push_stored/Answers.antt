@@ -1,4 +1,4 @@
-use Rattle.std.proofs.Common.{◌≡◌, ◌+◌, length, sym, ap, ◌∙◌, arith}
+use Rattle.std.proofs.Common.{◌+◌, length, sym, ap, ◌∙◌, arith}
 use Rattle.mold_receiver.specs.Batch.{followed_by}
 use Rattle.mold_receiver.proofs.BatchLemmas.{run_of_none}
 use Rattle.mold_receiver.proofs.hand.push_stored.Goals as goal

@@ -1,41 +1,24 @@
-use Rattle.std.proofs.Common.{◌≡◌, ℕ, suc, ◌+◌, ◌-◌, ◌∷◌, List, length, take, drop, cond, Bool, ap, sym, ◌∙◌, arith}
-use Rattle.std.proofs.Common.{add-one}
-use Rattle.mold_wire.specs.Block.{blocks}
+use Rattle.std.proofs.Common.{◌≡◌, ℕ, suc, ◌+◌, ◌∷◌, List, length, drop, cond, Bool, ap, sym, ◌∙◌, arith}
+use Rattle.std.proofs.Common.{add-one, subst}
+use Rattle.std.specs.List.{AllByRecursion}
+use Rattle.mold_wire.specs.Block.{IsMessage, blocks}
 use Rattle.mold_receiver.specs.Keeping.{filled, fresh, is_fresh, put_fresh}
+use Rattle.mold_receiver.specs.Segments.{bytes_at}
 use Rattle.mold_receiver.specs.Shelf.{slots_on}
 use Rattle.mold_receiver.specs.Slots.{Slot}
 use Rattle.mold_receiver.specs.Store.{Message}
 use Rattle.mold_receiver.proofs.KeepLemmas.{count_fresh, fresh_some}
 use Rattle.mold_receiver.proofs.AboveLemmas.{fresh_short}
-use Rattle.mold_receiver.proofs.MarkLemmas.{is_there}
+use Rattle.mold_receiver.proofs.MarkLemmas.{block_there, is_there, message_there}
 use Rattle.mold_receiver.proofs.keep.mark_blocks.Goals.{then-mark_free, else-mark_free}
 use Rattle.mold_receiver.proofs.keep.mark_blocks.Goals as goal
 
-pub overflow_cast-span : goal.overflow_cast-span
-overflow_cast-span c =
+pub mark_free-requires-clause-there : goal.mark_free-requires-clause-there
+mark_free-requires-clause-there c =
     let i = c.loop-message.invariant in
-    omega (
-      arith,
-      (is_there c.loop-message.shelf.bytes.items c.loop-message.at c.in-Some.message.now c.next.new.self
-          (i.there ∙ ap blocks c.in-Some.ensures.steps)).within,
-      i.kept.few,
-    )
-
-pub overflow_cast-span-in-loop-message : goal.overflow_cast-span-in-loop-message
-overflow_cast-span-in-loop-message c =
-    let i = c.loop-message.invariant in
-    omega (
-      arith,
-      (is_there c.loop-message.shelf.bytes.items c.loop-message.at c.in-Some.message.now c.next.new.self
-          (i.there ∙ ap blocks c.in-Some.ensures.steps)).within,
-      i.kept.few,
-    )
-
-pub mark_free-requires-clause-within : goal.mark_free-requires-clause-within
-mark_free-requires-clause-within c =
-    let i = c.loop-message.invariant in
-    (is_there c.loop-message.shelf.bytes.items c.loop-message.at c.in-Some.message.now c.next.new.self
-    (i.there ∙ ap blocks c.in-Some.ensures.steps)).within
+    block_there (bytes_at c.loop-message.shelf.segments c.args.begin.segment) c.loop-message.at c.in-Some.message.now
+    c.next.new.self (subst (AllByRecursion IsMessage) c.in-Some.ensures.steps i.each).0
+    (i.there ∙ ap blocks c.in-Some.ensures.steps)
 
 pub overflow_add-count : goal.overflow_add-count
 overflow_add-count c =
@@ -58,26 +41,27 @@ overflow_add-count c =
 pub loop-message-preserved : goal.loop-message-preserved
 loop-message-preserved c =
     let i = c.loop-message.invariant in
-    let bytes = c.loop-message.shelf.bytes.items in
+    let key = c.args.begin.segment in
+    let bytes = bytes_at c.loop-message.shelf.segments key in
     let at = c.loop-message.at in
     let slot = c.loop-message.slot in
     let slots = slots_on c.loop-message.shelf in
     let message = c.in-Some.message.now in
     let rest = c.next.new.self in
     let split : c.loop-message.message-iterator ≡ message ∷ rest = c.in-Some.ensures.steps in
-    let there = is_there bytes at message rest (i.there ∙ ap blocks split) in
-    let wide : at + 2 + length message - (at + 2) ≡ length message = omega arith in
+    let each = subst (AllByRecursion IsMessage) split i.each in
+    let here = i.there ∙ ap blocks split in
+    let there = is_there bytes at message rest here in
     let marked : slots_on c.mark_free.new.self ≡ put_fresh slots slot message =
-    c.mark_free.ensures.marked
-    ∙ ap (put_fresh slots slot) (ap (λ (n : ℕ). take n (drop (at + 2) bytes)) wide ∙ there.lies) in
-    let same : c.mark_free.new.self.bytes.items ≡ bytes = ap (λ b. b.items) c.mark_free.ensures.bytes in
+    c.mark_free.ensures.marked ∙ ap (put_fresh slots slot) (message_there bytes at message rest each.0 here) in
     let count : length (fresh slots slot (message ∷ rest)) ≡ cond (is_fresh slots slot) 1 0 +
     length (fresh (put_fresh slots slot message) (suc slot) rest) = count_fresh slots slot message rest in
+    let next : at + (2 + length message) ≡ at + 2 + length message = omega arith in
     record {
       kept = c.mark_free.ensures.kept;
-      bytes = c.mark_free.ensures.bytes ∙ i.bytes;
-      used = c.mark_free.ensures.used;
-      there = ap (drop (at + 2 + length message)) same ∙ there.behind;
+      each = each.1;
+      there = ap (λ (n : ℕ). drop n (bytes_at c.mark_free.new.self.segments key)) next
+          ∙ ap (drop (at + 2 + length message)) (c.mark_free.ensures.bytes key) ∙ there.behind;
       filled = ap (λ (t : List Slot). filled t (slot + 1) rest) marked
           ∙ ap (λ (n : ℕ). filled (put_fresh slots slot message) n rest) (add-one slot)
           ∙ sym (ap (filled slots slot) split) ∙ i.filled;

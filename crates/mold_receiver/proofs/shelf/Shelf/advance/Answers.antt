@@ -1,15 +1,28 @@
-use Rattle.std.proofs.Common.{sym}
-use Rattle.mold_receiver.proofs.KeptLemmas.{kept_moved_none, kept_moved_some}
+use Rattle.std.proofs.Common.{◌-◌, sym}
+use Rattle.mold_receiver.proofs.KeptLemmas.{count_after_none, count_after_some, kept_moved, moved_none, moved_slots}
+use Rattle.mold_receiver.proofs.KeptLemmas.{moved_some}
 use Rattle.mold_receiver.proofs.shelf.Shelf.advance.Goals as goal
 
 pub returns-in-Some-clause-kept : goal.returns-in-Some-clause-kept
 returns-in-Some-clause-kept c =
-    kept_moved_some c.args.self.now c.advance.new.ring c.in-Some.span c.saturating_sub-self.result
-    c.saturating_sub-self-2.result c.requires c.advance.ensures.moved (sym c.in-Some.ensures.first)
-    c.saturating_sub-self.ensures c.saturating_sub-self-2.ensures
+    let old = c.args.self.now in
+    let first = sym c.in-Some.ensures.first in
+    kept_moved old c.advance.new.ring c.let_go.new.self (old.held - 1) c.saturating_sub-self.result c.requires
+    (moved_some old c.advance.new.ring c.let_go.new.self c.in-Some.place c.requires c.advance.ensures.moved
+    c.advance.ensures.capacity first c.let_go.ensures.whole c.let_go.ensures.lost)
+    (count_after_some old c.in-Some.place first) c.saturating_sub-self.ensures
+
+pub returns-in-Some-clause-moved : goal.returns-in-Some-clause-moved
+returns-in-Some-clause-moved c =
+    let old = c.args.self.now in
+    moved_slots old c.advance.new.ring c.let_go.new.self c.requires
+    (moved_some old c.advance.new.ring c.let_go.new.self c.in-Some.place c.requires c.advance.ensures.moved
+    c.advance.ensures.capacity (sym c.in-Some.ensures.first) c.let_go.ensures.whole c.let_go.ensures.lost)
 
 pub returns-in-None-clause-kept : goal.returns-in-None-clause-kept
 returns-in-None-clause-kept c =
-    kept_moved_none c.args.self.now c.advance.new.ring c.saturating_sub-self.result c.saturating_sub-self-2.result
-    c.requires c.advance.ensures.moved (sym c.in-None.ensures.first) c.saturating_sub-self.ensures
-    c.saturating_sub-self-2.ensures
+    let old = c.args.self.now in
+    let first = sym c.in-None.ensures.first in
+    kept_moved old c.advance.new.ring old.segments old.held c.saturating_sub-self.result c.requires
+    (moved_none old c.advance.new.ring c.requires c.advance.ensures.moved c.advance.ensures.capacity first)
+    (count_after_none old first) c.saturating_sub-self.ensures

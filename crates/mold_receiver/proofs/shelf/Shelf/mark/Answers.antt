@@ -1,6 +1,8 @@
 use Rattle.std.proofs.Common.{arith}
+use Rattle.mold_receiver.specs.Places.{places_of}
 use Rattle.mold_receiver.specs.Shelf.{slots_on}
-use Rattle.mold_receiver.proofs.KeptLemmas.{kept_put, put_on}
+use Rattle.mold_receiver.proofs.KeptLemmas.{fresh_there, kept_put, put_on}
+use Rattle.mold_receiver.proofs.ShelfLemmas.{count_held_in}
 use Rattle.mold_receiver.proofs.SlotLemmas.{count_within}
 use Rattle.mold_receiver.proofs.shelf.Shelf.mark.Goals as goal
 
@@ -8,11 +10,25 @@ pub overflow_add-self : goal.overflow_add-self
 overflow_add-self c =
     omega (arith, c.requires.kept.slots.few, c.requires.kept.slots.counted, count_within (slots_on c.args.self.now))
 
+pub hold-requires-clause-few : goal.hold-requires-clause-few
+hold-requires-clause-few c =
+    let old = c.args.self.now in
+    omega (
+      arith,
+      c.requires.kept.slots.few,
+      count_within (slots_on old),
+      c.requires.kept.live c.args.place.segment,
+      count_held_in old.segments (places_of old.ring.items) c.args.place.segment,
+    )
+
 pub returns-clause-kept : goal.returns-clause-kept
-returns-clause-kept c = rw c.max-self.ensures
-    (kept_put c.args.self.now c.write.new.ring c.args.slot c.args.span c.clear_with-self.result c.requires.kept
-    c.write.ensures c.requires.free c.requires.ordered c.requires.within c.requires.behind
-    c.clear_with-self.ensures.before c.clear_with-self.ensures.known)
+returns-clause-kept c =
+    kept_put c.args.self.now c.write.new.ring c.hold.new.self c.args.slot c.args.place c.clear_with-self.result
+    c.requires.kept c.write.ensures.written c.write.ensures.capacity c.hold.ensures.whole c.hold.ensures.gained
+    c.requires.free c.requires.there c.clear_with-self.ensures.before c.clear_with-self.ensures.known
 
 pub returns-clause-marked : goal.returns-clause-marked
-returns-clause-marked c = put_on c.args.self.now c.write.new.ring c.args.slot c.args.span c.write.ensures
+returns-clause-marked c =
+    put_on c.args.self.now c.hold.new.self (places_of c.write.new.ring.items) c.args.slot c.args.place c.requires.kept
+    c.hold.ensures.gained c.requires.there (fresh_there c.args.self.now c.args.slot c.requires.free)
+    c.write.ensures.written

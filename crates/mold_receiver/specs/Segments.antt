@@ -1,0 +1,90 @@
+-- The segments of the store.
+use Rattle.std.specs.Prelude.{◌≡◌, ℕ, ◌+◌, ◌-◌, ◌<◌, ◌≤◌, ◌^◌, ◌⊎◌, ◌++◌, List, [], Option, None, Some, length, take, drop, max}
+use Rattle.std.specs.Prelude.{if◌then◌else◌, nat_eq, slice_get, vec_capacity, Vec}
+use Rattle.std.specs.Global.{Global}
+use Rattle.slab.specs.Slab.{get}
+use Rattle.mold_receiver.specs.declared.place.Place.{Place}
+use Rattle.mold_receiver.specs.declared.place.TheConstants.{NO_START}
+use Rattle.mold_receiver.specs.declared.segment.Segment.{Segment}
+use Rattle.mold_receiver.specs.declared.segment.TheConstants.{SEGMENT_BYTES}
+use Rattle.mold_receiver.specs.declared.segments.Segments.{Segments}
+use Rattle.mold_receiver.specs.declared.segments.TheConstants.{MAX_SPARE}
+
+-- The memory has this size, and nothing more is reserved.
+abbrev pub IsMemory : Vec ℕ Global → ℕ → Type 0
+IsMemory bytes size = (length bytes.items ≡ size) × (vec_capacity bytes ≤ size)
+
+-- The bytes of a segment that are in use.
+abbrev pub used_bytes : Segment → List ℕ
+used_bytes segment = take segment.used segment.bytes.items
+
+-- More of the segment's bytes are in use, and nothing else changed.
+pub record IsFilled (old new : Segment) (more : ℕ) : Type 0 where
+  pub used : new.used ≡ old.used + more
+  pub live : new.live ≡ old.live
+  pub size : length new.bytes.items ≡ length old.bytes.items
+  pub room : vec_capacity new.bytes ≡ vec_capacity old.bytes
+
+-- The segment's bytes in use are within its memory. The memory has at most `SEGMENT_BYTES` bytes, or those in use if
+-- these are more. Offsets in it fit a place.
+pub record IsSegment (segment : Segment) : Type 0 where
+  pub used : segment.used ≤ length segment.bytes.items
+  pub size : length segment.bytes.items ≤ max SEGMENT_BYTES segment.used
+  pub exact : vec_capacity segment.bytes ≤ length segment.bytes.items
+  pub few : segment.used < NO_START
+
+-- The bytes in use of a segment. No segment has none.
+abbrev pub bytes_of : Option Segment → List ℕ
+bytes_of None = []
+bytes_of (Some segment) = used_bytes segment
+
+-- The number of stored messages in a segment. No segment has none.
+abbrev pub live_of : Option Segment → ℕ
+live_of None = 0
+live_of (Some segment) = segment.live
+
+-- The bytes in use of the segment with this key.
+abbrev pub bytes_at : Segments → ℕ → List ℕ
+bytes_at segments key = bytes_of (get segments.table key)
+
+-- The number of stored messages in the segment with this key.
+abbrev pub live_at : Segments → ℕ → ℕ
+live_at segments key = live_of (get segments.table key)
+
+-- One for the key itself, zero for another one.
+abbrev pub one_at : ℕ → ℕ → ℕ
+one_at segment key = if nat_eq segment key then 1 else 0
+
+-- The memory is that of spare segments: at most `MAX_SPARE`, each of `SEGMENT_BYTES` bytes. The list has room for all
+-- of them.
+pub record AreSpare (spare : Vec (Vec ℕ Global) Global) : Type 0 where
+  pub each : (i : ℕ) (bytes : Vec ℕ Global) → slice_get spare.items i ≡ Some bytes → IsMemory bytes SEGMENT_BYTES
+  pub few : length spare.items ≤ MAX_SPARE
+  pub room : MAX_SPARE ≤ vec_capacity spare
+
+-- The segments are consistent. Each has a stored message, except the current one, and a key that fits a place.
+pub record AreSegments (segments : Segments) : Type 0 where
+  pub each : (key : ℕ) (segment : Segment) → get segments.table key ≡ Some segment → IsSegment segment
+  pub keys : (key : ℕ) (segment : Segment) → get segments.table key ≡ Some segment → key < 2 ^ 32
+  pub held : (key : ℕ) (segment : Segment) → get segments.table key ≡ Some segment →
+      (0 < segment.live) ⊎ (segments.current ≡ Some key)
+  pub spare : AreSpare segments.spare
+
+-- Segments with a stored message keep their bytes in use, and may have more bytes after them. No count changed.
+pub record AreMore (old new : Segments) : Type 0 where
+  pub live : (key : ℕ) → live_at new key ≡ live_at old key
+  pub bytes : (key : ℕ) → 0 < live_at old key → (more : List ℕ) × (bytes_at new key ≡ bytes_at old key ++ more)
+
+-- The segment with this key lost one of its stored messages. Segments with a stored message keep their bytes.
+pub record HasLost (old new : Segments) (lost : ℕ) : Type 0 where
+  pub live : (key : ℕ) → live_at new key ≡ live_at old key - one_at lost key
+  pub bytes : (key : ℕ) → 0 < live_at new key → bytes_at new key ≡ bytes_at old key
+
+-- The segment with this key got one more stored message. All segments keep their bytes.
+pub record HasGained (old new : Segments) (gained : ℕ) : Type 0 where
+  pub live : (key : ℕ) → live_at new key ≡ live_at old key + one_at gained key
+  pub bytes : (key : ℕ) → bytes_at new key ≡ bytes_at old key
+
+-- These bytes were appended: they are the last bytes in use of the place's segment, and begin at its start.
+abbrev pub IsAppended : Segments → Place → List ℕ → Type 0
+IsAppended segments place bytes = drop place.start (bytes_at segments place.segment) ≡ bytes
