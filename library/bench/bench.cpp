@@ -20,7 +20,8 @@
 
 namespace {
 
-constexpr std::uint32_t window = 1024;
+/// The window of the receivers, unless a kind of work needs a larger one.
+constexpr std::uint32_t usual_window = 1024;
 
 /// A datagram, and its line.
 struct Arrival {
@@ -33,6 +34,7 @@ struct Work {
     std::string name;
     std::vector<Arrival> arrivals;
     std::size_t at_once = 1;
+    std::uint32_t window = usual_window;
 };
 
 // ---- The kinds of work ----
@@ -109,6 +111,18 @@ Work never_empty_behind() {
     return work;
 }
 
+/// One message at the end of the window is stored. Then of each two messages the second arrives first. So each second
+/// datagram fills a gap, and the next stored message is far away.
+Work far_ahead(std::uint32_t window) {
+    Work work{"one at the end of " + std::to_string(window), {}};
+    work.window = window;
+    work.arrivals.push_back({datagram(window, 1, 0), MOLD_LINE_A});
+    for (std::uint64_t n = 1; n < 1000 && n + 1 < window; n += 2)
+        for (std::uint64_t sequence : {n + 1, n})
+            work.arrivals.push_back({datagram(sequence, 1, 0), MOLD_LINE_A});
+    return work;
+}
+
 // ---- The three receivers ----
 
 /// Sums over the delivered messages, so that the compiler cannot omit the work.
@@ -129,7 +143,7 @@ struct Sum {
 /// The time of a round in which the plain receiver passes messages to a function.
 template <bool keeps_memory>
 double by_function(const Work &work, Sum &sum) {
-    plain::Receiver<keeps_memory> receiver(session, 1, window);
+    plain::Receiver<keeps_memory> receiver(session, 1, work.window);
     mold_told told{};
     const Clock::time_point began = Clock::now();
     for (const Arrival &arrival : work.arrivals)
@@ -141,7 +155,7 @@ double by_function(const Work &work, Sum &sum) {
 /// The library's listener, with the method names of the plain one.
 class Library {
 public:
-    Library() {
+    explicit Library(std::uint32_t window) {
         if (mold_listener_new(&listener_, session, 1, window) != MOLD_DONE)
             stop("the listener cannot be made");
     }
@@ -166,14 +180,14 @@ private:
 
 template <bool keeps_memory>
 struct Plain : plain::Listener<keeps_memory> {
-    Plain() : plain::Listener<keeps_memory>(session, 1, window) {}
+    explicit Plain(std::uint32_t window) : plain::Listener<keeps_memory>(session, 1, window) {}
 };
 
 /// The time of a round in which one call returns all messages of the batch, which is then cleared. The batch is read
 /// after `at_once` datagrams.
 template <class Listener>
 double by_batch(const Work &work, Sum &sum) {
-    Listener listener;
+    Listener listener(work.window);
     std::vector<mold_bytes> room(64);
     mold_told told{};
     std::size_t handed = 0, taken = 0;
@@ -291,7 +305,7 @@ int main(int count, char **words) {
     std::printf(line, "nanoseconds a datagram", "plain,", "plain,", "", "library /");
     std::printf(line, "", "function", "copied", "library", "copied");
     for (const Work &work : {heartbeats(), in_order(1), in_order(10), in_order(30), in_order_at_once(1), repeated(),
-                             two_lines(), stored(), never_empty(), never_empty_behind()})
+                             two_lines(), stored(), never_empty(), never_empty_behind(), far_ahead(1024), far_ahead(65536)})
         run_row(work, rounds);
     run_threads(brief ? 3 : 200);
     return 0;

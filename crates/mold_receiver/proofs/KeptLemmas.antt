@@ -1,5 +1,5 @@
 -- The fields of a shelf stay consistent.
-use Rattle.std.proofs.Common.{◌≡◌, ℕ, ◌+◌, ◌-◌, ◌<◌, ◌≤◌, ◌⊎◌, true, cond, ltb, List, [], ◌∷◌, ◌++◌, length, drop}
+use Rattle.std.proofs.Common.{◌≡◌, ℕ, ◌+◌, ◌-◌, ◌<◌, ◌≤◌, Bool, true, false, cond, ltb, List, [], ◌∷◌, ◌++◌, length, drop}
 use Rattle.std.proofs.Common.{slice_set, replicate, refl, sym, ap, subst, ◌∙◌, arith}
 use Rattle.std.specs.Prelude.{Option, None, Some, is_some, is_none}
 use Rattle.std.specs.Option.{option_map}
@@ -38,7 +38,7 @@ more_on old new kept more =
 pub kept_more : (old : Shelf) (new : Segments) → IsKept old → AreSegments new → AreMore old.segments new →
     IsKept (record old { segments = new })
 kept_more old new kept are more = record {
-  slots = subst (λ (t : List Slot). AreSlots t old.ring.capacity old.held old.clear)
+  slots = subst (λ (t : List Slot). AreSlots t old.ring.capacity old.held old.occupied)
       (sym (more_on old new kept more)) kept.slots;
   segments = are;
   within = within_more old.segments new (places_on old) kept.within (has_more old new kept more);
@@ -79,13 +79,13 @@ fresh_there old slot free =
       length-map (places_on old) (option_map (message_on old.segments)),
     )
 
-pub kept_put : (old : Shelf) (ring : Buffer Place) (segments : Segments) (slot : ℕ) (place : Place) (clear : ℕ) →
+pub kept_put : (old : Shelf) (ring : Buffer Place) (segments : Segments) (slot : ℕ) (place : Place) (occupied : List Bool) →
     IsKept old → places_of ring.items ≡ slice_set (places_on old) slot (Some place)
     → ring.capacity ≡ old.ring.capacity → AreSegments segments → HasGained old.segments segments place.segment
     → is_fresh (slots_on old) slot ≡ true → IsBlockAt (bytes_at old.segments place.segment) place.start
-    → clear ≤ slot → (old.held ≡ 0) ⊎ (clear ≤ old.clear)
-    → IsKept (record { ring = ring; segments = segments; held = old.held + 1; clear = clear })
-kept_put old ring segments slot place clear kept is size are gained free block before known =
+    → occupied ≡ slice_set old.occupied slot true
+    → IsKept (record { ring = ring; occupied = occupied; segments = segments; held = old.held + 1 })
+kept_put old ring segments slot place occupied kept is size are gained free block flags =
     let slots = slots_on old in
     let parts = and_parts _ (is_none (slot_at slots slot)) free in
     let there : slot < length slots = ltb-true slot (length slots) parts.0 in
@@ -96,9 +96,8 @@ kept_put old ring segments slot place clear kept is size are gained free block b
     put_on old segments (places_of ring.items) slot place kept gained block inside is in
     let set = slice_set (places_on old) slot (Some place) in
     record {
-      slots = subst (λ (t : List Slot). AreSlots t ring.capacity (old.held + 1) clear) (sym new)
-          (subst (λ (n : ℕ). AreSlots (slice_set slots slot (Some message)) n (old.held + 1) clear) (sym size)
-          (are_put slots old.ring.capacity old.held old.clear slot message clear kept.slots there empty before known));
+      slots = rw (new, size, flags)
+          (are_put slots old.ring.capacity old.held old.occupied slot message kept.slots there empty);
       segments = are;
       within = subst (λ (t : List (Option Place)). AreBlocksAt segments t) (sym is)
           (within_more old.segments segments set
@@ -140,14 +139,15 @@ pub moved_slots : (old : Shelf) (ring : Buffer Place) (segments : Segments) → 
 moved_slots old ring segments kept moved =
     moved_on old segments (places_of ring.items) moved.moved (within_after old ring segments kept moved) moved.has
 
-pub kept_moved : (old : Shelf) (ring : Buffer Place) (segments : Segments) (held clear : ℕ) → IsKept old →
+pub kept_moved : (old : Shelf) (ring : Buffer Place) (segments : Segments) (held : ℕ) (occupied : List Bool) → IsKept old →
     HasMoved old ring segments → held ≡ old.held - cond (is_some (slot_at (slots_on old) 0)) 1 0 →
-    clear ≡ old.clear - 1 → IsKept (record { ring = ring; segments = segments; held = held; clear = clear })
-kept_moved old ring segments held clear kept moved counted empties =
+    occupied ≡ drop 1 old.occupied ++ false ∷ [] →
+    IsKept (record { ring = ring; occupied = occupied; segments = segments; held = held })
+kept_moved old ring segments held occupied kept moved counted flags =
     let slots = slots_on old in
     record {
-      slots = rw (moved_slots old ring segments kept moved, moved.size, counted, empties)
-          (are_moved slots old.ring.capacity old.held old.clear kept.slots);
+      slots = rw (moved_slots old ring segments kept moved, moved.size, counted, flags)
+          (are_moved slots old.ring.capacity old.held old.occupied kept.slots);
       segments = moved.whole;
       within = within_more old.segments segments (places_of ring.items) (within_after old ring segments kept moved)
           moved.has;
@@ -229,12 +229,13 @@ pub new_on : (ring : Buffer Place) (segments : Segments) (window : ℕ) →
     places_of ring.items ≡ replicate window None → slots_in segments (places_of ring.items) ≡ replicate window None
 new_on ring segments window is = ap (slots_in segments) is ∙ empty_view (message_on segments) window
 
-pub kept_new : (ring : Buffer Place) (segments : Segments) (window : ℕ) → 0 < window → window ≤ 65536 →
+pub kept_new : (ring : Buffer Place) (occupied : List Bool) (segments : Segments) (window : ℕ) → 0 < window → window ≤ 65536 →
     places_of ring.items ≡ replicate window None → ring.capacity ≡ window → AreSegments segments →
     ((key : ℕ) → live_at segments key ≡ 0) →
-    IsKept (record { ring = ring; segments = segments; held = 0; clear = 0 })
-kept_new ring segments window some few is size are none = record {
-  slots = rw (new_on ring segments window is, size) (are_empty window some few);
+    occupied ≡ replicate window false →
+    IsKept (record { ring = ring; occupied = occupied; segments = segments; held = 0 })
+kept_new ring occupied segments window some few is size are none flags = record {
+  slots = rw (new_on ring segments window is, size, flags) (are_empty window some few);
   segments = are;
   within = λ i place at. absurd (omega (
     arith,
@@ -243,20 +244,4 @@ kept_new ring segments window some few is size are none = record {
     count_none window place.segment,
   ));
   live = λ key. none key ∙ sym (ap (count_in key) is ∙ count_none window key);
-}
-
--- More slots at the start of the ring are known to be empty.
-pub kept_clear : (old : Shelf) (clear : ℕ) → IsKept old → ((i : ℕ) → i < clear → slot_at (slots_on old) i ≡ None) →
-    IsKept (record old { clear = clear })
-kept_clear old clear kept empty = record {
-  slots = record {
-    some = kept.slots.some;
-    few = kept.slots.few;
-    full = kept.slots.full;
-    counted = kept.slots.counted;
-    empty = empty;
-  };
-  segments = kept.segments;
-  within = kept.within;
-  live = kept.live;
 }

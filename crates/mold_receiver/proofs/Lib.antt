@@ -1,5 +1,6 @@
 pub mod StoreLemmas
 pub mod SlotLemmas
+pub mod OccupiedLemmas
 pub mod RuleLemmas
 pub mod CaseLemmas
 pub mod BatchLemmas
@@ -19,3 +20,4 @@ pub mod MarkLemmas
 pub mod ShelfLemmas
 pub mod SegmentLemmas
 pub mod KeptLemmas
+pub mod HeldLemmas

@@ -1,19 +1,20 @@
 -- Slots, and the store that they represent.
-use Rattle.std.proofs.Common.{◌≡◌, ℕ, zero, suc, ◌+◌, ◌-◌, ◌<◌, ◌≤◌, ◌⊎◌, Bool, true, false, cond, eqb, leb, ◌&&◌, List}
-use Rattle.std.proofs.Common.{[], ◌∷◌, ◌++◌, length, length-append, drop, replicate, slice_set, append_assoc, refl, sym}
+use Rattle.std.proofs.Common.{◌≡◌, ℕ, zero, suc, ◌+◌, ◌-◌, ◌<◌, ◌≤◌, Bool, true, false, cond, eqb, leb, ◌&&◌, List}
+use Rattle.std.proofs.Common.{[], ◌∷◌, ◌++◌, length, length-append, drop, replicate, slice_set, append_assoc, refl, sym, min}
 use Rattle.std.proofs.Common.{ap, subst, ◌∙◌, inl, inr, arith, nat_cmp}
 use Rattle.std.specs.Prelude.{Option, None, Some, is_some, slice_get, map}
 use Rattle.std.specs.Cmp.{nat_cmp_total}
 use Rattle.std.specs.Map.{lookup}
 use Rattle.std.specs.FinMap as finite
 use Rattle.std.specs.Option.{option_flatten, option_map}
-use Rattle.std.proofs.lemmas.Bool.{cases_eq, cases_order, cases_Bool, cond-true, cond-false, le-leb, lt-leb, eq-eqb}
+use Rattle.std.proofs.lemmas.Bool.{cases_eq, cases_lt, cases_order, cases_Bool, cond-true, cond-false, le-leb, lt-leb, eq-eqb}
 use Rattle.std.proofs.lemmas.Bool.{ne_eqb}
 use Rattle.std.proofs.lemmas.Option.{slice_get_past}
-use Rattle.std.proofs.lemmas.List.{length-replicate, length-set, length-drop, drop-drop, drop-append-le, replicate_more}
+use Rattle.std.proofs.lemmas.List.{length-map, map-set, length-replicate, length-set, length-drop, drop-drop, drop-append-le, replicate_more}
 use Rattle.std.proofs.lemmas.List.{drop-replicate, replicate-append-replicate}
 use Rattle.mold_receiver.specs.Store.{Message, differs}
-use Rattle.mold_receiver.specs.Slots.{Slot, slot_at, slot_entries, store_of, count_held, AreSlots}
+use Rattle.mold_receiver.specs.Slots.{Slot, slot_at, slot_entries, store_of, count_held, flags_of, AreSlots, IsFirstHeld}
+use Rattle.mold_receiver.specs.Occupied.{IsFirstSet, flag_at}
 use Rattle.mold_receiver.proofs.StoreLemmas.{get_made, none_some}
 
 pub count_within : (slots : List Slot) → count_held slots ≤ length slots
@@ -145,10 +146,80 @@ all_empty (None ∷ slots) none zero = refl
 all_empty (None ∷ slots) none (suc i) = all_empty slots (omega (arith, none)) i
 all_empty (Some m ∷ slots) none i = absurd (omega (arith, none))
 
+-- The flags of slots.
+flags_pushed : (slots : List Slot) → flags_of (slots ++ None ∷ []) ≡ flags_of slots ++ false ∷ []
+flags_pushed [] = refl
+flags_pushed (slot ∷ slots) = ap (λ (t : List Bool). is_some slot ∷ t) (flags_pushed slots)
+
+flags_moved : (slots : List Slot) → flags_of (drop 1 slots ++ None ∷ []) ≡ drop 1 (flags_of slots) ++ false ∷ []
+flags_moved [] = refl
+flags_moved (slot ∷ slots) = flags_pushed slots
+
+flags_empty : (n : ℕ) → flags_of (replicate n None) ≡ replicate n false
+flags_empty zero = refl
+flags_empty (suc n) = ap (λ (t : List Bool). false ∷ t) (flags_empty n)
+
+flag_is : (slots : List Slot) (i : ℕ) → flag_at (flags_of slots) i ≡ is_some (slot_at slots i)
+flag_is [] i = refl
+flag_is (None ∷ slots) zero = refl
+flag_is (Some m ∷ slots) zero = refl
+flag_is (slot ∷ slots) (suc i) = flag_is slots i
+
+none_from : (o : Option Message) → is_some o ≡ false → o ≡ None
+none_from None none = refl
+none_from (Some m) none = absurd (cc none)
+
+none_flag : (slots : List Slot) (i : ℕ) → flag_at (flags_of slots) i ≡ false → slot_at slots i ≡ None
+none_flag slots i none = none_from (slot_at slots i) (sym (flag_is slots i) ∙ none)
+
+-- The first slot with a message, from the first set flag.
+first_below : (slots : List Slot) (most first : ℕ) → IsFirstSet (flags_of slots) first → first < length slots →
+    IsFirstHeld slots most (min first most)
+first_below slots most first is there = record {
+  within = omega arith;
+  none = λ i below. none_flag slots i (is.none i (omega (arith, below)));
+  stops =
+      elim (cases_lt first most) [
+        | inr past ↦ inl (omega (arith, past))
+        | inl below ↦
+            let least : min first most ≡ first = omega (arith, below) in
+            inr (ap (λ (n : ℕ). is_some (slot_at slots n)) least ∙ sym (flag_is slots first) ∙ elim is.stops [
+              | inl end ↦ absurd (omega (arith, end, there, length-map slots is_some))
+              | inr set ↦ set
+            ])
+      ];
+}
+
+first_past : (slots : List Slot) (most first : ℕ) → IsFirstSet (flags_of slots) first → length slots ≤ first →
+    IsFirstHeld slots most most
+first_past slots most first is past = record {
+  within = omega arith;
+  none = λ i below.
+      elim (cases_lt i first) [
+        | inl before ↦ none_flag slots i (is.none i before)
+        | inr after ↦ slot_past slots i (omega (arith, past, after))
+      ];
+  stops = inl refl;
+}
+
+pub held_below : (slots : List Slot) (flags : List Bool) (most first slot : ℕ) → flags ≡ flags_of slots →
+    IsFirstSet flags first → first < length flags → slot ≡ min first most → IsFirstHeld slots most slot
+held_below slots flags most first slot same is there least =
+    subst (λ (n : ℕ). IsFirstHeld slots most n) (sym least)
+    (first_below slots most first (subst (λ (t : List Bool). IsFirstSet t first) same is)
+    (omega (arith, there, ap (λ (t : List Bool). length t) same, length-map slots is_some)))
+
+pub held_past : (slots : List Slot) (flags : List Bool) (most first : ℕ) → flags ≡ flags_of slots →
+    IsFirstSet flags first → length flags ≤ first → IsFirstHeld slots most most
+held_past slots flags most first same is past =
+    first_past slots most first (subst (λ (t : List Bool). IsFirstSet t first) same is)
+    (omega (arith, past, ap (λ (t : List Bool). length t) same, length-map slots is_some))
+
 -- The ring stays valid.
-pub are_moved : (slots : List Slot) (capacity count clear : ℕ) → AreSlots slots capacity count clear →
-    AreSlots (drop 1 slots ++ None ∷ []) capacity (count - cond (is_some (slot_at slots 0)) 1 0) (clear - 1)
-are_moved slots capacity count clear are =
+pub are_moved : (slots : List Slot) (capacity count : ℕ) (flags : List Bool) → AreSlots slots capacity count flags →
+    AreSlots (drop 1 slots ++ None ∷ []) capacity (count - cond (is_some (slot_at slots 0)) 1 0)
+    (drop 1 flags ++ false ∷ [])
+are_moved slots capacity count flags are =
     let same : length (drop 1 slots ++ None ∷ []) ≡ length slots =
     omega (arith, are.some, length-append (drop 1 slots) (None ∷ []), length-drop 1 slots) in
     record {
@@ -156,14 +227,13 @@ are_moved slots capacity count clear are =
       few = omega (arith, are.few, same);
       full = same ∙ are.full;
       counted = ap (λ (n : ℕ). n - cond (is_some (slot_at slots 0)) 1 0) are.counted ∙ sym (count_moved slots);
-      empty = λ i below. slot_moved 1 slots i ∙ are.empty (1 + i) (omega (arith, below));
+      flagged = ap (λ (t : List Bool). drop 1 t ++ false ∷ []) are.flagged ∙ sym (flags_moved slots);
     }
 
-pub are_put : (slots : List Slot) (capacity count clear i : ℕ) (message : Message) (n : ℕ) →
-    AreSlots slots capacity count clear → i < length slots → slot_at slots i ≡ None → n ≤ i
-    → (count ≡ 0) ⊎ (n ≤ clear)
-    → AreSlots (slice_set slots i (Some message)) capacity (count + 1) n
-are_put slots capacity count clear i message n are within free before known =
+pub are_put : (slots : List Slot) (capacity count : ℕ) (flags : List Bool) (i : ℕ) (message : Message) →
+    AreSlots slots capacity count flags → i < length slots → slot_at slots i ≡ None →
+    AreSlots (slice_set slots i (Some message)) capacity (count + 1) (slice_set flags i true)
+are_put slots capacity count flags i message are within free =
     let same : length (slice_set slots i (Some message)) ≡ length slots = length-set slots i (Some message) in
     record {
       some = omega (arith, are.some, same);
@@ -172,10 +242,7 @@ are_put slots capacity count clear i message n are within free before known =
       counted = ap (λ (n : ℕ). n + 1) are.counted
           ∙ sym (count_put slots i message within
           ∙ ap (λ (o : Slot). cond (is_some o) (count_held slots) (count_held slots + 1)) free);
-      empty = λ at below. slot_put_other slots i (Some message) at (λ e. omega (arith, below, before, e)) ∙ elim known [
-        | inl none ↦ all_empty slots (sym are.counted ∙ none) at
-        | inr less ↦ are.empty at (omega (arith, below, less))
-      ];
+      flagged = ap (λ (t : List Bool). slice_set t i true) are.flagged ∙ sym (map-set is_some slots i (Some message));
     }
 
 pub slot_view : {V : Type 0} (g : V → Message) (xs : List (Option V)) (i : ℕ) →
@@ -190,7 +257,7 @@ put_past [] i slot past = refl
 put_past (s ∷ slots) zero slot past = absurd (omega arith)
 put_past (s ∷ slots) (suc i) slot past = ap (λ (t : List Slot). s ∷ t) (put_past slots i slot (omega arith))
 
-pub are_empty : (n : ℕ) → 0 < n → n ≤ 65536 → AreSlots (replicate n None) n 0 0
+pub are_empty : (n : ℕ) → 0 < n → n ≤ 65536 → AreSlots (replicate n None) n 0 (replicate n false)
 are_empty n some few =
     let same : length (replicate {A = Slot} n None) ≡ n = length-replicate n None in
     record {
@@ -198,7 +265,7 @@ are_empty n some few =
       few = omega (arith, same);
       full = same;
       counted = sym (count_empty n);
-      empty = λ i below. absurd (omega (arith, below));
+      flagged = sym (flags_empty n);
     }
 
 -- Look-ups in a list of slots, from look-ups in its rest.

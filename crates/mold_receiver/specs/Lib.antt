@@ -5,6 +5,7 @@ pub mod Receive
 pub mod Wanted
 pub mod Batch
 pub mod Slots
+pub mod Occupied
 pub mod Places
 pub mod Segments
 pub mod Shelf

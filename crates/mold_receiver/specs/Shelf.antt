@@ -29,7 +29,7 @@ AreBlocksAt segments places =
 -- The fields of a shelf are consistent. Its slots match its counts. Its places are in its segments. A segment counts
 -- exactly the places that are in it.
 pub record IsKept (shelf : Shelf) : Type 0 where
-  pub slots : AreSlots (slots_on shelf) shelf.ring.capacity shelf.held shelf.clear
+  pub slots : AreSlots (slots_on shelf) shelf.ring.capacity shelf.held shelf.occupied
   pub segments : AreSegments shelf.segments
   pub within : AreBlocksAt shelf.segments (places_of shelf.ring.items)
   pub live : (key : ℕ) → live_at shelf.segments key ≡ count_in key (places_of shelf.ring.items)

@@ -1,5 +1,5 @@
 -- The slots of the store. Slot i has the number of the first slot plus i.
-use Rattle.std.specs.Prelude.{◌≡◌, ℕ, suc, ◌+◌, ◌<◌, ◌≤◌, ◌⊎◌, true, length, List, [], ◌∷◌, Option, None, Some}
+use Rattle.std.specs.Prelude.{◌≡◌, ℕ, suc, ◌+◌, ◌<◌, ◌≤◌, ◌⊎◌, Bool, true, length, List, [], ◌∷◌, Option, None, Some}
 use Rattle.std.specs.Prelude.{slice_get, map, is_some, if◌then◌else◌}
 use Rattle.std.specs.FinMap as finite
 use Rattle.std.specs.Option.{option_flatten, option_map}
@@ -33,14 +33,18 @@ abbrev pub count_held : List Slot → ℕ
 count_held [] = 0
 count_held (slot ∷ slots) = (if is_some slot then 1 else 0) + count_held slots
 
--- The slots are those of a ring with this capacity, which is a valid window. The first `clear` slots are empty, and
--- `count` slots have a message.
-pub record AreSlots (slots : List Slot) (capacity count clear : ℕ) : Type 0 where
+-- Whether each slot has a message.
+abbrev pub flags_of : List Slot → List Bool
+flags_of slots = map is_some slots
+
+-- The slots are those of a ring with this capacity, which is a valid window. `count` slots have a message, and the
+-- flags of these slots are set.
+pub record AreSlots (slots : List Slot) (capacity count : ℕ) (flags : List Bool) : Type 0 where
   pub some : 0 < length slots
   pub few : length slots ≤ MAX_WINDOW
   pub full : length slots ≡ capacity
   pub counted : count ≡ count_held slots
-  pub empty : (i : ℕ) → i < clear → slot_at slots i ≡ None
+  pub flagged : flags ≡ flags_of slots
 
 -- The slot is the first one with a message among the first `most` slots. It is `most` if these are empty.
 pub record IsFirstHeld (slots : List Slot) (most slot : ℕ) : Type 0 where

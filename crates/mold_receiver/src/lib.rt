@@ -10,6 +10,7 @@ mod hand;
 mod keep;
 pub mod laws;
 mod line;
+mod occupied;
 mod origin;
 mod place;
 mod receiver;

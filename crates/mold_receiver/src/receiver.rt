@@ -18,6 +18,7 @@ ghost use Rattle.mold_receiver.specs.Store.{first_conflict, from_next};
 ghost use Rattle.mold_receiver.specs.Wanted.{wanted};
 ghost use Rattle.mold_receiver.specs.View.{View, IsWellFormed, IsWindow, fresh};
 ghost use Rattle.mold_receiver.specs.declared.error.ReceiverError.TheVariants.{NextZero, Window, Memory};
+ghost use Rattle.mold_receiver.specs.declared.segments.TheConstants.{MAX_SPARE};
 ghost use Rattle.mold_rule.specs.Refusals.{end_below, past_end};
 
 use crate::batch::Batch;
@@ -327,6 +328,14 @@ impl Receiver {
         ensures bound { result < self.now.window }
     {
         self.slots.held()
+    }
+
+    /// Returns the number of memory segments that the store has, together with the spare ones. A segment has 65,536
+    /// bytes, or the bytes of one packet's messages if these are more.
+    pub fn segments(&self) -> usize
+        ensures { result ≤ finite.len self.now.store + 1 + MAX_SPARE }
+    {
+        self.slots.segments()
     }
 
     /// Returns the window: how many numbers from `next` on the receiver keeps messages for, 1 to `MAX_WINDOW`.

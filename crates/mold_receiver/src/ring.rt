@@ -24,7 +24,7 @@ pub(crate) fn empty_ring(
 }
 
 /// Drops the first slot, appends an empty one, and returns what was in the first.
-pub(crate) fn advance(ring: &mut HeapCircularBuffer<Place>) -> Option<Place>
+pub(crate) fn rotate(ring: &mut HeapCircularBuffer<Place>) -> Option<Place>
     requires some { 0 < length ring.old.items }
     requires full { length ring.old.items ≡ ring.old.capacity }
     ensures moved { places_of ring.new.items ≡ drop 1 (places_of ring.old.items) ++ None ∷ [] }

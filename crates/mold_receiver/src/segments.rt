@@ -2,11 +2,12 @@
 
 ghost use Rattle.std.specs.Prelude.{◌≡◌, ◌+◌, ◌<◌, ◌≤◌, ◌^◌, [], length, drop, max, IfOk, IfSome, OnErr, Some, None, ℕ};
 ghost use Rattle.std.specs.Prelude.{◌==◌};
-ghost use Rattle.slab.specs.Slab.{get, Updates};
+ghost use Rattle.slab.specs.Slab.{get, slab_len, Updates};
 ghost use Rattle.mold_receiver.specs.Segments.{AreMore, AreSegments, HasGained, HasLost, IsAppended, IsMemory, bytes_at};
 ghost use Rattle.mold_receiver.specs.Segments.{live_at};
 ghost use Rattle.mold_receiver.specs.declared.place.TheConstants.{NO_START};
 ghost use Rattle.mold_receiver.specs.declared.segment.TheConstants.{SEGMENT_BYTES};
+ghost use Rattle.mold_receiver.specs.declared.segments.TheConstants.{MAX_SPARE};
 
 use crate::place::{NO_START, Place};
 use crate::segment::{SEGMENT_BYTES, Segment, memory};
@@ -38,6 +39,14 @@ impl Segments {
             spare: Vec::with_capacity(alloc, MAX_SPARE)?,
             current: None,
         })
+    }
+
+    /// Returns the number of segments, together with the spare ones.
+    pub(crate) fn count(&self) -> usize
+        requires { AreSegments self.now }
+        ensures { result ≤ slab_len self.now.table + MAX_SPARE }
+    {
+        self.table.len().saturating_add(self.spare.len())
     }
 
     /// Returns the bytes in use of a segment.

@@ -1,6 +1,6 @@
 //! The store: a ring of slots, and the segments that have the stored messages.
 
-ghost use Rattle.std.specs.Prelude.{◌≡◌, ◌+◌, ◌<◌, ◌≤◌, ◌++◌, ◌∷◌, ◌⊎◌, [], length, drop, replicate, ℕ};
+ghost use Rattle.std.specs.Prelude.{◌≡◌, ◌+◌, ◌<◌, ◌≤◌, ◌++◌, ◌∷◌, [], length, drop, replicate, ℕ};
 ghost use Rattle.std.specs.Prelude.{slice_set, is_some, if◌then◌else◌, IfOk, IsTrue, None, Some};
 ghost use Rattle.std.specs.Option.{option_copied};
 ghost use Rattle.mold_receiver.specs.Keeping.{is_fresh, put_fresh};
@@ -9,22 +9,16 @@ ghost use Rattle.mold_receiver.specs.Segments.{IsAppended, bytes_at};
 ghost use Rattle.mold_receiver.specs.Shelf.{IsKept, message_on, slots_on};
 ghost use Rattle.mold_receiver.specs.Slots.{slot_at, count_held, IsFirstHeld};
 ghost use Rattle.mold_receiver.specs.declared.place.TheConstants.{NO_START};
+ghost use Rattle.mold_receiver.specs.declared.segments.TheConstants.{MAX_SPARE};
 ghost use Rattle.mold_wire.specs.declared.limits.TheConstants.{MAX_WINDOW};
 
+use crate::occupied::Occupied;
 use crate::place::Place;
-use crate::ring::{advance, empty_ring, place_in, write};
+use crate::ring::{empty_ring, place_in, rotate, write};
 use crate::segment::message_at;
 use crate::segments::Segments;
 use circular_buffer::HeapCircularBuffer;
 use std::alloc::{AllocError, Global};
-
-// Returns how many slots at the start of the ring are known to be empty, after a message is written into `slot`.
-fn clear_with(clear: usize, held: u32, slot: usize) -> usize
-    ensures before { result ≤ slot }
-    ensures known { (held ≡ 0) ⊎ (result ≤ clear) }
-{
-    if held == 0 { slot } else { clear.min(slot) }
-}
 
 /// A ring with one slot for each number of a receiver's window. A slot is empty or has the place of a message. The
 /// messages are in segments, as they were in their packets. The ring is allocated once. A segment is allocated when a
@@ -32,11 +26,11 @@ fn clear_with(clear: usize, held: u32, slot: usize) -> usize
 #[derive(Debug, Drop)]
 pub(crate) struct Shelf {
     ring: HeapCircularBuffer<Place>,
+    // The slots that have a message.
+    occupied: Occupied,
     segments: Segments,
     // The number of slots that have a message.
     held: u32,
-    // This many slots at the start of the ring are known to be empty.
-    clear: usize,
 }
 
 impl Shelf {
@@ -49,9 +43,9 @@ impl Shelf {
     {
         Ok(Shelf {
             ring: empty_ring(alloc, window)?,
+            occupied: Occupied::new(alloc, window)?,
             segments: Segments::new(alloc)?,
             held: 0,
-            clear: 0,
         })
     }
 
@@ -71,6 +65,15 @@ impl Shelf {
         ensures some { 0 < length (slots_on self.now) }
     {
         self.held
+    }
+
+    /// Returns the number of segments, together with the spare ones.
+    #[tactic(auto, using(crate::proofs::HeldLemmas::segments_few))]
+    pub(crate) fn segments(&self) -> usize
+        requires { IsKept self.now }
+        ensures { result ≤ count_held (slots_on self.now) + 1 + MAX_SPARE }
+    {
+        self.segments.count()
     }
 
     /// Returns the message in a slot, or `None` if the slot is empty or doesn't exist.
@@ -123,8 +126,8 @@ impl Shelf {
         ensures marked { slots_on self.new ≡
             slice_set (slots_on self.old) slot (Some (message_on self.old.segments place)) }
     {
-        self.clear = clear_with(self.clear, self.held, slot);
         self.held += 1;
+        self.occupied.set(slot);
         self.segments.hold(place.segment);
         write(&mut self.ring, slot, place);
     }
@@ -154,8 +157,8 @@ impl Shelf {
         ensures kept { IsKept self.new }
         ensures moved { slots_on self.new ≡ drop 1 (slots_on self.old) ++ None ∷ [] }
     {
-        self.clear = self.clear.saturating_sub(1);
-        match advance(&mut self.ring) {
+        self.occupied.advance();
+        match rotate(&mut self.ring) {
             Some(place) => {
                 self.held -= 1;
                 self.segments.let_go(place.segment);
@@ -176,7 +179,6 @@ impl Shelf {
     {
         if self.held > 0 {
             self.drop_first(count);
-            self.settle();
         }
     }
 
@@ -192,37 +194,16 @@ impl Shelf {
         }
     }
 
-    // Looks for the first slot that has a message, unless the first slots are known to be empty.
-    fn settle(&mut self)
-        requires { IsKept self.old }
-        ensures kept { IsKept self.new }
-        ensures same { slots_on self.new ≡ slots_on self.old }
-    {
-        if self.held > 0 && self.clear == 0 {
-            self.clear = self.search(self.ring.len());
-        }
-    }
-
     /// Returns the first slot that has a message among the first `most` slots, or `most` if they are empty.
     pub(crate) fn first_held(&self, most: usize) -> usize
         requires { IsKept self.now }
         ensures { IsFirstHeld (slots_on self.now) most result }
     {
-        if self.held == 0 {
-            return most;
+        let first = self.occupied.first();
+        if first < self.occupied.len() {
+            first.min(most)
+        } else {
+            most
         }
-        self.search(most)
-    }
-
-    // Does the same as `first_held`, also if no slot has a message.
-    fn search(&self, most: usize) -> usize
-        requires { IsKept self.now }
-        ensures { IsFirstHeld (slots_on self.now) most result }
-    {
-        let mut slot = self.clear.min(most);
-        while slot < most && !self.has(slot) {
-            slot += 1;
-        }
-        slot
     }
 }

@@ -4,6 +4,7 @@ ghost use Rattle.std.specs.Prelude.{◌≡◌, ◌+◌, ◌^◌, ◌<◌, ◌≤
 ghost use Rattle.std.specs.Option.{option_copied};
 ghost use Rattle.mold_receiver.specs.Keeping.{filled, fresh};
 ghost use Rattle.mold_receiver.specs.Slots.{slot_at, count_held, IsFirstHeld};
+ghost use Rattle.mold_receiver.specs.declared.segments.TheConstants.{MAX_SPARE};
 ghost use Rattle.mold_wire.specs.declared.limits.TheConstants.{MAX_WINDOW};
 ghost use Rattle.mold_wire.specs.declared.header.TheConstants.{END_OF_SESSION};
 
@@ -61,6 +62,13 @@ impl Slots {
         ensures some { 0 < length self.now }
     {
         self.shelf.held()
+    }
+
+    /// Returns the number of segments of the store, together with the spare ones.
+    pub(crate) fn segments(&self) -> usize
+        ensures { result ≤ count_held self.now + 1 + MAX_SPARE }
+    {
+        self.shelf.segments()
     }
 
     /// Returns the message in a slot, or `None` if the slot is empty or doesn't exist.

@@ -23,9 +23,9 @@ hold-requires-clause-few c =
 
 pub returns-clause-kept : goal.returns-clause-kept
 returns-clause-kept c =
-    kept_put c.args.self.now c.write.new.ring c.hold.new.self c.args.slot c.args.place c.clear_with-self.result
+    kept_put c.args.self.now c.write.new.ring c.hold.new.self c.args.slot c.args.place c.set.new.self
     c.requires.kept c.write.ensures.written c.write.ensures.capacity c.hold.ensures.whole c.hold.ensures.gained
-    c.requires.free c.requires.there c.clear_with-self.ensures.before c.clear_with-self.ensures.known
+    c.requires.free c.requires.there c.set.ensures
 
 pub returns-clause-marked : goal.returns-clause-marked
 returns-clause-marked c =

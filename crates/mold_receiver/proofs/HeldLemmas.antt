@@ -1,0 +1,125 @@
+-- Each segment but one has a stored message, so the stored messages bound the segments.
+use Rattle.std.proofs.Common.{◌≡◌, ℕ, zero, suc, ◌+◌, ◌<◌, ◌≤◌, Bool, cond, List, [], ◌∷◌, length}
+use Rattle.std.proofs.Common.{refl, sym, ap, subst, ◌∙◌, inl, inr, arith}
+use Rattle.std.specs.Prelude.{Option, None, Some, slice_index_or}
+use Rattle.std.proofs.lemmas.Bool.{cases_eq, eq-eqb, ne_eqb}
+use Rattle.slab.proofs.SlabLemmas.{length-entries}
+use Rattle.slab.specs.Slab.{entries_from, slab_len}
+use Rattle.mold_receiver.specs.declared.place.Place.{Place}
+use Rattle.mold_receiver.specs.declared.segment.Segment.{Segment}
+use Rattle.mold_receiver.specs.declared.segments.Segments.{Segments}
+use Rattle.mold_receiver.specs.declared.shelf.Shelf.{Shelf}
+use Rattle.mold_receiver.specs.Places.{count_in, places_of}
+use Rattle.mold_receiver.specs.Segments.{live_of, one_at}
+use Rattle.mold_receiver.specs.Shelf.{IsKept, slots_in, slots_on}
+use Rattle.mold_receiver.specs.Slots.{count_held}
+
+-- The sum of a function over `count` keys from `at` on.
+abbrev sum_from : (ℕ → ℕ) → ℕ → ℕ → ℕ
+sum_from f at zero = 0
+sum_from f at (suc count) = f at + sum_from f (at + 1) count
+
+sum_zero : (at count : ℕ) → sum_from (λ _. 0) at count ≡ 0
+sum_zero at zero = refl
+sum_zero at (suc count) = omega (arith, sum_zero (at + 1) count)
+
+sum_both : (f g : ℕ → ℕ) (at count : ℕ) →
+    sum_from (λ key. f key + g key) at count ≡ sum_from f at count + sum_from g at count
+sum_both f g at zero = refl
+sum_both f g at (suc count) = omega (arith, sum_both f g (at + 1) count)
+
+one_is : (key : ℕ) → one_at key key ≡ 1
+one_is key = ap {B = ℕ} (λ (b : Bool). cond b 1 0) (eq-eqb key key refl)
+
+one_not : (key at : ℕ) → (key ≡ at → ⊥) → one_at key at ≡ 0
+one_not key at other = ap {B = ℕ} (λ (b : Bool). cond b 1 0) (ne_eqb key at other)
+
+sum_past : (key at count : ℕ) → key < at → sum_from (one_at key) at count ≡ 0
+sum_past key at zero past = refl
+sum_past key at (suc count) past =
+    omega (arith, one_not key at (λ e. omega (arith, e, past)), sum_past key (at + 1) count (omega (arith, past)))
+
+-- A key is counted once at most.
+sum_one : (key at count : ℕ) → sum_from (one_at key) at count ≤ 1
+sum_one key at zero = omega arith
+sum_one key at (suc count) =
+    elim (cases_eq key at) [
+      | inl same ↦
+          omega (
+            arith,
+            subst (λ (n : ℕ). one_at key n ≡ 1) same (one_is key),
+            sum_past key (at + 1) count (omega (arith, same)),
+          )
+      | inr other ↦ omega (arith, one_not key at other, sum_one key (at + 1) count)
+    ]
+
+-- All segments together have at most as many places as there are messages.
+sum_places : (segments : Segments) (places : List (Option Place)) (at count : ℕ) →
+    sum_from (λ key. count_in key places) at count ≤ count_held (slots_in segments places)
+sum_places segments [] at count = omega (arith, sum_zero at count)
+sum_places segments (None ∷ places) at count = omega (arith, sum_places segments places at count)
+sum_places segments (Some place ∷ places) at count =
+    omega (
+      arith,
+      sum_both (one_at place.segment) (λ key. count_in key places) at count,
+      sum_one place.segment at count,
+      sum_places segments places at count,
+    )
+
+-- The current segment counts once.
+abbrev current_at : Option ℕ → ℕ → ℕ
+current_at None key = 0
+current_at (Some current) key = one_at current key
+
+sum_current : (current : Option ℕ) (at count : ℕ) → sum_from (current_at current) at count ≤ 1
+sum_current None at count = omega (arith, sum_zero at count)
+sum_current (Some key) at count = sum_one key at count
+
+some_counts : (f : ℕ → ℕ) (at : ℕ) (slots : List (Option Segment))
+    → ((i : ℕ) (segment : Segment) → slice_index_or slots i None ≡ Some segment → 0 < f (at + i))
+    → length (entries_from at slots) ≤ sum_from f at (length slots)
+some_counts f at [] each = omega arith
+some_counts f at (None ∷ slots) each =
+    omega (
+      arith,
+      some_counts f (at + 1) slots (λ i s is.
+          let next : at + suc i ≡ at + 1 + i = omega arith in
+          subst (λ (n : ℕ). 0 < f n) next (each (suc i) s is)),
+    )
+some_counts f at (Some segment ∷ slots) each =
+    let here : at + 0 ≡ at = omega arith in
+    omega (
+      arith,
+      subst (λ (n : ℕ). 0 < f n) here (each 0 segment refl),
+      some_counts f (at + 1) slots (λ i s is.
+          let next : at + suc i ≡ at + 1 + i = omega arith in
+          subst (λ (n : ℕ). 0 < f n) next (each (suc i) s is)),
+    )
+
+current_is : (current : Option ℕ) (key : ℕ) → current ≡ Some key → current_at current key ≡ 1
+current_is current key is = ap (λ (o : Option ℕ). current_at o key) is ∙ one_is key
+
+-- The table has at most one segment more than there are stored messages.
+pub segments_few : (shelf : Shelf) → IsKept shelf →
+    slab_len shelf.segments.table ≤ count_held (slots_on shelf) + 1
+segments_few shelf kept =
+    let table = shelf.segments.table in
+    let current = shelf.segments.current in
+    let places = places_of shelf.ring.items in
+    let f : ℕ → ℕ = λ key. count_in key places + current_at current key in
+    let each : (i : ℕ) (segment : Segment) → slice_index_or table.slots i None ≡ Some segment → 0 < f (0 + i) =
+    λ i segment is.
+    let key : 0 + i ≡ i = omega arith in
+    subst (λ (n : ℕ). 0 < f n) (sym key)
+    (elim (kept.segments.held i segment is) [
+      | inl some ↦ omega (arith, some, kept.live i, ap live_of is)
+      | inr at ↦ omega (arith, current_is current i at)
+    ]) in
+    omega (
+      arith,
+      length-entries table,
+      some_counts f 0 table.slots each,
+      sum_both (λ key. count_in key places) (current_at current) 0 (length table.slots),
+      sum_places shelf.segments places 0 (length table.slots),
+      sum_current current 0 (length table.slots),
+    )

@@ -1,0 +1,76 @@
+-- A ring of flags, kept as bits, and its first set flag.
+use Rattle.std.specs.Prelude.{◌≡◌, ◌≢◌, ℕ, ◌+◌, ◌-◌, ◌*◌, ◌/◌, ◌%◌, ◌<◌, ◌≤◌, ◌⊎◌, min, nat_eq, nat_lt, Bool, true, false}
+use Rattle.std.specs.Prelude.{List, length, map, slice_index, slice_index_or, Option, None, Some, if◌then◌else◌}
+use Rattle.std.specs.Int.{bit_at}
+use Rattle.std.specs.List.{range_with_len}
+use Rattle.mold_receiver.specs.declared.occupied.Levels.{Levels}
+
+-- The flag of a slot. It is false if the slot doesn't exist.
+abbrev pub flag_at : List Bool → ℕ → Bool
+flag_at flags slot = slice_index_or flags slot false
+
+-- The slot is the first one whose flag is set. It is the number of flags if no flag is set.
+pub record IsFirstSet (flags : List Bool) (slot : ℕ) : Type 0 where
+  pub within : slot ≤ length flags
+  pub none : (i : ℕ) → i < slot → flag_at flags i ≡ false
+  pub stops : (slot ≡ length flags) ⊎ (flag_at flags slot ≡ true)
+
+-- Bit `i` of words of 64 bits, which is 0 or 1. It is 0 if no word has it.
+unfoldable pub bit_of : List ℕ → ℕ → ℕ
+bit_of words i = bit_at (slice_index words (i / 64)) (i % 64)
+
+-- Between the words `old` and the words `new`, only bit `i` may differ, which is `bit` in the new words.
+pub record Writes (old new : List ℕ) (i bit : ℕ) : Type 0 where
+  pub size : length new ≡ length old
+  pub written : bit_of new i ≡ bit
+  pub others : (j : ℕ) → j ≢ i → bit_of new j ≡ bit_of old j
+  pub words : (k : ℕ) → k ≢ i / 64 → slice_index new k ≡ slice_index old k
+
+-- No bit is set from bit `from` on and below bit `to`.
+abbrev pub AreClear : List ℕ → ℕ → ℕ → Type 0
+AreClear words from to = (i : ℕ) → from ≤ i → i < to → bit_of words i ≡ 0
+
+-- The bit is the first set one from bit `from` on.
+pub record IsNextSet (words : List ℕ) (from bit : ℕ) : Type 0 where
+  pub after : from ≤ bit
+  pub set : bit_of words bit ≡ 1
+  pub clear : AreClear words from bit
+
+-- It is the first set bit from bit `from` on, or none if no such bit is set.
+abbrev pub IsNext : List ℕ → ℕ → Option ℕ → Type 0
+IsNext words from None = (to : ℕ) → AreClear words from to
+IsNext words from (Some bit) = IsNextSet words from bit
+
+-- It is the first set bit from bit `from` on, or none if no such bit of the same word is set.
+abbrev pub IsNextInWord : List ℕ → ℕ → Option ℕ → Type 0
+IsNextInWord words from None = AreClear words from (64 * (from / 64 + 1))
+IsNextInWord words from (Some bit) = IsNextSet words from bit
+
+-- Bit `k` of the summary is set exactly if word `k` has a set bit.
+abbrev pub IsSummary : List ℕ → List ℕ → Type 0
+IsSummary words summary = (k : ℕ) → bit_of summary k ≡ min 1 (slice_index words k)
+
+-- Each level has a bit for each word of the level below it, and summarizes these words. The top level is one word.
+pub record AreLevels (levels : Levels) : Type 0 where
+  pub words : IsSummary levels.bits.items levels.words.items
+  pub groups : IsSummary levels.words.items levels.groups.items
+  pub top : IsSummary levels.groups.items levels.top
+  pub words_fit : length levels.bits.items ≤ 64 * length levels.words.items
+  pub groups_fit : length levels.words.items ≤ 64 * length levels.groups.items
+  pub top_fits : length levels.groups.items ≤ 64
+  pub one : length levels.top ≡ 1
+
+-- The bit that has the flag of a slot, in a ring of `count` bits whose first slot has the bit `head`.
+abbrev pub place_of : ℕ → ℕ → ℕ → ℕ
+place_of head count slot = if nat_lt (head + slot) count then head + slot else head + slot - count
+
+-- The flags of such a ring, in the order of its slots.
+unfoldable pub flags_in : List ℕ → ℕ → ℕ → List Bool
+flags_in words head count = map (λ slot. nat_eq (bit_of words (place_of head count slot)) 1) (range_with_len 0 count)
+
+-- The fields of a ring of flags are consistent. Bits from bit `count` on are never set.
+pub record IsRing (levels : Levels) (head count : ℕ) : Type 0 where
+  pub sound : AreLevels levels
+  pub room : count ≤ 64 * length levels.bits.items
+  pub inside : head < count
+  pub unused : (i : ℕ) → count ≤ i → bit_of levels.bits.items i ≡ 0
