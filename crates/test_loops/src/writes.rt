@@ -1,5 +1,6 @@
 //! When loops write: what a turn prints is written before the next turn receives, if the sink is live or 65,536 bytes
-//! are unwritten. A sink that fails at a write shows this: the steps that its ports have left are those after that write.
+//! are unwritten. A sink that fails at a write shows this: the steps that the ports have left are those after that
+//! write.
 
 use crate::comparisons::{begins_with, holds, same_outcome, same_size};
 use crate::listen::{DATA_1, DATA_2, END_4, new_arbiter};
