@@ -279,10 +279,11 @@ listened_so {D} reporting known server burst turns start result old new a a_end 
 
 -- the same for what a fault finds unwritten
 pub timely_so : {D P E : Type 0} (M : Type 0) (known : D → Port P) (server : P) (burst : ℕ) (start : ListenerState P)
-    (result : Result ℕ E) (live : Bool) (old new : Option (List ℕ)) (a a_end : D) → a_end ≡ a →
-    OnErr result (M → WrittenInTime (listening server burst) start live old new (IsInNextTurn (known a))) →
-    OnErr result (M → WrittenInTime (listening server burst) start live old new (IsInNextTurn (known a_end)))
-timely_so {D} M known server burst start result live old new a a_end is timely =
-    subst
-    (λ (d : D). OnErr result (M → WrittenInTime (listening server burst) start live old new (IsInNextTurn (known d))))
-    (sym is) timely
+    (result : Result ℕ E) (live : Bool) (old new : Option (List ℕ)) (a a_end b b_end : D) → a_end ≡ a → b_end ≡ b →
+    OnErr result (M → WrittenInTime (listening server burst) start live old new (IsInNextTurn (known a) (known b))) →
+    OnErr result
+    (M → WrittenInTime (listening server burst) start live old new (IsInNextTurn (known a_end) (known b_end)))
+timely_so {D} M known server burst start result live old new a a_end b b_end is_a is_b timely =
+    let leaves : D → D → Type 0 =
+    λ d e. OnErr result (M → WrittenInTime (listening server burst) start live old new (IsInNextTurn (known d) (known e))) in
+    subst (λ (d : D). leaves d b_end) (sym is_a) (subst (λ (e : D). leaves a e) (sym is_b) timely)

@@ -170,9 +170,9 @@ listening server burst = record {
   sent = λ s. s.requests.sent;
 }
 
--- The port of line A is as in the state `s`, or one receive further: the listener makes the turn after `s`.
-abbrev pub IsInNextTurn : {P : Type 0} → Port P → ListenerState P → Type 0
-IsInNextTurn a s = (a ≡ s.a) ⊎ (a ≡ received s.a)
+-- The ports of the lines are as in the state `s`, or the turn after `s` has received on line A, or on both lines.
+abbrev pub IsInNextTurn : {P : Type 0} → Port P → Port P → ListenerState P → Type 0
+IsInNextTurn a b s = ((a ≡ s.a) × (b ≡ s.b)) ⊎ ((a ≡ received s.a) × ((b ≡ s.b) ⊎ (b ≡ received s.b)))
 
 -- The state with `front` put before its text.
 abbrev pub put_before : {P : Type 0} → List ℕ → ListenerState P → ListenerState P

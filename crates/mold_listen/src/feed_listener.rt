@@ -1,6 +1,6 @@
 //! The listener at work: it receives on two lines, requests missing messages, and prints what the arbiter delivers.
 
-ghost use Rattle.std.specs.Prelude.{◌≡◌, true, length, IfErr, OnErr, OnOk};
+ghost use Rattle.std.specs.Prelude.{◌≡◌, ◌⊎◌, true, length, IfErr, OnErr, OnOk};
 ghost use Rattle.std.specs.Io.KnownBytes.{Appends};
 ghost use Rattle.mold_devices.specs.Faults.{CountsSink};
 ghost use Rattle.mold_listen.specs.Listening.{Agrees, HasAsked, HasTurned, IsInNextTurn, IsSame, asking_state};
@@ -90,6 +90,8 @@ impl<'a, D: Datagrams> FeedListener<'a, D> {
         ensures turned { D.modeled ≡ true →
             HasTurned server burst result (state D.port self.old) (state D.port self.new) }
         ensures a { D.modeled ≡ true → D.port self.new.a.now ≡ received (D.port self.old.a.now) }
+        ensures b { D.modeled ≡ true → (D.port self.new.b.now ≡ D.port self.old.b.now)
+            ⊎ (D.port self.new.b.now ≡ received (D.port self.old.b.now)) }
         ensures prints { Begins self.old.printer.now.outgoing.text self.new.printer.now.outgoing.text }
         ensures same { IsSame self.old self.new }
     {
@@ -124,6 +126,8 @@ impl<'a, D: Datagrams> FeedListener<'a, D> {
             TurnRests (listening server burst) put_before (state D.port self.old)
             result (K.held sink.old) (K.held sink.new) (state D.port self.new) }
         ensures a { D.modeled ≡ true → D.port self.new.a.now ≡ received (D.port self.old.a.now) }
+        ensures b { D.modeled ≡ true → (D.port self.new.b.now ≡ D.port self.old.b.now)
+            ⊎ (D.port self.new.b.now ≡ received (D.port self.old.b.now)) }
         ensures bounded { OnOk result (IsBounded (K.live sink.old) self.new.printer.now.outgoing.text) }
         ensures kept { IfErr result (λ fault. fault ≡ CommandFault.Memory →
             Appends (K.held sink.old) (K.held sink.new) self.old.printer.now.outgoing.text) }
@@ -157,7 +161,7 @@ impl<'a, D: Datagrams> FeedListener<'a, D> {
         ensures timely { OnErr result (D.modeled ≡ true →
             IsBounded (K.live sink.old) self.old.printer.now.outgoing.text →
             WrittenInTime (listening options.server options.burst) (state D.port self.old) (K.live sink.old)
-            (K.held sink.old) (K.held sink.new) (IsInNextTurn (D.port self.new.a.now))) }
+            (K.held sink.old) (K.held sink.new) (IsInNextTurn (D.port self.new.a.now) (D.port self.new.b.now))) }
         ensures live { K.live sink.new ≡ K.live sink.old }
         ensures same { IsSame self.old self.new }
         ensures sink { CountsSink (K.failed sink.old) (K.failed sink.new) result }
@@ -188,7 +192,7 @@ impl<'a, D: Datagrams> FeedListener<'a, D> {
         ensures timely { OnErr result (D.modeled ≡ true →
             IsBounded (K.live sink.old) self.old.printer.now.outgoing.text →
             WrittenInTime (listening options.server options.burst) (state D.port self.old) (K.live sink.old)
-            (K.held sink.old) (K.held sink.new) (IsInNextTurn (D.port self.new.a.now))) }
+            (K.held sink.old) (K.held sink.new) (IsInNextTurn (D.port self.new.a.now) (D.port self.new.b.now))) }
         ensures same { IsSame self.old self.new }
         ensures sink { CountsSink (K.failed sink.old) (K.failed sink.new) result }
     {

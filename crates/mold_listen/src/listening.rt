@@ -97,7 +97,7 @@ pub fn listen_loop<D: Datagrams, K: Sink>(
         result (K.held sink.old) (K.held sink.new) (D.port requests.new).sent }
     ensures timely { OnErr result (D.modeled ≡ true → WrittenInTime (listening server burst)
         (beginning (D.port a.old) (D.port b.old) (D.port requests.old) arbiter.old) (K.live sink.old)
-        (K.held sink.old) (K.held sink.new) (IsInNextTurn (D.port a.new))) }
+        (K.held sink.old) (K.held sink.new) (IsInNextTurn (D.port a.new) (D.port b.new))) }
     ensures sink { CountsSink (K.failed sink.old) (K.failed sink.new) result }
 {
     let mut buffer = vec![in alloc; 0; MAX_LIMIT]?;
@@ -133,7 +133,7 @@ pub fn listen<D: Datagrams + Drop, K: Sink>(
         result (K.held sink.old) (K.held sink.new) (D.port ports.new.requests).sent }
     ensures timely { OnErr result (D.modeled ≡ true → WrittenInTime (listening options.server options.burst)
         (beginning (D.port ports.old.a) (D.port ports.old.b) (D.port ports.old.requests) arbiter.old) (K.live sink.old)
-        (K.held sink.old) (K.held sink.new) (IsInNextTurn (D.port ports.new.a))) }
+        (K.held sink.old) (K.held sink.new) (IsInNextTurn (D.port ports.new.a) (D.port ports.new.b))) }
     ensures sink { CountsSink (K.failed sink.old) (K.failed sink.new) result }
 {
     let ListenPorts { a, b, requests } = ports;

@@ -37,15 +37,16 @@ returns-in_err-buffer-clause-timely g c =
     on_err c.from_residual.result
     (λ t.
     in_time_none (is_loop c.args.server c.args.burst) (g.K.Sink.live c.args.sink.now)
-    (IsInNextTurn (g.D.Datagrams.port c.args.a.now)) (inl refl) (bounded_none (g.K.Sink.live c.args.sink.now)))
+    (IsInNextTurn (g.D.Datagrams.port c.args.a.now) (g.D.Datagrams.port c.args.b.now)) (inl (refl, refl)) (bounded_none (g.K.Sink.live c.args.sink.now)))
 
 pub returns-clause-timely : goal.returns-clause-timely
 returns-clause-timely g c =
     timely_so _ g.D.Datagrams.port c.args.server c.args.burst
     (beginning (g.D.Datagrams.port c.args.a.now) (g.D.Datagrams.port c.args.b.now)
     (g.D.Datagrams.port c.args.requests.now) c.args.arbiter.now)
-    c.listen.result (g.K.Sink.live c.args.sink.now) _ _ c.listen.new.self.a.now _
+    c.listen.result (g.K.Sink.live c.args.sink.now) _ _ c.listen.new.self.a.now _ c.listen.new.self.b.now _
     (let same = sym c.listen.ensures.same.a in search rules)
+    (let same = sym c.listen.ensures.same.b in search rules)
     (on_err_weaker c.listen.result
     (λ timely t. (rw c.new-printer.ensures at timely) t (bounded_none (g.K.Sink.live c.args.sink.now)))
     c.listen.ensures.timely)

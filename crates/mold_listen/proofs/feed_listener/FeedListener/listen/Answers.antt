@@ -90,8 +90,9 @@ pub returns-in_default-clause-timely : goal.returns-in_default-clause-timely
 returns-in_default-clause-timely g c = λ t bounded.
     let cut = ends_front c.end_with.ensures.ends in
     in_time_end (is_loop c.args.options.server c.args.options.burst) (g.K.Sink.live c.args.sink.now)
-    (IsInNextTurn (g.D.Datagrams.port c.take_turns.new.self.a.now)) cut.front (c.in_ok-take_turns.ensures.run t)
-    (inl refl) (c.in_ok-take_turns.ensures.bounded bounded) cut.appended
+    (IsInNextTurn (g.D.Datagrams.port c.take_turns.new.self.a.now) (g.D.Datagrams.port c.take_turns.new.self.b.now))
+    cut.front (c.in_ok-take_turns.ensures.run t)
+    (inl (refl, refl)) (c.in_ok-take_turns.ensures.bounded bounded) cut.appended
 
 pub returns-in_err-send-clause-timely : goal.returns-in_err-send-clause-timely
 returns-in_err-send-clause-timely g c =
@@ -99,5 +100,6 @@ returns-in_err-send-clause-timely g c =
     (λ t bounded.
     let cut = c.in_err-send.ensures.front in
     in_time_end (is_loop c.args.options.server c.args.options.burst) (g.K.Sink.live c.args.sink.now)
-    (IsInNextTurn (g.D.Datagrams.port c.take_turns.new.self.a.now)) cut.front (c.in_ok-take_turns.ensures.run t)
-    (inl refl) (c.in_ok-take_turns.ensures.bounded bounded) cut.appended)
+    (IsInNextTurn (g.D.Datagrams.port c.take_turns.new.self.a.now) (g.D.Datagrams.port c.take_turns.new.self.b.now))
+    cut.front (c.in_ok-take_turns.ensures.run t)
+    (inl (refl, refl)) (c.in_ok-take_turns.ensures.bounded bounded) cut.appended)

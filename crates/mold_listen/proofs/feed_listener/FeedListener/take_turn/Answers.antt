@@ -1,4 +1,4 @@
-use Rattle.std.proofs.Common.{◌≡◌, ◌∙◌, ap, refl, Some}
+use Rattle.std.proofs.Common.{◌≡◌, ◌∙◌, ap, inl, inr, refl, Some}
 use Rattle.std.specs.Borrow.{MutBor}
 use Rattle.mold_receiver.specs.declared.line.Line.TheVariants.{B}
 use Rattle.mold_listen.specs.Listening.{progress, with_next_receipt, after_lines, listener, state}
@@ -38,3 +38,13 @@ returns-in_err-receive_on-2-clause-prints g c = begins_trans c.receive_on.ensure
 pub returns-clause-prints : goal.returns-clause-prints
 returns-clause-prints g c =
     begins_trans (begins_trans c.receive_on.ensures.prints c.receive_on-2.ensures.prints) c.ask.ensures.prints
+
+pub returns-in_err-receive_on-clause-b : goal.returns-in_err-receive_on-clause-b
+returns-in_err-receive_on-clause-b g c = λ t. inl refl
+
+pub returns-in_err-receive_on-2-clause-b : goal.returns-in_err-receive_on-2-clause-b
+returns-in_err-receive_on-2-clause-b g c = λ t. inr (c.receive_on-2.ensures.port t)
+
+pub returns-clause-b : goal.returns-clause-b
+returns-clause-b g c = λ t.
+    inr (ap (λ (p : MutBor _). g.D.Datagrams.port p.now) c.ask.ensures.b ∙ c.receive_on-2.ensures.port t)

@@ -56,8 +56,9 @@ returns-in_err-write_turn-clause-timely g c =
     (λ t bounded.
     let turned = c.write_turn.ensures.run t in
     in_time (is_loop c.args.options.server c.args.options.burst) (g.K.Sink.live c.args.sink.now)
-    (IsInNextTurn (g.D.Datagrams.port c.write_turn.new.self.a.now)) turned.written (c.loop-turn.invariant.going t)
-    (inr (c.write_turn.ensures.a t)) (c.loop-turn.invariant.bounded bounded) turned.appended)
+    (IsInNextTurn (g.D.Datagrams.port c.write_turn.new.self.a.now) (g.D.Datagrams.port c.write_turn.new.self.b.now))
+    turned.written (c.loop-turn.invariant.going t)
+    (inr (c.write_turn.ensures.a t, c.write_turn.ensures.b t)) (c.loop-turn.invariant.bounded bounded) turned.appended)
 
 pub returns-then-finished : goal.returns-then-finished
 returns-then-finished g c = record {

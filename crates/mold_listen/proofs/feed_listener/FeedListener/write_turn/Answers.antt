@@ -79,3 +79,12 @@ pub returns-in_err-send_large-clause-kept : goal.returns-in_err-send_large-claus
 returns-in_err-send_large-clause-kept g c =
     not_memory c.from_residual.result c.in_err-send_large.field-0.0 _ c.from_residual.ensures.1
     c.in_err-send_large.ensures.fault
+
+pub returns-in_default-clause-b : goal.returns-in_default-clause-b
+returns-in_default-clause-b g c = c.take_turn.ensures.b
+
+pub returns-in_err-send_large-clause-b : goal.returns-in_err-send_large-clause-b
+returns-in_err-send_large-clause-b g c = c.take_turn.ensures.b
+
+pub returns-clause-b : goal.returns-clause-b
+returns-clause-b g c = c.take_turn.ensures.b
