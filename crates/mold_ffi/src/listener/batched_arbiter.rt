@@ -59,8 +59,8 @@ impl BatchedArbiter {
     {
         taken_law();
         followed_law();
-        // For the optimizer: two inlined calls, one for lines and one for responses. So neither copy has a branch on the
-        // kind of the origin. With one call, a datagram of one message takes a sixth longer.
+        // For the optimizer: two inlined calls, one for lines and one for responses. So neither copy has a branch on
+        // the kind of the origin. With one call, a datagram of one message takes a sixth longer.
         match origin {
             Origin::Line(line) => self
                 .arbiter
