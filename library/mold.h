@@ -42,8 +42,7 @@
  * of which this is true are listed with "writes nothing".
  * The meaning of a code never changes.
  *
- * MOLD_MEMORY means that an allocation failed. mold_listener_take also returns it if the store would reach 4 GiB. The
- * same call may succeed later.
+ * MOLD_MEMORY means that an allocation failed. The same call may succeed later.
  *
  * NUMBERS. The messages of a session have the sequence numbers 1, 2, 3 and so on. Lengths and sizes are in bytes.
  * Numbers in structs are in the byte order of the machine. A session is any ten bytes. */
@@ -276,7 +275,7 @@ uint32_t mold_listener_new(mold_listener *listener, const uint8_t session[10], u
  *   MOLD_PAST_END       its top is above `told->detail`, the known end.
  *   MOLD_CONFLICT       its message with number `told->detail` differs from the stored one. If several messages differ,
  *                       this is the least number.
- *   MOLD_MEMORY         an allocation failed, or the store would reach 4 GiB.
+ *   MOLD_MEMORY         an allocation failed.
  *
  * After a refusal the listener is as before, except that the line's report counts the datagram as refused. MOLD_MEMORY
  * is not counted. */

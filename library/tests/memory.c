@@ -96,16 +96,20 @@ static void take_all(mold_checker *checker, datagram given) {
 
 /* ---- The tests ---- */
 
-/* Besides: 12 bytes for each message of the window. */
+/* The bytes of a listener besides: 8.2 for each message of its window. */
+static size_t ring_bytes(size_t window) {
+    return 8 * window + window / 5;
+}
+
 static void count_batch(size_t length, uint16_t at_once) {
     mold_listener listener = listener_at(1, 64);
     mold_told told = {0, 0, 0, 0, 0};
     seen found = {0, 0};
     size_t count = 0, last = 0;
-    CHECK(held <= 12 * 64 + small);
+    CHECK(held <= ring_bytes(64) + small);
     for (most = held; count < count_of(length); count += at_once) {
         CODE(take(&listener, MOLD_LINE_A, packet_of(count + 1, at_once, length), &told), MOLD_DONE);
-        measure(&found, (count + at_once) * (length + batch_message), 12 * 64);
+        measure(&found, (count + at_once) * (length + batch_message), ring_bytes(64));
     }
     last = held;
     CODE(mold_listener_clear(&listener), MOLD_DONE);
@@ -214,7 +218,7 @@ static void print_store(const char *name, size_t length, size_t stored, size_t t
 static void count_filled(uint32_t window, size_t length) {
     mold_listener listener = listener_at(1, window);
     size_t before = held;
-    CHECK(before <= 12 * (size_t)window + small);
+    CHECK(before <= ring_bytes(window) + small);
     most = held;
     for (uint32_t number = window; number > 1; number--)
         store_one(&listener, number, length);
