@@ -329,13 +329,15 @@ const NEVER_EMPTY: [(u64, (u32, u32, u32), State); 8] = [
     (7, (2, 0, 0), (7, 9, 1, 6, Some(1))),
 ];
 
-/// When message 8 arrives, the store has 80,006 bytes of delivered messages, and is compacted.
+/// Each message needs a segment of its own. Messages 6 and 8 take the memory of segments that were given back, and an
+/// empty store has only these two.
 #[test]
-fn out_of_memory_of_a_packed_store(rt: HostRuntime) -> Result<(), Fail> {
+fn out_of_memory_of_a_store_in_segments(rt: HostRuntime) -> Result<(), Fail> {
     let message = long_message(rt.alloc())?;
     let mut packer = Packer::new(rt.alloc(), 65507)?;
     let mut reception = Reception::new(rt.alloc(), 1, 8)?;
     take_never_empty(&rt, &mut packer, &mut reception, message.as_slice())?;
+    same_number(&rt, reception.receiver.segments() as u64, 2);
     Ok(())
 }
 
