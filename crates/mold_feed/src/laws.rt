@@ -32,8 +32,8 @@ use mold_session::laws::{answered_law, publisher_law, sending_law};
 use mold_wire::laws::reading_law;
 
 /// States that everything a publisher sends is true of the journal that it leaves. This holds for all datagrams that
-/// publishing the lines offers, even if a line is refused. It holds for the datagrams that were sent, even after a
-/// fault, if everything that the port sent earlier is true of that journal.
+/// are offered when the lines are published, even if a line is refused. It holds for the datagrams that were sent, even
+/// after a fault, if everything that the port sent earlier is true of that journal.
 ///
 /// If no line is refused, that journal is closed and has the messages of the lines. If a line is refused, it is open
 /// and has the messages of the lines before that one. A server may answer from it if the server's datagrams have room

@@ -17,8 +17,8 @@ use mold_turns::Outgoing;
 use std::alloc::Global;
 
 /// Publishes the lines of the source as messages of an open publisher without messages. Each datagram is sent to `a`
-/// and then to `b`. Data datagrams are sent whenever the publisher is full and after the last line. Then `beats`
-/// heartbeats are sent, the session is closed, and `ends` end packets are sent.
+/// and then to `b`. A data datagram is sent when the next message does not fit it, and after the last line. Then
+/// `beats` heartbeats are sent, the session is closed, and `ends` end packets are sent.
 ///
 /// The journal is then saved in `journal_sink`. A last line has the number of messages, of data datagrams (each
 /// counted once), and of failed sends, which stops at `u64::MAX`. The status is 0. A failed send is counted, and the

@@ -25,7 +25,7 @@ pub record Service : Type 0 where
   -- the greatest number of datagrams for one request
   pub burst : ℕ
 
--- What a server with this journal answers from.
+-- The journal, limit and burst that a server with this journal responds with.
 abbrev pub service_of : JournalState → ServerState → Service
 service_of journal server = record {
   journal = journal;
@@ -60,7 +60,7 @@ responder_of port tally server = record {
   requests = server.answered;
 }
 
--- What the responder answers from.
+-- The journal, limit and burst that the responder responds with.
 abbrev pub service : {D : Type 0} → Responder D → Service
 service responder = service_of responder.journal.now responder.server.now
 

@@ -8,7 +8,7 @@ use Rattle.mold_session.specs.declared.error.AppendError.{AppendError}
 use Rattle.mold_session.specs.declared.error.AppendError.TheVariants.{Closed, TooLong, Full}
 use Rattle.mold_session.specs.declared.journal.TheConstants.{MAX_MESSAGES}
 
--- The state of a journal: its session, the bound on its messages, the messages, and whether it is closed.
+-- The state of a journal: its session, the maximum length of a message, the messages, and whether it is closed.
 pub record JournalState : Type 0 where
   pub session : Session
   -- the largest length of a message, in bytes

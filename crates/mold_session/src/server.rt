@@ -148,8 +148,8 @@ impl Server {
         Ok(self.packer.bytes())
     }
 
-    /// Plans the responses to a request. `datagram` then returns them one by one. It refuses and counts
-    /// requests as `answer` does.
+    /// Plans the responses to a request. `datagram` then returns them one by one. Requests are refused and counted
+    /// as by `answer`.
     pub fn plan(&mut self, journal: &Journal, request: &[u8]) -> Result<Plan, AnswerError>
         requires { journal.now.max_message ≤ self.old.max_message }
         ensures planned { result ≡ planning journal.now self.old.burst request.now }

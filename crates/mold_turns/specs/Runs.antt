@@ -94,9 +94,9 @@ pub record RestsOfTwo {C S M T E : Type 0} (loop : Loop C S M) (other : S → Li
   pub rests : Rests loop behind turns start result old new now
   pub others : Begins (other now) (other (run loop rests.choices start))
 
--- What a loop of at most `turns` turns that starts at `start` leaves at its end. There is one choice for each turn.
--- The run with these choices defines the text, the last line, the status and what is sent. After a fault, a prefix of
--- the text is written, and `sendings` is a prefix of what the run sends.
+-- The outcome of a loop of at most `turns` turns that starts at `start`. Each turn has a choice, such as which sends
+-- fail. The run with these choices defines the text, the last line, the status and what is sent. After a fault, a
+-- prefix of the text is written, and `sendings` is a prefix of what the run sends.
 pub record Ran {C S M E : Type 0} (loop : Loop C S M) (turns : ℕ) (start : S) (last : S → List ℕ) (status : S → ℕ)
     (agrees : S → Type 0) (result : Result ℕ E) (old new : Option (List ℕ)) (sendings : List M) : Type 0 where
   -- the choice of each turn

@@ -29,7 +29,7 @@ pub fn pack_taken_law()
 {}
 
 /// `sim --session MKT` is accepted, and asks for two receivers of the session `MKT`. The windows are 1,024 messages,
-/// the limits are 1,400 bytes, and a request has one response. Each option sets another number. A `--limit` above the
+/// the limits are 1,400 bytes, and a request has one response. Each option replaces its default. A `--limit` above the
 /// server's gives no order.
 pub fn sim_taken_law()
     ensures usual { Say (codes "sim" ∷ codes "--session" ∷ codes "MKT" ∷ [])

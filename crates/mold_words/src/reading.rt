@@ -10,8 +10,8 @@ use crate::orders::order_from;
 use crate::types::Order;
 use std::alloc::Global;
 
-/// Parses the command-line arguments, without the program's name, into an order. No arguments are the order to show
-/// packets.
+/// Parses the command-line arguments, without the program's name, into an order. Without arguments, the order is to
+/// show packets.
 ///
 /// A request for help or for the version is returned as a fault. So are arguments that are not a valid command, and
 /// invalid values of options. Each of these faults has a text for the user.

@@ -135,8 +135,8 @@ impl World {
     /// deliver just these messages.
     ///
     /// After `Ok`, the straight path holds. Take a receiver that got each data packet of new messages right after it
-    /// was sent, and that didn't restart. If its book began with all messages that were sent in datagrams, it still
-    /// does.
+    /// was sent, and that didn't restart. If its book had all messages sent in datagrams before the run, it has all
+    /// those sent by the end of the run.
     pub fn run(&mut self, events: &[Event<'_>]) -> Result<(), Stopped>
         ensures left { self.new ≡ run_events self.old (applied result (map seen events.now)) }
         ensures place { IfErr result (λ stopped. stopped.at < length events.now) }

@@ -29,7 +29,7 @@ holding exchange = Some (Publisher exchange)
 abbrev pub with_publisher : Exchange → PublisherState → Option Held
 with_publisher exchange publisher = holding (record { publisher = publisher; server = exchange.server })
 
--- What the handle of this publisher holds after its server is in this state.
+-- What the handle of this publisher holds if its server has this state.
 abbrev pub with_server : Exchange → ServerState → Option Held
 with_server exchange server = holding (record { publisher = exchange.publisher; server = Some server })
 
@@ -68,7 +68,7 @@ pub record Closes (exchange : Exchange) (code number : ℕ) (held : Option Held)
       (code ≡ codes.UNSENT) × (number ≡ length exchange.publisher.journal.messages - exchange.publisher.sent)
       × (held ≡ holding exchange)
 
--- The journal's file is written to a buffer that has room for it. Its length is written in each case.
+-- The journal's file is written to a buffer that has room for it. Its length is written even if there is no room.
 pub record Saves (journal : JournalState) (old new : List ℕ) (code size : ℕ) : Type 0 where
   pub sized : size ≡ file_length journal.messages
   pub room : length old < file_length journal.messages → (code ≡ codes.ROOM) × (new ≡ old)

@@ -20,8 +20,8 @@ use mold_receiver::ReceiverError;
 use mold_wire::Session;
 use std::alloc::Global;
 
-/// Makes a listener to a session, which begins at sequence number `next`. It stores messages above a gap whose numbers
-/// are less than that of the next message to deliver plus `window`, which is 1 to 65,536. The handle must be empty.
+/// Makes a listener to a session, which begins at sequence number `next`. It stores a message above a gap if its number
+/// is less than the next number to deliver plus `window`, which is 1 to 65,536. The handle must be empty.
 #[unsafe(no_mangle)]
 pub extern "C" fn mold_listener_new(
     alloc: Global,
