@@ -11,7 +11,7 @@ one_more n = u64_saturate (n + 1)
 abbrev pub Counts : {T E : Type 0} → ℕ → ℕ → Result T E → Type 0
 Counts old new result = MatchResult result (λ _. new ≡ old) (λ _. new ≡ one_more old)
 
--- If the bytes held are known, a prefix of the text was appended to them.
+-- If the bytes that the sink holds are known, a prefix of the text was appended to them.
 pub record AppendsPrefix (old new : Option (List ℕ)) (text : List ℕ) : Type 0 where
   -- The prefix that was appended.
   pub front : List ℕ

@@ -12,7 +12,7 @@ use crate::sink::{Sink, write_all};
 /// The length in bytes from which buffered text is written to the sink.
 pub const LARGE: usize = 65536;
 
-/// Writes the text to the sink and empties it. After a fault, a prefix of the text is written and `text` is
+/// Writes the text to the sink and empties the text. After a fault, a prefix of the text is written and `text` is
 /// unchanged.
 pub fn send<K: Sink>(sink: &mut K, text: &mut Vec<u8>) -> Result<(), CommandFault>
     ensures whole { OnOk result (Appends (K.held sink.old) (K.held sink.new) text.old.items) }
@@ -47,8 +47,8 @@ pub fn send_large<K: Sink>(sink: &mut K, text: &mut Vec<u8>) -> Result<(), Comma
     send(sink, text)
 }
 
-/// Drops the text after its first `len` bytes and writes these bytes, after the fault `met`. Returns the fault
-/// that the command ends with: `met`, or `Write` if the write fails.
+/// Ends a command that met the fault `met`: writes the first `len` bytes of the text and drops the others. Returns
+/// the fault that the command ends with: `met`, or `Write` if the write fails.
 pub fn end_with<K: Sink>(
     sink: &mut K,
     text: &mut Vec<u8>,

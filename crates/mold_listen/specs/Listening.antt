@@ -170,7 +170,7 @@ listening server burst = record {
   sent = λ s. s.requests.sent;
 }
 
--- The ports of the lines are as in the state `s`, or the turn after `s` has received on line A, or on both lines.
+-- The turn after the state `s` has made its receive on neither line, on line A only, or on both lines.
 abbrev pub IsInNextTurn : {P : Type 0} → Port P → Port P → ListenerState P → Type 0
 IsInNextTurn a b s = ((a ≡ s.a) × (b ≡ s.b)) ⊎ ((a ≡ received s.a) × ((b ≡ s.b) ⊎ (b ≡ received s.b)))
 

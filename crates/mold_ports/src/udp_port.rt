@@ -82,7 +82,7 @@ impl UdpPort {
         self.address
     }
 
-    /// Returns what the next receive does first if the port is beside other ports.
+    /// Returns how the next receive begins if this port is beside others (see `stand_beside`).
     pub fn outlook(&self) -> Outlook
         ensures { result ≡ self.now.outlook }
     {

@@ -69,14 +69,14 @@ abbrev pub PublishesLine : PublisherState → PublisherState → Result (List �
 PublishesLine old new outcome None = TakesLine old new outcome
 PublishesLine old new outcome (Some why) = (outcome ≡ Err why) × (new ≡ old)
 
--- The messages that are not yet in a datagram fit one.
+-- The messages that are not yet in a datagram fit in one datagram.
 pub record HasRoom (publisher : PublisherState) : Type 0 where
   -- the publisher has not sent more messages than there are
   pub sent : publisher.sent ≤ length publisher.journal.messages
   pub fits : Fits publisher.limit (unsent_of publisher)
 
--- The messages that are not yet in a datagram do not fit one. They fit without the last message, and that message fits
--- one alone.
+-- The messages that are not yet in a datagram do not fit in one datagram. They fit without the last message, and that
+-- message fits alone.
 pub record IsJustFull (publisher : PublisherState) : Type 0 where
   -- the messages not yet in a datagram, without the last one
   pub found : List (List ℕ)

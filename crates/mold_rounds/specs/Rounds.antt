@@ -25,8 +25,8 @@ nameless = record { 0 = [] }
 abbrev pub brought : ℕ → ℕ → List Message → ℕ
 brought limit burst messages = carried (take burst (packing limit nameless 1 (take MAX_COUNT messages)))
 
--- The number of requests that bring these missing messages, which have consecutive numbers, but at most `most`. It
--- counts no further than a message that fits no datagram.
+-- The number of requests that bring these missing messages, which have consecutive numbers, but at most `most`. The
+-- count stops before the first message that fits no datagram.
 unfoldable pub asks_within : ℕ → ℕ → ℕ → List Message → ℕ
 asks_within limit burst zero messages = 0
 asks_within limit burst (suc most) messages =
@@ -34,8 +34,8 @@ asks_within limit burst (suc most) messages =
     then 0
     else suc (asks_within limit burst most (drop (brought limit burst messages) messages))
 
--- The number of requests that bring these missing messages, which have consecutive numbers. It counts no further than
--- a message that fits no datagram.
+-- The number of requests that bring these missing messages, which have consecutive numbers. The count stops before the
+-- first message that fits no datagram.
 unfoldable pub asks : ℕ → ℕ → List Message → ℕ
 asks limit burst messages = asks_within limit burst (length messages) messages
 

@@ -19,8 +19,8 @@ use mold_session::{Journal, Server};
 /// messages. The delivered messages are appended to the batch. The cost of a round depends on its own messages only.
 ///
 /// The receiver and the journal must be of one session, and the receiver's `known` at most one more than the number
-/// of the journal's messages. The server must allow messages as long as the journal does. The batch must be empty or
-/// end just before the receiver's `next`.
+/// of the journal's messages. The journal's maximum message length must not exceed the server's. The batch must be
+/// empty or end just before the receiver's `next`.
 ///
 /// The function stops early only if an allocation fails. The rounds before are then complete, and the receiver has
 /// taken a prefix of the last round's responses. A further call continues from there.

@@ -206,7 +206,8 @@ CountsPublishFault source_old source_new sink_old sink_new file_old file_new Wri
 CountsPublishFault source_old source_new sink_old sink_new file_old file_new Memory =
     (source_new ≡ source_old) × (sink_new ≡ sink_old) × (file_new ≡ file_old)
 
--- Which count of failures rises with a result: none with a status, otherwise the one of the fault.
+-- Which count of failures rises: the source's after `Read`, one of the two sinks' after `Write`, and none after
+-- `Memory` or a success.
 abbrev pub CountsPublish : {T : Type 0} → ℕ → ℕ → ℕ → ℕ → ℕ → ℕ → Result T CommandFault → Type 0
 CountsPublish source_old source_new sink_old sink_new file_old file_new (Ok _) =
     (source_new ≡ source_old) × (sink_new ≡ sink_old) × (file_new ≡ file_old)

@@ -160,7 +160,7 @@ serving service = record {
   sent = λ responder. responder.port.sent;
 }
 
--- The port gives what it gave in the state `s`, or all but the first of that: the server makes the turn after `s`.
+-- The server is in the turn after the state `s`: its port has made no receive since `s`, or one.
 abbrev pub IsInNextTurn : {P : Type 0} → Port P → ResponderState P → Type 0
 IsInNextTurn port s = (port.comes ≡ s.port.comes) ⊎ (port.comes ≡ drop 1 s.port.comes)
 

@@ -79,7 +79,7 @@ pub record HasFirst (session : Session) (number : ℕ) (packets : List Packet) :
   pub some : 0 < length part
 
 -- The plan's next packet has a message and is the first of the packets that the plan still sends. The others
--- are those of the plan after that packet.
+-- are those that the plan sends once it has moved past the first.
 pub record SendsNext (published : List (List ℕ)) (limit : ℕ) (plan : PlanState) : Type 0 where
   pub sent : planned published limit plan
       ≡ next_packet published limit plan

@@ -15,7 +15,7 @@ ghost use Rattle.mold_show.specs.Dump.{dump_text};
 
 use mold_session::laws::contents_law;
 
-/// If the lines that `dump` prints for a journal's file are published, the journal has the same messages. The
+/// If the lines that `dump` prints for a journal's file are published, the new journal has the same messages. The
 /// session must have the same name, and its limit must be at least `MESSAGE_OVERHEAD` bytes more than each
 /// message. No line is refused.
 pub fn dump_law()

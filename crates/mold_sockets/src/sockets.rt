@@ -80,7 +80,7 @@ fn serve_on(
 
 /// Listens on two ports, and sends requests from a third one. A wait on a line ends early when the other line has a
 /// datagram. A wait for a response ends early when one of the lines has a datagram. A response does not end a wait on a
-/// line: one that nothing waits for would stay there and end every such wait.
+/// line. Otherwise a late response would stay at its port and end every such wait.
 pub fn run_listen(rt: &HostRuntime, order: &ListenOrder) -> Result<u8, ProgramFault> {
     let mut a = open_port(rt, order.a)?;
     let mut b = open_port(rt, order.b)?;

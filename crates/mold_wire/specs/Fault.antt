@@ -35,7 +35,7 @@ pub record IsTrailing (at : ℕ) (bytes : List ℕ) : Type 0 where
   pub some : 0 < length more
   pub parts : bytes ≡ front ++ more
 
--- The bytes have this fault: its name and its number are those of the error.
+-- The error reports the fault of the bytes: its kind, and its length, index or offset.
 abbrev pub FaultAt : DecodeError → List ℕ → Type 0
 FaultAt (Short len) bytes = (length bytes < HEADER_LENGTH) × (len ≡ length bytes)
 FaultAt (BlockCut index) bytes = IsCutPacket index bytes

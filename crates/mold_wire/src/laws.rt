@@ -114,8 +114,8 @@ pub fn packet_length_law()
 /// `front` computes the longest prefix that fits, if the limit has room for a header. There is only one such
 /// prefix. A prefix is the longest if the next message is one too many or does not fit. If at least one
 /// message is allowed and the first one fits alone, the longest prefix is not empty. If all messages are
-/// allowed and fit, it is the whole list. The first message, if it fits alone, is followed by the longest
-/// prefix of the other messages that fits in the remaining bytes.
+/// allowed and fit, it is the whole list. If the first message fits alone, the longest prefix consists of it and
+/// of the longest prefix of the others that fits in the remaining bytes.
 #[tactic(auto, using(crate::proofs::FrontLemmas::front_is))]
 pub fn front_law()
     ensures front { (limit : ℕ) (messages : List (List ℕ)) (most : ℕ) →

@@ -220,8 +220,8 @@ pub fn dump_taken_law()
         (codes "dump" ∷ codes "--journal" ∷ codes "J" ∷ codes "--count" ∷ codes "18446744073709551616" ∷ []) ≡ None }
 {}
 
-/// What `clap` reports for `--help`, `show --help`, `--version`, `-V` and the unknown option `show --other`, and that
-/// it reports nothing else.
+/// The only kind of error that `clap` reports for each of `--help`, `show --help`, `--version`, `-V` and the unknown
+/// option `show --other`.
 pub fn asked_law()
     ensures help { fault_of mold_app (codes "--help" ∷ []) ≡ DisplayHelp ∷ [] }
     ensures show_help { fault_of mold_app (codes "show" ∷ codes "--help" ∷ []) ≡ DisplayHelp ∷ [] }

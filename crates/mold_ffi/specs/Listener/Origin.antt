@@ -9,8 +9,7 @@ use Rattle.mold_receiver.specs.declared.origin.Origin.TheVariants.{Line, Respons
 abbrev pub line_at : ℕ → Option TheLine
 line_at number = if number == 0 then Some A else if number == 1 then Some B else None
 
--- The origin with this number: that of a line has the number of the line, and 2 is a response. No other number names an
--- origin.
+-- The origin with this number: 0 is line A, 1 is line B, and 2 is a response. No other number names an origin.
 abbrev pub origin_at : ℕ → Option Origin
 origin_at number = if number == 0 then Some (Line A) else if number == 1 then Some (Line B)
     else if number == 2 then Some Response else None

@@ -28,7 +28,7 @@ pub extern "C" fn mold_decode(bytes: &[u8], packet: &mut MoldPacket) -> u32
 }
 
 /// Decodes a datagram as `mold_decode` does, and writes the places of its messages, in order and as many as the array
-/// has room for. The other elements of the array are unchanged; after a fault all of them are.
+/// has room for. The other elements of the array are unchanged. After a fault the whole array is unchanged.
 #[unsafe(no_mangle)]
 #[tactic(auto, using(crate::proofs::PlaceLemmas::no_places))]
 pub extern "C" fn mold_read(bytes: &[u8], packet: &mut MoldPacket, places: &mut [MoldPlace]) -> u32
