@@ -1,6 +1,7 @@
 pub mod StoreLemmas
 pub mod SlotLemmas
 pub mod OccupiedLemmas
+pub mod OccupiedRingLemmas
 pub mod RuleLemmas
 pub mod CaseLemmas
 pub mod BatchLemmas

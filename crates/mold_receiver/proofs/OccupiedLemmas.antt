@@ -1,20 +1,15 @@
--- Bits of words, levels of words, and the ring of flags that they represent.
-use Rattle.std.proofs.Common.{◌≡◌, ◌≢◌, ℕ, ◌+◌, ◌-◌, ◌*◌, ◌/◌, ◌%◌, ◌^◌, ◌<◌, ◌≤◌, List, [], ◌∷◌, ◌++◌, length}
-use Rattle.std.proofs.Common.{get_or, drop, replicate, set, min, bit_and, bit_or, w64, refl, sym, ap, ◌∙◌, inl, inr, arith}
-use Rattle.std.proofs.Common.{Bool, true, false, eqb, ltb, length-set, get_or-set_same, get_or-set_other, None}
-use Rattle.std.proofs.Common.{Vec, Global, subst}
+-- Bits of words, and the levels of words that find a set bit.
+use Rattle.std.proofs.Common.{◌≡◌, ◌≢◌, ℕ, ◌+◌, ◌-◌, ◌*◌, ◌/◌, ◌%◌, ◌^◌, ◌<◌, ◌≤◌, List, length, get_or, replicate}
+use Rattle.std.proofs.Common.{set, min, bit_and, bit_or, w64, refl, sym, ap, ◌∙◌, inl, inr, arith, Bool, true, false}
+use Rattle.std.proofs.Common.{eqb, length-set, get_or-set_same, get_or-set_other, None, Vec, Global, subst}
 use Rattle.std.specs.Vec.{with_items}
-use Rattle.std.proofs.lemmas.List.{with_items_is}
+use Rattle.std.proofs.lemmas.List.{with_items_is, get_or-replicate, get_or_past, length-replicate}
 use Rattle.std.specs.Int.{bit_at, bit_not, trailing_zeros}
-use Rattle.std.proofs.lemmas.Bool.{cases_eq, cases_lt, lt-ltb, le-ltb, eq-eqb, ne_eqb, eqb-true, eqb-false, cond-true, cond-false}
+use Rattle.std.proofs.lemmas.Bool.{cases_eq, cases_lt, eqb-true, eqb-false}
 use Rattle.std.proofs.lemmas.Nat.{shr-shr, shr_le}
-use Rattle.std.proofs.lemmas.Nat.Bits.{bit_at-zero, bit_at-trailing_zeros, bit_at-lt, bit_at_above}
-use Rattle.std.proofs.lemmas.Nat.Bits.{bit_at_set_same, bit_at_set_other, bit_at_clear_same, bit_at_clear_other}
-use Rattle.std.proofs.lemmas.List.{get_or-replicate, get_or_past, get_or-drop, get_or_append_left, get_or_push, length-drop}
-use Rattle.std.proofs.lemmas.List.{length-replicate, length_push}
-use Rattle.std.proofs.lemmas.List.FromFn.{fill_by_all, get_or-map-range_with_len, length-map-range_with_len}
+use Rattle.std.proofs.lemmas.Nat.Bits.{bit_at-zero, bit_at-trailing_zeros, bit_at-lt, bit_at_above, bit_at_set_same}
+use Rattle.std.proofs.lemmas.Nat.Bits.{bit_at_set_other, bit_at_clear_same, bit_at_clear_other}
 use Rattle.mold_receiver.specs.Occupied.{bit_of, Writes, AreClear, IsNextSet, IsNextInWord, IsSummary, AreLevels}
-use Rattle.mold_receiver.specs.Occupied.{place_of, flags_in, flag_at, IsFirstSet}
 use Rattle.mold_receiver.specs.declared.occupied.Levels.{Levels}
 
 pub bit_small : (words : List ℕ) (i : ℕ) → bit_of words i < 2
@@ -121,7 +116,8 @@ module _ (low next high : List ℕ) (i : ℕ) (is : IsSummary low high) where
       ]
 
 -- The first set bit of a word, shifted right by the index of bit `from`.
-module _ (words : List ℕ) (from word rest : ℕ) (at : get_or words (from / 64) 0 ≡ word) (shifted : rest ≡ word / 2 ^ (from % 64)) where
+module _ (words : List ℕ) (from word rest : ℕ) (at : get_or words (from / 64) 0 ≡ word)
+    (shifted : rest ≡ word / 2 ^ (from % 64)) where
   bit_in_rest : (t : ℕ) → from % 64 + t < 64 → bit_of words (from + t) ≡ bit_at rest t
   unfolding bit_of
   bit_in_rest t within =
@@ -215,199 +211,14 @@ module _ (low high : List ℕ) (from : ℕ) (is : IsSummary low high) (none : Is
         | inr later ↦ clear_word i (above (i / 64 + 1) (i / 64) (omega arith) (omega arith))
       ]
 
--- The word that summarizes `k` has room, and the word of a set bit of a summary has a set bit.
-pub word_of_summary : (low high : List ℕ) (k : ℕ) → IsSummary low high → bit_of high k ≡ 1 → 0 < get_or low k 0
-word_of_summary low high k is set = omega (arith, is k)
-
 -- A level of one word.
-pub none_on_top : (top : List ℕ) (from : ℕ) → length top ≡ 1 → IsNextInWord top from None → (to : ℕ) → AreClear top from to
+pub none_on_top : (top : List ℕ) (from : ℕ) → length top ≡ 1 → IsNextInWord top from None → (to : ℕ) →
+    AreClear top from to
 none_on_top top from one none to i least below =
     elim (cases_lt i (64 * (from / 64 + 1))) [
       | inl within ↦ none i least within
       | inr later ↦ bit_past top i (omega arith)
     ]
-
--- The places of a ring.
-module _ (head count slot : ℕ) (within : head < count) where
-  pub place_first : head + slot < count → place_of head count slot ≡ head + slot
-  place_first below = cond-true (ltb (head + slot) count) (head + slot) (head + slot - count) (lt-ltb (head + slot) count below)
-
-  pub place_wrapped : count ≤ head + slot → place_of head count slot ≡ head + slot - count
-  place_wrapped past = cond-false (ltb (head + slot) count) (head + slot) (head + slot - count) (le-ltb (head + slot) count past)
-
-  pub place_within : slot < count → place_of head count slot < count
-  place_within inside =
-      elim (cases_lt (head + slot) count) [
-        | inl below ↦ omega (arith, place_first below)
-        | inr past ↦ omega (arith, place_wrapped past)
-      ]
-
-pub place_same : (head count i j : ℕ) → head < count → i < count → j < count → place_of head count i ≡ place_of head count j → i ≡ j
-place_same head count i j within first second same =
-    elim (cases_lt (head + i) count) [
-      | inl below ↦
-          elim (cases_lt (head + j) count) [
-            | inl below_too ↦ omega (arith, same, place_first head count i within below, place_first head count j within below_too)
-            | inr past ↦ absurd (omega (arith, same, place_first head count i within below, place_wrapped head count j within past))
-          ]
-      | inr past ↦
-          elim (cases_lt (head + j) count) [
-            | inl below ↦ absurd (omega (arith, same, place_wrapped head count i within past, place_first head count j within below))
-            | inr past_too ↦ omega (arith, same, place_wrapped head count i within past, place_wrapped head count j within past_too)
-          ]
-    ]
-
--- The place of slot i after the head has moved by one.
-pub place_moved : (head count i : ℕ) → head < count → i + 1 < count →
-    place_of (place_of head count 1) count i ≡ place_of head count (i + 1)
-place_moved head count i within inside =
-    elim (cases_lt (head + 1) count) [
-      | inl below ↦
-          rw (place_first head count 1 within below)
-          (elim (cases_lt (head + 1 + i) count) [
-            | inl low ↦ place_first (head + 1) count i below low ∙ omega (arith, place_first head count (i + 1) within (omega arith))
-            | inr high ↦ place_wrapped (head + 1) count i below high ∙ omega (arith, place_wrapped head count (i + 1) within (omega arith))
-          ])
-      | inr past ↦
-          let start : place_of head count 1 ≡ 0 = omega (arith, place_wrapped head count 1 within past) in
-          rw start (place_first 0 count i (omega arith) (omega arith) ∙ omega (arith, place_wrapped head count (i + 1) within (omega arith)))
-    ]
-
--- The place of the last slot after the head has moved by one.
-pub place_last : (head count : ℕ) → head < count → place_of (place_of head count 1) count (count - 1) ≡ head
-place_last head count within =
-    elim (cases_lt (head + 1) count) [
-      | inl below ↦
-          rw (place_first head count 1 within below) (omega (arith, place_wrapped (head + 1) count (count - 1) below (omega arith)))
-      | inr past ↦
-          let start : place_of head count 1 ≡ 0 = omega (arith, place_wrapped head count 1 within past) in
-          rw start (omega (arith, place_first 0 count (count - 1) (omega arith) (omega arith)))
-    ]
-
--- The flags of a ring.
-module _ (words : List ℕ) (head count : ℕ) where
-  pub flags_long : length (flags_in words head count) ≡ count
-  unfolding flags_in
-  flags_long = length-map-range_with_len (λ slot. eqb (bit_of words (place_of head count slot)) 1) 0 count
-
-  pub flag_in : (slot : ℕ) → slot < count → flag_at (flags_in words head count) slot ≡ eqb (bit_of words (place_of head count slot)) 1
-  unfolding flags_in
-  flag_in slot within =
-      get_or-map-range_with_len (λ slot. eqb (bit_of words (place_of head count slot)) 1) 0 count slot slot false within (omega arith)
-
-  pub flag_past : (slot : ℕ) → count ≤ slot → flag_at (flags_in words head count) slot ≡ false
-  flag_past slot past = get_or_past (flags_in words head count) slot false (omega (arith, flags_long))
-
-  pub flags_are : (flags : List Bool) → length flags ≡ count
-      → ((slot : ℕ) → slot < count → get_or flags slot false ≡ eqb (bit_of words (place_of head count slot)) 1)
-      → flags ≡ flags_in words head count
-  unfolding flags_in
-  flags_are flags long each = fill_by_all (λ slot. eqb (bit_of words (place_of head count slot)) 1) flags count false long each
-
-pub flags_new : (words : List ℕ) (count : ℕ) → ((i : ℕ) → bit_of words i ≡ 0) → flags_in words 0 count ≡ replicate count false
-flags_new words count clear =
-    sym (flags_are words 0 count (replicate count false) (length-replicate count false)
-    (λ slot within. get_or-replicate count slot false false within ∙ sym (ne_eqb _ 1 (omega (arith, clear (place_of 0 count slot))))))
-
-module _ (old new : List ℕ) (head count slot : ℕ) (within : head < count) (inside : slot < count) where
-  pub flags_set : Writes old new (place_of head count slot) 1 → flags_in new head count ≡ set (flags_in old head count) slot true
-  flags_set writes =
-      sym (flags_are new head count (set (flags_in old head count) slot true)
-      (length-set (flags_in old head count) slot true ∙ flags_long old head count)
-      (λ k below.
-      elim (cases_eq k slot) [
-        | inl same ↦
-            rw same
-            (get_or-set_same (flags_in old head count) slot true false (omega (arith, flags_long old head count))
-            ∙ sym (eq-eqb _ 1 writes.written))
-        | inr other ↦
-            get_or-set_other (flags_in old head count) slot k true false other
-            ∙ flag_in old head count k below
-            ∙ sym (ap (λ b. eqb b 1)
-            (writes.others (place_of head count k) (λ same. other (place_same head count k slot within below inside same))))
-      ]))
-
-module _ (old new : List ℕ) (head count : ℕ) (within : head < count) (writes : Writes old new head 0) where
-  moved_flag : (k : ℕ) → k + 1 < count →
-      get_or (drop 1 (flags_in old head count) ++ false ∷ []) k false ≡ eqb (bit_of new (place_of (place_of head count 1) count k)) 1
-  moved_flag k below =
-      let apart : place_of head count (k + 1) ≢ head = λ same. absurd
-      (let zeroth : place_of head count 0 ≡ head = omega (arith, place_first head count 0 within (omega arith)) in
-      let first : k + 1 ≡ 0 = place_same head count (k + 1) 0 within below (omega arith) (same ∙ sym zeroth) in omega arith) in
-      get_or_append_left (drop 1 (flags_in old head count)) (false ∷ []) false k (omega (arith, length-drop 1 (flags_in old head count), flags_long old head count))
-      ∙ get_or-drop 1 (flags_in old head count) k false
-      ∙ ap (λ n. get_or (flags_in old head count) n false) (omega arith)
-      ∙ flag_in old head count (k + 1) below
-      ∙ ap (λ b. eqb b 1) (sym (writes.others (place_of head count (k + 1)) apart))
-      ∙ ap (λ p. eqb (bit_of new p) 1) (sym (place_moved head count k within below))
-
-  last_flag : (k : ℕ) → k + 1 ≡ count →
-      get_or (drop 1 (flags_in old head count) ++ false ∷ []) k false ≡ eqb (bit_of new (place_of (place_of head count 1) count k)) 1
-  last_flag k last =
-      let end : k ≡ count - 1 = omega arith in
-      get_or_push (drop 1 (flags_in old head count)) false false k (omega (arith, length-drop 1 (flags_in old head count), flags_long old head count))
-      ∙ sym (ne_eqb _ 1 (let clear : bit_of new (place_of (place_of head count 1) count k) ≡ 0 =
-      ap (λ p. bit_of new p) (ap (λ n. place_of (place_of head count 1) count n) end ∙ place_last head count within) ∙ writes.written in
-      omega arith))
-
-  pub flags_moved : flags_in new (place_of head count 1) count ≡ drop 1 (flags_in old head count) ++ false ∷ []
-  flags_moved =
-      sym (flags_are new (place_of head count 1) count (drop 1 (flags_in old head count) ++ false ∷ [])
-      (length_push (drop 1 (flags_in old head count)) false ∙ omega (arith, length-drop 1 (flags_in old head count), flags_long old head count))
-      (λ k below.
-      elim (cases_lt (k + 1) count) [
-        | inl more ↦ moved_flag k more
-        | inr last ↦ last_flag k (omega arith)
-      ]))
-
--- The first set flag, from the first set bit at or after the head, or else from bit 0 on.
-module _ (words : List ℕ) (head count : ℕ) (within : head < count) (unused : (i : ℕ) → count ≤ i → bit_of words i ≡ 0) where
-  pub used : (bit : ℕ) → bit_of words bit ≡ 1 → bit < count
-  used bit set = elim (cases_lt bit count) [ inl below ↦ below | inr past ↦ absurd (omega (arith, unused bit past)) ]
-
-  clear_flag : (slot : ℕ) → slot < count → bit_of words (place_of head count slot) ≡ 0 → flag_at (flags_in words head count) slot ≡ false
-  clear_flag slot below clear = flag_in words head count slot below ∙ ne_eqb _ 1 (omega arith)
-
-  set_flag : (slot bit : ℕ) → slot < count → place_of head count slot ≡ bit → bit_of words bit ≡ 1 → flag_at (flags_in words head count) slot ≡ true
-  set_flag slot bit below at set = flag_in words head count slot below ∙ eq-eqb _ 1 (ap (λ p. bit_of words p) at ∙ set)
-
-  pub first_after : (bit : ℕ) → IsNextSet words head bit → IsFirstSet (flags_in words head count) (bit - head)
-  first_after bit next =
-      let below : bit < count = used bit next.set in record {
-        within = omega (arith, flags_long words head count);
-        none = λ i least.
-            let start = place_first head count i within (omega (arith, next.after)) in
-            clear_flag i (omega arith) (ap (λ p. bit_of words p) start ∙ next.clear (head + i) (omega arith) (omega (arith, next.after)));
-        stops = inr (set_flag (bit - head) bit (omega arith) (place_first head count (bit - head) within (omega (arith, next.after)) ∙ omega (arith, next.after)) next.set);
-      }
-
-  module _ (none : (to : ℕ) → AreClear words head to) where
-    clear_start : (i : ℕ) → head + i < count → flag_at (flags_in words head count) i ≡ false
-    clear_start i below =
-        clear_flag i (omega arith) (ap (λ p. bit_of words p) (place_first head count i within below) ∙ none count (head + i) (omega arith) below)
-
-    before_head : (bit : ℕ) → bit_of words bit ≡ 1 → bit < head
-    before_head bit set = elim (cases_lt bit head) [ inl below ↦ below | inr past ↦ absurd (omega (arith, none (bit + 1) bit past)) ]
-
-    pub first_wrapped : (bit : ℕ) → IsNextSet words 0 bit → IsFirstSet (flags_in words head count) (bit + count - head)
-    first_wrapped bit next =
-        let low : bit < head = before_head bit next.set in record {
-          within = omega (arith, flags_long words head count);
-          none = λ i least.
-              elim (cases_lt (head + i) count) [
-                | inl below ↦ clear_start i below
-                | inr past ↦
-                    clear_flag i (omega arith) (ap (λ p. bit_of words p) (place_wrapped head count i within past) ∙ next.clear (head + i - count) (omega arith) (omega arith))
-              ];
-          stops = inr (set_flag (bit + count - head) bit (omega arith) (place_wrapped head count (bit + count - head) within (omega arith) ∙ omega arith) next.set);
-        }
-
-    pub first_none : ((to : ℕ) → AreClear words 0 to) → IsFirstSet (flags_in words head count) count
-    first_none empty = record {
-      within = omega (arith, flags_long words head count);
-      none = λ i below. clear_flag i below (empty count (place_of head count i) (omega arith) (place_within head count i within below));
-      stops = inl (sym (flags_long words head count));
-    }
 
 -- A level is new words of its vector, after they were borrowed and changed.
 pub writes_in : (v : Vec ℕ Global) {old new : List ℕ} {i bit : ℕ} → old ≡ v.items → length old ≡ v.len →
@@ -426,16 +237,19 @@ pub clears_in : (v : Vec ℕ Global) {old new : List ℕ} {i : ℕ} {empty : Boo
     Clears old new i empty → Clears v.items (with_items v new).items i empty
 clears_in v {old} {new} {i} {empty} same long clears =
     let now : (with_items v new).items ≡ new = with_items_is v new (clears.writes.size ∙ long) in
-    subst (λ (t : List ℕ). Clears v.items t i empty) (sym now) (subst (λ (t : List ℕ). Clears t new i empty) same clears)
+    subst (λ (t : List ℕ). Clears v.items t i empty) (sym now)
+    (subst (λ (t : List ℕ). Clears t new i empty) same clears)
 
-module _ (low next high : List ℕ) (i : ℕ) (empty : Bool) (is : IsSummary low high) (clears : Clears low next i empty) where
+module _ (low next high : List ℕ) (i : ℕ) (empty : Bool) (is : IsSummary low high)
+    (clears : Clears low next i empty) where
   pub summary_lowered :
       (above : List ℕ) → empty ≡ true → Writes high above (i / 64) 0 → IsSummary next above
   summary_lowered above is_empty lowered =
       summary_cleared low next high i is above clears.writes (eqb-true _ 0 (sym clears.told ∙ is_empty)) lowered
 
   pub summary_stays : empty ≡ false → IsSummary next high
-  summary_stays is_some = summary_kept low next high i is clears.writes clears.less (eqb-false _ 0 (sym clears.told ∙ is_some))
+  summary_stays is_some = summary_kept low next high i is clears.writes clears.less
+      (eqb-false _ 0 (sym clears.told ∙ is_some))
 
 -- The levels after a change that keeps their lengths.
 module _ (old new : Levels) (are : AreLevels old) where
@@ -482,8 +296,10 @@ module _ (old new : Levels) (i : ℕ) (are : AreLevels old) where
   levels_cleared_2 empty second bits is_empty words is_some groups top =
       levels_kept old new are bits.writes.size words.writes.size
       (ap (λ (v : Vec ℕ Global). length v.items) groups) (ap (λ (t : List ℕ). length t) top)
-      (summary_lowered old.bits.items new.bits.items old.words.items i empty are.words bits new.words.items is_empty words.writes)
-      (rw groups (summary_stays old.words.items new.words.items old.groups.items (i / 64) second are.groups words is_some))
+      (summary_lowered old.bits.items new.bits.items old.words.items i empty are.words bits new.words.items is_empty
+      words.writes)
+      (rw groups (summary_stays old.words.items new.words.items old.groups.items
+      (i / 64) second are.groups words is_some))
       (rw (groups, top) are.top)
 
   pub levels_cleared_3 : (empty second third : Bool) → Clears old.bits.items new.bits.items i empty → empty ≡ true →
@@ -491,8 +307,10 @@ module _ (old new : Levels) (i : ℕ) (are : AreLevels old) where
       Clears old.groups.items new.groups.items (i / 64 / 64) third → third ≡ false → new.top ≡ old.top → AreLevels new
   levels_cleared_3 empty second third bits is_empty words also_empty groups is_some top =
       levels_kept old new are bits.writes.size words.writes.size groups.writes.size (ap (λ (t : List ℕ). length t) top)
-      (summary_lowered old.bits.items new.bits.items old.words.items i empty are.words bits new.words.items is_empty words.writes)
-      (summary_lowered old.words.items new.words.items old.groups.items (i / 64) second are.groups words new.groups.items
+      (summary_lowered old.bits.items new.bits.items old.words.items i empty are.words bits new.words.items is_empty
+      words.writes)
+      (summary_lowered old.words.items new.words.items old.groups.items
+      (i / 64) second are.groups words new.groups.items
       also_empty groups.writes)
       (rw top (summary_stays old.groups.items new.groups.items old.top (i / 64 / 64) third are.top groups is_some))
 
@@ -502,8 +320,10 @@ module _ (old new : Levels) (i : ℕ) (are : AreLevels old) where
       Writes old.top new.top (i / 64 / 64 / 64) 0 → AreLevels new
   levels_cleared_4 empty second third bits is_empty words also_empty groups last top =
       levels_kept old new are bits.writes.size words.writes.size groups.writes.size top.size
-      (summary_lowered old.bits.items new.bits.items old.words.items i empty are.words bits new.words.items is_empty words.writes)
-      (summary_lowered old.words.items new.words.items old.groups.items (i / 64) second are.groups words new.groups.items
+      (summary_lowered old.bits.items new.bits.items old.words.items i empty are.words bits new.words.items is_empty
+      words.writes)
+      (summary_lowered old.words.items new.words.items old.groups.items
+      (i / 64) second are.groups words new.groups.items
       also_empty groups.writes)
       (summary_lowered old.groups.items new.groups.items old.top (i / 64 / 64) third are.top groups new.top last top)
 
@@ -515,8 +335,10 @@ summary_zeros low high n m lows highs k =
 zeros_long : (words : List ℕ) (n : ℕ) → words ≡ replicate n 0 → length words ≡ n
 zeros_long words n are = ap (λ (t : List ℕ). length t) are ∙ length-replicate {A = ℕ} n 0
 
-pub levels_new : (levels : Levels) (n m l : ℕ) → levels.bits.items ≡ replicate n 0 → levels.words.items ≡ replicate m 0 →
-    levels.groups.items ≡ replicate l 0 → levels.top ≡ replicate 1 0 → n ≤ 64 * m → m ≤ 64 * l → l ≤ 64 → AreLevels levels
+pub levels_new : (levels : Levels) (n m l : ℕ) → levels.bits.items ≡ replicate n 0 →
+    levels.words.items ≡ replicate m 0 →
+    levels.groups.items ≡ replicate l 0 → levels.top ≡ replicate 1 0 → n ≤ 64 * m → m ≤ 64 * l → l ≤ 64 →
+    AreLevels levels
 levels_new levels n m l bits words groups top first second third =
     let bits_long = zeros_long levels.bits.items n bits in
     let words_long = zeros_long levels.words.items m words in
@@ -543,13 +365,11 @@ bit_clear words i told =
 pub past_in_word : (words : List ℕ) (from : ℕ) → length words ≤ from / 64 → IsNextInWord words from None
 past_in_word words from past i least below = bit_past words i (omega arith)
 
-pub first_flag : (words : List ℕ) (head count : ℕ) → head < count →
-    flag_at (flags_in words head count) 0 ≡ eqb (bit_of words head) 1
-first_flag words head count within =
-    flag_in words head count 0 (omega arith)
-    ∙ ap (λ (p : ℕ). eqb (bit_of words p) 1) (place_first head count 0 within (omega arith) ∙ omega arith)
-
 -- Word `k` is there if it has a set bit.
 pub word_within : (words : List ℕ) (k : ℕ) → 0 < get_or words k 0 → k < length words
 word_within words k some =
-    elim (cases_lt k (length words)) [ inl within ↦ within | inr past ↦ absurd (omega (arith, get_or_past words k 0 past)) ]
+    elim (cases_lt k (length words)) [
+      | inl within ↦ within
+      | inr past ↦
+          absurd (omega (arith, get_or_past words k 0 past))
+    ]

@@ -97,7 +97,7 @@ pub record HasArbitrated (line : Option Line) (old : Arbitration) (bytes : List 
   pub told : taken ≡ reception.taken
 
 -- The arbiter refused a datagram. Either an allocation failed and nothing changed, or the receiving rule refuses the
--- datagram and the arbitration is the rule's.
+-- datagram, and the arbitration changes as that rule states.
 abbrev pub HasRefused : Option Line → Arbitration → List ℕ → Arbitration → Refusal → Type 0
 HasRefused line old bytes new refused =
     ((refused ≡ Memory) × IsCopied old.view bytes × (new ≡ old)) ⊎

@@ -1,6 +1,6 @@
 -- A ring of flags, kept as bits, and its first set flag.
-use Rattle.std.specs.Prelude.{◌≡◌, ◌≢◌, ℕ, ◌+◌, ◌-◌, ◌*◌, ◌/◌, ◌%◌, ◌<◌, ◌≤◌, ◌⊎◌, min, nat_eq, nat_lt, Bool, true, false}
-use Rattle.std.specs.Prelude.{List, length, map, slice_index, slice_index_or, Option, None, Some, if◌then◌else◌}
+use Rattle.std.specs.Prelude.{◌≡◌, ◌≢◌, ℕ, ◌+◌, ◌-◌, ◌*◌, ◌/◌, ◌%◌, ◌<◌, ◌≤◌, ◌⊎◌, min, nat_eq, nat_lt, Bool, true}
+use Rattle.std.specs.Prelude.{false, List, length, map, slice_index, slice_index_or, Option, None, Some, if◌then◌else◌}
 use Rattle.std.specs.Int.{bit_at}
 use Rattle.std.specs.List.{range_with_len}
 use Rattle.mold_receiver.specs.declared.occupied.Levels.{Levels}

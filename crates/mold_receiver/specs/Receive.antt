@@ -26,7 +26,7 @@ refusal v p =
     (first_conflict v.store (from_next v.next p.sequence (messages_of p.body))) p
 
 -- The messages that an accepted packet delivers: the available ones from `next` on, up to the first number that is
--- not available. No number at or above both `known` and the packet's top is available.
+-- not available. Each available number is below `known` or below the packet's top.
 abbrev pub handed_on : View → ℕ → List Message → List Message
 handed_on v number messages =
     run_from (finite.get (available v.store v.next number messages)) v.next

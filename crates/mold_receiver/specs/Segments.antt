@@ -1,6 +1,6 @@
 -- The segments of the store.
-use Rattle.std.specs.Prelude.{◌≡◌, ℕ, ◌+◌, ◌-◌, ◌<◌, ◌≤◌, ◌^◌, ◌⊎◌, ◌++◌, List, [], Option, None, Some, length, take, drop, max}
-use Rattle.std.specs.Prelude.{if◌then◌else◌, nat_eq, slice_get, vec_capacity, Vec}
+use Rattle.std.specs.Prelude.{◌≡◌, ℕ, ◌+◌, ◌-◌, ◌<◌, ◌≤◌, ◌^◌, ◌⊎◌, ◌++◌, List, [], Option, None, Some, length, take}
+use Rattle.std.specs.Prelude.{drop, max, if◌then◌else◌, nat_eq, slice_get, vec_capacity, Vec}
 use Rattle.std.specs.Global.{Global}
 use Rattle.slab.specs.Slab.{get}
 use Rattle.mold_receiver.specs.declared.place.Place.{Place}

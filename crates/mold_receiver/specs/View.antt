@@ -20,7 +20,7 @@ pub record View : Type 0 where
   pub ended : Option ℕ
   -- The stored messages: those that arrived above a gap.
   pub store : Store
-  -- How many numbers from `next` on the receiver keeps messages for.
+  -- The receiver stores messages with numbers below `next` plus this.
   pub window : ℕ
 
 -- The code of a view: the tuple of its fields.

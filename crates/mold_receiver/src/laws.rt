@@ -24,7 +24,7 @@ ghost use Rattle.mold_receiver.specs.Gap.{IsTakenInGap};
 use mold_rule::laws::{cause_law, lacking_law, ranges_size_law, refusal_law};
 use mold_wire::laws::{reading_law, true_packet_law};
 
-/// States delivery number by number. The packet's messages from the old `next` on and the stored messages are
+/// States what is delivered, number by number. The packet's messages from the old `next` on and the stored messages are
 /// available. The new `next` is the least number from the old one on that is not available. The delivered messages
 /// are the available ones in between, in order.
 #[tactic(auto, using(crate::proofs::LawLemmas::next_lacks, crate::proofs::LawLemmas::handed_reads))]

@@ -1,7 +1,7 @@
 //! A ring of flags whose first set flag is found in constant time.
 
 ghost use Rattle.std.specs.Prelude.{◌≡◌, ℕ, ◌+◌, ◌*◌, ◌/◌, ◌^◌, ◌<◌, ◌≤◌, ◌++◌, ◌∷◌, [], length, drop, replicate};
-ghost use Rattle.std.specs.Prelude.{nat_eq, slice_index, slice_set, false, true, IfOk, MatchOption};
+ghost use Rattle.std.specs.Prelude.{nat_eq, slice_index, slice_set, false, true, IfOk};
 ghost use Rattle.mold_receiver.specs.Occupied.{flag_at, bit_of, place_of, Writes, IsNext, IsNextInWord, IsNextSet};
 ghost use Rattle.mold_receiver.specs.Occupied.{AreLevels, IsFirstSet};
 
@@ -71,8 +71,8 @@ fn next_in_word(words: &[u64], from: usize) -> Option<usize>
     Some(from + rest.trailing_zeros() as usize)
 }
 
-// Bits in levels. `bits` has a bit for each place of a ring. Each other level has a bit for each word of the level
-// below it, which is set exactly if that word isn't 0. So `next` reads at most two words of each level.
+// Bits in levels. `bits` has a bit for each flag of a ring. Each other level has a bit for each word of the level below
+// it, which is set exactly if that word isn't 0. So `next` reads at most two words of each level.
 #[derive(Debug, Drop)]
 struct Levels {
     bits: Vec<u64>,
@@ -199,8 +199,8 @@ fn place(head: usize, count: usize, slot: usize) -> usize
     if place < count { place } else { place - count }
 }
 
-/// A ring of flags, one for each slot. It is allocated once, with 65 bits for each 64 flags. No call searches the
-/// flags: `first` takes the same few steps wherever the first set flag is.
+/// A ring of flags, one for each slot. It is allocated once, and takes little more than one bit for each flag. No call
+/// searches the flags: `first` reads at most 14 words, wherever the first set flag is.
 #[derive(Debug, Drop)]
 pub(crate) struct Occupied {
     levels: Levels,

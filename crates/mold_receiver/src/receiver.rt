@@ -338,7 +338,7 @@ impl Receiver {
         self.slots.segments()
     }
 
-    /// Returns the window: how many numbers from `next` on the receiver keeps messages for, 1 to `MAX_WINDOW`.
+    /// Returns the window, 1 to `MAX_WINDOW`: the receiver stores messages with numbers below `next` plus the window.
     pub fn window(&self) -> u32
         ensures window { result ≡ self.now.window }
         ensures range { IsWindow self.now.window }

@@ -3,8 +3,8 @@
 ghost use Rattle.std.specs.Prelude.{◌≡◌, ◌+◌, ◌<◌, ◌≤◌, ◌^◌, [], length, drop, max, IfOk, IfSome, OnErr, Some, None, ℕ};
 ghost use Rattle.std.specs.Prelude.{◌==◌};
 ghost use Rattle.slab.specs.Slab.{get, slab_len, Updates};
-ghost use Rattle.mold_receiver.specs.Segments.{AreMore, AreSegments, HasGained, HasLost, IsAppended, IsMemory, bytes_at};
-ghost use Rattle.mold_receiver.specs.Segments.{live_at};
+ghost use Rattle.mold_receiver.specs.Segments.{AreMore, AreSegments, HasGained, HasLost, IsAppended, IsMemory};
+ghost use Rattle.mold_receiver.specs.Segments.{bytes_at, live_at};
 ghost use Rattle.mold_receiver.specs.declared.place.TheConstants.{NO_START};
 ghost use Rattle.mold_receiver.specs.declared.segment.TheConstants.{SEGMENT_BYTES};
 ghost use Rattle.mold_receiver.specs.declared.segments.TheConstants.{MAX_SPARE};

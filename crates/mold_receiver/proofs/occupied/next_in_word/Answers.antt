@@ -15,7 +15,11 @@ overflow_add-result c =
     let word = get_or c.args.words.now (c.args.from / 64) 0 in
     let rest = word / 2 ^ (c.args.from % 64) in
     let some : 0 < rest = omega arith in
-    omega (arith, index_fits c.args.words.now c.args.from word rest refl refl some (c.type_inv.words (c.args.from / 64)).fits c.ranges.from.fits)
+    omega (
+      arith,
+      index_fits c.args.words.now c.args.from word rest refl refl some
+          (c.type_inv.words (c.args.from / 64)).fits c.ranges.from.fits,
+    )
 
 pub returns : goal.returns
 returns c =

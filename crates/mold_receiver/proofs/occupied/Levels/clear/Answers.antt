@@ -1,9 +1,11 @@
 use Rattle.std.proofs.Common.{◌≡◌, ℕ, ◌/◌, ◌≤◌, List, Bool, get_or, eqb, refl}
 use Rattle.mold_receiver.specs.Occupied.{Writes}
-use Rattle.mold_receiver.proofs.OccupiedLemmas.{Clears, clears_in, levels_cleared_1, levels_cleared_2, levels_cleared_3, levels_cleared_4}
+use Rattle.mold_receiver.proofs.OccupiedLemmas.{Clears, clears_in, levels_cleared_1, levels_cleared_2}
+use Rattle.mold_receiver.proofs.OccupiedLemmas.{levels_cleared_3, levels_cleared_4}
 use Rattle.mold_receiver.proofs.occupied.Levels.clear.Goals as goal
 
-clears : {old new : List ℕ} {i : ℕ} {empty : Bool} → Writes old new i 0 → get_or new (i / 64) 0 ≤ get_or old (i / 64) 0 →
+clears : {old new : List ℕ} {i : ℕ} {empty : Bool} → Writes old new i 0 →
+    get_or new (i / 64) 0 ≤ get_or old (i / 64) 0 →
     empty ≡ eqb (get_or new (i / 64) 0) 0 → Clears old new i empty
 clears writes less told = record { writes = writes; less = less; told = told }
 

@@ -1,6 +1,6 @@
 use Rattle.std.proofs.Common.{ℕ, List, Bool, [], ◌∷◌, ◌++◌, drop, false, sym, ap, ◌∙◌}
 use Rattle.mold_receiver.specs.Occupied.{flag_at, flags_in}
-use Rattle.mold_receiver.proofs.OccupiedLemmas.{first_flag, flags_moved}
+use Rattle.mold_receiver.proofs.OccupiedRingLemmas.{first_flag, flags_moved}
 use Rattle.mold_receiver.proofs.occupied.Occupied.advance.Goals as goal
 
 pub returns-clause-moved : goal.returns-clause-moved

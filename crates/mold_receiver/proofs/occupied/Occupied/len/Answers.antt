@@ -1,5 +1,5 @@
 use Rattle.std.proofs.Common.{List, Bool, length, sym, ap, ◌∙◌}
-use Rattle.mold_receiver.proofs.OccupiedLemmas.{flags_long}
+use Rattle.mold_receiver.proofs.OccupiedRingLemmas.{flags_long}
 use Rattle.mold_receiver.proofs.occupied.Occupied.len.Goals as goal
 
 pub returns : goal.returns

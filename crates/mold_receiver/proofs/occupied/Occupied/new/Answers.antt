@@ -1,4 +1,4 @@
-use Rattle.mold_receiver.proofs.OccupiedLemmas.{flags_new}
+use Rattle.mold_receiver.proofs.OccupiedRingLemmas.{flags_new}
 use Rattle.mold_receiver.proofs.occupied.Occupied.new.Goals as goal
 
 pub returns : goal.returns

@@ -1,5 +1,5 @@
 use Rattle.std.proofs.Common.{◌≡◌, ◌<◌, List, Bool, true, length, slice_set, sym, ap, ◌∙◌, arith}
-use Rattle.mold_receiver.proofs.OccupiedLemmas.{flags_long, flags_set, place_within}
+use Rattle.mold_receiver.proofs.OccupiedRingLemmas.{flags_long, flags_set, place_within}
 use Rattle.mold_receiver.proofs.occupied.Occupied.set.Goals as goal
 
 pub place-requires : goal.place-requires
