@@ -216,9 +216,10 @@ fn print_refusal<K: Sink>(
 /// Checks the entries that are datagrams, in ascending order of the bytes of their names. It writes the outcome
 /// to the sink and returns the exit status: 0 whole, 1 incomplete, 2 a datagram is refused.
 ///
-/// It copies no entry, only the messages that the checker stores. If there is a fault and no two entries have
-/// the same name, a prefix of the text was written. After `Memory` this prefix is all text made so far. `Write` is
-/// returned only if the sink failed, `Memory` only if an allocation failed, and `Read` never.
+/// It copies no entry, only the messages that the checker stores. After a fault, a prefix of the text was
+/// written; the contract states this only if no two entries have the same name. After `Memory` this prefix is all
+/// text made so far. `Write` is returned only if the sink failed, `Memory` only if an allocation failed, and `Read`
+/// never.
 pub fn check_entries<K: Sink>(
     alloc: Global,
     entries: &[Entry],

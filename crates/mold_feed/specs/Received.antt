@@ -106,8 +106,8 @@ RefusesForeign Came session (Handed number message) = ⊤
 RefusesForeign Came session (Refuses bytes why) = Came bytes × IsForeign session bytes × IsReason session bytes why
 
 -- The state of an honest listener that started at message `first` with the text `before`. It has appended printed
--- lines to that text. Their messages are the published ones, from `first` to the last one before its next number. It
--- refused only bytes that satisfy `Came` and do not encode a packet of the session. It is still honest.
+-- lines to that text. These lines have the published messages from `first` up to, but not including, the listener's
+-- next number. It refused only bytes that satisfy `Came` and do not encode a packet of the session. It is still honest.
 pub record HasListened (journal : JournalState) (Came : List ℕ → Type 0) (first : ℕ) (before : List ℕ) (e : Progress) :
     Type 0 where
   -- the lines printed since the start

@@ -16,8 +16,8 @@ pub record WasSent {P : Type 0} (sent : List (P × List ℕ)) (bytes : List ℕ)
 abbrev pub GivesSent : {P : Type 0} → List (P × List ℕ) → Port P → Type 0
 GivesSent sent port = GivesOnly (WasSent sent) port
 
--- The loop's ports give only what the loop sent. The publisher's port and the server's port have sent nothing at the
--- start. What comes to the server's port is not restricted.
+-- The ports of the lines and of the listener's requests give only what the loop sent. The server's port may give
+-- anything. The publisher's port and the server's port have sent nothing at the start.
 pub record OwnPorts {P : Type 0} (lines lines_left : LineState P) (rounds rounds_left : RepairState P) : Type 0 where
   pub publisher : lines.publisher.sent ≡ []
   pub server : rounds.server.sent ≡ []

@@ -96,8 +96,8 @@ pub record HasArbitrated (line : Option Line) (old : Arbitration) (bytes : List 
   -- The counts that the arbiter returned are the rule's.
   pub told : taken ≡ reception.taken
 
--- The arbiter refused a datagram. Either an allocation failed and nothing changed, or the receiving rule refuses the
--- datagram, and the arbitration changes as that rule states.
+-- The arbiter refused a datagram. Either an allocation failed, and nothing changed. Or the receiving rule refuses the
+-- datagram: the view is unchanged, and if the datagram came on a line, the line's report counts it.
 abbrev pub HasRefused : Option Line → Arbitration → List ℕ → Arbitration → Refusal → Type 0
 HasRefused line old bytes new refused =
     ((refused ≡ Memory) × IsCopied old.view bytes × (new ≡ old)) ⊎

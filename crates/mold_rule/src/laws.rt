@@ -62,7 +62,7 @@ pub fn ranges_size_law()
 {}
 
 /// The counts of missing numbers in two adjacent parts add up to the count of both. The count of a part is
-/// `count` if all its numbers are missing, and 0 if none is. It depends only on which of its numbers are
+/// its length if all its numbers are missing, and 0 if none is. It depends only on which of its numbers are
 /// missing.
 pub fn lacking_law()
     ensures parts { (lacks : ℕ → Bool) (low count more : ℕ) →

@@ -78,7 +78,7 @@ pub record TakesBlock (most : ℕ) (known left : Option (List ℕ)) (old new : L
   pub added : new ≡ old ++ message ∷ []
   pub consumed : Consumes known left (block message)
 
--- The call may return this error. For a fault of the bytes, this means that they have it, if they are known.
+-- The call may return this error. If it is a fault of the bytes, and the bytes are known, then they have this fault.
 -- `Read` and `Memory` are not faults of the bytes, and `Write` is never returned.
 abbrev pub Refuses : (List ℕ → FileError → Type 0) → Option (List ℕ) → FileError → Type 0
 Refuses Fault known Read = ⊤

@@ -145,9 +145,9 @@ pub fn sending_law()
     true_packet_law();
 }
 
-/// A file has one reading. No bytes are the files of two journals or of both versions. The file of a journal
-/// whose messages are within a bound has no fault for that bound. So a file determines what `Journal::load`
-/// returns for it.
+/// A file has one reading. No bytes are the files of two journals or of both versions. If no message of a journal
+/// is longer than a maximum, the journal's file has no fault for that maximum. So a file determines what
+/// `Journal::load` returns for it.
 #[tactic(auto, using(crate::proofs::FileLawLemmas::one_reading))]
 pub fn one_file_law()
     ensures one_journal { (one other : Session) (messages others : List (List ℕ)) (bytes : List ℕ) →

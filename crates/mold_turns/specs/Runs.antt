@@ -53,8 +53,8 @@ pub record TurnRestsOfTwo {C S M T E : Type 0} (loop : Loop C S M) (other : S �
   pub others : Begins (other now) (other (loop.turn turn.choice start))
 
 -- A fault ended a loop. The text of the turns that were completed before is written, except text that the loop may keep
--- unwritten between turns. A loop that writes only at its end does not satisfy this. `ends s` relates the loop's ports
--- to the state `s` in which the last of these turns ended.
+-- unwritten between turns. A loop that writes only at its end does not satisfy this. `ends s` states which ports the
+-- loop may have, given the state `s` after the last completed turn.
 pub record WrittenInTime {C S M : Type 0} (loop : Loop C S M) (start : S) (live : Bool) (old new : Option (List ℕ))
     (ends : S → Type 0) : Type 0 where
   -- the choices of the completed turns

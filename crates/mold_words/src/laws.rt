@@ -220,8 +220,8 @@ pub fn dump_taken_law()
         (codes "dump" ∷ codes "--journal" ∷ codes "J" ∷ codes "--count" ∷ codes "18446744073709551616" ∷ []) ≡ None }
 {}
 
-/// The only kind of error that `clap` reports for each of `--help`, `show --help`, `--version`, `-V` and the unknown
-/// option `show --other`.
+/// `clap` reports help and the version as errors too. For each of `--help`, `show --help`, `--version`, `-V` and the
+/// unknown option `show --other`, exactly one kind of error is possible.
 pub fn asked_law()
     ensures help { fault_of mold_app (codes "--help" ∷ []) ≡ DisplayHelp ∷ [] }
     ensures show_help { fault_of mold_app (codes "show" ∷ codes "--help" ∷ []) ≡ DisplayHelp ∷ [] }

@@ -116,7 +116,8 @@ pub fn delivery_law()
 }
 
 /// States the straight path. A receiver gets each data packet of new messages right after it is sent, and it doesn't
-/// restart. If its book begins with all messages sent in datagrams so far, it does so afterwards too.
+/// restart. If its book began with all messages that were sent in datagrams before the events, then after them it
+/// begins with all that were sent by then.
 pub fn straight_law()
     ensures { (w : WorldState) (happenings : List Happening) (receiver : ℕ) → IsWorld w →
         IsStraight w receiver happenings → HasSent w receiver → HasSent (run_events w happenings) receiver }
