@@ -41,7 +41,7 @@ rest_in (Some len) piece = drop (len + 1) piece
 abbrev pub HasNoEnd : List ℕ → Type 0
 HasNoEnd bytes = (k : ℕ) → k < length bytes → (get_or bytes k 0 == 10) ≡ true → ⊥
 
--- The measure that shows that every loop over the lines ends. It combines the source's bound with the number of
--- bytes that were read and not used.
+-- An upper bound of the work that remains for a loop over the lines, which shows that the loop ends. It counts the
+-- reads that the source still allows, and the bytes that were read and not used.
 abbrev pub work_left : ℕ → List ℕ → ℕ
 work_left bound rest = bound * 65537 + length rest

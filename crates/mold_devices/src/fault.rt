@@ -23,6 +23,7 @@ impl From<AllocError> for ReadFault {
 
     ghost from_gives = { λ _ fault. fault ≡ Memory };
 
+    /// Returns `Memory`, the fault for a failed allocation.
     fn from(_error: AllocError) -> ReadFault {
         ReadFault::Memory
     }
@@ -34,6 +35,7 @@ impl From<DeviceFault> for ReadFault {
 
     ghost from_gives = { λ _ fault. fault ≡ Read };
 
+    /// Returns `Read`, the fault for a source that failed.
     fn from(_fault: DeviceFault) -> ReadFault {
         ReadFault::Read
     }

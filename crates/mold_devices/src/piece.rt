@@ -28,7 +28,7 @@ impl<const N: usize> Model for Piece<N> {
 }
 
 impl<const N: usize> Piece<N> {
-    /// Makes an empty piece.
+    /// Makes an empty piece. A piece is a buffer for the bytes of one read.
     pub fn new() -> Piece<N>
         requires { 0 < N }
         ensures { result ≡ [] }

@@ -1,5 +1,5 @@
-//! Fast reading and writing of hexadecimal digits and decimal numbers. The crate `hex` and the standard
-//! library define what they mean.
+//! Fast reading and writing of hexadecimal digits and decimal numbers. The results are those of the crate
+//! `hex` and of the standard library.
 #![tactic(auto)]
 
 mod decoding;

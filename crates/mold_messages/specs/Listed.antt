@@ -19,7 +19,7 @@ pub record HasRoom (list : Listed) (count size : ℕ) : Type 0 where
   pub messages : length list.messages + count ≤ list.message_room
   pub bytes : byte_count list.messages + size ≤ list.byte_room
 
--- The list has lost no room.
+-- The room of the list is as large as before, or larger.
 pub record KeepsRoom (old new : Listed) : Type 0 where
   pub messages : old.message_room ≤ new.message_room
   pub bytes : old.byte_room ≤ new.byte_room

@@ -5,7 +5,7 @@ use Rattle.mold_ports.specs.Ports.{Port, Receipt, Datagram, Quiet, Failure, offe
 use Rattle.mold_ports.specs.declared.step.Step.{Step}
 use Rattle.mold_ports.specs.declared.step.Step.TheVariants as step
 
--- What a receive at this step of the script gives.
+-- What a receive gives at this step of the port's script.
 abbrev pub receipt_at : Step → Receipt ℕ
 receipt_at (step.Come from bytes) = Datagram from bytes.items
 receipt_at step.Quiet = Quiet

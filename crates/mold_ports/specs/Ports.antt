@@ -19,7 +19,7 @@ pub record Port (P : Type 0) : Type 0 where
   -- the count of failed sends and receives
   pub failures : ℕ
 
--- The receipt in a buffer of `n` bytes. A longer datagram is truncated.
+-- What a receive into a buffer of `n` bytes gives. A longer datagram is truncated to `n` bytes.
 abbrev pub cut : {P : Type 0} → ℕ → Receipt P → Receipt P
 cut n (Datagram from bytes) = Datagram from (take n bytes)
 cut n Quiet = Quiet
@@ -48,8 +48,8 @@ received port = record {
   failures = failures_after port.failures (first port.comes);
 }
 
--- The port after a send. If the Boolean is `true`, the send failed and is counted. Otherwise the datagram is the last
--- one sent.
+-- The port after a send of these bytes to this peer. If the Boolean is `true`, the send failed and is counted.
+-- Otherwise the datagram is added to those that were sent.
 abbrev pub offered : {P : Type 0} → Bool → P → List ℕ → Port P → Port P
 offered true to bytes port = record {
   comes = port.comes;
@@ -62,7 +62,7 @@ offered false to bytes port = record {
   failures = port.failures;
 }
 
--- The receipt of a receive, from its result and its buffer.
+-- What a receive gave, from its result and its buffer: a datagram, nothing, or a failure.
 abbrev pub receipt_of : {P E : Type 0} → Result (Option (ℕ × P)) E → List ℕ → Receipt P
 receipt_of (Ok (Some found)) buffer = Datagram found.1 (take found.0 buffer)
 receipt_of (Ok None) buffer = Quiet

@@ -82,16 +82,16 @@ impl UdpPort {
         self.address
     }
 
-    /// Returns how the next receive begins if this port is beside others (see `stand_beside`).
+    /// Returns what the next receive does first, if this port is beside others (see `stand_beside`).
     pub fn outlook(&self) -> Outlook
         ensures { result ≡ self.now.outlook }
     {
         self.outlook
     }
 
-    /// Puts this port beside another one: a wait of its receives then also ends when the other port has a datagram. So
-    /// a silent port does not delay a busy one. A port is beside at most two others, the last two that it was given.
-    /// Keep those as long as this port. A datagram that is left unreceived at one of them ends every wait. If the
+    /// Puts this port beside another one. A wait on this port then also ends when a datagram is at the other port, so a
+    /// silent port does not delay a busy one. A port is beside at most two others: the last two that it was given. Keep
+    /// these two ports as long as this one. A datagram that stays at one of them ends every wait on this port. If the
     /// system cannot make the socket nonblocking, this call does nothing.
     pub fn stand_beside(&mut self, other: &UdpPort)
         ensures { self.new ≡ self.old }

@@ -33,7 +33,7 @@ arbitration_code = code_by (View × (LineReport × LineReport)) (coded× view_co
     (λ p. record { view = p.0; reports = record { a = p.1.0; b = p.1.1 } })
     (λ _. refl)
 
--- The report of a line.
+-- The report of this line, out of the reports of both lines.
 abbrev pub report_on : Line → LineReports → LineReport
 report_on A reports = reports.a
 report_on B reports = reports.b

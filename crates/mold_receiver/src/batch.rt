@@ -160,6 +160,7 @@ impl<'a> IntoIterator for &'a Batch {
 
     ghost into_iter_gives = { λ s r. r ≡ s.now.messages };
 
+    /// Returns an iterator over the messages, in order.
     fn into_iter(self) -> PartIterator<'a> {
         self.iter()
     }

@@ -8,7 +8,7 @@ use mold_session::FileError;
 use mold_text::{Word, push_refused};
 use std::alloc::AllocError;
 
-/// Appends the line of the reason why a journal file cannot be loaded, saved or upgraded. If an allocation
+/// Appends a line with the reason why a journal file cannot be loaded, saved or upgraded. If an allocation
 /// fails, a part of the line may follow the earlier text.
 pub fn push_file_refusal(out: &mut Vec<u8>, error: FileError) -> Result<(), AllocError>
     ensures text { OnOk result (out.new.items ≡ out.old.items ++ refused_line (file_fault_words error)) }

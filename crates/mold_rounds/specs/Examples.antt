@@ -13,7 +13,7 @@ twenty value = replicate 20 value
 abbrev pub five : List Message
 five = twenty 1 ∷ twenty 2 ∷ twenty 3 ∷ twenty 4 ∷ twenty 5 ∷ []
 
--- A receiver with the next number 1 that stores these messages and knows of numbers up to 5.
+-- The view of a receiver that has delivered nothing, stores these messages, and knows that there are messages 1 to 5.
 abbrev pub received : ℕ → List (ℕ × Message) → View
 received window stored = record {
   session = nameless;

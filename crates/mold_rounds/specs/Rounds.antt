@@ -16,7 +16,8 @@ use Rattle.mold_wire.specs.declared.session.Session.{Session}
 abbrev pub carried : List Packet → ℕ
 carried packets = sum_by (λ packet. length (messages_of packet.body)) packets
 
--- A session with an empty name. The number of messages in packets doesn't depend on the session.
+-- A session with an empty name, with which the definitions count messages. The number of messages in packets doesn't
+-- depend on the session.
 abbrev pub nameless : Session
 nameless = record { 0 = [] }
 

@@ -78,7 +78,7 @@ first_some (Some refusal ∷ refusals) = Some refusal
 abbrev pub refusal_of : Option (List ℕ) → ℕ → Option ℕ → Option ℕ → Packet → Option Refusal
 refusal_of session known ended differs p = first_some (refusals session known ended differs p)
 
--- The packet is admissible by its header and its number of messages.
+-- No refusal applies that depends only on the packet's header and on its number of messages.
 pub record IsAdmitted (session : Option (List ℕ)) (known : ℕ) (ended : Option ℕ) (p : Packet) : Type 0 where
   -- The packet belongs to the known session.
   pub named : (name : List ℕ) → session ≡ Some name → p.session.0 ≡ name

@@ -71,15 +71,15 @@ planned published limit plan =
 abbrev pub FitAlone : ℕ → List (List ℕ) → Type 0
 FitAlone limit messages = AllByRecursion (λ message. length message + MESSAGE_OVERHEAD ≤ limit) messages
 
--- The first packet is a data packet with sequence number `number` and at least one message.
+-- There is a first packet. It is a data packet with sequence number `number` and at least one message.
 pub record HasFirst (session : Session) (number : ℕ) (packets : List Packet) : Type 0 where
   pub part : List (List ℕ)
   pub rest : List Packet
   pub sent : packets ≡ data_packet session number part ∷ rest
   pub some : 0 < length part
 
--- The plan's next packet has a message and is the first of the packets that the plan still sends. The others
--- are those that the plan sends once it has moved past the first.
+-- The plan first sends its next packet, which has at least one message. Then it sends what remains once it has moved
+-- past the messages of that packet.
 pub record SendsNext (published : List (List ℕ)) (limit : ℕ) (plan : PlanState) : Type 0 where
   pub sent : planned published limit plan
       ≡ next_packet published limit plan

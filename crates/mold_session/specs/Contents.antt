@@ -38,13 +38,13 @@ PrecedeFault bytes messages Read = ⊥
 PrecedeFault bytes messages Memory = ⊥
 PrecedeFault bytes messages Write = ⊥
 
--- The bytes as the contents of a file. Without a fault, the bytes are the file of a journal of these messages, of
--- either version. With a fault, the bytes are not the file of a journal, and `messages` are those before the fault.
+-- The bytes are a file with these messages and this fault. Without a fault they are the file of a journal, of either
+-- version; with a fault, `messages` are the messages before it.
 abbrev pub Gives : List ℕ → List (List ℕ) → Option FileError → Type 0
 Gives bytes messages None = (head : FileHead) × SpellsFile head messages head.stated bytes
 Gives bytes messages (Some error) = JournalFault MAX_MESSAGE bytes error × PrecedeFault bytes messages error
 
--- The contents of the bytes as a file: its messages, which may have any length, and its fault, if it has one.
+-- What the bytes contain as a file: messages, which may have any length, and a fault, if there is one.
 pub record FileContents (bytes : List ℕ) : Type 0 where
   pub messages : List (List ℕ)
   pub fault : Option FileError

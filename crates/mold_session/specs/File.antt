@@ -47,15 +47,14 @@ pub record SpellsJournal2 (session : Session) (messages : List (List ℕ)) (clos
 abbrev pub file_length : List (List ℕ) → ℕ
 file_length messages = 27 + sum_by (λ message. 2 + length message) messages
 
--- The bytes that the sink holds, if known, grew from `old` to `new` by the file of version 2 of a journal.
+-- If the bytes that the sink holds are known, the file of version 2 of a journal was appended to them.
 pub record AppendsFile (old new : Option (List ℕ)) (session : Session) (messages : List (List ℕ))
     (closed : Bool) : Type 0 where
   pub file : List ℕ
   pub spelled : SpellsJournal2 session messages closed file
   pub appended : Appends old new file
 
--- The bytes that the sink holds, if known, grew from `old` to `new` by a prefix of the file of version 2 of a
--- journal.
+-- If the bytes that the sink holds are known, a prefix of the file of version 2 of a journal was appended to them.
 pub record AppendsFilePrefix (old new : Option (List ℕ)) (session : Session) (messages : List (List ℕ))
     (closed : Bool) : Type 0 where
   pub file : List ℕ

@@ -55,7 +55,7 @@ abbrev pub CountFault : Option ℕ → ℕ → FileError → Type 0
 CountFault stated read (CountDiffers count found) = Misstates stated read count found
 CountFault stated read error = ⊥
 
--- The fault of the bytes that follow the messages that were read. It is in the next block, or nothing follows
+-- The bytes that follow the messages that were read have this fault. Either it is in the next block, or no bytes follow
 -- and the file states another number of messages.
 abbrev pub RestFault : Option ℕ → ℕ → List ℕ → FileError → Type 0
 RestFault stated read rest (CountDiffers count found) = (rest ≡ []) × Misstates stated read count found

@@ -22,8 +22,8 @@ SpellsVersion version session messages closed bytes =
     ((version ≡ 1) × (closed ≡ false) × SpellsJournal session messages bytes)
     ⊎ ((version ≡ 2) × SpellsJournal2 session messages closed bytes)
 
--- The source's bytes, if known, were the file of a journal. The file of version 2 of the same session and messages
--- was appended to the sink. It is closed if the old one was or if `close` is true.
+-- The source's bytes, if known, were the file of a journal, and a file of version 2 with the same session and messages
+-- was appended to the sink. The new file is closed if the old one was or if `close` is true.
 pub record Upgrades (known old new : Option (List ℕ)) (close : Bool) (upgraded : Upgraded) : Type 0 where
   pub session : Session
   pub messages : List (List ℕ)

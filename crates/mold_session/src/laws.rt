@@ -51,7 +51,7 @@ pub fn packing_law()
         ≡ data_packet session sequence found ∷ packing limit session (sequence + length found) behind }
 {}
 
-/// Which messages the first packet has if `count` messages are requested: their longest prefix that fits.
+/// If `count` messages are requested, the first packet has the longest prefix of them that fits.
 pub fn first_part_law()
     ensures { (limit count : ℕ) (messages : List (List ℕ)) → HEADER_LENGTH ≤ limit →
         first_part limit (take count messages) ≡ front limit messages count }
@@ -59,12 +59,12 @@ pub fn first_part_law()
     front_law();
 }
 
-/// What a plan still sends. A spent plan sends nothing. Any other plan sends its next packet, and then what the plan
-/// after that packet sends. It never sends more than `left` packets. Messages that are published meanwhile change
-/// nothing.
+/// What a plan still sends. A spent plan sends nothing. Any other plan sends its next packet, and then what remains
+/// once it has moved past that packet. It never sends more than `left` packets. Messages that are published meanwhile
+/// change nothing.
 ///
-/// So the datagrams that `Server::datagram` returns, until it returns `None`, are all packets that the plan had
-/// at first, in order.
+/// So the datagrams that `Server::datagram` returns, until it returns `None`, are all packets that the plan had at
+/// first, in order.
 pub fn planned_law()
     ensures spent { (published : List (List ℕ)) (limit : ℕ) (plan : PlanState) →
         IsSpent plan → planned published limit plan ≡ [] }
@@ -118,8 +118,9 @@ pub fn answer_not_empty_law()
     packet_length_law();
 }
 
-/// The packets that a publisher sends next, and all packets of a plan, have an encoding that is true of the
-/// journal. The session's name must have ten bytes. The bytes of a data packet are the encoding of that packet.
+/// Every packet that a publisher sends next, and every packet of a plan, has an encoding that is true of the journal.
+/// The session's name must have ten bytes. For a data packet of a publisher, the law also states that `spelling_of` is
+/// its encoding.
 pub fn sending_law()
     ensures spelled { (publisher : PublisherState) (packet : Packet) → IsPublisher publisher →
         length publisher.journal.session.0 ≡ 10 → next_datagram publisher ≡ Some packet →
@@ -145,9 +146,8 @@ pub fn sending_law()
     true_packet_law();
 }
 
-/// A file has one reading. No bytes are the files of two journals or of both versions. If no message of a journal
-/// is longer than a maximum, the journal's file has no fault for that maximum. So a file determines what
-/// `Journal::load` returns for it.
+/// Bytes are the file of at most one journal, in one version. If no message of a journal is longer than a maximum, the
+/// journal's file has no fault for that maximum. So a file determines what `Journal::load` returns for it.
 #[tactic(auto, using(crate::proofs::FileLawLemmas::one_reading))]
 pub fn one_file_law()
     ensures one_journal { (one other : Session) (messages others : List (List ℕ)) (bytes : List ℕ) →
@@ -166,14 +166,14 @@ pub fn one_file_law()
         AllByRecursion (IsWithin most) messages → ¬ JournalFault most bytes error }
 {}
 
-/// A file has at most one fault for a given bound. So a file determines the error of `Journal::load`, except
-/// for `Read` and `Memory`.
+/// For a given maximum length of messages, a file has at most one fault. So a file determines the error of
+/// `Journal::load`, except for `Read` and `Memory`.
 pub fn one_fault_law()
     ensures { (most : ℕ) (bytes : List ℕ) (one other : FileError) → most ≤ MAX_MESSAGE →
         JournalFault most bytes one → JournalFault most bytes other → one ≡ other }
 {}
 
-/// All bytes have contents as a file: a list of messages, and at most one fault. The contents are unique.
+/// Any bytes have contents as a file: a list of messages, and at most one fault. The contents are unique.
 pub fn contents_law()
     ensures some { (bytes : List ℕ) → IsBytes bytes → FileContents bytes }
     ensures one { (bytes : List ℕ) (one other : FileContents bytes) →
@@ -198,8 +198,8 @@ pub fn reader_law()
         IfSome known (λ bytes. (contents : FileContents bytes) → IsFront messages contents.messages) }
 {}
 
-/// The properties of `IsPublisher` are kept by each step: a message that nothing refuses is published, a datagram is
-/// sent, or the publisher is closed after all messages were sent.
+/// Each step of a publisher keeps the properties of `IsPublisher`. The steps are: a message that nothing refuses is
+/// published, a datagram is sent, or the publisher is closed after all messages were sent.
 pub fn publisher_law()
     ensures may { (publisher : PublisherState) (message : List ℕ) →
         append_refusal publisher.journal message ≡ None → MayPublish publisher message }

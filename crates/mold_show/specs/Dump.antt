@@ -46,7 +46,7 @@ abbrev pub fault_status : Option FileError → ℕ
 fault_status None = 0
 fault_status (Some error) = 2
 
--- The status for the contents of a file.
+-- The status of a dump: 0 if the file is valid, otherwise 2.
 abbrev pub dump_status : {bytes : List ℕ} → FileContents bytes → ℕ
 dump_status contents = fault_status contents.fault
 

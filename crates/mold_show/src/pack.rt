@@ -63,7 +63,7 @@ impl Model for Pack {
 }
 
 impl Pack {
-    /// Makes the command for a session without messages. It allocates the buffer of a datagram.
+    /// Makes the command `pack`, for a session without messages. It allocates the buffer of a datagram.
     pub fn new(alloc: Global, options: PackOptions) -> Result<Pack, AllocError>
         ensures { IfOk result (λ pack. pack ≡ fresh_publisher options.session options.limit) }
     {

@@ -97,7 +97,7 @@ impl Model for Show {
 }
 
 impl Show {
-    /// Makes the command, which prints requests if `requests` is true and packets otherwise. This allocates
+    /// Makes the command `show`, which prints requests if `requests` is true and packets otherwise. This allocates
     /// nothing.
     pub fn new(alloc: Global, requests: bool) -> Show
         ensures { result ≡ record { requests = requests; refused = false } }

@@ -10,7 +10,7 @@ abbrev pub message_digits : List ℕ → List ℕ
 message_digits [] = codes "-"
 message_digits (byte ∷ bytes) = encode_lower (byte ∷ bytes)
 
--- The text that a word prints.
+-- The text that is printed for a word.
 abbrev pub word_text : Word → List ℕ
 word_text (Text text) = text.now
 word_text (Number number) = decimal number

@@ -16,7 +16,8 @@ abbrev pub words_room : List Word → ℕ
 words_room [] = 0
 words_room (word ∷ words) = (word_room word + 1) + words_room words
 
--- The greatest length in bytes of a line of these words.
+-- An upper bound of the length in bytes of a line of these words. Each number counts with its greatest number of
+-- digits.
 abbrev pub line_room : List Word → ℕ
 line_room words = words_room words + 1
 

@@ -1,5 +1,4 @@
-//! The text of packets, requests and refusals, which consists of lines of words. Each function appends to the
-//! existing text.
+//! The text of packets, requests and refusals, as lines of words. Each function appends to the existing text.
 #![tactic(auto)]
 
 mod line;

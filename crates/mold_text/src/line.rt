@@ -100,7 +100,8 @@ fn push_words(out: &mut Vec<u8>, words: &[Word<'_>], others: &[Word<'_>]) -> Res
     Ok(())
 }
 
-/// Returns the greatest length in bytes of a line of these words, or `usize::MAX` if that length is greater.
+/// Returns an upper bound of the length in bytes of a line of these words, or `usize::MAX` if the bound is greater.
+/// Each number counts with its greatest number of digits.
 #[inline(always)]
 pub fn line_room(words: &[Word<'_>]) -> usize
     ensures { result ≡ counted (line_room words.now) }

@@ -8,7 +8,7 @@ pub record OutgoingState : Type 0 where
   pub text : List ℕ
   pub failures : ℕ
 
--- No text and no failure.
+-- The outgoing state at the start: no text and no failure.
 abbrev pub nothing_out : OutgoingState
 nothing_out = record { text = []; failures = 0 }
 

@@ -16,7 +16,8 @@ pub record Loop (C S M : Type 0) : Type 0 where
   -- everything sent so far
   pub sent : S → List M
 
--- The state after one turn for each choice. The run stops early after the first turn that ends the loop.
+-- The state after one turn for each choice, up to the first turn that ends the loop. A choice states what cannot be
+-- known in advance, such as which sends fail.
 unfoldable pub run : {C S M : Type 0} → Loop C S M → List C → S → S
 run loop [] s = s
 run loop (choice ∷ more) s =
@@ -52,9 +53,9 @@ pub record TurnRestsOfTwo {C S M T E : Type 0} (loop : Loop C S M) (other : S �
   pub turn : TurnRests loop behind start result old new now
   pub others : Begins (other now) (other (loop.turn turn.choice start))
 
--- A fault ended a loop. The text of the turns that were completed before is written, except text that the loop may keep
--- unwritten between turns. A loop that writes only at its end does not satisfy this. `ends s` states which ports the
--- loop may have, given the state `s` after the last completed turn.
+-- A fault ended a loop, and the text of the turns completed before it is written, except what the loop may keep
+-- unwritten between turns (`IsBounded`). `ends s` states which ports the loop may have, where `s` is the state after
+-- the last completed turn.
 pub record WrittenInTime {C S M : Type 0} (loop : Loop C S M) (start : S) (live : Bool) (old new : Option (List ℕ))
     (ends : S → Type 0) : Type 0 where
   -- the choices of the completed turns
@@ -94,9 +95,9 @@ pub record RestsOfTwo {C S M T E : Type 0} (loop : Loop C S M) (other : S → Li
   pub rests : Rests loop behind turns start result old new now
   pub others : Begins (other now) (other (run loop rests.choices start))
 
--- The outcome of a loop of at most `turns` turns that starts at `start`. Each turn has a choice, such as which sends
--- fail. The run with these choices defines the text, the last line, the status and what is sent. After a fault, a
--- prefix of the text is written, and `sendings` is a prefix of what the run sends.
+-- The outcome of a loop that starts at `start` and makes at most `turns` turns, for some choice in each turn (`run`).
+-- After a success, the text and the last line of that run are written, and its status is returned. In every case, what
+-- was written and what was sent are prefixes of what the run writes and sends.
 pub record Ran {C S M E : Type 0} (loop : Loop C S M) (turns : ℕ) (start : S) (last : S → List ℕ) (status : S → ℕ)
     (agrees : S → Type 0) (result : Result ℕ E) (old new : Option (List ℕ)) (sendings : List M) : Type 0 where
   -- the choice of each turn

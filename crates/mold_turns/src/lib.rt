@@ -1,4 +1,5 @@
-//! What the loops over ports share: runs of turns, outgoing text, and the count of failed sends and receives.
+//! What the loops over ports share: runs of turns (a turn is one iteration), outgoing text, and the count of failed
+//! sends and receives.
 #![tactic(auto)]
 
 mod outgoing;

@@ -99,8 +99,9 @@ impl Outgoing {
         self.send(sink)
     }
 
-    /// Ends a loop that met the fault `met`: drops the text after its first `len` bytes and writes these bytes, which
-    /// earlier turns printed. Returns the fault that the loop ends with: `met`, or `Write` if the write fails.
+    /// Ends a loop that met the fault `met`. The first `len` bytes of the text, which earlier turns printed, are
+    /// written, and the other bytes are dropped. Returns the fault that the loop ends with: `met`, or `Write` if the
+    /// write fails.
     pub fn end_with<K: Sink>(&mut self, len: usize, met: CommandFault, sink: &mut K) -> CommandFault
         ensures ends { EndsWith met result (K.held sink.old) (K.held sink.new) (take len self.old.text)
             (K.failed sink.old) (K.failed sink.new) }

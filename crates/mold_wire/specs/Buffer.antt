@@ -20,7 +20,7 @@ pub record Fields : Type 0 where
   -- Whether a packet is open, so that messages can be added.
   pub is_open : Bool
 
--- The fields of a packer with the buffer `items`.
+-- The fields of a packer with these values. `items` are the bytes of its whole buffer.
 abbrev pub over : List ℕ → ℕ → ℕ → Bool → Fields
 over items used count is_open = record { items = items; used = used; count = count; is_open = is_open }
 
@@ -57,7 +57,8 @@ pub record Holds (fields : Fields) (begun : Begun) : Type 0 where
   pub told : IsTold fields.is_open fields.count begun
   pub spelled : SpellsBegun begun (take fields.used fields.items)
 
--- The values `used`, `count` and `is_open` are possible for a packer with this limit, whatever its bytes are.
+-- A packer with this limit can have these values of `used`, `count` and `is_open`. The bytes of its buffer do not
+-- matter.
 pub record CanHold (limit used count : ℕ) (is_open : Bool) : Type 0 where
   pub is_limit : IsLimit limit
   pub within : used ≤ limit

@@ -34,8 +34,9 @@ IsTrueBody (Data messages) sequence published closed =
 IsTrueBody Heartbeat sequence published closed = (1 ≤ sequence) × (sequence ≤ length published + 1)
 IsTrueBody End sequence published closed = (closed ≡ true) × (sequence ≡ length published + 1)
 
--- The packet is true of a session that has published these messages. `closed` states whether the session is
--- closed.
+-- The packet is true: it agrees with a session that has published these messages, and `closed` states whether that
+-- session is closed. Each message was published with its number, a heartbeat has at most the next number, and an end
+-- packet has exactly the next number of a closed session.
 pub record IsTruePacket (packet : Packet) (published : List (List ℕ)) (closed : Bool) : Type 0 where
   -- The session has published fewer messages than `MAX_NUMBER`, so the next number fits in 64 bits.
   pub few : length published < MAX_NUMBER

@@ -53,10 +53,10 @@ pub fn one_spelling_law()
         SpellsRequest one bytes → SpellsRequest other bytes → one ≡ other }
 {}
 
-/// The readings of bytes agree with the definitions of an encoding and of a fault. Bytes read as a packet
-/// exactly when they encode it, and as a fault exactly when they have it. The same holds for requests.
-/// `decode` and `Request::decode` return these readings. A clause without `IsBytes` holds for lists of
-/// arbitrary numbers.
+/// `reading` agrees with `Spells` and `FaultAt`: it returns a packet exactly when the bytes encode that packet, and a
+/// fault exactly when the bytes have that fault. In the same way, `request_reading` agrees with `SpellsRequest` and
+/// `RequestFaultAt`. `decode` and `Request::decode` return what these two functions return. A clause without `IsBytes`
+/// also holds if elements of the list are not bytes.
 pub fn reading_law()
     ensures read { (packet : Packet) (bytes : List ℕ) →
         Spells packet bytes → reading bytes ≡ Ok packet }
@@ -87,8 +87,8 @@ pub fn spelling_length_law()
         limit ≤ MAX_LIMIT → Fits limit messages → length messages ≤ 32743 }
 {}
 
-/// The offset of a message in a packet. Its data follow the header, the blocks before it and its own two
-/// length bytes. So a message that is borrowed from a datagram is the slice at that offset.
+/// The offset of a message in a packet: the header, the earlier blocks and the two length bytes of the message come
+/// before its data. A message that is borrowed from a datagram is the slice at that offset.
 #[tactic(auto, using(crate::proofs::PackingLemmas::message_place))]
 pub fn message_place_law()
     ensures { (packet : Packet) (bytes : List ℕ) (before behind : List (List ℕ)) (message : List ℕ) →
@@ -96,9 +96,9 @@ pub fn message_place_law()
         take (length message) (drop (packet_length before + 2) bytes) ≡ message }
 {}
 
-/// The length of a packet, message by message. `Packer::fits` checks that the packet with the message fits
-/// the limit. A message fits alone exactly when it is at least `MESSAGE_OVERHEAD` bytes shorter than the
-/// limit.
+/// The length of a packet, message by message: each message adds two bytes and its data. `Packer::fits` returns whether
+/// the packet still fits the limit with one more message. A message fits alone exactly when it is at least
+/// `MESSAGE_OVERHEAD` bytes shorter than the limit.
 #[tactic(auto, using(crate::proofs::PackingLemmas::packet_lengths))]
 pub fn packet_length_law()
     ensures none { packet_length [] ≡ HEADER_LENGTH }
@@ -111,11 +111,11 @@ pub fn packet_length_law()
         (length message + MESSAGE_OVERHEAD ≤ limit) ↔ Fits limit (message ∷ []) }
 {}
 
-/// `front` computes the longest prefix that fits, if the limit has room for a header. There is only one such
-/// prefix. A prefix is the longest if the next message is one too many or does not fit. If at least one
-/// message is allowed and the first one fits alone, the longest prefix is not empty. If all messages are
-/// allowed and fit, it is the whole list. If the first message fits alone, the longest prefix consists of it and
-/// of the longest prefix of the others that fits in the remaining bytes.
+/// `front` computes the longest prefix that fits, if the limit has room for a header, and there is only one such
+/// prefix. A prefix is the longest if the next message is one too many or does not fit. If at least one message is
+/// allowed and the first one fits alone, the longest prefix is not empty. If all messages are allowed and fit together,
+/// it is the whole list. If the first message fits alone, the prefix can be computed step by step: it is that message,
+/// followed by the longest prefix of the other messages that fits in the remaining bytes.
 #[tactic(auto, using(crate::proofs::FrontLemmas::front_is))]
 pub fn front_law()
     ensures front { (limit : ℕ) (messages : List (List ℕ)) (most : ℕ) →

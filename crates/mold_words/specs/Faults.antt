@@ -18,7 +18,7 @@ fault_of_kind kind.DisplayVersion text = Version text
 fault_of_kind kind.OutOfMemory text = Memory
 fault_of_kind _ text = Usage text
 
--- The fault for an error of `clap` of this kind, or `Memory` if the allocation of its text failed.
+-- The fault for an error of this kind that `clap` reports. It is `Memory` if the allocation of the fault's text failed.
 abbrev pub fault_if_made : ErrorKind → Result (String Global) AllocError → UsageFault
 fault_if_made error (Ok text) = fault_of_kind error text
 fault_if_made error (Err _) = Memory

@@ -30,6 +30,7 @@ pub enum UsageFault {
 impl From<AllocError> for UsageFault {
     ghost from_gives = { λ _ fault. fault ≡ Memory };
 
+    /// Returns `Memory`, the fault for a failed allocation.
     fn from(_error: AllocError) -> UsageFault {
         UsageFault::Memory
     }

@@ -8,16 +8,16 @@ ghost use Rattle.mold_words.specs.Arguments.{pack_wanted, publish_wanted, serve_
 ghost use Rattle.mold_words.specs.Arguments.{upgrade_wanted};
 ghost use Rattle.mold_words.specs.Words.{is_command, mold_app};
 
-/// `show` and `--` are accepted, and ask to show packets. `--` names no command. `show --request` is accepted, and asks
-/// to show requests.
+/// `show` is accepted, and asks to show packets. The argument `--` alone names no command, and asks for the same. `show
+/// --request` is accepted, and asks to show requests.
 pub fn show_taken_law()
     ensures plain { Say (codes "show" ∷ []) (show_wanted false) }
     ensures request { Say (codes "show" ∷ codes "--request" ∷ []) (show_wanted true) }
     ensures no_command { Say (codes "--" ∷ []) (show_wanted false) }
 {}
 
-/// `pack --session MKT` is accepted, and asks to pack the session `MKT`, padded with seven spaces, into datagrams of
-/// up to 1,400 bytes. `--limit` sets another limit. A limit below 64 gives no order.
+/// `pack --session MKT` is accepted, and asks to pack the session `MKT`, padded with seven spaces, into datagrams of up
+/// to 1,400 bytes. `--limit` sets another limit. A limit below 64 is refused.
 pub fn pack_taken_law()
     ensures usual { Say (codes "pack" ∷ codes "--session" ∷ codes "MKT" ∷ [])
         (pack_wanted (codes "MKT       ") 1400) }
@@ -29,8 +29,8 @@ pub fn pack_taken_law()
 {}
 
 /// `sim --session MKT` is accepted, and asks for two receivers of the session `MKT`. The windows are 1,024 messages,
-/// the limits are 1,400 bytes, and a request has one response. Each option replaces its default. A `--limit` above the
-/// server's gives no order.
+/// the limits are 1,400 bytes, and a request has one response. Each option replaces its default. If `--limit` is above
+/// the server's limit, it is refused.
 pub fn sim_taken_law()
     ensures usual { Say (codes "sim" ∷ codes "--session" ∷ codes "MKT" ∷ [])
         (sim_wanted (record {
@@ -65,9 +65,9 @@ pub fn check_taken_law()
     ensures dash { Say (codes "check" ∷ codes "./-" ∷ []) (check_wanted (codes "./-")) }
 {}
 
-/// `publish --session MKT --a .. --b .. --journal J` is accepted, and asks to send the session `MKT` to these
-/// addresses and to save its journal in `J`. Datagrams have up to 1,400 bytes. One heartbeat and one end packet follow
-/// the messages. An address with a leading zero in a number gives no order.
+/// `publish --session MKT --a .. --b .. --journal J` is accepted, and asks to send the session `MKT` to these addresses
+/// and to save its journal in `J`. Datagrams have up to 1,400 bytes. One heartbeat and one end packet follow the
+/// messages. An address with a leading zero in a number is refused.
 pub fn publish_taken_law()
     ensures usual { Say
         (codes "publish" ∷ codes "--session" ∷ codes "MKT" ∷ codes "--a" ∷ codes "127.0.0.1:9000"
@@ -86,8 +86,8 @@ pub fn publish_taken_law()
         ∷ codes "--b" ∷ codes "127.0.0.1:9001" ∷ codes "--journal" ∷ codes "J" ∷ []) ≡ None }
 {}
 
-/// `serve --journal J --bind ..` is accepted, and asks to respond from the journal in `J`, in 1,000 receives. There is
-/// one response of up to 1,400 bytes to a request. `--live` asks to write text at the end of each turn.
+/// `serve --journal J --bind ..` is accepted, and asks to respond from the journal in `J` and to make 1,000 receives. A
+/// request has one response, of up to 1,400 bytes. `--live` asks to write text at the end of each turn.
 pub fn serve_taken_law()
     ensures usual { Say
         (codes "serve" ∷ codes "--journal" ∷ codes "J" ∷ codes "--bind" ∷ codes "0.0.0.0:65535" ∷ [])
@@ -192,8 +192,8 @@ pub fn loop_taken_law()
         })) }
 {}
 
-/// `upgrade --journal A --to B` is accepted, and asks to write the journal in `A` to `B`. `--close` asks to close it.
-/// Two equal names give no order.
+/// `upgrade --journal A --to B` is accepted, and asks to write the journal in `A` to `B`. `--close` asks to close the
+/// new journal. Two equal names are refused.
 pub fn upgrade_taken_law()
     ensures kept { Say (codes "upgrade" ∷ codes "--journal" ∷ codes "A" ∷ codes "--to" ∷ codes "B" ∷ [])
         (upgrade_wanted (codes "A") (codes "B") false) }
@@ -205,8 +205,8 @@ pub fn upgrade_taken_law()
 {}
 
 /// `dump --journal J` is accepted, and asks to print all messages of the journal in `J` from message 1 on. `--from`
-/// sets another first message, and `--count` a maximum number. `--from 0`, and a count that does not fit 64 bits, give
-/// no order.
+/// sets another first message, and `--count` a maximum number. `--from 0` is refused, and so is a count that does not
+/// fit 64 bits.
 pub fn dump_taken_law()
     ensures usual { Say (codes "dump" ∷ codes "--journal" ∷ codes "J" ∷ [])
         (dump_wanted (record { journal = codes "J"; from = 1; count = 18446744073709551615 })) }

@@ -1,4 +1,4 @@
-//! Parses the command line of the program `mold` into an order.
+//! Parses the command line of the program `mold` into an order: its command, with the values of its options.
 #![tactic(auto)]
 
 mod address;
