@@ -6,9 +6,8 @@ use Rattle.mold_capture.specs.Consistent.{Consistent}
 use Rattle.mold_capture.specs.Refusal.{reason}
 use Rattle.mold_capture.specs.Seen.{BringsNew, seen_of}
 
--- The datagrams before the index are consistent. With the datagram at the index they aren't, and `why` is the
--- first reason. For `Memory`, the datagrams before the index are consistent, and the one at the index, if there
--- is one, has a new message.
+-- The datagrams before the index are consistent. If `why` is `Memory`, the datagram at the index has a new message, or
+-- the index is the length of the list; otherwise `why` is the first reason to refuse that datagram.
 abbrev pub IsRefusedAt : ℕ → Refusal → List (List ℕ) → Type 0
 IsRefusedAt index Memory list =
     (index ≤ length list) × Consistent (take index list)

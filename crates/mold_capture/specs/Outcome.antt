@@ -18,8 +18,9 @@ pub data Outcome : Type 0 where
   incomplete : List Range → Option ℕ → Outcome
   refused : ℕ → Refusal → Outcome
 
--- The datagrams have this outcome. They are whole with this number of messages, or they are consistent but not
--- whole. Otherwise the datagram at the index is the first one that makes them inconsistent.
+-- The datagrams have this outcome: whole, with that number of messages; consistent but not whole, with those missing
+-- ranges and that end; or refused. A refused outcome has the index of the first datagram that makes the list
+-- inconsistent, and the first reason.
 abbrev pub IsOutcome : List (List ℕ) → Outcome → Type 0
 IsOutcome list (whole count) = (messages : List (List ℕ)) × (Whole list messages × (length messages ≡ count))
 IsOutcome list (incomplete missing end) =

@@ -34,7 +34,7 @@ refusal seen bytes = refusal_read seen (reading bytes)
 abbrev pub reason : List (List ℕ) → List ℕ → Option Refusal
 reason list bytes = refusal (seen_of list) bytes
 
--- The reason that an error reports. An allocation that fails is not a reason.
+-- The reason that an error reports, or none for `Memory`: a failed allocation is no reason.
 abbrev pub told : Refusal → Option Refusal
 told Memory = None
 told other = Some other

@@ -79,7 +79,7 @@ seen_in packets = record {
   pairs = finite.from_entries (flat_map pairs_in packets);
 }
 
--- What datagrams state together.
+-- What these datagrams state together, as one value. Bytes that do not encode a packet are left out.
 abbrev pub seen_of : List (List ℕ) → Seen
 seen_of list = seen_in (packets_of list)
 
@@ -105,7 +105,7 @@ abbrev pub joined_read : Seen → Result Packet DecodeError → Seen
 joined_read seen (Ok packet) = joined seen packet
 joined_read seen (Err error) = seen
 
--- What datagrams state together, after one more of them.
+-- What the datagrams state after one more of them, given what the earlier ones state.
 abbrev pub after : Seen → List ℕ → Seen
 after seen bytes = joined_read seen (reading bytes)
 

@@ -23,7 +23,7 @@ missing_in seen = lacking.ranges (lacks seen.pairs) 1 (seen.known - 1)
 abbrev pub ranges_of : List Range → List lacking.Range
 ranges_of ranges = map (λ r. lacking.range r.first r.last) ranges
 
--- The end packet has the sequence number `number`, and each lower number, from 1 on, has a carried message.
+-- The end packet has the sequence number `number`, and a message is carried for each number from 1 to just below it.
 pub record IsWholeSeen (seen : Seen) (number : ℕ) : Type 0 where
   pub ended : seen.ended ≡ Some number
   pub carried : (k : ℕ) → 1 ≤ k → k < number → (message : List ℕ) × (finite.get seen.pairs k ≡ Some message)
@@ -34,8 +34,8 @@ IsVerdict (IsWhole messages) seen = IsWholeSeen seen (messages + 1)
 IsVerdict (Incomplete missing end) seen =
     (ranges_of missing.items ≡ missing_in seen) × (end ≡ seen.ended) × ((number : ℕ) → IsWholeSeen seen number → ⊥)
 
--- The verdict is the right one for the datagrams. They are whole with this number of messages, or they are
--- consistent but not whole, and the verdict has the missing ranges and the end.
+-- The verdict is right for the datagrams: whole, with the number of their messages, or consistent but not whole, with
+-- the missing ranges and the end.
 abbrev pub IsVerdictOn : Verdict → List (List ℕ) → Type 0
 IsVerdictOn (IsWhole messages) list = (P : List (List ℕ)) × (Whole list P × (length P ≡ messages))
 IsVerdictOn (Incomplete missing end) list =

@@ -113,9 +113,9 @@ impl Checker {
         Ok(())
     }
 
-    /// Returns whether the accepted datagrams are a whole session, and what is missing if they aren't. It walks
-    /// the stored messages, not the numbers between them. It returns an error if the allocation for the ranges
-    /// fails.
+    /// Returns whether the accepted datagrams are a whole session, and what is missing if they aren't. Its cost
+    /// depends on the stored messages, not on the numbers between them. It returns an error if the allocation for the
+    /// ranges fails.
     pub fn verdict(&self) -> Result<Verdict, Memory>
         ensures { IfOk result (λ verdict. IsVerdict verdict self.now) }
     {

@@ -43,7 +43,7 @@ unfoldable pub outcome_from : Seen → List (List ℕ) → Outcome
 outcome_from seen [] = outcome_at seen seen.ended
 outcome_from seen (bytes ∷ list) = outcome_or (refusal seen bytes) (outcome_from (after seen bytes) list)
 
--- The outcome of datagrams.
+-- The outcome of these datagrams, computed one datagram at a time.
 abbrev pub outcome_of : List (List ℕ) → Outcome
 outcome_of list = outcome_from (seen_of []) list
 
@@ -103,7 +103,7 @@ abbrev pub lines_status : Outcome → Option ℕ → ℕ
 lines_status outcome None = outcome_status outcome
 lines_status outcome (Some number) = 2
 
--- What is printed for the whole input.
+-- What `check -` prints for the whole input.
 unfoldable pub check_text : List ℕ → List ℕ
 check_text input =
     let lines = numbered 1 (lines_of input) in

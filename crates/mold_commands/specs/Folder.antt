@@ -27,7 +27,7 @@ pub record PrintsReport (entries : List Entry) (old new : Option (List ℕ)) (st
   pub written : Appends old new (report checked)
   pub answered : status ≡ outcome_status checked.outcome
 
--- The report of some entries was written, and the status is that of their outcome. The definition does not say which
+-- The report of some entries was written, and the status is that of their outcome. The definition does not state which
 -- entries a folder has.
 pub record PrintsEntries (old new : Option (List ℕ)) (status : ℕ) : Type 0 where
   -- The entries that the system listed.

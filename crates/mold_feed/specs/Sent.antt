@@ -92,7 +92,7 @@ pub record IsServed (P : Type 0) (journal : JournalState) (bytes : List ℕ) : T
   pub to : P
   pub sent : Contains (run (serving service) choices start).port.sent (to, bytes)
 
--- The datagram was sent by a publisher of these lines, or by a server of the journal that is left.
+-- The datagram was sent by a publisher of these lines, or by a server of the journal that the publisher left.
 abbrev pub IsSent : (P : Type 0) → JournalState → ℕ → List (List ℕ) → List ℕ → Type 0
 IsSent P journal limit lines bytes =
     IsPublished P journal limit lines bytes ⊎ IsServed P (left_journal (lines_published journal lines)) bytes

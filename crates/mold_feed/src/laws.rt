@@ -107,8 +107,8 @@ pub fn listened_law<D: Datagrams>()
 }
 
 /// States that a listener prints the lines that were published. Lines are published into a new session, and any number
-/// of servers answer from copies of the journal that is left. A listener starts at a published message or at the
-/// number after the last one. All datagrams of the session that its ports give were sent by the publisher or the
+/// of servers answer from copies of the journal that the publisher left. A listener starts at a published message or
+/// at the number after the last one. All datagrams of the session that its ports give were sent by the publisher or the
 /// servers. Each of these may come any number of times, in any order, or never.
 ///
 /// - If no line is refused, the listener prints the published lines from its first one on, each after its number. With

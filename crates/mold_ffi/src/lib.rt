@@ -1,5 +1,5 @@
 //! The library for programs in C, C++ and Rust. Each call of its header is an export here, and the contracts cite the
-//! definitions of the crates below.
+//! definitions of the other crates.
 #![tactic(auto)]
 
 mod buffer;

@@ -161,7 +161,7 @@ ends_at (Some end) next = end == next
 abbrev pub is_finished : Progress → Bool
 is_finished e = ends_at e.arbitration.view.ended e.arbitration.view.next
 
--- The loop of a listener. It ends after the first turn after which the listener is finished.
+-- The loop of a listener. It ends after the first turn that leaves the listener finished.
 abbrev pub listening : {P : Type 0} → P → ℕ → Loop Bool (ListenerState P) (P × List ℕ)
 listening server burst = record {
   turn = turn server burst;
@@ -170,7 +170,7 @@ listening server burst = record {
   sent = λ s. s.requests.sent;
 }
 
--- The turn after the state `s` has made its receive on neither line, on line A only, or on both lines.
+-- The listener is in the turn after the state `s`: it has received on neither line, on line A only, or on both lines.
 abbrev pub IsInNextTurn : {P : Type 0} → Port P → Port P → ListenerState P → Type 0
 IsInNextTurn a b s = ((a ≡ s.a) × (b ≡ s.b)) ⊎ ((a ≡ received s.a) × ((b ≡ s.b) ⊎ (b ≡ received s.b)))
 

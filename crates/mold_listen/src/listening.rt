@@ -74,9 +74,9 @@ pub fn push_last(arbiter: &Arbiter, outgoing: &mut Outgoing) -> Result<u8, Alloc
 /// Prints each refusal too.
 ///
 /// In each turn the loop receives once on each line. If messages are missing, it then sends a request from `requests`
-/// to the server and receives at most `burst` responses. The loop ends after the first turn after which the receiver
-/// is finished, or after `turns` turns. It prints a last line and returns the status: 0 finished, 1 open. If
-/// `reporting` is set, it prints a report of `a` and of `b` before that line.
+/// to the server and receives at most `burst` responses. The loop ends after the first turn that leaves the receiver
+/// finished, or after `turns` turns. It prints a last line and returns the status: 0 finished, 1 open. If `reporting`
+/// is set, it prints a report of `a` and of `b` before that line.
 ///
 /// A failed send or receive is counted, and the loop continues. After a fault, a prefix of the text is written.
 pub fn listen_loop<D: Datagrams, K: Sink>(

@@ -60,8 +60,8 @@ abbrev pub Offers : {P : Type 0} → List (P × List ℕ) → Port P → Port P 
 Offers [] old new = new ≡ old
 Offers (one ∷ others) old new = (fails : Bool) × Offers others (offered fails one.0 one.1 old) new
 
--- The sends of a loop's publisher. The datagrams of `front` are offered, and any send may fail. On success they are
--- all datagrams that the lines determine. After a fault they are a prefix.
+-- The sends of a loop's publisher: the datagrams of `front` were offered, and any send may have failed. On success
+-- these are all datagrams that the lines determine, and after a fault a prefix of them.
 pub record LoopSends {P E : Type 0} (drops : Drops) (a b : P) (limit sent : ℕ) (published : PublishedLines)
     (result : Result ℕ E) (before after : Port P) : Type 0 where
   pub front : List (P × List ℕ)

@@ -120,7 +120,8 @@ impl Arbiter {
         self.take_from(Origin::Response, bytes, batch)
     }
 
-    /// Returns the report of a line.
+    /// Returns the report of a line: the counts of datagrams accepted and refused on it, and `front`, the greatest top
+    /// of a packet accepted on it.
     pub fn report(&self, line: Line) -> LineReport
         ensures { result ≡ report_on line self.now.reports }
     {

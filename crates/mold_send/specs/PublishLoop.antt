@@ -170,8 +170,8 @@ SendsInput port known result old new =
     SendsLines old.two_lines.a.now old.two_lines.b.now old.publisher.now new.publisher.now known result
     (lines_state port old.two_lines) (lines_state port new.two_lines) new.datagrams
 
--- What publishing some lines leaves. For some choice of which sends fail, `end` is the state after all datagrams were
--- offered to `a` and then to `b`. After a success, the port is that of `end`, the text and the journal's file are
+-- The outcome of publishing some lines, where `end` is the state after each datagram was offered to `a` and then to
+-- `b`, and any send may have failed. After a success, the port is as in `end`, the text and the journal's file are
 -- written, and the result is the status. After a fault, what was sent, written and saved are prefixes of these.
 pub record PublishRun {P : Type 0} (a b : P) (beats ends limit : ℕ) (published : PublishedLines)
     (result : Result ℕ CommandFault) (before after : Port P) (text_old text_new file_old file_new : Option (List ℕ)) :

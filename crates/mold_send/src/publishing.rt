@@ -16,9 +16,9 @@ use mold_session::Publisher;
 use mold_turns::Outgoing;
 use std::alloc::Global;
 
-/// Publishes the lines of the source as messages of an open publisher without messages. Each datagram is sent to `a`
-/// and then to `b`. A data datagram is sent when the next message does not fit it, and after the last line. Then
-/// `beats` heartbeats are sent, the session is closed, and `ends` end packets are sent.
+/// Publishes the lines of the source as messages. The publisher must be open and must have no messages. Each datagram
+/// is sent to `a` and then to `b`. A data datagram is sent when the next message does not fit in it, and after the
+/// last line. Then `beats` heartbeats are sent, the session is closed, and `ends` end packets are sent.
 ///
 /// The journal is then saved in `journal_sink`. A last line has the number of messages, of data datagrams (each
 /// counted once), and of failed sends, which stops at `u64::MAX`. The status is 0. A failed send is counted, and the

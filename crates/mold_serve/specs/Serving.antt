@@ -16,7 +16,7 @@ use Rattle.mold_wire.specs.declared.request.Request.{Request}
 use Rattle.mold_wire.specs.Packet.{count_of, spelling_of}
 use Rattle.mold_wire.specs.declared.limits.TheConstants.{MAX_LIMIT}
 
--- What a server answers requests from, and with which limits.
+-- The journal that a server responds from, the most bytes of a datagram, and the most datagrams for one request.
 pub record Service : Type 0 where
   -- the journal that requests are answered from
   pub journal : JournalState
@@ -25,7 +25,7 @@ pub record Service : Type 0 where
   -- the greatest number of datagrams for one request
   pub burst : ℕ
 
--- The journal, limit and burst that a server with this journal responds with.
+-- The journal, and the limit and the burst of a server that responds from it.
 abbrev pub service_of : JournalState → ServerState → Service
 service_of journal server = record {
   journal = journal;
@@ -52,7 +52,7 @@ pub record ResponderState (P : Type 0) : Type 0 where
   -- the number of requests answered so far
   pub requests : ℕ
 
--- The state that has this port, this tally and the server's count of answered requests.
+-- The state with this port, this tally and the server's number of answered requests.
 abbrev pub responder_of : {P : Type 0} → Port P → Tally → ServerState → ResponderState P
 responder_of port tally server = record {
   port = port;
@@ -60,7 +60,7 @@ responder_of port tally server = record {
   requests = server.answered;
 }
 
--- The journal, limit and burst that the responder responds with.
+-- The responder's journal, and the limit and the burst of its server.
 abbrev pub service : {D : Type 0} → Responder D → Service
 service responder = service_of responder.journal.now responder.server.now
 
@@ -68,7 +68,7 @@ service responder = service_of responder.journal.now responder.server.now
 abbrev pub state : {D P : Type 0} → (D → Port P) → Responder D → ResponderState P
 state port responder = responder_of (port responder.port.now) responder.tally.now responder.server.now
 
--- The longest message that the journal allows is not longer than the server allows.
+-- The journal's maximum message length is at most the server's.
 abbrev pub MayAnswer : {D : Type 0} → Responder D → Type 0
 MayAnswer responder = responder.journal.now.max_message ≤ responder.server.now.max_message
 
@@ -160,7 +160,7 @@ serving service = record {
   sent = λ responder. responder.port.sent;
 }
 
--- The server is in the turn after the state `s`: its port has made no receive since `s`, or one.
+-- The server is in the turn after the state `s`: it has made at most one receive since `s`.
 abbrev pub IsInNextTurn : {P : Type 0} → Port P → ResponderState P → Type 0
 IsInNextTurn port s = (port.comes ≡ s.port.comes) ⊎ (port.comes ≡ drop 1 s.port.comes)
 

@@ -1,4 +1,4 @@
-//! The re-request server over a port: requests for the messages of a journal, answered or refused.
+//! The re-request server over a port: it answers or refuses requests for the messages of a journal.
 #![tactic(auto)]
 
 mod responder;

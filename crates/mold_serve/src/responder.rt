@@ -82,9 +82,8 @@ impl<'a, D: Datagrams> Responder<'a, D> {
     }
 
     /// Answers a request with datagrams to the requester, or refuses it. Prints and counts each datagram that was
-    /// sent, or the refusal. Each datagram is offered once, and a failed send is counted. The longest message that the
-    /// journal allows must not be longer than the server allows. An error means out of memory; part of the work is
-    /// then done.
+    /// sent, or the refusal. Each datagram is offered once, and a failed send is counted. The journal's maximum
+    /// message length must not exceed the server's. An error means out of memory; part of the work is then done.
     pub fn answer_request(&mut self, from: D::Peer, request: &[u8]) -> Result<(), AllocError>
         requires { MayAnswer self.old }
         ensures replied { D.modeled ≡ true → (fails : List Bool) × Reaches result (state D.port self.new)

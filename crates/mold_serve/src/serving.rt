@@ -18,10 +18,10 @@ use std::alloc::Global;
 /// with datagrams to the requester, or refused. A line is printed for each datagram that was sent and for each refused
 /// request. A last line has the counts.
 ///
-/// A failed receive or send is counted, and the loop continues. The status is 0. The longest message that the journal
-/// allows must not be longer than the server allows. Text is written when 65,536 bytes have accumulated, and at the
-/// end. To a live sink it is written after each turn. If memory runs out in a turn or for the last line, the text of
-/// the turns before is written first. After a fault of the sink, a prefix of the text is written.
+/// A failed receive or send is counted, and the loop continues. The status is 0. The journal's maximum message length
+/// must not exceed the server's. Text is written when 65,536 bytes have accumulated, and at the end. To a live sink it
+/// is written after each turn. If memory runs out in a turn or for the last line, the text of the turns before is
+/// written first. After a fault of the sink, a prefix of the text is written.
 pub fn serve_loop<D: Datagrams, K: Sink>(
     alloc: Global,
     port: &mut D,

@@ -1,4 +1,5 @@
-//! Makes the parts of the commands over ports from the parsed command line, and determines how the program ends.
+//! Makes the publisher, server or arbiter of a command over ports from the parsed command line. It also determines how
+//! the program ends.
 #![tactic(auto)]
 
 mod addresses;

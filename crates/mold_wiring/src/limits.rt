@@ -5,7 +5,7 @@ ghost use Rattle.mold_wire.specs.declared.limits.TheConstants.{MAX_LIMIT, MESSAG
 
 use mold_wire::MESSAGE_OVERHEAD;
 
-/// Returns the length in bytes of the longest message that fits a packet of this limit alone.
+/// Returns the length in bytes of the longest message that fits alone in a packet of this limit.
 pub fn longest_message(limit: usize) -> u16
     requires least { MIN_LIMIT ≤ limit }
     requires most { limit ≤ MAX_LIMIT }

@@ -36,8 +36,8 @@ pub record KeepsBooks (old new : WorldState) : Type 0 where
   pub books : map (λ (subscriber : SubscriberState). subscriber.book) new.subscribers
       ≡ map (λ (subscriber : SubscriberState). subscriber.book) old.subscribers
 
--- What a receiver's report states. A delivered datagram was accepted. Noise was refused, and every view and every
--- book is unchanged. Other events state nothing here.
+-- What the report of an event states. A delivered datagram was accepted; noise was refused, and every view and every
+-- book is unchanged; for other events, nothing is stated.
 abbrev pub HasReceived : Happening → Report → WorldState → WorldState → Type 0
 HasReceived (Publish message) told old new = Unit {0}
 HasReceived Datagram told old new = Unit {0}

@@ -150,7 +150,7 @@ restarted w receiver next (Some subscriber) =
     then Ok (report.Restarted next, with_subscriber w receiver (restarted_at subscriber next))
     else Err (NotReached subscriber.arbitration.view.next)
 
--- The rule of events: the outcome of an event in a world.
+-- The rule of events: the report and the new world after an event, or the reason why it is refused.
 unfoldable pub effect : WorldState → Happening → Outcome
 effect w (Publish message) = publishing w message (append_refusal w.publisher.journal message)
 effect w Datagram = sending w (next_datagram w.publisher) (after_datagram w.publisher)

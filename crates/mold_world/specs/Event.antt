@@ -8,7 +8,7 @@ use Rattle.mold_world.specs.declared.event.EventOf.TheVariants.{Request, Ask, De
 use Rattle.mold_world.specs.declared.way.Way.{Way}
 use Rattle.mold_world.specs.declared.way.Way.TheVariants.{Answer, Line}
 
--- An event with its bytes as a list.
+-- An event whose bytes, if it has any, are a list.
 abbrev pub Happening : Type 0
 Happening = EventOf (List ℕ)
 

@@ -25,7 +25,8 @@ pub record Machine : Type 0 where
   pub sent : List (List ℕ)
   pub logs : ℕ → ReceiverLog
 
--- A step of the machine, with the choices that it makes.
+-- A step of the machine, which is the model of one session in `laws::safety_law`. A step has all values that the
+-- machine cannot compute, such as the message that is published.
 pub data Step : Type 0 where
   -- The publisher publishes a message.
   Publish : List ℕ → Step
@@ -120,7 +121,7 @@ abbrev pub run : Machine → List Step → Machine
 run machine [] = machine
 run machine (step ∷ steps) = run (after machine step) steps
 
--- Each step may be made after the steps before it.
+-- Each step is allowed after the steps before it.
 abbrev pub AreAllowed : Machine → List Step → Type 0
 AreAllowed machine [] = Unit {0}
 AreAllowed machine (step ∷ steps) = IsAllowed machine step × AreAllowed (after machine step) steps

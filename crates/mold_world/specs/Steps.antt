@@ -28,7 +28,7 @@ abbrev pub log_of : Option SubscriberState → ReceiverLog
 log_of None = record { book = []; ended = false }
 log_of (Some subscriber) = record { book = subscriber.book.messages; ended = is_finished subscriber.arbitration.view }
 
--- The world as the machine's state.
+-- The state of the machine that corresponds to this world.
 abbrev pub machine_of : WorldState → Machine
 machine_of w = record {
   session = w.publisher.journal.session;
@@ -64,8 +64,8 @@ Names w (DeliverEvent receiver way place) steps = AreDelivery receiver steps
 Names w (Noise receiver way bytes) steps = steps ≡ []
 Names w (RestartEvent receiver next) steps = steps ≡ Restart receiver next ∷ []
 
--- The event led from `old` to `new` by steps that it names. The machine allows these steps, and they deliver the same
--- messages as the event.
+-- The steps of an event (`Names`) lead the machine from the world `old` to the world `new`. The machine allows these
+-- steps, and they deliver the same messages as the event.
 pub record AreSteps (old : WorldState) (happening : Happening) (new : WorldState) : Type 0 where
   pub steps : List Step
   pub named : Names old happening steps
@@ -85,8 +85,8 @@ NameAll w [] steps = steps ≡ []
 NameAll w (happening ∷ happenings) steps = (first : List Step) × (others : List Step) × (steps ≡ first ++ others)
     × NamesAfter w happening (effect w happening) first × NameAll (after_event w happening) happenings others
 
--- The events of a run led from `old` to `new` by steps that they name. The machine allows these steps, and they
--- deliver the same messages as the events.
+-- The steps of all events of a run lead the machine from the world `old` to the world `new`. The machine allows these
+-- steps, and they deliver the same messages as the events.
 pub record AreStepsOfAll (old : WorldState) (happenings : List Happening) (new : WorldState) : Type 0 where
   pub steps : List Step
   pub named : NameAll old happenings steps

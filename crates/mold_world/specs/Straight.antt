@@ -25,7 +25,7 @@ pub record IsStraight (w : WorldState) (receiver : ℕ) (happenings : List Happe
   pub stays : (at next : ℕ) (done : Report × WorldState) → slice_get happenings at ≡ Some (Restart receiver next) →
       effect (run_events w (take at happenings)) (Restart receiver next) ≡ Ok done → ⊥
 
--- The receiver's book begins with all messages that were sent in datagrams.
+-- The receiver's book begins with all messages that the publisher has sent in datagrams.
 pub record HasSent (w : WorldState) (receiver : ℕ) : Type 0 where
   pub subscriber : SubscriberState
   pub here : slice_get w.subscribers receiver ≡ Some subscriber

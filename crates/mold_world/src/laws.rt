@@ -31,7 +31,8 @@ use mold_wire::laws::{one_spelling_law, reading_law, true_packet_law, true_stays
 /// States the headline for the machine of one session. The machine takes any list of allowed steps: publications,
 /// sent datagrams, deliveries and restarts. Datagrams may be lost, late, repeated or reordered. At every moment, each
 /// receiver's book is a prefix of the published messages. Every message that was ever delivered is the one that was
-/// published with its number. If a receiver reports the end, the session is closed and its book is all of it.
+/// published with its number. If a receiver reports the end, the session is closed, and the receiver's book has all of
+/// its messages.
 ///
 /// `IsAllowed` states the premises. Messages are published while the session is open, and only true packets of the
 /// session are sent. A delivered message was sent with its number, and a reported end was sent. A restart is at a
@@ -57,14 +58,14 @@ pub fn safety_law()
     true_packet_law();
 }
 
-/// States the headline for a publisher, a server and receivers of this repository. `IsWorld` holds of a new world,
-/// and every event keeps it, accepted or refused. In such a world each receiver's book is a prefix of the published
-/// messages. If a receiver has delivered up to a known end, its book is the whole closed session. Each message that
-/// was ever delivered in a run is the one that was published with its number.
+/// States the headline for a publisher, a server and receivers of this repository. `IsWorld` holds of a new world, and
+/// it still holds after every event, accepted or refused. In such a world each receiver's book is a prefix of the
+/// published messages. If a receiver has delivered up to a known end, its book is the whole closed session. Each
+/// message that was ever delivered in a run is the one that was published with its number.
 ///
-/// The law also connects a world with the machine of `safety_law`. A new world is the machine's start, and each event
-/// is the steps that `Names` lists for it. A publication, a delivery or a restart is one step of that kind. Each
-/// datagram of a burst is one send, and noise is no step. The steps deliver the same messages as the event.
+/// The law also connects a world with the machine of `safety_law`. A new world corresponds to the machine's start, and
+/// each event to the steps that `Names` lists for it. A publication, a delivery or a restart is one step of that kind.
+/// Each datagram of a burst is one send, and noise is no step. The steps deliver the same messages as the event.
 pub fn run_law()
     ensures begins { (session : Session) (limit server_limit burst : ℕ) (windows : List ℕ) →
         MayBegin session limit server_limit → IsWorld (beginning session limit server_limit burst windows) }
@@ -115,9 +116,9 @@ pub fn delivery_law()
     honest_take_law();
 }
 
-/// States the straight path. A receiver gets each data packet of new messages right after it is sent, and it doesn't
-/// restart. If its book began with all messages that were sent in datagrams before the events, then after them it
-/// begins with all that were sent by then.
+/// States the straight path, for a receiver that gets each data packet of new messages right after it is sent, and that
+/// doesn't restart. If its book had all messages sent in datagrams before the events, it has all those sent by the end
+/// of the events.
 pub fn straight_law()
     ensures { (w : WorldState) (happenings : List Happening) (receiver : ℕ) → IsWorld w →
         IsStraight w receiver happenings → HasSent w receiver → HasSent (run_events w happenings) receiver }

@@ -131,8 +131,8 @@ impl World {
     ///
     /// After each event, whether it stops or not, every book is a prefix of the published messages. If a receiver is
     /// finished, its book is the whole closed session. Each message that was delivered, also before a restart, is the
-    /// one that was published with its number. The run is a list of steps of the machine of `laws::safety_law` that
-    /// deliver just these messages.
+    /// one that was published with its number. The run corresponds to steps of the machine of `laws::safety_law`, which
+    /// deliver the same messages.
     ///
     /// After `Ok`, the straight path holds. Take a receiver that got each data packet of new messages right after it
     /// was sent, and that didn't restart. If its book had all messages sent in datagrams before the run, it has all

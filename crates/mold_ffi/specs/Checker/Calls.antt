@@ -19,9 +19,8 @@ Joins None bytes seen code number new =
     ((code ≡ codes.DONE) × (number ≡ 0) × (new ≡ Some (Checker (after seen bytes))))
     ⊎ ((code ≡ codes.MEMORY) × (number ≡ 0) × (new ≡ Some (Checker seen)) × BringsNew seen bytes)
 
--- What `mold_checker_ranges` writes. If the session is whole, the count is 0 and the array is
--- unchanged. Otherwise the count
--- is the number of missing ranges, and the array begins with them.
+-- What `mold_checker_ranges` writes. If the session is whole, the count is 0 and the array is unchanged. Otherwise the
+-- count is the number of missing ranges, and the array begins with them.
 abbrev pub GivesRanges : Seen → List MoldRange → List MoldRange → ℕ → Type 0
 GivesRanges seen old new count =
     (((number : ℕ) × IsWholeSeen seen number) × (count ≡ 0) × (new ≡ old))

@@ -4,15 +4,15 @@ use Rattle.mold_capture.specs.Seen.{Seen}
 use Rattle.mold_capture.specs.Verdict.{IsWholeSeen, missing_in}
 use Rattle.mold_ffi.specs.declared.checker.mold_verdict.MoldVerdict.{MoldVerdict}
 
--- The verdict is a whole session, with the number of its messages.
+-- The fields of the verdict report a whole session and the number of its messages.
 pub record IsWholeVerdict (seen : Seen) (verdict : MoldVerdict) : Type 0 where
   pub told : verdict.whole ≡ 1
   pub whole : IsWholeSeen seen (verdict.messages + 1)
   pub no_end : verdict.end ≡ 0
   pub no_ranges : verdict.ranges ≡ 0
 
--- The verdict is that the session is not whole, with its end, or 0 if that is not known, and the number of missing
--- ranges.
+-- The fields of the verdict report that the session is not whole. They have the number of missing ranges, and the end,
+-- or 0 if the end is not known.
 pub record IsMissingVerdict (seen : Seen) (verdict : MoldVerdict) : Type 0 where
   pub told : verdict.whole ≡ 0
   pub not_whole : (number : ℕ) → IsWholeSeen seen number → ⊥

@@ -41,7 +41,7 @@ server_beside publisher burst = fresh_server publisher.limit publisher.journal.m
 abbrev pub IsBurst : ℕ → Type 0
 IsBurst burst = (1 ≤ burst) × (burst ≤ MAX_BURST)
 
--- A message is published, or an allocation for it failed; or it is refused for the first reason that applies.
+-- Either the message is published, or it is refused for the first reason that applies, or an allocation for it failed.
 pub record Publishes (exchange : Exchange) (message : List ℕ) (code number : ℕ) (held : Option Held) : Type 0 where
   pub taken : append_refusal exchange.publisher.journal message ≡ None →
       ((code ≡ codes.DONE) × (number ≡ length exchange.publisher.journal.messages + 1)
@@ -50,7 +50,8 @@ pub record Publishes (exchange : Exchange) (message : List ℕ) (code number : �
   pub refused : (error : AppendError) → append_refusal exchange.publisher.journal message ≡ Some error →
       (code ≡ append_error_code error) × (number ≡ append_error_number error) × (held ≡ holding exchange)
 
--- The packet `next`, if there is one, is written to a buffer that has at least as many bytes as the limit.
+-- If there is a packet `next`, it is written to a buffer that has at least as many bytes as the limit. A shorter buffer
+-- is unchanged.
 pub record Sends (exchange : Exchange) (next : Option Packet) (after : PublisherState) (old new : List ℕ)
     (code size : ℕ) (held : Option Held) : Type 0 where
   pub room : length old < exchange.publisher.limit →

@@ -23,8 +23,8 @@ pub record PutsAnswer (server : ServerState) (journal : JournalState) (request o
   pub spelled : SpellsAnswer journal server request bytes
   pub put : Puts old new bytes size
 
--- The first response is written to a buffer that has at least as many bytes as the limit. Or the request is refused for
--- the first reason that applies. `holding` maps the server's state to what the handle then holds.
+-- Either the first response is written to a buffer that has at least as many bytes as the limit, or the request is
+-- refused for the first reason that applies. `holding` maps the server's state to what the handle then holds.
 pub record Answers (T : Type 0) (server : ServerState) (journal : JournalState) (request old new : List ℕ)
     (before code number : ℕ) (holding : ServerState → T) (held : T) : Type 0 where
   pub foreign : (Suits server journal → ⊥) →

@@ -15,8 +15,8 @@ pub record HasLoaded (limit burst : ℕ) (bytes : List ℕ) (code number : ℕ) 
   pub by_number : number ≡ 0
   pub held_is : held ≡ Some (Server serving)
 
--- The handle holds a server of the journal file. Otherwise it is empty: the bytes have a fault as such a file, or they
--- have none and an allocation failed.
+-- Either the handle holds a server of the journal file, or it is empty. It is empty if the bytes are not such a file,
+-- or if they are and an allocation failed.
 abbrev pub Loads : ℕ → ℕ → List ℕ → ℕ → ℕ → Option Held → Type 0
 Loads limit burst bytes code number held =
     HasLoaded limit burst bytes code number held

@@ -40,9 +40,9 @@ pub extern "C" fn mold_checker_new(alloc: Global, checker: &mut MoldHandle) -> u
     }
 }
 
-/// Takes a datagram. It is refused if no session explains it together with those taken before; the code is that of the
-/// first reason. `number` is then the number that goes with the reason, or 0; it is 0 if the datagram is taken. The
-/// session is that of the first datagram taken. Datagrams may come in any order.
+/// Takes a datagram. It is refused if no session explains both it and the datagrams taken before. The code is then that
+/// of the first reason, and `number` is the number that goes with the reason, or 0. If the datagram is taken, `number`
+/// is 0. The session is that of the first datagram taken. Datagrams may come in any order.
 #[unsafe(no_mangle)]
 pub extern "C" fn mold_checker_take(checker: &mut MoldHandle, bytes: &[u8], number: &mut u64) -> u32
     ensures joins { (seen : Seen) → checker.old.handle.value ≡ Some (AChecker seen) →
@@ -92,8 +92,8 @@ pub extern "C" fn mold_checker_verdict(checker: &mut MoldHandle, verdict: &mut M
     }
 }
 
-/// Writes the first missing ranges, ascending, as many as the array has room for, and the number of all of them. If an
-/// allocation fails, the code is 7 and nothing is written.
+/// Writes the missing ranges in ascending order, as many as the array has room for, and the number of all missing
+/// ranges. If an allocation fails, the code is 7 and nothing is written.
 #[unsafe(no_mangle)]
 pub extern "C" fn mold_checker_ranges(
     checker: &mut MoldHandle,

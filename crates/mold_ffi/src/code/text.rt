@@ -10,8 +10,8 @@ use crate::code::{
     TRAILING, UNSENT, WINDOW, WRONG_SESSION, texts,
 };
 
-/// Returns the meaning of a code as a short text, without a zero byte at its end; `unknown code` for any other number.
-/// The slice is valid forever.
+/// Writes the text of a code, without a zero byte at its end. For a number that is not a code, the text is `unknown
+/// code`. The slice is valid forever.
 #[unsafe(no_mangle)]
 pub extern "C" fn mold_text(code: u32, text: &mut &'static [u8])
     ensures { text.new.now ≡ text_of code }

@@ -58,8 +58,8 @@ pub extern "C" fn mold_listener_new(
     }
 }
 
-/// Takes a datagram of line A, which is number 0, of line B, number 1, or a server's response, number 2. The messages
-/// that are delivered join the batch.
+/// Takes a datagram. `line` is 0 for line A, 1 for line B, and 2 for a server's response. The messages that are
+/// delivered are added to the batch.
 #[unsafe(no_mangle)]
 pub extern "C" fn mold_listener_take(
     listener: &mut MoldHandle,

@@ -61,8 +61,8 @@ pub extern "C" fn mold_listener_finished(listener: &mut MoldHandle) -> bool
     held.arbiter().receiver().finished()
 }
 
-/// Writes the 20 bytes of the request for what the listener lacks, at most 65,534 messages. If it lacks nothing, or
-/// the handle holds no listener, it returns false and writes nothing.
+/// Writes the 20 bytes of the request for the first gap, which asks for at most 65,534 messages. If no message is
+/// missing, or the handle holds no listener, it returns false and writes nothing.
 #[unsafe(no_mangle)]
 pub extern "C" fn mold_listener_wanted(listener: &mut MoldHandle, out: &mut [u8; 20]) -> bool
     ensures asked { (batched : BatchedArbitration) (request : Request) →
@@ -86,7 +86,7 @@ pub extern "C" fn mold_listener_wanted(listener: &mut MoldHandle, out: &mut [u8;
     }
 }
 
-/// Writes the report of line A, 0, or of line B, 1.
+/// Writes the report of a line. `line` is 0 for line A and 1 for line B.
 #[unsafe(no_mangle)]
 pub extern "C" fn mold_listener_report(
     listener: &mut MoldHandle,

@@ -23,12 +23,12 @@ use mold_wire::{MAX_BURST, MAX_LIMIT, MESSAGE_OVERHEAD, MIN_LIMIT};
 use std::alloc::Global;
 
 /// Makes a server of the bytes of a journal file, of version 1 or 2. Its datagrams have at most `limit` bytes, which is
-/// 64 to 65,507, and the messages must have at most `limit` - 22 bytes. A request gets at most `burst` responses, 1 to
-/// 64.
-/// If the bytes are not such a journal, `number` goes with the fault: the length of the bytes, the length or the
-/// sequence number of a message, a byte, or the number of messages found. Otherwise it is 0. If no server is
-/// made, the bytes are read once more, so a fault of the bytes is reported even if an allocation failed. The handle
-/// must be empty.
+/// 64 to 65,507. Each message of the journal must have at most `limit` - 22 bytes. A request gets at most `burst`
+/// responses, 1 to 64. The handle must be empty.
+///
+/// If the bytes are not such a journal, `number` describes the fault: it is the length of the bytes, the length or the
+/// sequence number of a message, a byte, or the number of messages found. Otherwise it is 0. If no server is made, the
+/// bytes are read once more, so a fault of the bytes is reported even if an allocation failed.
 #[unsafe(no_mangle)]
 pub extern "C" fn mold_server_new(
     alloc: Global,
@@ -71,8 +71,8 @@ pub extern "C" fn mold_server_new(
 }
 
 /// Writes the first response to a request. The buffer must have at least as many bytes as the limit. `number` is the
-/// response's length, or the limit if the buffer is shorter. If the request is refused, `number` goes
-/// with the refusal: the request's length, or the sequence number of the journal's next message, or 0.
+/// response's length, or the limit if the buffer is shorter. If the request is refused, `number` describes the refusal:
+/// it is the request's length, the sequence number of the journal's next message, or 0.
 #[unsafe(no_mangle)]
 pub extern "C" fn mold_server_answer(
     server: &mut MoldHandle,
