@@ -12,7 +12,7 @@ use mold_rule::laws::refusal_law;
 use mold_wire::laws::reading_law;
 use std::alloc::Global;
 
-/// Checks whether the datagrams come from one whole session, and what is missing if they don't.
+/// Returns whether the datagrams come from one whole session, and what is missing if they don't.
 ///
 /// If a datagram is refused, the error has the index of the first such datagram, counted from 0, and the first reason.
 /// If an allocation for the verdict fails, the error has the list's length and `Memory`.

@@ -46,7 +46,7 @@ with_receipt line Failure e = missed e
 unfoldable pub with_next_receipt : {P : Type 0} → Option Line → Port P → Progress → Progress
 with_next_receipt line port e = with_receipt line (cut MAX_LIMIT (next_of port)) e
 
--- The receive gives a datagram.
+-- Whether the receive gives a datagram.
 abbrev pub is_datagram : {P : Type 0} → Receipt P → Bool
 is_datagram (Datagram from bytes) = true
 is_datagram Quiet = false
@@ -157,7 +157,7 @@ abbrev pub ends_at : Option ℕ → ℕ → Bool
 ends_at None next = false
 ends_at (Some end) next = end == next
 
--- The listener has delivered all messages up to the known end of the session.
+-- Whether the listener has delivered all messages up to the known end of the session.
 abbrev pub is_finished : Progress → Bool
 is_finished e = ends_at e.arbitration.view.ended e.arbitration.view.next
 

@@ -11,7 +11,7 @@ receipt_at (step.Come from bytes) = Datagram from bytes.items
 receipt_at step.Quiet = Quiet
 receipt_at step.Fail = Failure
 
--- A kept datagram: the peer that it was sent to, and its bytes.
+-- A datagram that a port in memory sent: the peer that it was sent to, and its bytes.
 abbrev pub datagram_of : ℕ × Vec ℕ → ℕ × List ℕ
 datagram_of kept = (kept.0, kept.1.items)
 

@@ -9,7 +9,7 @@ pub data Receipt (P : Type 0) : Type 0 where
   Quiet : Receipt P
   Failure : Receipt P
 
--- A port: what its receives will give, what it sent, and how often it failed. When `comes` is empty, receives give
+-- A port: what its receives will give, what it sent, and how often it failed. If `comes` is empty, a receive gives
 -- nothing.
 pub record Port (P : Type 0) : Type 0 where
   -- what the next receives will give, in order

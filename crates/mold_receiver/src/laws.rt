@@ -36,8 +36,8 @@ pub fn least_missing_law()
         finite.get (available v.store v.next p.sequence (messages_of p.body)) (v.next + i) ≡ Some m }
 {}
 
-/// A receiver invents nothing. Each message that it delivers or stores was stored with that number, or the packet
-/// carries it with that number.
+/// A receiver invents nothing. Each message that it delivers or stores was already stored with the same number, or the
+/// packet carries it with the same number.
 #[tactic(auto, using(crate::proofs::LawLemmas::handed_had, crate::proofs::LawLemmas::stored_had))]
 pub fn nothing_new_law()
     ensures handed { (v : View) (p : Packet) (i : ℕ) (m : Message) →

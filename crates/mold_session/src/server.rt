@@ -103,7 +103,7 @@ impl Server {
         self.packer.limit()
     }
 
-    /// Returns the largest `max_message` of a journal that this server responds from, in bytes.
+    /// Returns the greatest `max_message` that a journal may have if this server is to respond from it, in bytes.
     pub fn max_message(&self) -> u16
         ensures value { result ≡ self.now.max_message }
         ensures server { IsServer self.now }
@@ -168,8 +168,8 @@ impl Server {
     /// Returns the next datagram of a plan and advances the plan past its messages. The datagram has the
     /// longest prefix of the plan's remaining messages that fits.
     ///
-    /// If the plan is spent, `None` is returned and nothing changes. The journal is the one that the plan was
-    /// made from, or one of the same session with at least its messages.
+    /// If the plan is spent, `None` is returned and nothing changes. The journal must be the one that the plan was
+    /// made from, or one of the same session that has at least the messages of the plan.
     pub fn datagram(&mut self, journal: &Journal, plan: &mut Plan) -> Option<&[u8]>
         requires longest { journal.now.max_message ≤ self.old.max_message }
         requires session { plan.old.session ≡ journal.now.session }

@@ -79,8 +79,8 @@ impl Outgoing {
         push_line(&mut self.text, words)
     }
 
-    /// Writes the text if it has at least 65,536 bytes or the sink is live. Otherwise it writes nothing and keeps the
-    /// text. After a fault, a prefix of the text is written, and the text is unchanged.
+    /// If the text has at least 65,536 bytes or the sink is live, this writes the text. Otherwise it writes nothing and
+    /// keeps the text. After a fault, a prefix of the text is written, and the text is unchanged.
     pub fn send_large<K: Sink>(&mut self, sink: &mut K) -> Result<(), CommandFault>
         ensures moved { OnOk result (Moves (K.held sink.old) (K.held sink.new) self.old.text self.new.text) }
         ensures large { OnOk result (LARGE ≤ length self.old.text → self.new.text ≡ []) }

@@ -48,7 +48,8 @@ pub fn print_fault<K: Sink>(sink: &mut K, line: &str) -> ExitCode
     ExitCode::from(FAULT)
 }
 
-/// Returns the status of the program. The line of a fault is printed on the sink, which is standard error.
+/// Returns the status of the program. If a fault ended the command, its line is printed on the sink, which is standard
+/// error.
 pub fn exit_code<K: Sink>(sink: &mut K, outcome: Result<u8, ProgramFault>) -> ExitCode
     ensures status { exit_status result ≡ program_status outcome }
     ensures silent { OnOk outcome (sink.new ≡ sink.old) }

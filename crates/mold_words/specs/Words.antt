@@ -45,7 +45,7 @@ commands =
     ∷ (codes "dump", (codes "journal", Required) ∷ (codes "from", Optional) ∷ (codes "count", Optional) ∷ [])
     ∷ []
 
--- The text is the name of a command.
+-- Whether the text is the name of a command.
 abbrev pub is_command : Text → Bool
 is_command name = list_any (λ command. bytes_eq command.0 name) commands
 
@@ -76,6 +76,6 @@ abbrev pub bare_app : App
 bare_app = let app = new_app (codes "mold") in
     record app { top = record app.top { no_binary_name = true; has_version = true } }
 
--- The program with all its commands.
+-- The program as `clap` describes it, with all its commands.
 unfoldable pub mold_app : App
 mold_app = fold with_command bare_app commands

@@ -29,8 +29,8 @@ pub fn pack_taken_law()
 {}
 
 /// `sim --session MKT` is accepted, and asks for two receivers of the session `MKT`. The windows are 1,024 messages,
-/// the limits are 1,400 bytes, and a request has one response. Each option replaces its default. If `--limit` is above
-/// the server's limit, it is refused.
+/// the limits are 1,400 bytes, and a request has one response. Each option replaces its default. A `--limit` above the
+/// server's limit is refused.
 pub fn sim_taken_law()
     ensures usual { Say (codes "sim" ∷ codes "--session" ∷ codes "MKT" ∷ [])
         (sim_wanted (record {

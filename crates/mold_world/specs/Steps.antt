@@ -18,7 +18,7 @@ abbrev pub is_end : Option ℕ → ℕ → Bool
 is_end None next = false
 is_end (Some end) next = end == next
 
--- The view knows the session's end, and all messages up to it were delivered.
+-- Whether the view knows the session's end and all messages up to it were delivered.
 abbrev pub is_finished : View → Bool
 is_finished view = is_end view.ended view.next
 

@@ -68,8 +68,8 @@ fn write_message<'a>(lent: Option<&'a BatchedArbiter>, i: usize, message: &mut &
     }
 }
 
-/// Writes a slice of the message at index `i` of the batch, from 0. The slice is valid until the next call on this
-/// handle. Only code 0 writes anything.
+/// Writes a slice of the message at index `i` of the batch, counted from 0. The slice is valid until the next call on
+/// this handle. If the code is not 0, nothing is written.
 #[unsafe(no_mangle)]
 pub extern "C" fn mold_listener_message<'a>(
     listener: &'a mut MoldHandle,

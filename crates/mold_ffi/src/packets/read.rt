@@ -11,8 +11,8 @@ use crate::packets::mold_place::{MoldPlace, put_places};
 use mold_wire::laws::spelling_length_law;
 use mold_wire::{Body, decode};
 
-/// Decodes a datagram in one pass. Code 0 writes all fields of `packet`, with `detail` 0. Codes 1, 2 and 3 write only
-/// `packet.detail`, the number that goes with the fault.
+/// Decodes a datagram in one pass. With code 0, all fields of `packet` are written, and `detail` is 0. With codes 1, 2
+/// and 3, only `packet.detail` is written: the number that goes with the fault.
 #[unsafe(no_mangle)]
 pub extern "C" fn mold_decode(bytes: &[u8], packet: &mut MoldPacket) -> u32
     ensures code { result ≡ code_read (reading bytes.now) }
