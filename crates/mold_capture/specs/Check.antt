@@ -6,8 +6,9 @@ use Rattle.mold_capture.specs.Consistent.{Consistent}
 use Rattle.mold_capture.specs.Refusal.{reason}
 use Rattle.mold_capture.specs.Seen.{BringsNew, seen_of}
 
--- The datagrams before the index are consistent. If `why` is `Memory`, the datagram at the index has a new message, or
--- the index is the length of the list; otherwise `why` is the first reason to refuse that datagram.
+-- The datagrams before the index are consistent. If `why` is not `Memory`, it is the first reason to refuse the
+-- datagram at the index. `Memory` occurs only if that datagram has a new message, or if the index is the length of the
+-- list.
 abbrev pub IsRefusedAt : ℕ → Refusal → List (List ℕ) → Type 0
 IsRefusedAt index Memory list =
     (index ≤ length list) × Consistent (take index list)

@@ -30,7 +30,7 @@ refusal_read seen (Err error) = Some (Malformed error)
 abbrev pub refusal : Seen → List ℕ → Option Refusal
 refusal seen bytes = refusal_read seen (reading bytes)
 
--- The first reason to refuse a datagram after the datagrams of the list.
+-- The first reason to refuse a datagram, if the datagrams of the list precede it.
 abbrev pub reason : List (List ℕ) → List ℕ → Option Refusal
 reason list bytes = refusal (seen_of list) bytes
 

@@ -105,7 +105,7 @@ abbrev pub joined_read : Seen → Result Packet DecodeError → Seen
 joined_read seen (Ok packet) = joined seen packet
 joined_read seen (Err error) = seen
 
--- What the datagrams state after one more of them, given what the earlier ones state.
+-- What the earlier datagrams and this one state together, computed from what the earlier ones state.
 abbrev pub after : Seen → List ℕ → Seen
 after seen bytes = joined_read seen (reading bytes)
 

@@ -19,7 +19,7 @@ pub struct NewFile<'a, R: Files> {
 }
 
 impl<'a, R: Files> NewFile<'a, R> {
-    /// Names the file. It does not create or open it.
+    /// Makes a writer to the file at `path`. The file is not created or opened yet.
     pub fn new(files: &'a R, path: &'a str) -> NewFile<'a, R> {
         NewFile {
             files,

@@ -105,9 +105,10 @@ abbrev pub RefusesForeign : (List ℕ → Type 0) → Session → PrintedLine �
 RefusesForeign Came session (Handed number message) = ⊤
 RefusesForeign Came session (Refuses bytes why) = Came bytes × IsForeign session bytes × IsReason session bytes why
 
--- The state of an honest listener that started at message `first` with the text `before`. It has appended printed
--- lines to that text. These lines have the published messages from `first` up to, but not including, the listener's
--- next number. It refused only bytes that satisfy `Came` and do not encode a packet of the session. It is still honest.
+-- The state of an honest listener that started at message `first` with the text `before`. The lines that it has printed
+-- since then follow that text. They have the published messages from `first` up to, but not including, the listener's
+-- next number. Each refusal among them is of bytes that satisfy `Came` and do not encode a packet of the session. The
+-- listener is still honest.
 pub record HasListened (journal : JournalState) (Came : List ℕ → Type 0) (first : ℕ) (before : List ℕ) (e : Progress) :
     Type 0 where
   -- the lines printed since the start

@@ -22,9 +22,9 @@ use mold_wire::laws::reading_law;
 
 /// Relates the lines that a loop in one process publishes to the lines that it prints.
 ///
-/// The lines are published into a new session. The listener is new too. It starts at a message that will be published,
-/// or at the next one after them. The ports may lose, repeat and reorder datagrams, but give only what the loop itself
-/// sent (`OwnPorts`).
+/// The lines are published into a new session. The listener is new too. Its first number is that of a message that will
+/// be published, or one more than the number of the last of them. The ports may lose, repeat and reorder datagrams, but
+/// give only what the loop itself sent (`OwnPorts`).
 ///
 /// - `printed`: if no line is refused, and the server's maximum message length is at least the journal's, the loop
 ///   prints published lines in order from the start message on, each after its sequence number. If the status is 0, it

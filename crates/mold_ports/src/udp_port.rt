@@ -82,7 +82,8 @@ impl UdpPort {
         self.address
     }
 
-    /// Returns what the next receive does first, if this port is beside others (see `stand_beside`).
+    /// Returns the state of this port. If the port is beside others (see `stand_beside`), the state decides what its
+    /// next receive does first.
     pub fn outlook(&self) -> Outlook
         ensures { result ≡ self.now.outlook }
     {
@@ -90,9 +91,9 @@ impl UdpPort {
     }
 
     /// Puts this port beside another one. A wait on this port then also ends when a datagram is at the other port, so a
-    /// silent port does not delay a busy one. A port is beside at most two others: the last two that it was given. Keep
-    /// these two ports as long as this one. A datagram that stays at one of them ends every wait on this port. If the
-    /// system cannot make the socket nonblocking, this call does nothing.
+    /// silent port does not delay a busy one. Only the last two ports that this port was put beside count. The caller
+    /// must keep both as long as this port. It should also receive from both, since a datagram that stays at one of
+    /// them ends every wait on this port. If the system cannot make the socket nonblocking, this call does nothing.
     pub fn stand_beside(&mut self, other: &UdpPort)
         ensures { self.new ≡ self.old }
     {

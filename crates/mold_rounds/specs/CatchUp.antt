@@ -19,7 +19,8 @@ use Rattle.mold_wire.specs.declared.packet.Packet.{Packet}
 abbrev pub message_of : View → List Message → ℕ → Message
 message_of v published number = unwrap_or (option_or (finite.get v.store number) (published_at published number)) []
 
--- The messages from `next` to just below `to`: the stored ones, and otherwise the published ones.
+-- The messages with the numbers from `next` to just below `to`. Each is the stored message with its number, or the
+-- published one if none is stored.
 abbrev pub filled : View → List Message → ℕ → List Message
 filled v published to = messages_from (message_of v published) v.next (to - v.next)
 

@@ -16,8 +16,8 @@ use Rattle.mold_wire.specs.declared.session.Session.{Session}
 abbrev pub carried : List Packet → ℕ
 carried packets = sum_by (λ packet. length (messages_of packet.body)) packets
 
--- A session with an empty name, with which the definitions count messages. The number of messages in packets doesn't
--- depend on the session.
+-- A session with an empty name. `brought` packs messages for this session to count them. The count is the same for
+-- every session.
 abbrev pub nameless : Session
 nameless = record { 0 = [] }
 

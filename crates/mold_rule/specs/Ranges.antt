@@ -34,8 +34,8 @@ unfoldable pub lacking : (ℕ → Bool) → ℕ → ℕ → ℕ
 lacking lacks low zero = 0
 lacking lacks low (suc count) = (if lacks low then 1 else 0) + lacking lacks (suc low) count
 
--- All numbers of the range are missing, at least `low` and below `high`. The two numbers next to the range are present,
--- or are outside these bounds.
+-- All numbers of the range are missing, and are at least `low` and below `high`. The range cannot be extended: each of
+-- the two numbers next to it is present, or is outside these bounds.
 pub record IsLongest (lacks : ℕ → Bool) (low high : ℕ) (r : Range) : Type 0 where
   pub begins : low ≤ r.first
   pub ordered : r.first ≤ r.last

@@ -58,10 +58,10 @@ fn is_foreign(packet: &Packet<'_>, session: Option<Session>) -> bool
     }
 }
 
-/// Returns the packet's top, or the first refusal that its header and its number of messages cause. `session`
-/// and `ended` are the session and its end, if they are known. `known` is the greatest top of the packets
-/// accepted so far, and at least the number at which the caller started. If this function returns a top, only
-/// a conflict of its messages can still refuse the packet.
+/// Returns the packet's top, or the first refusal that follows from its header and its number of messages. `session`
+/// and `ended` are the session and its end, if they are known. `known` is the greatest top of the packets accepted so
+/// far, or the number at which the caller started, if that is greater. After a top is returned, only a conflict of its
+/// messages can still refuse the packet.
 pub fn check_header(
     packet: &Packet<'_>,
     session: Option<Session>,

@@ -170,9 +170,10 @@ SendsInput port known result old new =
     SendsLines old.two_lines.a.now old.two_lines.b.now old.publisher.now new.publisher.now known result
     (lines_state port old.two_lines) (lines_state port new.two_lines) new.datagrams
 
--- The outcome of publishing some lines, where `end` is the state after each datagram was offered to `a` and then to
--- `b`, and any send may have failed. After a success, the port is as in `end`, the text and the journal's file are
--- written, and the result is the status. After a fault, what was sent, written and saved are prefixes of these.
+-- The outcome of publishing some lines. `end` is the state after each datagram was offered to `a` and then to `b`; any
+-- of these sends may have failed. After a success, the port is that of `end`, the text is written, the journal is saved
+-- unless a line is refused, and the status is returned. After a fault, what was sent, written and saved are prefixes of
+-- these datagrams, of the text and of the file.
 pub record PublishRun {P : Type 0} (a b : P) (beats ends limit : ℕ) (published : PublishedLines)
     (result : Result ℕ CommandFault) (before after : Port P) (text_old text_new file_old file_new : Option (List ℕ)) :
     Type 0 where

@@ -20,9 +20,9 @@ use std::alloc::Global;
 /// is sent to `a` and then to `b`. A data datagram is sent when the next message does not fit in it, and after the
 /// last line. Then `beats` heartbeats are sent, the session is closed, and `ends` end packets are sent.
 ///
-/// The journal is then saved in `journal_sink`. A last line has the number of messages, of data datagrams (each
-/// counted once), and of failed sends, which stops at `u64::MAX`. The status is 0. A failed send is counted, and the
-/// loop continues.
+/// The journal is then saved in `journal_sink`. The last line of the text has three counts: the messages, the data
+/// datagrams (each counted once), and the failed sends. The last count stops at `u64::MAX`. The status is 0. A failed
+/// send is counted, and the loop continues.
 ///
 /// If a line is refused, nothing more is sent and nothing is saved. The text is the line of the refusal, and the
 /// status is 2.

@@ -59,9 +59,9 @@ pub fn first_part_law()
     front_law();
 }
 
-/// What a plan still sends. A spent plan sends nothing. Any other plan sends its next packet, and then what remains
-/// once it has moved past that packet. It never sends more than `left` packets. Messages that are published meanwhile
-/// change nothing.
+/// States what a plan still sends. A spent plan sends nothing. Any other plan first sends its next packet. Then it
+/// moves past the messages of that packet, and the same holds again. It never sends more than `left` packets. Messages
+/// that are published meanwhile change nothing.
 ///
 /// So the datagrams that `Server::datagram` returns, until it returns `None`, are all packets that the plan had at
 /// first, in order.
@@ -146,8 +146,9 @@ pub fn sending_law()
     true_packet_law();
 }
 
-/// Bytes are the file of at most one journal, in one version. If no message of a journal is longer than a maximum, the
-/// journal's file has no fault for that maximum. So a file determines what `Journal::load` returns for it.
+/// Bytes are the file of at most one journal, and in only one of the two versions. The file has no fault if no message
+/// of the journal is longer than the maximum that `Journal::load` is given. So a file determines what `Journal::load`
+/// returns for it.
 #[tactic(auto, using(crate::proofs::FileLawLemmas::one_reading))]
 pub fn one_file_law()
     ensures one_journal { (one other : Session) (messages others : List (List ℕ)) (bytes : List ℕ) →

@@ -171,10 +171,10 @@ fn end_dump<K: Sink>(
 /// If the file isn't valid, the messages before the fault are written, and then a line with the fault. The
 /// status is 0 for a valid file, otherwise 2.
 ///
-/// It holds no more than the longest message, the bytes of one read, and the text that it gathers. It writes
-/// the text when this has 65,536 bytes or more. If a read or an allocation fails, the lines gathered so far are
-/// written first. After a fault, a prefix of the text was written. `Read` and `Write` are returned only if the
-/// source or the sink failed, `Memory` only if an allocation failed.
+/// It keeps at most the longest message, the bytes of one read, and the text that is not written yet. The text is
+/// written in pieces of 65,536 bytes or more, and the rest at the end. If a read or an allocation fails, the lines
+/// gathered so far are written first. After a fault, a prefix of the text was written. `Read` and `Write` are returned
+/// only if the source or the sink failed, `Memory` only if an allocation failed.
 pub fn dump_file<S: Source, K: Sink>(
     alloc: Global,
     source: &mut S,

@@ -16,8 +16,8 @@ pub record Loop (C S M : Type 0) : Type 0 where
   -- everything sent so far
   pub sent : S → List M
 
--- The state after one turn for each choice, up to the first turn that ends the loop. A choice states what cannot be
--- known in advance, such as which sends fail.
+-- The state after the loop made turns with these choices, one choice for each turn. No turn follows one that ends the
+-- loop. A choice states what cannot be known in advance, such as which sends fail.
 unfoldable pub run : {C S M : Type 0} → Loop C S M → List C → S → S
 run loop [] s = s
 run loop (choice ∷ more) s =
@@ -53,9 +53,8 @@ pub record TurnRestsOfTwo {C S M T E : Type 0} (loop : Loop C S M) (other : S �
   pub turn : TurnRests loop behind start result old new now
   pub others : Begins (other now) (other (loop.turn turn.choice start))
 
--- A fault ended a loop, and the text of the turns completed before it is written, except what the loop may keep
--- unwritten between turns (`IsBounded`). `ends s` states which ports the loop may have, where `s` is the state after
--- the last completed turn.
+-- A loop that ended with a fault has written the text of all completed turns, except what it may keep unwritten between
+-- turns (`IsBounded`). `ends` states which ports the loop may have, given the state after the last completed turn.
 pub record WrittenInTime {C S M : Type 0} (loop : Loop C S M) (start : S) (live : Bool) (old new : Option (List ℕ))
     (ends : S → Type 0) : Type 0 where
   -- the choices of the completed turns
@@ -95,9 +94,9 @@ pub record RestsOfTwo {C S M T E : Type 0} (loop : Loop C S M) (other : S → Li
   pub rests : Rests loop behind turns start result old new now
   pub others : Begins (other now) (other (run loop rests.choices start))
 
--- The outcome of a loop that starts at `start` and makes at most `turns` turns, for some choice in each turn (`run`).
--- After a success, the text and the last line of that run are written, and its status is returned. In every case, what
--- was written and what was sent are prefixes of what the run writes and sends.
+-- The outcome of a loop that starts at `start` and makes at most `turns` turns. It agrees with `run` for some choice in
+-- each turn. After a success, the text and the last line of that run are written, and its status is returned. In every
+-- case, what was written and what was sent are prefixes of what the run writes and sends.
 pub record Ran {C S M E : Type 0} (loop : Loop C S M) (turns : ℕ) (start : S) (last : S → List ℕ) (status : S → ℕ)
     (agrees : S → Type 0) (result : Result ℕ E) (old new : Option (List ℕ)) (sendings : List M) : Type 0 where
   -- the choice of each turn

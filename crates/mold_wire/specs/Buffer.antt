@@ -20,7 +20,8 @@ pub record Fields : Type 0 where
   -- Whether a packet is open, so that messages can be added.
   pub is_open : Bool
 
--- The fields of a packer with these values. `items` are the bytes of its whole buffer.
+-- The fields of a packer: the bytes of its whole buffer, how many of them are used, the message count, and whether a
+-- packet is open.
 abbrev pub over : List ℕ → ℕ → ℕ → Bool → Fields
 over items used count is_open = record { items = items; used = used; count = count; is_open = is_open }
 

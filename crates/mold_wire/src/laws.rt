@@ -111,11 +111,11 @@ pub fn packet_length_law()
         (length message + MESSAGE_OVERHEAD ≤ limit) ↔ Fits limit (message ∷ []) }
 {}
 
-/// `front` computes the longest prefix that fits, if the limit has room for a header, and there is only one such
-/// prefix. A prefix is the longest if the next message is one too many or does not fit. If at least one message is
-/// allowed and the first one fits alone, the longest prefix is not empty. If all messages are allowed and fit together,
-/// it is the whole list. If the first message fits alone, the prefix can be computed step by step: it is that message,
-/// followed by the longest prefix of the other messages that fits in the remaining bytes.
+/// If the limit has room for a header, `front` returns the longest prefix that fits. There is only one longest prefix.
+/// A prefix that fits is the longest one if the next message is one too many or does not fit. The longest prefix is not
+/// empty if at least one message is allowed and the first one fits alone. It is the whole list if all messages are
+/// allowed and fit together. It can be computed step by step: if the first message fits alone, the longest prefix is
+/// that message, followed by the longest prefix of the other messages that fits in the remaining bytes.
 #[tactic(auto, using(crate::proofs::FrontLemmas::front_is))]
 pub fn front_law()
     ensures front { (limit : ℕ) (messages : List (List ℕ)) (most : ℕ) →

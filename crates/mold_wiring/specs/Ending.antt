@@ -24,8 +24,8 @@ abbrev pub fault_line : List ℕ → List ℕ
 fault_line word = codes "fault " ++ word ++ codes "\n"
 
 -- The text was appended to the bytes that a sink holds, unless the sink failed. `failed` is its count of failures
--- before, and `failures` the count afterwards. The count shows no further failure once it is
--- 18,446,744,073,709,551,615.
+-- before, and `failures` the count afterwards. At 18,446,744,073,709,551,615 the count stops. If it was that before,
+-- nothing is stated.
 abbrev pub AppendsUnlessFailed : ℕ → ℕ → Option (List ℕ) → Option (List ℕ) → List ℕ → Type 0
 AppendsUnlessFailed failed failures old new text =
     failed < 18446744073709551615 → failures ≡ failed → Appends old new text

@@ -12,7 +12,7 @@ pub fn socket_address(address: Address) -> SocketAddrV4
     SocketAddrV4::new(Ipv4Addr::from_octets(address.host), address.port)
 }
 
-/// Returns the address as that of a peer, which datagrams are sent to.
+/// Returns the address in the form that a port sends datagrams to.
 pub fn peer_address(address: Address) -> SocketAddr
     ensures { IsPeerOf address result }
 {

@@ -8,11 +8,11 @@ use Rattle.mold_world.specs.declared.event.EventOf.TheVariants.{Request, Ask, De
 use Rattle.mold_world.specs.declared.way.Way.{Way}
 use Rattle.mold_world.specs.declared.way.Way.TheVariants.{Answer, Line}
 
--- An event whose bytes, if it has any, are a list.
+-- The model of an event. If the event has bytes, the model has them as a list.
 abbrev pub Happening : Type 0
 Happening = EventOf (List ℕ)
 
--- The `Happening` for an event of the program. The program's event borrows its bytes.
+-- The model of an event of the program. The program's event borrows its bytes.
 abbrev pub seen : EventOf (Bor (List ℕ)) → Happening
 seen (Publish message) = Publish message.now
 seen Datagram = Datagram

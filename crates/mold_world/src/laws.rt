@@ -116,9 +116,9 @@ pub fn delivery_law()
     honest_take_law();
 }
 
-/// States the straight path, for a receiver that gets each data packet of new messages right after it is sent, and that
-/// doesn't restart. If its book had all messages sent in datagrams before the events, it has all those sent by the end
-/// of the events.
+/// States the straight path. A receiver on it gets each data packet of new messages right after it is sent, and does
+/// not restart. Suppose that before the events its book has every message that was sent in a datagram so far. Then this
+/// is still true after the events.
 pub fn straight_law()
     ensures { (w : WorldState) (happenings : List Happening) (receiver : ℕ) → IsWorld w →
         IsStraight w receiver happenings → HasSent w receiver → HasSent (run_events w happenings) receiver }

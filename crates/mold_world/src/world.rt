@@ -135,8 +135,8 @@ impl World {
     /// deliver the same messages.
     ///
     /// After `Ok`, the straight path holds. Take a receiver that got each data packet of new messages right after it
-    /// was sent, and that didn't restart. If its book had all messages sent in datagrams before the run, it has all
-    /// those sent by the end of the run.
+    /// was sent, and that did not restart. Suppose that before the run its book has every message that was sent in a
+    /// datagram so far. Then this is still true after the run.
     pub fn run(&mut self, events: &[Event<'_>]) -> Result<(), Stopped>
         ensures left { self.new ≡ run_events self.old (applied result (map seen events.now)) }
         ensures place { IfErr result (λ stopped. stopped.at < length events.now) }
