@@ -24,8 +24,8 @@ CountsSinkFault old new command.Read = ⊥
 CountsSinkFault old new command.Write = new ≡ one_more old
 CountsSinkFault old new command.Memory = new ≡ old
 
--- How a result of a command that reads no input changes the sink's count of failures. It increases by one with the
--- fault `Write`, and is unchanged otherwise. The fault `Read` does not occur.
+-- The sink's count of failures before and after a command that reads no input, by the command's result. It increases by
+-- one with the fault `Write`, and is unchanged otherwise. The fault `Read` does not occur.
 abbrev pub CountsSink : {T : Type 0} → ℕ → ℕ → Result T CommandFault → Type 0
 CountsSink old new (Ok _) = new ≡ old
 CountsSink old new (Err fault) = CountsSinkFault old new fault

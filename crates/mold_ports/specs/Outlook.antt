@@ -17,12 +17,13 @@ after_nothing Busy = Quiet
 after_nothing Asking = Unanswered
 after_nothing Unanswered = Unanswered
 
--- The state after a send, by its result. A send that failed does not change the state.
+-- The state of a UDP port (`UdpPort::outlook`) after a send, by the send's result. A send that failed does not change
+-- the state.
 abbrev pub after_send : {E : Type 0} → Result (Unit {0}) E → Outlook → Outlook
 after_send (Ok unit) outlook = after_sent outlook
 after_send (Err fault) outlook = outlook
 
--- The state after a receive, by its result.
+-- The state of a UDP port (`UdpPort::outlook`) after a receive, by the receive's result.
 abbrev pub after_receive : {A E : Type 0} → Result (Option A) E → Outlook → Outlook
 after_receive (Ok (Some found)) outlook = Busy
 after_receive (Ok None) outlook = after_nothing outlook

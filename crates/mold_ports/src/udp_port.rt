@@ -82,8 +82,9 @@ impl UdpPort {
         self.address
     }
 
-    /// Returns the state of this port. If the port is beside others (see `stand_beside`), the state decides what its
-    /// next receive does first.
+    /// Returns the state of this port, which depends on its earlier sends and receives. If the port is beside others
+    /// (see `stand_beside`), the state decides how the next receive begins: with a look that does not wait, with a wait
+    /// for a response at this port only, or with a wait for a datagram at any of these ports.
     pub fn outlook(&self) -> Outlook
         ensures { result ≡ self.now.outlook }
     {

@@ -42,7 +42,8 @@ view_code = code_by (List ℕ × (ℕ × (ℕ × (Option ℕ × (Store × ℕ)))
     (λ _. refl)
 
 -- What holds of every receiver's view. The numbers `next` and `known` are 1 to 2^64 - 1, and `next` is at most `known`.
--- Stored messages are above `next`, in the window and below `known`. A known end equals `known`.
+-- Stored messages are above `next`, in the window and below `known`. If the session's end is known,
+-- it equals `known`.
 pub record IsWellFormed (v : View) : Type 0 where
   pub first : 1 ≤ v.next
   pub ahead : v.next ≤ v.known

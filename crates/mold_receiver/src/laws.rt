@@ -133,8 +133,8 @@ pub fn round_law()
     refusal_law();
 }
 
-/// Messages that are appended to a batch leave it ready for the next number. Appending messages in two parts is the
-/// same as appending them at once.
+/// After messages are appended to a batch, the message with the number after theirs may follow. Appending messages in
+/// two parts is the same as appending them at once.
 #[tactic(auto, using(crate::proofs::BatchLemmas::follows_after, crate::proofs::BatchLemmas::followed_twice))]
 pub fn followed_law()
     ensures follows { (batch : Handed) (next : ℕ) (messages : List Message) →

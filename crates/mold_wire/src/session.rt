@@ -28,8 +28,7 @@ fn same_name(name: &[u8], other: &[u8]) -> bool
 }
 
 impl Session {
-    /// Returns whether `other` has the same name, as `==` does. This function is faster, since it is called for each
-    /// datagram.
+    /// Returns whether `other` has the same name, as `==` does, but faster. It is called for each datagram.
     // Inlined for the same reason as `same_name`.
     #[inline(always)]
     pub fn is_same(&self, other: &Session) -> bool

@@ -12,7 +12,7 @@ use Rattle.mold_world.specs.declared.report.Report.{Report}
 use Rattle.mold_world.specs.declared.report.Report.TheVariants.{Delivered, NoiseRefused}
 use Rattle.mold_world.specs.declared.way.Way.{Way}
 
--- The receiver refuses the bytes, and its view and its book are unchanged.
+-- The receiver refuses the bytes. Its view is unchanged, and so is its book: the messages that it delivered.
 pub record IsUnmoved (subscriber : SubscriberState) (way : Way) (bytes : List ℕ) : Type 0 where
   pub refused : Refusal
   pub received : receive subscriber.arbitration.view bytes ≡ Err refused

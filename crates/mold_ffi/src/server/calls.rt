@@ -26,9 +26,10 @@ use std::alloc::Global;
 /// 64 to 65,507. Each message of the journal must have at most `limit` - 22 bytes. A request gets at most `burst`
 /// responses, 1 to 64. The handle must be empty.
 ///
-/// If the bytes are not such a journal, `number` describes the fault: it is the length of the bytes, the length or the
-/// sequence number of a message, a byte, or the number of messages found. Otherwise it is 0. If no server is made, the
-/// bytes are read once more, so a fault of the bytes is reported even if an allocation failed.
+/// If the bytes are not such a journal, `number` goes with the fault. It is a length in bytes, a sequence number, the
+/// byte of the flag, a number of messages, or 0; `mold.h` states which for each code. If the handle is not
+/// empty, `number` is unchanged. After any other result it is 0. If no server is made, the bytes are read once more, so
+/// a fault of the bytes is reported even if an allocation failed.
 #[unsafe(no_mangle)]
 pub extern "C" fn mold_server_new(
     alloc: Global,
