@@ -107,8 +107,8 @@ RefusesForeign Came session (Refuses bytes why) = Came bytes × IsForeign sessio
 
 -- The state of an honest listener that started at message `first` with the text `before`. The lines that it has printed
 -- since then follow that text. They have the published messages from `first` up to, but not including, the listener's
--- next number. Each refusal among them is of bytes that satisfy `Came` and do not encode a packet of the session. The
--- listener is still honest.
+-- next number. If one of the lines reports a refusal, the refused bytes satisfy `Came` and do not encode a packet of
+-- the session. The listener is still honest.
 pub record HasListened (journal : JournalState) (Came : List ℕ → Type 0) (first : ℕ) (before : List ℕ) (e : Progress) :
     Type 0 where
   -- the lines printed since the start

@@ -18,7 +18,7 @@ ghost use Rattle.mold_wire.specs.declared.packet.Packet.{Packet};
 use mold_capture::laws::{after_law, reason_law, whole_is_one_law};
 use mold_wire::laws::{message_place_law, reading_law};
 
-/// The datagrams that a checker took, from its first on, are consistent. If its verdict is a whole session, they are
+/// All datagrams that a checker has taken since it was made are consistent. If its verdict is a whole session, they are
 /// whole, with that number of messages. If its verdict is that something is missing, they are not whole.
 pub fn checked_law()
     ensures consistent { (list : List (List ℕ)) → All IsBytes list → AreTaken (seen_of []) list → Consistent list }

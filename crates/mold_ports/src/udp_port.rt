@@ -92,9 +92,10 @@ impl UdpPort {
     }
 
     /// Puts this port beside another one. A wait on this port then also ends when a datagram is at the other port, so a
-    /// silent port does not delay a busy one. Only the last two ports that this port was put beside count. The caller
-    /// must keep both as long as this port. It should also receive from both, since a datagram that stays at one of
-    /// them ends every wait on this port. If the system cannot make the socket nonblocking, this call does nothing.
+    /// silent port does not delay a busy one. A port can be beside two others; each further call replaces the
+    /// older of the two. The caller must keep both as long as this port. It should also receive from both, since a
+    /// datagram that stays at one of them ends every wait on this port. If the system cannot make the socket
+    /// nonblocking, this call does nothing.
     pub fn stand_beside(&mut self, other: &UdpPort)
         ensures { self.new ≡ self.old }
     {

@@ -55,8 +55,8 @@ abbrev pub CountFault : Option ℕ → ℕ → FileError → Type 0
 CountFault stated read (CountDiffers count found) = Misstates stated read count found
 CountFault stated read error = ⊥
 
--- The bytes that follow the messages that were read have this fault. Either it is in the next block, or no bytes follow
--- and the file states another number of messages.
+-- The rest of the file, after the messages read so far, has this fault. Either the fault is in the next block, or the
+-- rest is empty and the file states another number of messages.
 abbrev pub RestFault : Option ℕ → ℕ → List ℕ → FileError → Type 0
 RestFault stated read rest (CountDiffers count found) = (rest ≡ []) × Misstates stated read count found
 RestFault stated read rest error = BlockFault MAX_MESSAGE read rest error

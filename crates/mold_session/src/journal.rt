@@ -159,8 +159,8 @@ impl Journal {
     /// It goes through the file once and reads at most 4,096 bytes at once. It holds no more than the journal
     /// and the bytes of one read. On success it has read the source to its end.
     ///
-    /// Bytes have at most one fault (`laws::one_fault_law`), so no other fault can be returned for them. `Read`
-    /// and `Memory` are returned when they occur.
+    /// If the bytes have a fault, it is their only one (`laws::one_fault_law`), and it is returned. If a read or
+    /// an allocation fails first, `Read` or `Memory` is returned instead.
     pub fn load<S: Source>(
         alloc: Global,
         max_message: u16,

@@ -54,8 +54,8 @@ pub record TurnRestsOfTwo {C S M T E : Type 0} (loop : Loop C S M) (other : S �
   pub others : Begins (other now) (other (loop.turn turn.choice start))
 
 -- A loop that ended with a fault has written the text of all completed turns, except what it may keep unwritten between
--- turns (`IsBounded`). `ends` holds of the state after the last completed turn. Loops use it to state that they stopped
--- in the next turn (`IsInNextTurn`).
+-- turns (`IsBounded`). `ends` holds of the state after the last completed turn. In the contracts of loops, `ends`
+-- states that the loop stopped in the turn after that state (`IsInNextTurn`).
 pub record WrittenInTime {C S M : Type 0} (loop : Loop C S M) (start : S) (live : Bool) (old new : Option (List ℕ))
     (ends : S → Type 0) : Type 0 where
   -- the choices of the completed turns

@@ -55,8 +55,8 @@ pub fn one_spelling_law()
 
 /// `reading` agrees with `Spells` and `FaultAt`: it returns a packet exactly when the bytes encode that packet, and a
 /// fault exactly when the bytes have that fault. In the same way, `request_reading` agrees with `SpellsRequest` and
-/// `RequestFaultAt`. `decode` and `Request::decode` return what these two functions return. A clause without `IsBytes`
-/// also holds if elements of the list are not bytes.
+/// `RequestFaultAt`. `decode` and `Request::decode` return what these two functions return. The clauses with
+/// `IsBytes` are for lists of bytes. The other clauses hold for lists of any numbers.
 pub fn reading_law()
     ensures read { (packet : Packet) (bytes : List ℕ) →
         Spells packet bytes → reading bytes ≡ Ok packet }

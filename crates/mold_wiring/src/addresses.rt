@@ -12,7 +12,7 @@ pub fn socket_address(address: Address) -> SocketAddrV4
     SocketAddrV4::new(Ipv4Addr::from_octets(address.host), address.port)
 }
 
-/// Returns the address in the form that a port sends datagrams to.
+/// Returns the address as a `SocketAddr`, the type of a peer that a port sends datagrams to.
 pub fn peer_address(address: Address) -> SocketAddr
     ensures { IsPeerOf address result }
 {

@@ -129,10 +129,10 @@ impl World {
     /// Applies events in order. It stops only if an allocation fails; the events before are then applied. An event
     /// that is refused for another reason is skipped.
     ///
-    /// After each event, whether it stops or not, every book is a prefix of the published messages. If a receiver is
-    /// finished, its book is the whole closed session. Each message that was delivered, also before a restart, is the
-    /// one that was published with its number. The run corresponds to steps of the machine of `laws::safety_law`, which
-    /// deliver the same messages.
+    /// The following holds whether the run stops or not. After each event, every book is a prefix of the published
+    /// messages. If a receiver is finished, its book is the whole closed session. Each message that was delivered, also
+    /// before a restart, is the one that was published with its number. The run corresponds to steps of the machine of
+    /// `laws::safety_law`, which deliver the same messages.
     ///
     /// After `Ok`, the straight path holds. Take a receiver that got each data packet of new messages right after it
     /// was sent, and that did not restart. Suppose that before the run its book has every message that was sent in a
